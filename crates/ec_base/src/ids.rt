@@ -1,0 +1,154 @@
+// Numbers of objects, clerks, operations and sessions, ages, and the modes of a token.
+ghost use Rattle.std.specs.Prelude.{◌≡◌, ◌↔◌, ◌<◌, ◌≤◌, ◌+◌, ◌^◌, ℕ, IfSome, IsNone, MatchOption};
+
+use crate::list::{Duplicate, NoMemory};
+use std::marker::Model;
+
+/// The id of an object, from 1. It is never used again.
+#[derive(Clone, Copy, Debug, Drop, PartialEq, Eq, PartialOrd, Ord)]
+pub struct ObjId {
+    number: u32,
+}
+
+impl Model for ObjId {
+    ghost Value = { ℕ };
+
+    ghost view = { λ a. a.number };
+
+    ghost invariant = { λ a. 1 ≤ a.number };
+
+    ghost inverse = { λ n. record { number = n } };
+}
+
+impl ObjId {
+    /// The id of this number, or `None` for 0.
+    pub fn new(number: u32) -> Option<ObjId>
+        ensures some { IfSome result (λ id. id ≡ number) }
+        ensures none { IsNone result ↔ (number ≡ 0) }
+    {
+        if number == 0 {
+            return None;
+        }
+        Some(ObjId { number })
+    }
+
+    /// The root of every volume.
+    pub fn root() -> ObjId
+        ensures { result ≡ 1 }
+    {
+        ObjId { number: 1 }
+    }
+
+    pub fn get(&self) -> u32
+        ensures value { result ≡ self.now }
+        ensures from_one { 1 ≤ result }
+    {
+        self.number
+    }
+}
+
+impl Duplicate for ObjId {
+    fn duplicate(&self) -> Result<Self, NoMemory> {
+        Ok(*self)
+    }
+}
+
+/// One of 16 clerks, `A` to `P`, by its number from 0.
+#[derive(Clone, Copy, Debug, Drop, PartialEq, Eq, PartialOrd, Ord)]
+pub struct ClerkId {
+    number: u8,
+}
+
+impl Model for ClerkId {
+    ghost Value = { ℕ };
+
+    ghost view = { λ a. a.number };
+
+    ghost invariant = { λ a. a.number ≤ 15 };
+
+    ghost inverse = { λ n. record { number = n } };
+}
+
+impl ClerkId {
+    /// The clerk of this number, or `None` above 15.
+    pub fn new(number: u8) -> Option<ClerkId>
+        ensures some { IfSome result (λ id. id ≡ number) }
+        ensures none { IsNone result ↔ (15 < number) }
+    {
+        if number > 15 {
+            return None;
+        }
+        Some(ClerkId { number })
+    }
+
+    pub fn get(&self) -> u8
+        ensures value { result ≡ self.now }
+        ensures below { result ≤ 15 }
+    {
+        self.number
+    }
+}
+
+impl Duplicate for ClerkId {
+    fn duplicate(&self) -> Result<Self, NoMemory> {
+        Ok(*self)
+    }
+}
+
+/// The number of an operation, from 1 at each start of its clerk.
+#[derive(Clone, Copy, Debug, Drop, PartialEq, Eq, PartialOrd, Ord)]
+pub struct OpNo(pub u64);
+
+impl Model for OpNo {
+    ghost Value = { ℕ };
+
+    ghost view = { λ a. a.0 };
+
+    ghost inverse = { λ n. record { 0 = n } };
+}
+
+impl Duplicate for OpNo {
+    fn duplicate(&self) -> Result<Self, NoMemory> {
+        Ok(*self)
+    }
+}
+
+/// The number of a session, from 1 over all clerks.
+#[derive(Clone, Copy, Debug, Drop, PartialEq, Eq, PartialOrd, Ord)]
+pub struct SessionNo(pub u64);
+
+impl Model for SessionNo {
+    ghost Value = { ℕ };
+
+    ghost view = { λ a. a.0 };
+
+    ghost inverse = { λ n. record { 0 = n } };
+}
+
+impl Duplicate for SessionNo {
+    fn duplicate(&self) -> Result<Self, NoMemory> {
+        Ok(*self)
+    }
+}
+
+/// How old a clerk's session is: by its boot, then by its round in this boot.
+#[derive(Clone, Copy, Debug, Drop, PartialEq, Eq, PartialOrd, Ord)]
+pub struct Age {
+    pub boot: u64,
+    pub round: u32,
+}
+
+/// What a token allows, in rising order.
+#[derive(Clone, Copy, Debug, Drop, PartialEq, Eq, PartialOrd, Ord)]
+pub enum Hold {
+    Free,
+    Read,
+    Write,
+}
+
+/// The next value of a counter. Counters stop at 2^62.
+pub fn next(n: u64) -> Option<u64>
+    ensures { MatchOption result (2 ^ 62 ≤ n) (λ m. (m ≡ n + 1) × (n < 2 ^ 62)) }
+{
+    if n >= 1 << 62 { None } else { Some(n + 1) }
+}

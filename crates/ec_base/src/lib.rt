@@ -1,0 +1,12 @@
+//! Ids, names, paths, lists, sources and sinks.
+#![tactic(auto)]
+
+mod ids;
+mod list;
+mod name;
+mod outside;
+
+pub use ids::{Age, ClerkId, Hold, ObjId, OpNo, SessionNo, next};
+pub use list::{Duplicate, List, NoMemory};
+pub use name::{Name, NameFault, Path};
+pub use outside::{Gave, MemSink, MemSource, Sink, Source, StdSink, StdSource, Took};
