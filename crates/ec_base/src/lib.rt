@@ -1,11 +1,13 @@
 //! Ids, names, paths, lists, sources and sinks.
 #![tactic(auto)]
 
+mod counter;
 mod ids;
 mod list;
 mod name;
 mod outside;
 
+pub use counter::Counter;
 pub use ids::{Age, ClerkId, Hold, ObjId, OpNo, SessionNo, next};
 pub use list::{Duplicate, List, NoMemory};
 pub use name::{Name, NameFault, Path};

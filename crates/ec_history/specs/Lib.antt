@@ -1,0 +1,4 @@
+pub mod History
+pub mod Legal
+pub mod Placing
+pub mod Lines

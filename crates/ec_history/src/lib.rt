@@ -1,0 +1,11 @@
+//! Histories of calls and losses on one uncached volume, the transcripts that show them, and which
+//! of them are legal.
+#![tactic(auto)]
+
+mod entry;
+mod rule;
+mod shown;
+
+pub use entry::{Answer, Entry};
+pub use rule::Rule;
+pub use shown::{LimitName, Shown};

@@ -1,0 +1,68 @@
+// Calls and their outcomes.
+use ec_base::{List, Name, ObjId, Path};
+use ec_volume::{Kind, Update};
+
+/// A call. A write has 1 to 4,096 bytes, a read asks for at most 4,096, a mode is at most 0o7777
+/// and a `Forder` has 1 to 8 paths.
+#[derive(Debug, Drop)]
+pub enum Call {
+    Mkdir(Path),
+    Create(Path),
+    /// The bytes to write, and their place.
+    Write(Path, u32, List<u8>),
+    SetLen(Path, u32),
+    /// The place, and how many bytes at most.
+    Read(Path, u32, u32),
+    Chmod(Path, u16),
+    Touch(Path, u64),
+    Stat(Path),
+    List(Path),
+    Remove(Path),
+    Rmdir(Path),
+    Rename(Path, Path),
+    Fsync(Path),
+    /// Orders what was issued on these objects before what is issued on them later.
+    Forder(List<Path>),
+    Sync,
+    Chown(Path, u32),
+}
+
+/// Why a call was refused. A number is the place of a name in the path, from 1.
+#[derive(Clone, Copy, Debug, Drop, PartialEq, Eq)]
+pub enum Refusal {
+    NotFound(u8),
+    NotDir(u8),
+    IsDir,
+    Exists,
+    NotEmpty,
+    TooLong,
+    DirFull,
+    Root,
+    /// A directory was to move into itself or below itself.
+    Loop,
+}
+
+/// What a call replies.
+#[derive(Debug, Drop)]
+pub enum Reply {
+    Ok,
+    Data(List<u8>),
+    /// The size is in bytes or entries.
+    Stat {
+        kind: Kind,
+        mode: u16,
+        stamp: u64,
+        owner: u32,
+        size: u32,
+    },
+    Names(List<Name>),
+    Refused(Refusal),
+}
+
+/// What a call comes to: its reply, its update, if any, and the objects that it touched.
+#[derive(Debug, Drop)]
+pub struct Outcome {
+    pub reply: Reply,
+    pub update: Option<Update>,
+    pub touched: List<ObjId>,
+}

@@ -1,0 +1,4 @@
+pub mod Entries
+pub mod Image
+pub mod Update
+pub mod Volume
