@@ -6,9 +6,11 @@ mod ids;
 mod list;
 mod name;
 mod outside;
+mod sorted;
 
 pub use counter::Counter;
 pub use ids::{Age, ClerkId, Hold, ObjId, OpNo, SessionNo, next};
 pub use list::{Duplicate, List, NoMemory};
 pub use name::{Name, NameFault, Path};
 pub use outside::{Gave, MemSink, MemSource, Sink, Source, StdSink, StdSource, Took};
+pub use sorted::SortedMap;

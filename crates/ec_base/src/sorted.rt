@@ -1,0 +1,220 @@
+// A map kept as a vector of pairs in the order of the keys.
+ghost use Rattle.std.specs.Prelude.{◌≡◌, ◌==◌, ◌≤◌, ◌<◌, ◌+◌, List, [], ◌∷◌, T, None, Some, if◌then◌else◌, is_some, length, slice_get, vec_len, vec_capacity, option_copied, OnOk, OnErr, OnSome, IfNone, IfOk, MatchOption, MatchResult};
+ghost use Rattle.std.specs.FinMap.Entries.{find, put, is_sorted};
+ghost use Rattle.ec_base.specs.Sorted.{Stands, Goes, without};
+
+use crate::list::{Duplicate, NoMemory};
+use std::alloc::Global;
+use std::marker::Model;
+use std::mem;
+
+/// A map from keys to values, as the list of its pairs with the keys rising strictly.
+#[derive(Debug, Drop)]
+pub struct SortedMap<K: Ord, V> {
+    items: Vec<(K, V)>,
+}
+
+impl<K: Ord, V> Model for SortedMap<K, V> {
+    ghost use Rattle.std.specs.Prelude.{List, T};
+    ghost use Rattle.std.specs.Coded.{coded_list, coded×};
+    ghost use Rattle.std.specs.FinMap.Entries.{is_sorted};
+
+    ghost Value = { List (K × V) };
+
+    ghost coded = { coded_list (coded× K.code V.code) };
+
+    ghost view = { λ m. m.items.items };
+
+    ghost invariant = { λ m. T (is_sorted K.cmp m.items.items) };
+}
+
+impl<K: Ord, V> SortedMap<K, V> {
+    /// The map without a key.
+    pub fn new(alloc: Global) -> Self
+        ensures { result ≡ [] }
+    {
+        SortedMap {
+            items: Vec::new(alloc),
+        }
+    }
+
+    /// The map of these pairs.
+    pub fn of(items: Vec<(K, V)>) -> Self
+        requires { T (is_sorted K.cmp items.items) }
+        ensures { result ≡ items.items }
+    {
+        SortedMap { items }
+    }
+
+    /// The pairs, by rising keys.
+    pub fn items(&self) -> &[(K, V)]
+        ensures value { result.now ≡ self.now }
+        ensures sorted { T (is_sorted K.cmp self.now) }
+    {
+        &self.items
+    }
+
+    /// The pairs, by rising keys.
+    pub fn into_vec(self) -> Vec<(K, V)>
+        ensures value { result.items ≡ self }
+        ensures sorted { T (is_sorted K.cmp self) }
+    {
+        self.items
+    }
+
+    /// The number of keys.
+    pub fn len(&self) -> usize
+        ensures { result ≡ length self.now }
+    {
+        self.items.len()
+    }
+
+    pub fn is_empty(&self) -> bool
+        ensures { result ≡ (length self.now == 0) }
+    {
+        self.items.is_empty()
+    }
+
+    /// The value at the key.
+    pub fn get(&self, key: &K) -> Option<&V>
+        ensures { option_copied result ≡ find K.cmp key.now self.now }
+    {
+        value_at(&self.items, key)
+    }
+
+    pub fn contains(&self, key: &K) -> bool
+        ensures { result ≡ is_some (find K.cmp key.now self.now) }
+    {
+        value_at(&self.items, key).is_some()
+    }
+
+    /// The pair at a place, counted from 0 by rising keys.
+    pub fn at(&self, place: usize) -> Option<(&K, &V)>
+        ensures { MatchOption result (length self.now ≤ place) (λ pair. slice_get self.now place ≡ Some (pair.0.now, pair.1.now)) }
+    {
+        let (key, value) = self.items.get(place)?;
+        Some((key, value))
+    }
+
+    /// Takes the value out of the key's pair and puts another one in. Where the key is absent,
+    /// nothing changes and the other value is dropped. It takes no memory.
+    pub fn replace(&mut self, key: &K, value: V) -> Option<V>
+    where
+        V: Drop,
+        ensures value { result ≡ find K.cmp key.now self.old }
+        ensures some { OnSome result (self.new ≡ put K.cmp key.now value self.old) }
+        ensures none { IfNone result (self.new ≡ self.old) }
+    {
+        replace_in(&mut self.items, key, value)
+    }
+
+    /// Removes the key. It takes no memory.
+    pub fn remove(&mut self, key: &K) -> Option<V>
+    where
+        K: Drop,
+        ensures value { result ≡ find K.cmp key.now self.old }
+        ensures others { self.new ≡ without K.cmp key.now self.old }
+    {
+        remove_in(&mut self.items, key)
+    }
+
+    /// Gives the key this value. A key that is there keeps its place, and takes no memory.
+    pub fn insert(&mut self, key: K, value: V) -> Result<(), NoMemory>
+    where
+        K: Drop,
+        V: Drop,
+        ensures ok { OnOk result (self.new ≡ put K.cmp key value self.old) }
+        ensures err { OnErr result (self.new ≡ self.old) }
+        ensures absent { OnErr result (find K.cmp key self.old ≡ None) }
+    {
+        insert_in(&mut self.items, key, value)
+    }
+
+    /// Gives two keys their values, the first one before the second.
+    pub fn insert_both(&mut self, first: (K, V), second: (K, V)) -> Result<(), NoMemory>
+    where
+        K: Drop,
+        V: Drop,
+        ensures ok { OnOk result (self.new ≡ put K.cmp second.0 second.1 (put K.cmp first.0 first.1 self.old)) }
+        ensures err { OnErr result (self.new ≡ self.old) }
+    {
+        self.items.reserve(2)?;
+        put_in(&mut self.items, first.0, first.1);
+        put_in(&mut self.items, second.0, second.1);
+        Ok(())
+    }
+}
+
+// Where the key is, or where it would go.
+fn slot_of<K: Ord, V>(items: &[(K, V)], key: &K) -> Result<usize, usize>
+    requires { T (is_sorted K.cmp items.now) }
+    ensures { MatchResult result (Stands K.cmp key.now items.now) (Goes K.cmp key.now items.now) }
+{
+    items.binary_search_by(|(here, _)| here.cmp(key))
+}
+
+fn value_at<'a, K: Ord, V>(items: &'a [(K, V)], key: &K) -> Option<&'a V>
+    requires { T (is_sorted K.cmp items.now) }
+    ensures { option_copied result ≡ find K.cmp key.now items.now }
+{
+    match slot_of(items, key) {
+        Ok(at) => Some(&items[at].1),
+        Err(_) => None,
+    }
+}
+
+fn replace_in<K: Ord, V: Drop>(items: &mut Vec<(K, V)>, key: &K, value: V) -> Option<V>
+    requires { T (is_sorted K.cmp items.old.items) }
+    ensures value { result ≡ find K.cmp key.now items.old.items }
+    ensures some { OnSome result (items.new.items ≡ put K.cmp key.now value items.old.items) }
+    ensures none { IfNone result (items.new.items ≡ items.old.items) }
+{
+    match slot_of(items, key) {
+        Ok(at) => Some(mem::replace(&mut items[at].1, value)),
+        Err(_) => None,
+    }
+}
+
+fn remove_in<K: Ord + Drop, V>(items: &mut Vec<(K, V)>, key: &K) -> Option<V>
+    requires { T (is_sorted K.cmp items.old.items) }
+    ensures value { result ≡ find K.cmp key.now items.old.items }
+    ensures others { items.new.items ≡ without K.cmp key.now items.old.items }
+{
+    match slot_of(items, key) {
+        Ok(at) => Some(items.remove(at).1),
+        Err(_) => None,
+    }
+}
+
+fn insert_in<K: Ord + Drop, V: Drop>(
+    items: &mut Vec<(K, V)>,
+    key: K,
+    value: V,
+) -> Result<(), NoMemory>
+    requires { T (is_sorted K.cmp items.old.items) }
+    ensures ok { OnOk result (items.new.items ≡ put K.cmp key value items.old.items) }
+    ensures err { OnErr result (items.new.items ≡ items.old.items) }
+    ensures absent { OnErr result (find K.cmp key items.old.items ≡ None) }
+{
+    match slot_of(items, &key) {
+        Ok(at) => {
+            items[at].1 = value;
+            Ok(())
+        }
+        Err(at) => Ok(items.insert(at, (key, value))?),
+    }
+}
+
+// Gives the key this value, where there is room for one more pair.
+fn put_in<K: Ord + Drop, V: Drop>(items: &mut Vec<(K, V)>, key: K, value: V)
+    requires sorted { T (is_sorted K.cmp items.old.items) }
+    requires room { vec_len items.old < vec_capacity items.old }
+    ensures items { items.new.items ≡ put K.cmp key value items.old.items }
+    ensures len { vec_len items.new ≤ vec_len items.old + 1 }
+    ensures capacity { vec_capacity items.old ≤ vec_capacity items.new }
+{
+    match slot_of(items, &key) {
+        Ok(at) => items[at].1 = value,
+        Err(at) => items.insert(at, (key, value)).unwrap(),
+    }
+}
