@@ -138,12 +138,24 @@ pub struct Age {
     pub round: u32,
 }
 
+impl Duplicate for Age {
+    fn duplicate(&self) -> Result<Self, NoMemory> {
+        Ok(*self)
+    }
+}
+
 /// What a token allows, in rising order.
 #[derive(Clone, Copy, Debug, Drop, PartialEq, Eq, PartialOrd, Ord)]
 pub enum Hold {
     Free,
     Read,
     Write,
+}
+
+impl Duplicate for Hold {
+    fn duplicate(&self) -> Result<Self, NoMemory> {
+        Ok(*self)
+    }
 }
 
 /// The next value of a counter. Counters stop at 2^62.

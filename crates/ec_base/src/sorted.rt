@@ -3,7 +3,7 @@ ghost use Rattle.std.specs.Prelude.{◌≡◌, ◌==◌, ◌≤◌, ◌<◌, ◌
 ghost use Rattle.std.specs.FinMap.Entries.{find, put, is_sorted};
 ghost use Rattle.ec_base.specs.Sorted.{Stands, Goes, without};
 
-use crate::list::{Duplicate, NoMemory};
+use crate::list::{Duplicate, NoMemory, duplicate_all};
 use std::alloc::Global;
 use std::marker::Model;
 use std::mem;
@@ -142,6 +142,14 @@ impl<K: Ord, V> SortedMap<K, V> {
         put_in(&mut self.items, first.0, first.1);
         put_in(&mut self.items, second.0, second.1);
         Ok(())
+    }
+}
+
+impl<K: Ord + Duplicate + Drop, V: Duplicate + Drop> Duplicate for SortedMap<K, V> {
+    fn duplicate(&self) -> Result<Self, NoMemory> {
+        Ok(SortedMap {
+            items: duplicate_all(&self.items)?,
+        })
     }
 }
 

@@ -1,4 +1,3 @@
-use Rattle.std.proofs.Common.{◌∙◌}
 use Rattle.ec_base.proofs.SortedPairs.{sorted_put, sorted_same}
 use Rattle.ec_base.proofs.sorted.SortedMap.insert_both.Goals as goal
 
