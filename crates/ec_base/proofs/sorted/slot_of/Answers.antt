@@ -1,6 +1,6 @@
 use Rattle.std.proofs.Common.{rules}
 use Rattle.std.proofs.lemmas.Fn.{always_returns_same}
-use Rattle.ec_base.proofs.SortedPairs.{searched}
+use Rattle.ec_base.specs.SortedLaws.{searched}
 use Rattle.ec_base.proofs.sorted.slot_of.Goals as goal
 
 pub returns : goal.returns

@@ -1,4 +1,4 @@
-use Rattle.ec_base.proofs.SortedPairs.{sorted_put, sorted_same}
+use Rattle.ec_base.specs.SortedLaws.{sorted_put, sorted_same}
 use Rattle.ec_base.proofs.sorted.SortedMap.insert_both.Goals as goal
 
 pub put_in-requires-2-clause-sorted : goal.put_in-requires-2-clause-sorted

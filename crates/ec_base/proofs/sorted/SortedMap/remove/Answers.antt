@@ -1,4 +1,4 @@
-use Rattle.ec_base.proofs.SortedPairs.{sorted_without}
+use Rattle.ec_base.specs.SortedLaws.{sorted_without}
 use Rattle.ec_base.proofs.sorted.SortedMap.remove.Goals as goal
 
 pub invariant_of-self : goal.invariant_of-self

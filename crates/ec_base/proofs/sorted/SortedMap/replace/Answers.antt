@@ -1,4 +1,4 @@
-use Rattle.ec_base.proofs.SortedPairs.{sorted_on_some}
+use Rattle.ec_base.specs.SortedLaws.{sorted_on_some}
 use Rattle.ec_base.proofs.sorted.SortedMap.replace.Goals as goal
 
 pub invariant_of-self : goal.invariant_of-self
