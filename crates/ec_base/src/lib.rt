@@ -13,6 +13,6 @@ mod tests;
 pub use counter::Counter;
 pub use ids::{Age, ClerkId, Hold, ObjId, OpNo, SessionNo, next};
 pub use list::{Duplicate, List, NoMemory};
-pub use name::{Name, NameFault, Path};
+pub use name::{Name, NameFault, Path, PathFault};
 pub use outside::{Gave, MemSink, MemSource, Sink, Source, StdSink, StdSource, Took};
 pub use sorted::SortedMap;
