@@ -1,5 +1,7 @@
 // A map kept as a vector of pairs in the order of the keys.
-ghost use Rattle.std.specs.Prelude.{◌≡◌, ◌==◌, ◌≤◌, ◌<◌, ◌+◌, List, [], ◌∷◌, T, None, Some, if◌then◌else◌, is_some, length, slice_get, vec_len, vec_capacity, option_copied, OnOk, OnErr, OnSome, IfNone, IfOk, MatchOption, MatchResult};
+ghost use Rattle.std.specs.Prelude.{◌≡◌, ◌==◌, ◌≤◌, ◌<◌, ◌+◌, ◌&&◌, List, [], ◌∷◌, T, None, Some, if◌then◌else◌, is_some, length, slice_get, vec_len, vec_capacity, option_copied, OnOk, OnErr, OnSome, IfNone, IfOk, MatchOption, MatchResult};
+ghost use Rattle.std.specs.Cmp.{on_per, and_per, on_equiv, and_equiv};
+ghost use Rattle.std.specs.Cmp.Lexicographic.{pointwise, lists_per, lists_equiv};
 ghost use Rattle.std.specs.FinMap.Entries.{find, put, is_sorted};
 ghost use Rattle.ec_base.specs.Sorted.{Stands, Goes, without};
 
@@ -17,7 +19,9 @@ pub struct SortedMap<K: Ord, V> {
 impl<K: Ord, V> Model for SortedMap<K, V> {
     ghost use Rattle.std.specs.Prelude.{List, T};
     ghost use Rattle.std.specs.Coded.{coded_list, coded×};
-    ghost use Rattle.std.specs.FinMap.Entries.{is_sorted};
+    ghost use Rattle.std.specs.Cmp.{on_per, and_per, on_equiv, and_equiv};
+ghost use Rattle.std.specs.Cmp.Lexicographic.{pointwise, lists_per, lists_equiv};
+ghost use Rattle.std.specs.FinMap.Entries.{is_sorted};
 
     ghost Value = { List (K × V) };
 
@@ -143,6 +147,20 @@ impl<K: Ord, V> SortedMap<K, V> {
         put_in(&mut self.items, second.0, second.1);
         Ok(())
     }
+}
+
+impl<K: Ord, V: PartialEq> PartialEq for SortedMap<K, V> {
+    ghost eq = { pointwise (λ p q. K.PartialEq.eq p.0 q.0 && V.eq p.1 q.1) };
+
+    ghost laws = { lists_per (and_per (on_per (λ p. p.0) K.PartialEq.laws) (on_per (λ p. p.1) V.laws)) };
+
+    fn eq(&self, other: &SortedMap<K, V>) -> bool {
+        self.items == other.items
+    }
+}
+
+impl<K: Ord, V: Eq> Eq for SortedMap<K, V> {
+    ghost laws = { lists_equiv (and_equiv (on_equiv (λ p. p.0) K.Eq.laws) (on_equiv (λ p. p.1) V.Eq.laws)) };
 }
 
 impl<K: Ord + Duplicate + Drop, V: Duplicate + Drop> Duplicate for SortedMap<K, V> {
