@@ -20,8 +20,8 @@ impl<K: Ord, V> Model for SortedMap<K, V> {
     ghost use Rattle.std.specs.Prelude.{List, T};
     ghost use Rattle.std.specs.Coded.{coded_list, coded×};
     ghost use Rattle.std.specs.Cmp.{on_per, and_per, on_equiv, and_equiv};
-ghost use Rattle.std.specs.Cmp.Lexicographic.{pointwise, lists_per, lists_equiv};
-ghost use Rattle.std.specs.FinMap.Entries.{is_sorted};
+    ghost use Rattle.std.specs.Cmp.Lexicographic.{pointwise, lists_per, lists_equiv};
+    ghost use Rattle.std.specs.FinMap.Entries.{is_sorted};
 
     ghost Value = { List (K × V) };
 
