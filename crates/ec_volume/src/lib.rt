@@ -2,11 +2,14 @@
 #![tactic(auto)]
 
 mod entries;
+mod carry;
+mod effect;
+mod fits;
 mod image;
 mod update;
 mod volume;
 
 pub use entries::Entries;
 pub use image::{Image, Kind};
-pub use update::Update;
-pub use volume::Volume;
+pub use update::{Update, operands};
+pub use volume::{ApplyFault, Volume};

@@ -1,0 +1,3 @@
+pub mod Pairs
+pub mod Bytes
+pub mod Distinct
