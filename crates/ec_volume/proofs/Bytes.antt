@@ -18,7 +18,7 @@ drop-filled : (e : ℕ) (bs : List ℕ) → drop e (bs ++ replicate (e - length 
 drop-filled e [] =
     let none : e - e ≡ 0 = omega arith in
     rw (sub-zero e, drop-nil {A = ℕ} e, drop-replicate {X = ℕ} e e 0, none)
-drop-filled zero (b ∷ bs) = rw (zero-sub (suc (length bs)), append-nil)
+drop-filled zero (b ∷ bs) = rw (zero-sub (suc (length bs))) (append-nil (b ∷ bs))
 drop-filled (suc e) (b ∷ bs) =
     let p : suc e - suc (length bs) ≡ e - length bs = omega arith in
     rw p (drop-filled e bs)

@@ -1,5 +1,5 @@
 // All objects by their ids.
-ghost use Rattle.std.specs.Prelude.{◌≡◌, ◌×◌, ◌≤◌, ℕ, T, true, false, None, Some, [], ◌∷◌, length, not, MatchOption, IfOk, OnOk, OnErr, IfErr, slice_get};
+ghost use Rattle.std.specs.Prelude.{◌≡◌, ◌≤◌, ℕ, T, true, false, None, Some, [], ◌∷◌, length, not, MatchOption, IfOk, OnOk, OnErr, IfErr, slice_get};
 ghost use Rattle.std.specs.Ordering.{nat_cmp};
 ghost use Rattle.std.specs.FinMap.{is_sorted, put};
 ghost use Rattle.ec_base.specs.Sorted.{without};
@@ -9,6 +9,7 @@ ghost use Rattle.ec_volume.specs.Update.{is_sound, operands, first_unfit, fits, 
 ghost use Rattle.ec_volume.specs.Volume.{images, formatted, after};
 ghost use Rattle.ec_volume.specs.Held.{IsVolume, Unfits};
 
+use crate::carry::carry_out;
 use crate::image::{Image, Kind};
 use crate::update::{Update, operands};
 use ec_base::{Duplicate, Name, NoMemory, ObjId, SortedMap};
@@ -67,7 +68,7 @@ impl Volume {
 
     /// The image of a live object.
     pub fn look(&self, id: ObjId) -> Option<&Image>
-        ensures { MatchOption result (images self.now id ≡ Gone) (λ image. (images self.now id ≡ image.now) × (is_gone image.now ≡ false)) }
+        ensures { MatchOption result (images self.now id ≡ Image.Gone) (λ image. (images self.now id ≡ image.now) × (is_gone image.now ≡ false)) }
     {
         self.map.get(&id)
     }
