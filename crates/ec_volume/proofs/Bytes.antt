@@ -1,5 +1,5 @@
 -- Bytes with zeros behind their end, and others written into them.
-use Rattle.std.proofs.Common.{◌≡◌, ℕ, zero, suc, ◌+◌, ◌-◌, ◌≤◌, List, [], ◌∷◌, ◌++◌, length, take, drop, replicate, refl, sym, ap, ◌∙◌, arith, append-nil}
+use Rattle.std.proofs.Common.{◌≡◌, ℕ, zero, suc, ◌+◌, ◌-◌, ◌≤◌, List, [], ◌∷◌, ◌++◌, length, take, drop, replicate, ap, arith, append-nil}
 use Rattle.std.proofs.Math.Nat.{sub-zero, zero-sub}
 use Rattle.std.proofs.Math.Seq.{take-nil, drop-nil, take-append_seam}
 use Rattle.std.proofs.lemmas.List.{take-replicate, drop-replicate}

@@ -1,5 +1,5 @@
 -- Lists of ids without repetition, and what is left of them behind a test.
-use Rattle.std.proofs.Common.{◌≡◌, ℕ, List, [], ◌∷◌, ◌++◌, Bool, true, false, refl, sym, ap, ◌∙◌, arith}
+use Rattle.std.proofs.Common.{◌≡◌, ℕ, List, [], ◌∷◌, ◌++◌, Bool, true, false, refl, ap, ◌∙◌, arith}
 use Rattle.std.specs.Prelude.{◌==◌, not, ◌&&◌, ◌||◌}
 use Rattle.std.specs.List.{filter, list_any}
 use Rattle.std.proofs.lemmas.Bool.Decides.{nat_tests}
@@ -23,7 +23,6 @@ distinct-append : (xs ys : List ℕ) → distinct (xs ++ ys) ≡ (distinct xs &&
 distinct-append [] ys = refl
 distinct-append (x ∷ xs) ys =
     rw (member-append x xs ys, distinct-append xs ys) (regroup (member x xs) (member x ys) (distinct xs) (list_any (λ o. member o ys) xs) (distinct ys))
-
 
 member-others : (d o : ℕ) (xs : List ℕ) → (o == d) ≡ false → member o (filter (λ p. not (p == d)) xs) ≡ member o xs
 member-others d o [] h = refl

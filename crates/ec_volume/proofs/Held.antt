@@ -1,10 +1,10 @@
 -- What a volume's list shows after a change, and that it stays one.
-use Rattle.std.proofs.Common.{◌≡◌, ℕ, List, [], ◌∷◌, Option, None, Some, Bool, true, false, cond, refl, sym, ap, subst, ◌∙◌}
-use Rattle.std.specs.Prelude.{◌==◌, ◌&&◌, if◌then◌else◌, T, not, unwrap_or, is_some, Result, Ok, Err, is_err, OnOk, OnErr, OnSome}
-use Rattle.std.specs.declared.cmp.Ordering.{Ordering}
+use Rattle.std.proofs.Common.{Bor, ◌≡◌, ℕ, suc, ◌+◌, ◌-◌, ◌≤◌, ◌<◌, arith, length, List, [], ◌∷◌, Option, None, Some, Bool, true, false, cond, refl, sym, ap, subst, ◌∙◌}
+use Rattle.std.specs.Prelude.{◌==◌, ◌&&◌, if◌then◌else◌, T, not, unwrap_or, is_some, Result, Ok, Err, is_err, OnOk, OnErr, OnSome, MatchOption, option_copied, slice_get}
 use Rattle.std.specs.declared.cmp.Ordering.TheVariants.{Less, Equal, Greater}
 use Rattle.std.specs.List.{list_all}
-use Rattle.std.specs.Ordering.{nat_cmp, eq_by_cmp}
+use Rattle.std.specs.Ordering.{nat_cmp, eq_by_cmp, is_lt}
+use Rattle.std.proofs.lemmas.Bool.Decides.{nat_tests}
 use Rattle.std.specs.Cmp.{nat_cmp_total, eq_by_cmp_equiv, unsigned_ties}
 use Rattle.std.specs.FinMap.{nat_cmp-IsAntisymmetric, find, put, is_sorted}
 use Rattle.std.specs.FinMap.Entries.{by_order, where_key, is_sorted-put, is_sorted-where_key, find-put}
@@ -176,3 +176,29 @@ added_removed k i es middle new v h e f = f ∙ ap (without nat_cmp k) e ∙ wit
 -- the images of other objects stay
 pub image_stays : (k o : ℕ) (i : Image) (es new : List (ℕ × Image)) → (o == k) ≡ false → new ≡ put nat_cmp k i es → images new o ≡ images es o
 image_stays k o i es new h e = changed k i es new e o ∙ rw h
+
+-- What a look-up and a count give.
+
+pub looked : (es : List (ℕ × Image)) (k : ℕ) (r : Option (Bor Image)) → IsVolume es → option_copied r ≡ find nat_cmp k es → MatchOption r (images es k ≡ Gone) (λ i. (images es k ≡ i.now) × (is_gone i.now ≡ false))
+looked es k None v e = images_find es k ∙ ap (λ f. unwrap_or f Gone) (sym e)
+looked es k (Some i) v e = (images_find es k ∙ ap (λ f. unwrap_or f Gone) (sym e), found_live es k i.now v.live (sym e))
+
+lower : (a b : ℕ) → T (is_lt (nat_cmp a b)) → a < b
+lower a b h = grind (arith, nat_tests)
+
+climbs : (e : ℕ × Image) (es : List (ℕ × Image)) (b : ℕ × Image) → T (is_sorted nat_cmp (e ∷ es)) → Some b ≡ slice_get (e ∷ es) (length es) → e.0 + length es ≤ b.0
+climbs e [] b h g = let same : b ≡ e = cc in subst (λ (x : ℕ × Image). e.0 + 0 ≤ x.0) (sym same) (omega arith)
+climbs e (f ∷ fs) b h g =
+    let later : f.0 + length fs ≤ b.0 = climbs f fs b (second _ _ h) g in
+    let here : e.0 < f.0 = lower e.0 f.0 (first _ _ (first _ _ h)) in
+    omega arith
+
+-- rising ids from 1 are no more than the last one says
+pub counted : (es : List (ℕ × Image)) (a b : ℕ × Image) → T (is_sorted nat_cmp es) → Some a ≡ slice_get es 0 → Some b ≡ slice_get es (length es - 1) → 1 ≤ a.0 → length es ≤ b.0
+counted [] a b h f g one = cc
+counted (e ∷ es) a b h f g one =
+    let same : a ≡ e = cc in
+    let low : 1 ≤ e.0 = subst (λ (x : ℕ × Image). 1 ≤ x.0) same one in
+    let last : suc (length es) - 1 ≡ length es = omega arith in
+    let high : e.0 + length es ≤ b.0 = climbs e es b h (rw last at g) in
+    omega arith

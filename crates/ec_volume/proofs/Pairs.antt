@@ -1,5 +1,5 @@
 -- Changes of lists of pairs whose keys rise, in another order or again.
-use Rattle.std.proofs.Common.{◌≡◌, List, Option, None, Some, Bool, true, false, cond, refl, sym, ap, subst, ◌∙◌}
+use Rattle.std.proofs.Common.{◌≡◌, List, Option, None, Some, Bool, true, false, cond, refl, sym, ap, ◌∙◌}
 use Rattle.std.specs.Prelude.{T, not}
 use Rattle.std.specs.declared.cmp.Ordering.{Ordering}
 use Rattle.std.specs.declared.cmp.Ordering.TheVariants.{Less, Equal, Greater}
@@ -55,12 +55,12 @@ module _ {K X : Type 0} (R : K → K → Ordering) (o : IsTotalOrder R) (same : 
   without-put k m v es h other =
       same_entries R o same _ _ (is_sorted-where_key R _ _ (is_sorted-put R o m v es h)) (is_sorted-put R o m v _ (is_sorted-where_key R _ es h))
       (λ q. find-without q k (put R m v es) ∙ ap (λ f. cond (not (eq_by_cmp R k q)) f None) (find-put R o q m v es)
-        ∙ commuted (eq_by_cmp R q m) (not (eq_by_cmp R k q)) (Some v) (find R q es) None (λ t. ap (λ x. not (eq_by_cmp R k x)) (same_key R same q m t) ∙ ap not other)
-        ∙ ap (cond (eq_by_cmp R q m) (Some v)) (sym (find-without q k es)) ∙ sym (find-put R o q m v (without R k es)))
+      ∙ commuted (eq_by_cmp R q m) (not (eq_by_cmp R k q)) (Some v) (find R q es) None (λ t. ap (λ x. not (eq_by_cmp R k x)) (same_key R same q m t) ∙ ap not other)
+      ∙ ap (cond (eq_by_cmp R q m) (Some v)) (sym (find-without q k es)) ∙ sym (find-put R o q m v (without R k es)))
 
   -- a key that comes and goes
   pub without-new : (k : K) (v : X) (es : List (K × X)) → T (is_sorted R es) → find R k es ≡ None → without R k (put R k v es) ≡ es
   without-new k v es h absent =
       same_entries R o same _ _ (is_sorted-where_key R _ _ (is_sorted-put R o k v es h)) h
       (λ q. find-without q k (put R k v es) ∙ ap (λ f. cond (not (eq_by_cmp R k q)) f None) (find-put R o q k v es ∙ ap (λ b. cond b (Some v) (find R q es)) ((eq_by_cmp_equiv o).symm q k))
-        ∙ gone (eq_by_cmp R k q) (Some v) (find R q es) (λ t. ap (λ m. find R m es) (sym (same_key R same k q t)) ∙ absent))
+      ∙ gone (eq_by_cmp R k q) (Some v) (find R q es) (λ t. ap (λ m. find R m es) (sym (same_key R same k q t)) ∙ absent))

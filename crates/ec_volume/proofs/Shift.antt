@@ -1,17 +1,16 @@
 -- A move between two directories, one operand after the other.
-use Rattle.std.proofs.Common.{◌≡◌, ℕ, List, [], ◌∷◌, ◌++◌, Option, None, Some, Bool, true, false, refl, sym, ap, subst, ◌∙◌, arith}
+use Rattle.std.proofs.Common.{◌≡◌, ℕ, List, ◌∷◌, ◌++◌, Option, None, Some, Bool, true, false, refl, sym, ap, ◌∙◌, arith}
 use Rattle.std.specs.Prelude.{◌==◌, ◌&&◌, ◌||◌, if◌then◌else◌, T, not}
 use Rattle.std.specs.List.{filter}
-use Rattle.std.proofs.lemmas.Bool.Decides.{Decides-eqb, nat_tests}
+use Rattle.std.proofs.lemmas.Bool.Decides.{Decides-eqb}
 use Rattle.ec_volume.specs.Entries.{without_entry, with_entry}
-use Rattle.ec_volume.specs.Image.{is_gone, is_dir, is_id, is_kind, is_bare, gives, yields, with_entries}
+use Rattle.ec_volume.specs.Image.{is_gone, is_dir, is_id, gives, yields, with_entries}
 use Rattle.ec_volume.specs.Update.{Above, operands, first_unfit, fits, effect, leads, has_room, has_operand, member, distinct, listed, ids_of, is_within, is_sound}
 use Rattle.ec_volume.specs.Volume.{Images, image_next}
 use Rattle.ec_volume.specs.Held.{instead, cleared}
 use Rattle.ec_volume.specs.declared.image.Kind.{Kind}
 use Rattle.ec_volume.specs.declared.image.Image.{Image}
 use Rattle.ec_volume.specs.declared.image.Image.TheVariants.{Gone, File, Dir}
-use Rattle.ec_volume.specs.declared.update.Update.{Update}
 use Rattle.ec_volume.specs.declared.update.Update.TheVariants.{Shift}
 use Rattle.ec_volume.proofs.Held.{live-with_entries}
 
@@ -59,9 +58,9 @@ cleared_by (Some t) w o = refl
 
 -- at dir, at into, at the victim or elsewhere; there is one of them only, and each one is an operand
 settled : (at_dir at_into gone operand meet back here : Bool) (f g : Image → Image) (i d n z : Image)
-  → meet ≡ false → back ≡ false → here ≡ true
-  → (at_dir ≡ true → (d ≡ i) × (gone ≡ false) × (operand ≡ true)) → (at_into ≡ true → (n ≡ i) × (gone ≡ false) × (operand ≡ true)) → (gone ≡ true → operand ≡ true)
-  → (if gone then Gone else if at_dir then f (if meet then (if back then f n else if here then g n else z) else d) else if at_into then (if back then f n else if here then g n else z) else i)
+    → meet ≡ false → back ≡ false → here ≡ true
+    → (at_dir ≡ true → (d ≡ i) × (gone ≡ false) × (operand ≡ true)) → (at_into ≡ true → (n ≡ i) × (gone ≡ false) × (operand ≡ true)) → (gone ≡ true → operand ≡ true)
+    → (if gone then Gone else if at_dir then f (if meet then (if back then f n else if here then g n else z) else d) else if at_into then (if back then f n else if here then g n else z) else i)
     ≡ (if operand then (if at_dir then f i else if at_into then g i else if gone then Gone else i) else i)
 settled true b c m meet back here f g i d n z p q r x y t = rw (p, (x refl).1, (x refl).2) (ap f (x refl).0)
 settled false true c m meet back here f g i d n z p q r x y t = rw (q, r, (y refl).1, (y refl).2) (ap g (y refl).0)
@@ -121,7 +120,7 @@ module _ (dir : ℕ) (from : List ℕ) (into : ℕ) (to : List ℕ) (obj : ℕ) 
   shift_stays e = stays (into == dir) (into == into) (λ es. without_entry es from) (λ es. with_entry es to obj) (v into) _ (same into) (shift_live e)
 
   shifted : distinct (operands (Shift dir from into to obj k victim up)) ≡ true → (o : ℕ)
-    → cleared victim (instead dir (with_entries (λ es. without_entry es from) (instead into (effect (Shift dir from into to obj k victim up) into (v into)) v dir)) (instead into (effect (Shift dir from into to obj k victim up) into (v into)) v)) o
+      → cleared victim (instead dir (with_entries (λ es. without_entry es from) (instead into (effect (Shift dir from into to obj k victim up) into (v into)) v dir)) (instead into (effect (Shift dir from into to obj k victim up) into (v into)) v)) o
       ≡ image_next o (v o) (Shift dir from into to obj k victim up)
   shifted h o =
       let rest = filter (λ p. not (p == dir)) (ids_of up) in
@@ -135,21 +134,25 @@ module _ (dir : ℕ) (from : List ℕ) (into : ℕ) (to : List ℕ) (obj : ℕ) 
       let back : (into == dir) ≡ false = unless (into == dir) (dir == into) (λ t. ap (λ n. dir == n) ((Decides-eqb into dir).0 t) ∙ same dir) meet in
       cleared_by victim (instead dir (with_entries (λ es. without_entry es from) (instead into E v dir)) (instead into E v)) o
       ∙ settled (o == dir) (o == into) (is_id o victim) (has_operand o (Shift dir from into to obj k victim up)) (dir == into) (into == dir) (into == into)
-        (with_entries (λ es. without_entry es from)) (with_entries (λ es. with_entry es to obj)) (v o) (v dir) (v into) (if is_id into victim then Gone else v into)
-        meet back (same into)
-        (λ t. (ap v (sym ((Decides-eqb o dir).0 t)),
-          unless (is_id o victim) (member o four) (listed_member o victim rest) (apart o dir four t (later_lacks dir obj four (later_lacks dir into three dir_alone))),
-          member_here o dir two t))
-        (λ t. (ap v (sym ((Decides-eqb o into).0 t)),
-          unless (is_id o victim) (member o four) (listed_member o victim rest) (apart o into four t (later_lacks into obj four into_alone)),
-          member_tail o dir two (member_here o into three t)))
-        (λ t. member_tail o dir two (member_tail o into three (member_tail o obj four (listed_member o victim rest t))))
+      (with_entries (λ es. without_entry es from)) (with_entries (λ es. with_entry es to obj)) (v o) (v dir) (v into) (if is_id into victim then Gone else v into)
+      meet back (same into)
+      (λ t. (
+        ap v (sym ((Decides-eqb o dir).0 t)),
+        unless (is_id o victim) (member o four) (listed_member o victim rest) (apart o dir four t (later_lacks dir obj four (later_lacks dir into three dir_alone))),
+        member_here o dir two t,
+      ))
+      (λ t. (
+        ap v (sym ((Decides-eqb o into).0 t)),
+        unless (is_id o victim) (member o four) (listed_member o victim rest) (apart o into four t (later_lacks into obj four into_alone)),
+        member_tail o dir two (member_here o into three t),
+      ))
+      (λ t. member_tail o dir two (member_tail o into three (member_tail o obj four (listed_member o victim rest t))))
 
   -- the entry of the new directory, then that of the old one, then the victim
   pub carried : T (is_sound (Shift dir from into to obj k victim up)) → (v1 v2 v3 : Images)
-    → ((p : ℕ) → v1 p ≡ instead into (effect (Shift dir from into to obj k victim up) into (v into)) v p)
-    → ((p : ℕ) → v2 p ≡ instead dir (with_entries (λ es. without_entry es from) (v1 dir)) v1 p)
-    → ((p : ℕ) → v3 p ≡ cleared victim v2 p) → (o : ℕ) → v3 o ≡ image_next o (v o) (Shift dir from into to obj k victim up)
+      → ((p : ℕ) → v1 p ≡ instead into (effect (Shift dir from into to obj k victim up) into (v into)) v p)
+      → ((p : ℕ) → v2 p ≡ instead dir (with_entries (λ es. without_entry es from) (v1 dir)) v1 p)
+      → ((p : ℕ) → v3 p ≡ cleared victim v2 p) → (o : ℕ) → v3 o ≡ image_next o (v o) (Shift dir from into to obj k victim up)
   carried sound v1 v2 v3 e f g o =
       let E = effect (Shift dir from into to obj k victim up) into (v into) in
       let F = with_entries (λ es. without_entry es from) in

@@ -37,7 +37,11 @@ impl Image {
                 }
             }
             Update::Move {
-                dir, from, to, obj, ..
+                dir,
+                from,
+                to,
+                obj,
+                ..
             } => {
                 if at == *dir {
                     return self.rename_entry(from, to, *obj);
@@ -47,7 +51,9 @@ impl Image {
                 }
             }
             Update::Put {
-                at: place, bytes, ..
+                at: place,
+                bytes,
+                ..
             } => return self.overwrite(alloc, *place as usize, bytes.as_slice()),
             Update::Len { len, .. } => return self.resize(alloc, *len as usize),
             Update::Mode { mode, .. } => self.set_mode(*mode),

@@ -93,8 +93,7 @@ impl Image {
         match up {
             [] => true,
             [(dir, name), rest @ ..] => {
-                (at != *dir || self.gives(name, first_of(rest, into)))
-                    && self.leads(rest, into, at)
+                (at != *dir || self.gives(name, first_of(rest, into))) && self.leads(rest, into, at)
             }
         }
     }

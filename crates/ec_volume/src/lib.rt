@@ -1,9 +1,9 @@
 //! Objects, their images, updates and volumes.
 #![tactic(auto)]
 
-mod entries;
 mod carry;
 mod effect;
+mod entries;
 mod fits;
 mod image;
 mod update;

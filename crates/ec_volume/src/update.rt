@@ -194,9 +194,7 @@ fn is_apart(
 {
     match victim {
         None => distinct(&[dir, into, obj]) && !meets(&[into, obj], up),
-        Some(victim) => {
-            distinct(&[dir, into, obj, victim]) && !meets(&[into, obj, victim], up)
-        }
+        Some(victim) => { distinct(&[dir, into, obj, victim]) && !meets(&[into, obj, victim], up) }
     }
 }
 
@@ -234,7 +232,10 @@ pub fn operands(alloc: Global, update: &Update) -> Result<Vec<ObjId>, NoMemory>
             Ok(Vec::from_slice(alloc, &[*dir, *obj])?)
         }
         Update::Move {
-            dir, obj, victim, ..
+            dir,
+            obj,
+            victim,
+            ..
         } => {
             let mut ids = Vec::from_slice(alloc, &[*dir, *obj])?;
             push_victim(&mut ids, *victim)?;

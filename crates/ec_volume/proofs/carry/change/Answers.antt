@@ -29,9 +29,9 @@ returns-clause-volume c =
     let is : new ≡ put nat_cmp c.args.id c.effect-done.new.self old = given c.args.id c.effect-done.new.self Gone old c.take-image.new.map new c.requires.volume c.take-image.ensures.left c.give.ensures in
     volume_on_ok c.effect-done.result c.args.id after old new
     (then_ok c.effect-done.result (c.effect-done.new.self ≡ effect c.args.update.now c.args.id c.take-image.result) (new ≡ put nat_cmp c.args.id after old)
-      (λ e. is ∙ ap (λ i. put nat_cmp c.args.id i old) (e ∙ ap (effect c.args.update.now c.args.id) c.take-image.ensures.image)) c.effect-done.ensures.ok)
+    (λ e. is ∙ ap (λ i. put nat_cmp c.args.id i old) (e ∙ ap (effect c.args.update.now c.args.id) c.take-image.ensures.image)) c.effect-done.ensures.ok)
     (then_err c.effect-done.result (c.effect-done.new.self ≡ c.take-image.result) (new ≡ old)
-      (λ e. given_back c.args.id old new c.requires.volume c.requires.live (is ∙ ap (λ i. put nat_cmp c.args.id i old) (e ∙ c.take-image.ensures.image))) c.effect-done.ensures.err)
+    (λ e. given_back c.args.id old new c.requires.volume c.requires.live (is ∙ ap (λ i. put nat_cmp c.args.id i old) (e ∙ c.take-image.ensures.image))) c.effect-done.ensures.err)
     c.requires.stays c.requires.volume
 
 pub returns-clause-err : goal.returns-clause-err
