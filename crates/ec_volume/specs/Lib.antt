@@ -2,3 +2,4 @@ pub mod Entries
 pub mod Image
 pub mod Update
 pub mod Volume
+pub mod Held

@@ -1,6 +1,11 @@
 // What stands under an id.
+ghost use Rattle.std.specs.Prelude.{◌≡◌, ◌==◌, ◌&&◌, ℕ, Bool, List, [], length, Option};
+ghost use Rattle.ec_volume.specs.Entries.{entry};
+ghost use Rattle.ec_volume.specs.Image.{is_gone, is_file, is_dir, is_kind, entries_of, bytes_of, is_id, lacks, gives, is_bare, yields, new_object};
+
 use crate::entries::Entries;
-use ec_base::List;
+use ec_base::{Duplicate, List, Name, NoMemory, ObjId};
+use std::alloc::Global;
 
 /// The kind of an object.
 #[derive(Clone, Copy, Debug, Drop, PartialEq, Eq)]
@@ -26,4 +31,159 @@ pub enum Image {
         owner: u32,
         entries: Entries,
     },
+}
+
+impl Image {
+    // An empty object with the mode that new objects have.
+    pub(crate) fn new_object(alloc: Global, kind: Kind) -> Image
+        ensures { result ≡ new_object kind }
+    {
+        match kind {
+            Kind::File => Image::File {
+                mode: 0o644,
+                stamp: 0,
+                owner: 0,
+                bytes: List::of(Vec::new(alloc)),
+            },
+            Kind::Dir => Image::Dir {
+                mode: 0o755,
+                stamp: 0,
+                owner: 0,
+                entries: Entries::new(alloc),
+            },
+        }
+    }
+
+    pub(crate) fn is_gone(&self) -> bool
+        ensures { result ≡ is_gone self.now }
+    {
+        matches!(self, Image::Gone)
+    }
+
+    pub(crate) fn is_file(&self) -> bool
+        ensures { result ≡ is_file self.now }
+    {
+        matches!(self, Image::File { .. })
+    }
+
+    pub(crate) fn is_dir(&self) -> bool
+        ensures { result ≡ is_dir self.now }
+    {
+        matches!(self, Image::Dir { .. })
+    }
+
+    pub(crate) fn is_kind(&self, kind: Kind) -> bool
+        ensures { result ≡ is_kind kind self.now }
+    {
+        match kind {
+            Kind::File => self.is_file(),
+            Kind::Dir => self.is_dir(),
+        }
+    }
+
+    // The id that the name stands for in a directory.
+    pub(crate) fn entry(&self, name: &Name) -> Option<ObjId>
+        ensures { result ≡ entry (entries_of self.now) name.now }
+    {
+        match self {
+            Image::Dir { entries, .. } => entries.get(name),
+            Image::File { .. } | Image::Gone => None,
+        }
+    }
+
+    // How many entries a directory has.
+    pub(crate) fn entry_count(&self) -> usize
+        ensures { result ≡ length (entries_of self.now) }
+    {
+        match self {
+            Image::Dir { entries, .. } => entries.len(),
+            Image::File { .. } | Image::Gone => 0,
+        }
+    }
+
+    // How many bytes a file has.
+    pub(crate) fn byte_count(&self) -> usize
+        ensures { result ≡ length (bytes_of self.now) }
+    {
+        match self {
+            Image::File { bytes, .. } => bytes.as_slice().len(),
+            Image::Dir { .. } | Image::Gone => 0,
+        }
+    }
+
+    // A directory without this name.
+    pub(crate) fn lacks(&self, name: &Name) -> bool
+        ensures { result ≡ lacks name.now self.now }
+    {
+        self.is_dir() && self.entry(name).is_none()
+    }
+
+    // A directory whose entry of this name is the id.
+    pub(crate) fn gives(&self, name: &Name, id: ObjId) -> bool
+        ensures { result ≡ gives name.now id self.now }
+    {
+        self.is_dir() && is_id(id, self.entry(name))
+    }
+
+    // Of the kind, and empty where a directory.
+    pub(crate) fn is_bare(&self, kind: Kind) -> bool
+        ensures { result ≡ is_bare kind self.now }
+    {
+        self.is_kind(kind) && self.entry_count() == 0
+    }
+
+    // A directory in which the name is the victim's, or no entry where there is none.
+    pub(crate) fn yields(&self, name: &Name, victim: Option<ObjId>) -> bool
+        ensures { result ≡ yields name.now victim self.now }
+    {
+        match victim {
+            Some(id) => self.gives(name, id),
+            None => self.lacks(name),
+        }
+    }
+}
+
+pub(crate) fn is_id(id: ObjId, other: Option<ObjId>) -> bool
+    ensures { result ≡ is_id id other }
+{
+    match other {
+        Some(other) => id == other,
+        None => false,
+    }
+}
+
+impl Duplicate for Kind {
+    fn duplicate(&self) -> Result<Self, NoMemory> {
+        Ok(*self)
+    }
+}
+
+impl Duplicate for Image {
+    fn duplicate(&self) -> Result<Self, NoMemory> {
+        match self {
+            Image::Gone => Ok(Image::Gone),
+            Image::File {
+                mode,
+                stamp,
+                owner,
+                bytes,
+            } => Ok(Image::File {
+                mode: *mode,
+                stamp: *stamp,
+                owner: *owner,
+                bytes: bytes.duplicate()?,
+            }),
+            Image::Dir {
+                mode,
+                stamp,
+                owner,
+                entries,
+            } => Ok(Image::Dir {
+                mode: *mode,
+                stamp: *stamp,
+                owner: *owner,
+                entries: entries.duplicate()?,
+            }),
+        }
+    }
 }

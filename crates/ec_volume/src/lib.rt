@@ -1,12 +1,15 @@
 //! Objects, their images, updates and volumes.
 #![tactic(auto)]
 
+mod carry;
+mod effect;
 mod entries;
+mod fits;
 mod image;
 mod update;
 mod volume;
 
 pub use entries::Entries;
 pub use image::{Image, Kind};
-pub use update::Update;
-pub use volume::Volume;
+pub use update::{Update, operands};
+pub use volume::{ApplyFault, Volume};

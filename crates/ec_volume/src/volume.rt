@@ -1,12 +1,46 @@
 // All objects by their ids.
-use crate::image::Image;
-use ec_base::ObjId;
+ghost use Rattle.std.specs.Prelude.{◌≡◌, ◌≤◌, ℕ, T, true, false, None, Some, [], ◌∷◌, length, not, MatchOption, IfOk, OnOk, OnErr, IfErr, slice_get};
+ghost use Rattle.std.specs.Ordering.{nat_cmp};
+ghost use Rattle.std.specs.FinMap.{is_sorted, put};
+ghost use Rattle.ec_base.specs.Sorted.{without};
+ghost use Rattle.ec_volume.specs.Entries.{without_entry};
+ghost use Rattle.ec_volume.specs.Image.{is_gone, with_entries};
+ghost use Rattle.ec_volume.specs.Update.{is_sound, operands, first_unfit, fits, effect};
+ghost use Rattle.ec_volume.specs.Volume.{images, formatted, after};
+ghost use Rattle.ec_volume.specs.Held.{IsVolume, Unfits};
+
+use crate::carry::carry_out;
+use crate::image::{Image, Kind};
+use crate::update::{Update, operands};
+use ec_base::{Duplicate, Name, NoMemory, ObjId, SortedMap};
+use std::alloc::Global;
 use std::marker::Model;
+use thiserror::Error;
+
+/// Why an update wasn't applied.
+#[derive(Clone, Copy, Debug, Drop, PartialEq, Eq, Error)]
+pub enum ApplyFault {
+    /// The first operand at which the update doesn't fit.
+    #[error("unfit")]
+    Unfit(ObjId),
+    #[error("out of memory")]
+    NoMemory,
+}
+
+impl From<NoMemory> for ApplyFault {
+    ghost use Rattle.ec_volume.specs.declared.volume.ApplyFault.TheVariants as fault;
+
+    ghost from_gives = { λ _ e. e ≡ fault.NoMemory };
+
+    fn from(_: NoMemory) -> Self {
+        ApplyFault::NoMemory
+    }
+}
 
 /// A volume: its live objects' images by rising ids.
 #[derive(Debug, Drop)]
 pub struct Volume {
-    images: Vec<(ObjId, Image)>,
+    map: SortedMap<ObjId, Image>,
 }
 
 impl Model for Volume {
@@ -15,5 +49,99 @@ impl Model for Volume {
 
     ghost Value = { List (ℕ × Image) };
 
-    ghost view = { λ a. a.images.items };
+    ghost use Rattle.ec_volume.specs.Held.{IsVolume};
+
+    ghost view = { λ a. a.map };
+
+    ghost invariant = { λ a. IsVolume a.map };
+}
+
+impl Volume {
+    /// The root alone, an empty directory.
+    pub fn formatted(alloc: Global) -> Result<Volume, NoMemory>
+        ensures { IfOk result (λ volume. (o : ℕ) → images volume o ≡ formatted o) }
+    {
+        let mut map = SortedMap::new(alloc);
+        map.insert(ObjId::root(), Image::new_object(alloc, Kind::Dir))?;
+        Ok(Volume { map })
+    }
+
+    /// The image of a live object.
+    pub fn look(&self, id: ObjId) -> Option<&Image>
+        ensures { MatchOption result (images self.now id ≡ Image.Gone) (λ image. (images self.now id ≡ image.now) × (is_gone image.now ≡ false)) }
+    {
+        self.map.get(&id)
+    }
+
+    /// How many live objects there are.
+    pub fn live(&self) -> u32
+        ensures count { result ≡ length self.now }
+        ensures volume { IsVolume self.now }
+    {
+        count(self.map.items())
+    }
+
+    /// The live object at a place from 0, by rising ids.
+    pub fn at(&self, place: usize) -> Option<(ObjId, &Image)>
+        ensures { MatchOption result (length self.now ≤ place) (λ pair. slice_get self.now place ≡ Some (pair.0, pair.1.now)) }
+    {
+        let (id, image) = self.map.at(place)?;
+        Some((*id, image))
+    }
+
+    /// Carries out an update where it fits each of its operands.
+    pub fn apply(&mut self, alloc: Global, update: &Update) -> Result<(), ApplyFault>
+        requires { T (is_sound update.now) }
+        ensures ok { OnOk result ((o : ℕ) → images self.new o ≡ after (images self.old) (update.now ∷ []) o) }
+        ensures fits { OnOk result (first_unfit update.now (images self.old) (operands update.now) ≡ None) }
+        ensures unfit { IfErr result (λ fault. Unfits fault update.now (images self.old)) }
+        ensures err { OnErr result (self.new ≡ self.old) }
+    {
+        let ids = operands(alloc, update)?;
+        if let Some(id) = self.first_unfit(update, &ids) {
+            return Err(ApplyFault::Unfit(id));
+        }
+        Ok(carry_out(&mut self.map, alloc, update)?)
+    }
+
+    // The first of the operands at which the update doesn't fit.
+    fn first_unfit(&self, update: &Update, ids: &[ObjId]) -> Option<ObjId>
+        ensures { result ≡ first_unfit update.now (images self.now) ids.now }
+    {
+        for id in ids {
+            if !self.fits(update, *id) {
+                return Some(*id);
+            }
+        }
+        None
+    }
+
+    fn fits(&self, update: &Update, id: ObjId) -> bool
+        ensures { result ≡ fits update.now id (images self.now id) }
+    {
+        match self.look(id) {
+            Some(image) => image.fits(update, id),
+            None => Image::Gone.fits(update, id),
+        }
+    }
+}
+
+impl Duplicate for Volume {
+    fn duplicate(&self) -> Result<Self, NoMemory> {
+        Ok(Volume {
+            map: self.map.duplicate()?,
+        })
+    }
+}
+
+// Ids are from 1, so there are no more of them than the last one says.
+fn count(items: &[(ObjId, Image)]) -> u32
+    requires { T (is_sorted nat_cmp items.now) }
+    ensures { result ≡ length items.now }
+{
+    let (Some((first, _)), Some((last, _))) = (items.first(), items.last()) else {
+        return 0;
+    };
+    let (_low, _high) = (first.get(), last.get());
+    items.len() as u32
 }

@@ -1,0 +1,5 @@
+pub mod Pairs
+pub mod Bytes
+pub mod Distinct
+pub mod Held
+pub mod Shift

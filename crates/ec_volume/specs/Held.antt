@@ -1,0 +1,32 @@
+-- The list of ids and images that a volume holds, and faults of its changes.
+use Rattle.std.specs.Prelude.{◌≡◌, ◌==◌, if◌then◌else◌, ℕ, T, not, List, Option, None, Some}
+use Rattle.std.specs.List.{list_all}
+use Rattle.std.specs.Ordering.{nat_cmp}
+use Rattle.std.specs.FinMap.{is_sorted}
+use Rattle.ec_volume.specs.Image.{is_gone}
+use Rattle.ec_volume.specs.Update.{operands, first_unfit}
+use Rattle.ec_volume.specs.Volume.{Images}
+use Rattle.ec_volume.specs.declared.image.Image.{Image}
+use Rattle.ec_volume.specs.declared.image.Image.TheVariants.{Gone}
+use Rattle.ec_volume.specs.declared.update.Update.{Update}
+use Rattle.ec_volume.specs.declared.volume.ApplyFault.{ApplyFault}
+use Rattle.ec_volume.specs.declared.volume.ApplyFault.TheVariants as fault
+
+-- The ids rise, and no image is Gone.
+pub record IsVolume (es : List (ℕ × Image)) : Type 0 where
+  pub sorted : T (is_sorted nat_cmp es)
+  pub live : T (list_all (λ e. not (is_gone e.1)) es)
+
+-- a fault that names an object names the first operand at which the update doesn't fit
+abbrev pub Unfits : ApplyFault → Update → Images → Type 0
+Unfits (fault.Unfit o) u v = first_unfit u v (operands u) ≡ Some o
+Unfits fault.NoMemory u v = Unit {0}
+
+-- the volume with another image of the object
+abbrev pub instead : ℕ → Image → Images → Images
+instead o i v p = if p == o then i else v p
+
+-- the volume without an object that goes, if any
+abbrev pub cleared : Option ℕ → Images → Images
+cleared None v p = v p
+cleared (Some o) v p = if p == o then Gone else v p
