@@ -1,0 +1,9 @@
+//! Laws over the definitions of histories, transcripts and placing: each function has an empty
+//! body, and its contract is a law.
+#![tactic(auto)]
+
+mod append;
+mod steps;
+
+pub use append::{longer_history_is_legal, longer_transcript_is_placeable};
+pub use steps::{longer_history, longer_transcript};
