@@ -1,2 +1,4 @@
 pub mod More
 pub mod Cuts
+pub mod Watching
+pub mod Late
