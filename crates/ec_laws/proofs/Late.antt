@@ -15,16 +15,16 @@ use Rattle.ec_history.specs.declared.shown.Shown.TheVariants.{Waits, Answered, D
 use Rattle.ec_laws.proofs.More.{watch-step, watch-append}
 use Rattle.ec_laws.proofs.Watching.{from_front, sound, answered_as, IsHeld, held-next, held-from, held-ended, held-owner, running-owner, running-told}
 
-same_number : (c : ℕ) → (c == c) ≡ true
+pub same_number : (c : ℕ) → (c == c) ≡ true
 same_number c = grind arith
 
-ops_in-append : (h g : History) → ops_in (h ++ g) ≡ ops_in h ++ ops_in g
+pub ops_in-append : (h g : History) → ops_in (h ++ g) ≡ ops_in h ++ ops_in g
 ops_in-append [] g = refl
 ops_in-append ((p, entry.Call c b l begun cl a op) ∷ h) g = ap (λ ns. listed op ++ ns) (ops_in-append h g) ∙ sym (append_assoc (listed op) (ops_in h) (ops_in g))
 ops_in-append ((p, entry.Loss c b ns) ∷ h) g = ops_in-append h g
 
 -- a line and those behind it, once the lines before it are known
-regroup : (past : List Shown) (s : Shown) (ss : List Shown) → (past ++ s ∷ []) ++ ss ≡ past ++ s ∷ ss
+pub regroup : (past : List Shown) (s : Shown) (ss : List Shown) → (past ++ s ∷ []) ++ ss ≡ past ++ s ∷ ss
 regroup past s ss = append_assoc past (s ∷ []) ss
 
 pub late-append : (c : ℕ) (past ss ts : List Shown) → late c past (ss ++ ts) ≡ late c past ss ++ cond (list_any (is_end_of c) ss) [] (late c (past ++ ss) ts)
@@ -39,7 +39,7 @@ late-append c past (s ∷ ss) ts =
     go false x e = ap (λ y. x ++ y) e ∙ sym (append_assoc x (late c (past ++ s ∷ []) ss) (cond (list_any (is_end_of c) ss) [] (late c (past ++ s ∷ ss) ts)))
 
 -- a line that is no call of the clerk isn't late
-late-other : (c : ℕ) (past ss : List Shown) (s : Shown) → is_call_of c s ≡ false → late c past (ss ++ s ∷ []) ≡ late c past ss
+pub late-other : (c : ℕ) (past ss : List Shown) (s : Shown) → is_call_of c s ≡ false → late c past (ss ++ s ∷ []) ≡ late c past ss
 late-other c past ss s e =
     late-append c past ss (s ∷ [])
     ∙ ap (λ x. late c past ss ++ x) (nothing (list_any (is_end_of c) ss) (is_end_of c s) (is_call_of c s) e)
@@ -52,16 +52,16 @@ late-other c past ss s e =
     nothing false false false f = refl
 
 -- nor is one behind the end
-late-ended : (c : ℕ) (past ss : List Shown) (s : Shown) → list_any (is_end_of c) ss ≡ true → late c past (ss ++ s ∷ []) ≡ late c past ss
+pub late-ended : (c : ℕ) (past ss : List Shown) (s : Shown) → list_any (is_end_of c) ss ≡ true → late c past (ss ++ s ∷ []) ≡ late c past ss
 late-ended c past ss s e =
     late-append c past ss (s ∷ []) ∙ ap (λ x. late c past ss ++ x) (cond-true (list_any (is_end_of c) ss) [] (late c (past ++ ss) (s ∷ [])) e) ∙ append-nil (late c past ss)
 
 -- The entries of an ended line of the clerk c, of which these are the late calls.
-abbrev ended_entries : ℕ → List Shown → List ℕ → History → History
+abbrev pub ended_entries : ℕ → List Shown → List ℕ → History → History
 ended_entries c past ns calls = calls ++ (length past + 1, entry.Loss c (or_zero (owner (watch c past))) (ns ++ ops_in calls)) ∷ []
 
 -- a line behind changes the entries of a line only as a late call
-line-same : (past : List Shown) (x : Shown) (rest : List Shown) (s : Shown)
+pub line-same : (past : List Shown) (x : Shown) (rest : List Shown) (s : Shown)
     → ((d : ℕ) (ns : List ℕ) → x ≡ Ended d ns → is_running (watch d past) (owner (watch d past)) ≡ true → late d (past ++ x ∷ []) (rest ++ s ∷ []) ≡ late d (past ++ x ∷ []) rest)
     → line_entries past x (rest ++ s ∷ []) ≡ line_entries past x rest
 line-same past (Ended d ns) rest s h = ap (ended_entries d past ns) (go (is_running (watch d past) (owner (watch d past))) (h d ns refl))
@@ -73,21 +73,21 @@ line-same past (Ended d ns) rest s h = ap (ended_entries d past ns) (go (is_runn
 line-same past x rest s h = refl
 
 -- The entries of the lines xs, with others behind.
-abbrev fronts : List Shown → List Shown → List Shown → History
+abbrev pub fronts : List Shown → List Shown → List Shown → History
 fronts past [] rest = []
 fronts past (x ∷ xs) rest = line_entries past x (xs ++ rest) ++ fronts (past ++ x ∷ []) xs rest
 
-place_from-append : (past xs rest : List Shown) → place_from past (xs ++ rest) ≡ fronts past xs rest ++ place_from (past ++ xs) rest
+pub place_from-append : (past xs rest : List Shown) → place_from past (xs ++ rest) ≡ fronts past xs rest ++ place_from (past ++ xs) rest
 place_from-append past [] rest = ap (λ x. place_from x rest) (sym (append-nil past))
 place_from-append past (x ∷ xs) rest =
     ap (λ h. line_entries past x (xs ++ rest) ++ h) (place_from-append (past ++ x ∷ []) xs rest ∙ ap (λ y. fronts (past ++ x ∷ []) xs rest ++ place_from y rest) (regroup past x xs))
     ∙ sym (append_assoc (line_entries past x (xs ++ rest)) (fronts (past ++ x ∷ []) xs rest) (place_from (past ++ x ∷ xs) rest))
 
-fronts-alone : (past xs : List Shown) → place_from past xs ≡ fronts past xs []
+pub fronts-alone : (past xs : List Shown) → place_from past xs ≡ fronts past xs []
 fronts-alone past xs = ap (place_from past) (sym (append-nil xs)) ∙ place_from-append past xs [] ∙ append-nil (fronts past xs [])
 
 -- where no line of xs gets a late call from s, behind rest
-fronts-same : (past xs rest : List Shown) (s : Shown)
+pub fronts-same : (past xs rest : List Shown) (s : Shown)
     → ((pre post : List Shown) (d : ℕ) (ns : List ℕ) → xs ≡ pre ++ Ended d ns ∷ post → is_running (watch d (past ++ pre)) (owner (watch d (past ++ pre))) ≡ true
         → late d ((past ++ pre) ++ Ended d ns ∷ []) ((post ++ rest) ++ s ∷ []) ≡ late d ((past ++ pre) ++ Ended d ns ∷ []) (post ++ rest))
     → fronts past xs (rest ++ s ∷ []) ≡ fronts past xs rest
@@ -134,7 +134,7 @@ place-ended ss c ns = place-no_call ss (Ended c ns) (λ d. refl) ∙ ap (λ x. p
     go false = ap (λ x. (length ss + 1, entry.Loss c (or_zero (owner (watch c ss))) x) ∷ []) (append-nil ns)
 
 -- Behind an ended line of the running start, with no end since, something is untold.
-still-held : (c : ℕ) (pre post : List Shown) (ns : List ℕ) → is_running (watch c pre) (owner (watch c pre)) ≡ true → list_any (is_end_of c) post ≡ false
+pub still-held : (c : ℕ) (pre post : List Shown) (ns : List ℕ) → is_running (watch c pre) (owner (watch c pre)) ≡ true → list_any (is_end_of c) post ≡ false
     → IsHeld (watch c pre).starts (watch c (pre ++ Ended c ns ∷ post))
 still-held c pre post ns r n =
     let h : IsHeld (watch c pre).starts (watch_from c (watch c pre) (Ended c ns ∷ post)) = held-from c (watch c pre).starts (watch_next c (watch c pre) (Ended c ns)) post n (held-ended c (watch c pre) ns r) in
@@ -148,7 +148,7 @@ ended_since c pre post ns r u = go (list_any (is_end_of c) post) refl
     go false e = absurd (true≢false (sym ((still-held c pre post ns r e).untold) ∙ ap is_some u))
 
 -- the late calls of a front that was told don't grow by an answer of the clerk c
-told-late : (front rest : List Shown) (l c : ℕ) (cl : Call) (a : Answer) (op : Option ℕ) → (watch c front).untold ≡ None
+pub told-late : (front rest : List Shown) (l c : ℕ) (cl : Call) (a : Answer) (op : Option ℕ) → (watch c front).untold ≡ None
     → (pre post : List Shown) (d : ℕ) (ns : List ℕ) → front ≡ pre ++ Ended d ns ∷ post → is_running (watch d pre) (owner (watch d pre)) ≡ true
     → late d (pre ++ Ended d ns ∷ []) ((post ++ rest) ++ Answered l c cl a op ∷ []) ≡ late d (pre ++ Ended d ns ∷ []) (post ++ rest)
 told-late front rest l c cl a op u pre post d ns e r = elim (cases_Bool (d == c)) [

@@ -2,3 +2,4 @@ pub mod More
 pub mod Cuts
 pub mod Watching
 pub mod Late
+pub mod Held
