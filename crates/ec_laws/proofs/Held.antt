@@ -178,3 +178,21 @@ module _ (c : ℕ) (front back : List Shown) (ns : List ℕ) (runs : is_running 
         ∙ ap (λ x. (fronts [] front (Ended c ns ∷ back) ++ x) ++ (length front + 1, entry.Loss c start (ns ++ ops_in x)) ∷ place_from behind back) one
         ∙ ap (λ x. x ++ (length front + 1, entry.Loss c start (ns ++ ops_in (calls ++ call_entry all s))) ∷ place_from behind back) (sym (append_assoc (fronts [] front (Ended c ns ∷ back)) calls (call_entry all s)))
         ∙ ap (λ x. ((fronts [] front (Ended c ns ∷ back) ++ calls) ++ call_entry all s) ++ (length front + 1, entry.Loss c start x) ∷ place_from behind back) ops
+
+-- A late answer stands before its start's loss, which grows by its operation.
+abbrev IsPlacedLate : List Shown → ℕ → ℕ → List ℕ → Type 0
+IsPlacedLate ss c b ns =
+    (h : History) × (q : ℕ) × (h' : History) × (place ss ≡ h ++ (q, entry.Loss c b ns) ∷ h') × Lacks c b h'
+    × ((l : ℕ) (cl : Call) (a : Answer) (op : Option ℕ) → place (ss ++ Answered l c cl a op ∷ []) ≡ h ++ call_entry ss (Answered l c cl a op) ++ (q, entry.Loss c b (ns ++ listed op)) ∷ h')
+
+pub place-late : (ss : List Shown) (c : ℕ) (ns : List ℕ) → (watch c ss).untold ≡ Some ns → IsPlacedLate ss c (watch c ss).starts ns
+place-late ss c ns u =
+    let w = since c ss ns u in
+    let at : IsPlacedLate (w.front ++ Ended c w.named ∷ w.back) c (watch c w.front).starts (w.named ++ ops_in (late c (w.front ++ Ended c w.named ∷ []) w.back)) =
+        (fronts [] w.front (Ended c w.named ∷ w.back) ++ late c (w.front ++ Ended c w.named ∷ []) w.back, length w.front + 1, place_from (w.front ++ Ended c w.named ∷ []) w.back,
+        place-around c w.front w.back w.named w.runs w.lasts w.back,
+        held-lacks c (watch c w.front).starts (first_start c w.front w.back w.named w.runs w.lasts) (w.front ++ Ended c w.named ∷ []) w.back w.lasts (held c w.front w.back w.named w.runs w.lasts),
+        place-more c w.front w.back w.named w.runs w.lasts) in
+    subst (λ x. IsPlacedLate x c (watch c x).starts ns) (sym w.whole)
+    (subst (λ b. IsPlacedLate (w.front ++ Ended c w.named ∷ w.back) c b ns) (sym (still-held c w.front w.back w.named w.runs w.lasts).starts)
+    (subst (λ ms. IsPlacedLate (w.front ++ Ended c w.named ∷ w.back) c (watch c w.front).starts ms) (sym w.losses) at))

@@ -3,3 +3,4 @@ pub mod Cuts
 pub mod Watching
 pub mod Late
 pub mod Held
+pub mod Places
