@@ -1,5 +1,5 @@
 -- Longer histories and longer transcripts.
-use Rattle.std.proofs.Common.{◌≡◌, refl, sym, subst, ◌∙◌, ℕ, T, List, [], ◌∷◌, ◌++◌, append_assoc, append-nil}
+use Rattle.std.proofs.Common.{sym, subst, ℕ, List, [], ◌∷◌, ◌++◌, append_assoc, append-nil}
 use Rattle.ec_history.specs.History.{Base, History, Throughout}
 use Rattle.ec_history.specs.Legal.{IsLegal, IsLegalNext}
 use Rattle.ec_history.specs.Placing.{ArePlaceable, MayFollow}

@@ -1,21 +1,20 @@
 -- A late answer: its place before the loss of its start.
-use Rattle.std.proofs.Common.{◌≡◌, refl, sym, ap, subst, ◌∙◌, inl, inr, arith, ◌≤◌, ◌+◌, ℕ, Bool, true, false, ◌==◌, ◌&&◌, ◌||◌, cond, List, [], ◌∷◌, ◌++◌, length, Option, Some, None, is_some, append_assoc, append-nil}
-use Rattle.std.proofs.lemmas.Bool.{cond_both, cond-true, cases_Bool, and_parts, or_parts, or_from, and_left, eqb-true, ne_eqb, true≢false}
+use Rattle.std.proofs.Common.{◌≡◌, refl, sym, ap, subst, ◌∙◌, inl, inr, arith, ◌≤◌, ◌+◌, ℕ, Bool, true, false, ◌==◌, ◌&&◌, cond, List, [], ◌∷◌, ◌++◌, length, Option, Some, None, is_some, append_assoc, append-nil}
+use Rattle.std.proofs.lemmas.Bool.{cond_both, cond-true, cases_Bool, and_parts, or_parts, or_from, and_left, and_from, eqb-true, ne_eqb, true≢false}
 use Rattle.std.specs.List.{list_any}
 use Rattle.std.proofs.lemmas.List.Folds.{list_any-append}
 use Rattle.ec_volume.specs.Image.{is_id}
 use Rattle.ec_volume.specs.Update.{listed}
 use Rattle.ec_plain.specs.declared.call.Call.{Call}
-use Rattle.ec_history.specs.History.{History, is_entry_of, same_start}
+use Rattle.ec_history.specs.History.{History, is_entry_of}
 use Rattle.ec_history.specs.declared.entry.Answer.{Answer}
-use Rattle.ec_history.specs.declared.entry.Entry.{Entry}
 use Rattle.ec_history.specs.declared.entry.Entry.TheVariants as entry
-use Rattle.ec_history.specs.Placing.{Watch, watch, watch_from, watch_next, owner, or_zero, is_running, is_end_of, is_call_of, call_entry, late, ops_in, line_entries, place_from, place}
+use Rattle.ec_history.specs.Placing.{Watch, watch, unwatched, gives_entry, owner, or_zero, is_running, is_end_of, is_call_of, call_entry, late, ops_in, line_entries, place_from, place}
 use Rattle.ec_history.specs.declared.shown.Shown.{Shown}
-use Rattle.ec_history.specs.declared.shown.Shown.TheVariants.{Waits, Answered, Durable, Ended, Unseen, Told, Crashed}
+use Rattle.ec_history.specs.declared.shown.Shown.TheVariants.{Answered, Ended}
 use Rattle.ec_laws.proofs.More.{watch-step, watch-append}
 use Rattle.ec_laws.proofs.Watching.{sound, IsHeld, held-next, held-from, held-ended, held-owner, running-owner, running-told}
-use Rattle.ec_laws.proofs.Late.{same_number, regroup, late-append, late-other, ops_in-append, fronts, fronts-same, fronts-alone, place_from-append, ended_entries, still-held, told-late, Since, since}
+use Rattle.ec_laws.proofs.Late.{same_number, regroup, late-append, late-other, ops_in-append, fronts, fronts-same, fronts-alone, place_from-append, ended_entries, still-held, told-late, since, place-no_call}
 
 -- no entry of the start
 abbrev pub Lacks : ℕ → ℕ → History → Type 0
@@ -34,8 +33,8 @@ module _ (c b : ℕ) where
   other-late d past [] n = refl
   other-late d past (s ∷ ss) n =
       cond_both (is_end_of d s) [] (cond (is_call_of d s) (call_entry past s) [] ++ late d (past ++ s ∷ []) ss) (Lacks c b) (λ e. refl)
-        λ e. lacks-append c b (cond (is_call_of d s) (call_entry past s) []) (late d (past ++ s ∷ []) ss)
-        (cond_both (is_call_of d s) (call_entry past s) [] (Lacks c b) (other-call d past s n) (λ f. refl)) (other-late d (past ++ s ∷ []) ss n)
+      λ e. lacks-append c b (cond (is_call_of d s) (call_entry past s) []) (late d (past ++ s ∷ []) ss)
+      (cond_both (is_call_of d s) (call_entry past s) [] (Lacks c b) (other-call d past s n) (λ f. refl)) (other-late d (past ++ s ∷ []) ss n)
 
   other-ended : (d : ℕ) (past : List Shown) (ns : List ℕ) (calls : History) → (c == d) ≡ false → Lacks c b calls → Lacks c b (ended_entries d past ns calls)
   other-ended d past ns calls n k = lacks-append c b calls _ k (or_from ((c == d) && _) false (and_left (c == d) _ n) refl)
@@ -76,8 +75,8 @@ module _ (c b : ℕ) (least : 1 ≤ b) where
       own : Lacks c b (line_entries past (Ended c ns) rest)
       own =
           let e : line_entries past (Ended c ns) rest ≡ (length past + 1, entry.Loss c 0 (ns ++ [])) ∷ [] =
-              ap (λ o. let calls = cond (is_running (watch c past) o) (late c (past ++ Ended c ns ∷ []) rest) [] in calls ++ (length past + 1, entry.Loss c (or_zero o) (ns ++ ops_in calls)) ∷ []) none
-              ∙ ap (λ calls. calls ++ (length past + 1, entry.Loss c 0 (ns ++ ops_in calls)) ∷ []) (no_calls (watch c past).running) in
+          ap (λ o. let calls = cond (is_running (watch c past) o) (late c (past ++ Ended c ns ∷ []) rest) [] in calls ++ (length past + 1, entry.Loss c (or_zero o) (ns ++ ops_in calls)) ∷ []) none
+          ∙ ap (λ calls. calls ++ (length past + 1, entry.Loss c 0 (ns ++ ops_in calls)) ∷ []) (no_calls (watch c past).running) in
           subst (Lacks c b) (sym e) alone
   held-line past s rest h = refl
 
@@ -188,11 +187,19 @@ IsPlacedLate ss c b ns =
 pub place-late : (ss : List Shown) (c : ℕ) (ns : List ℕ) → (watch c ss).untold ≡ Some ns → IsPlacedLate ss c (watch c ss).starts ns
 place-late ss c ns u =
     let w = since c ss ns u in
-    let at : IsPlacedLate (w.front ++ Ended c w.named ∷ w.back) c (watch c w.front).starts (w.named ++ ops_in (late c (w.front ++ Ended c w.named ∷ []) w.back)) =
-        (fronts [] w.front (Ended c w.named ∷ w.back) ++ late c (w.front ++ Ended c w.named ∷ []) w.back, length w.front + 1, place_from (w.front ++ Ended c w.named ∷ []) w.back,
-        place-around c w.front w.back w.named w.runs w.lasts w.back,
-        held-lacks c (watch c w.front).starts (first_start c w.front w.back w.named w.runs w.lasts) (w.front ++ Ended c w.named ∷ []) w.back w.lasts (held c w.front w.back w.named w.runs w.lasts),
-        place-more c w.front w.back w.named w.runs w.lasts) in
+    let at : IsPlacedLate (w.front ++ Ended c w.named ∷ w.back) c (watch c w.front).starts (w.named ++ ops_in (late c (w.front ++ Ended c w.named ∷ []) w.back)) = (
+      fronts [] w.front (Ended c w.named ∷ w.back) ++ late c (w.front ++ Ended c w.named ∷ []) w.back,
+      length w.front + 1,
+      place_from (w.front ++ Ended c w.named ∷ []) w.back,
+      place-around c w.front w.back w.named w.runs w.lasts w.back,
+      held-lacks c (watch c w.front).starts (first_start c w.front w.back w.named w.runs w.lasts) (w.front ++ Ended c w.named ∷ []) w.back w.lasts (held c w.front w.back w.named w.runs w.lasts),
+      place-more c w.front w.back w.named w.runs w.lasts,
+    ) in
     subst (λ x. IsPlacedLate x c (watch c x).starts ns) (sym w.whole)
     (subst (λ b. IsPlacedLate (w.front ++ Ended c w.named ∷ w.back) c b ns) (sym (still-held c w.front w.back w.named w.runs w.lasts).starts)
     (subst (λ ms. IsPlacedLate (w.front ++ Ended c w.named ∷ w.back) c (watch c w.front).starts ms) (sym w.losses) at))
+
+pub place-other : (ss : List Shown) (s : Shown) → ((c b : ℕ) (w : Watch) → gives_entry c b w s ≡ false) → place (ss ++ s ∷ []) ≡ place ss
+place-other ss (Answered l c cl a op) n = absurd (true≢false (sym (and_from _ _ (same_number c) (same_number 1)) ∙ n c 1 (record unwatched { starts = 0 })))
+place-other ss (Ended c ns) n = absurd (true≢false (sym (and_from _ _ (same_number c) refl) ∙ n c 0 (record unwatched { running = true })))
+place-other ss s n = place-no_call ss s (λ d. refl) ∙ append-nil (place ss)

@@ -1,19 +1,18 @@
 -- Placing with one more line behind a transcript.
-use Rattle.std.proofs.Common.{◌≡◌, refl, sym, ap, subst, ◌∙◌, arith, ◌+◌, ℕ, Bool, true, false, ◌==◌, ◌&&◌, ◌||◌, cond, List, [], ◌∷◌, ◌++◌, length, Option, Some, None, is_some, inl, inr, append_assoc, append-nil}
-use Rattle.std.proofs.lemmas.Bool.{cond_both, cond-true, cond-false, cases_Bool, or_parts, eqb-true, true≢false}
+use Rattle.std.proofs.Common.{◌≡◌, refl, sym, ap, subst, ◌∙◌, arith, ◌+◌, ℕ, Bool, true, false, ◌==◌, ◌||◌, cond, List, [], ◌∷◌, ◌++◌, length, Option, Some, None, is_some, inl, inr, append_assoc, append-nil}
+use Rattle.std.proofs.lemmas.Bool.{cond_both, cond-true, cond-false, cases_Bool, eqb-true, true≢false}
 use Rattle.std.specs.List.{list_any}
 use Rattle.std.proofs.lemmas.List.Folds.{list_any-append}
 use Rattle.ec_volume.specs.Update.{listed}
 use Rattle.ec_plain.specs.declared.call.Call.{Call}
-use Rattle.ec_history.specs.History.{History, is_entry_of, same_start}
+use Rattle.ec_history.specs.History.{History}
 use Rattle.ec_history.specs.declared.entry.Answer.{Answer}
-use Rattle.ec_history.specs.declared.entry.Entry.{Entry}
 use Rattle.ec_history.specs.declared.entry.Entry.TheVariants as entry
-use Rattle.ec_history.specs.Placing.{Watch, watch, watch_from, watch_next, unwatched, begun, answered, or_else, or_zero, owner, is_running, is_end_of, is_call_of, call_entry, late, ops_in, line_entries, place_from, place, last_place, before_line, shows}
+use Rattle.ec_history.specs.Placing.{Watch, watch, watch_from, watch_next, begun, answered, or_else, or_zero, owner, is_running, is_end_of, is_call_of, call_entry, late, ops_in, line_entries, place_from, place, shows}
 use Rattle.ec_history.specs.declared.shown.Shown.{Shown}
-use Rattle.ec_history.specs.declared.shown.Shown.TheVariants.{Waits, Answered, Durable, Ended, Unseen, Told, Crashed}
+use Rattle.ec_history.specs.declared.shown.Shown.TheVariants.{Waits, Answered, Durable, Ended, Told, Crashed}
 use Rattle.ec_laws.proofs.More.{watch-step, watch-append}
-use Rattle.ec_laws.proofs.Watching.{from_front, sound, answered_as, IsHeld, held-next, held-from, held-ended, held-owner, running-owner, running-told}
+use Rattle.ec_laws.proofs.Watching.{from_front, answered_as, IsHeld, held-from, held-ended}
 
 pub same_number : (c : ℕ) → (c == c) ≡ true
 same_number c = grind arith
@@ -89,7 +88,7 @@ fronts-alone past xs = ap (place_from past) (sym (append-nil xs)) ∙ place_from
 -- where no line of xs gets a late call from s, behind rest
 pub fronts-same : (past xs rest : List Shown) (s : Shown)
     → ((pre post : List Shown) (d : ℕ) (ns : List ℕ) → xs ≡ pre ++ Ended d ns ∷ post → is_running (watch d (past ++ pre)) (owner (watch d (past ++ pre))) ≡ true
-        → late d ((past ++ pre) ++ Ended d ns ∷ []) ((post ++ rest) ++ s ∷ []) ≡ late d ((past ++ pre) ++ Ended d ns ∷ []) (post ++ rest))
+    → late d ((past ++ pre) ++ Ended d ns ∷ []) ((post ++ rest) ++ s ∷ []) ≡ late d ((past ++ pre) ++ Ended d ns ∷ []) (post ++ rest))
     → fronts past xs (rest ++ s ∷ []) ≡ fronts past xs rest
 fronts-same past [] rest s h = refl
 fronts-same past (x ∷ xs) rest s h =
@@ -112,7 +111,7 @@ fronts-same past (x ∷ xs) rest s h =
 -- one more line that is a late call of no ended line before it
 place-step : (ss : List Shown) (s : Shown)
     → ((pre post : List Shown) (d : ℕ) (ns : List ℕ) → ss ≡ pre ++ Ended d ns ∷ post → is_running (watch d pre) (owner (watch d pre)) ≡ true
-        → late d (pre ++ Ended d ns ∷ []) (post ++ s ∷ []) ≡ late d (pre ++ Ended d ns ∷ []) post)
+    → late d (pre ++ Ended d ns ∷ []) (post ++ s ∷ []) ≡ late d (pre ++ Ended d ns ∷ []) post)
     → place (ss ++ s ∷ []) ≡ place ss ++ line_entries ss s []
 place-step ss s h =
     place_from-append [] ss (s ∷ [])
@@ -186,11 +185,11 @@ module _ (c : ℕ) (ss : List Shown) (s : Shown) (seen : (ns : List ℕ) → (wa
       let begin : List Shown = h.front ++ Ended c h.named ∷ [] in
       let all : begin ++ h.back ≡ ss = regroup h.front (Ended c h.named) h.back ∙ sym h.whole in
       let one : late c begin (h.back ++ s ∷ []) ≡ late c begin h.back ++ cond (is_call_of c s) (call_entry ss s) [] =
-          late-append c begin h.back (s ∷ [])
-          ∙ ap (λ x. late c begin h.back ++ cond x [] (late c (begin ++ h.back) (s ∷ []))) h.lasts
-          ∙ ap (λ x. late c begin h.back ++ late c x (s ∷ [])) all
-          ∙ ap (λ x. late c begin h.back ++ cond x [] (cond (is_call_of c s) (call_entry ss s) [] ++ [])) n
-          ∙ ap (λ x. late c begin h.back ++ x) (append-nil (cond (is_call_of c s) (call_entry ss s) [])) in
+      late-append c begin h.back (s ∷ [])
+      ∙ ap (λ x. late c begin h.back ++ cond x [] (late c (begin ++ h.back) (s ∷ []))) h.lasts
+      ∙ ap (λ x. late c begin h.back ++ late c x (s ∷ [])) all
+      ∙ ap (λ x. late c begin h.back ++ cond x [] (cond (is_call_of c s) (call_entry ss s) [] ++ [])) n
+      ∙ ap (λ x. late c begin h.back ++ x) (append-nil (cond (is_call_of c s) (call_entry ss s) [])) in
       record {
         front = h.front;
         named = h.named;

@@ -1,18 +1,15 @@
 -- The places of a transcript's entries.
-use Rattle.std.proofs.Common.{◌≡◌, refl, sym, ap, subst, ◌∙◌, inl, inr, arith, ◌≤◌, ◌+◌, ℕ, T, Bool, true, false, ◌==◌, ◌&&◌, ◌||◌, not, map, List, [], ◌∷◌, ◌++◌, length, Option, Some, None, length-append, append-nil, append_assoc}
-use Rattle.std.proofs.lemmas.Bool.{or_parts, or_from, eqb-true, ne_eqb, true≢false}
+use Rattle.std.proofs.Common.{◌≡◌, refl, sym, ap, subst, ◌∙◌, arith, ◌≤◌, ◌+◌, ℕ, T, Bool, true, false, ◌==◌, ◌&&◌, ◌||◌, not, map, List, [], ◌∷◌, ◌++◌, length, Option, Some, None, length-append, append-nil, append_assoc}
+use Rattle.std.proofs.lemmas.Bool.{or_parts, or_from, ne_eqb, true≢false}
 use Rattle.std.proofs.lemmas.List.{map-append}
-use Rattle.std.specs.List.{list_any}
 use Rattle.std.proofs.lemmas.List.Folds.{list_any-append}
-use Rattle.ec_volume.specs.Update.{listed, member, distinct}
-use Rattle.ec_plain.specs.declared.call.Call.{Call}
+use Rattle.ec_volume.specs.Update.{member, distinct}
 use Rattle.ec_history.specs.History.{History, Each}
-use Rattle.ec_history.specs.declared.entry.Answer.{Answer}
 use Rattle.ec_history.specs.declared.entry.Entry.{Entry}
 use Rattle.ec_history.specs.declared.entry.Entry.TheVariants as entry
-use Rattle.ec_history.specs.Placing.{watch, owner, or_zero, call_entry, line_entries, place}
+use Rattle.ec_history.specs.Placing.{watch, owner, or_zero, place}
 use Rattle.ec_history.specs.declared.shown.Shown.{Shown}
-use Rattle.ec_history.specs.declared.shown.Shown.TheVariants.{Waits, Answered, Durable, Ended, Unseen, Told, Crashed}
+use Rattle.ec_history.specs.declared.shown.Shown.TheVariants.{Answered, Ended}
 use Rattle.ec_laws.proofs.Watching.{from_front}
 use Rattle.ec_laws.proofs.Late.{place-no_call, place-ended, place-answer}
 use Rattle.ec_laws.proofs.Held.{place-late}
@@ -40,9 +37,9 @@ distinct-put p [] ys d m = subst (λ b. T (not b && distinct ys)) (sym m) d
 distinct-put p (x ∷ xs) ys d m =
     let k = or_parts (p == x) (member p (xs ++ ys)) m in
     let apart : member x (xs ++ p ∷ ys) ≡ member x (xs ++ ys) =
-        list_any-append (λ q. x == q) xs (p ∷ ys)
-        ∙ ap (λ b. member x xs || (b || member x ys)) (ne_eqb x p (λ e. absurd (true≢false (sym (same x p e) ∙ k.0))))
-        ∙ sym (list_any-append (λ q. x == q) xs ys) in
+    list_any-append (λ q. x == q) xs (p ∷ ys)
+    ∙ ap (λ b. member x xs || (b || member x ys)) (ne_eqb x p (λ e. absurd (true≢false (sym (same x p e) ∙ k.0))))
+    ∙ sym (list_any-append (λ q. x == q) xs ys) in
     subst (λ b. T (not b && distinct (xs ++ p ∷ ys))) (sym apart) (go (member x (xs ++ ys)) d (λ t. distinct-put p xs ys t k.1))
   where
     same : (a b : ℕ) → a ≡ b → (b == a) ≡ true
@@ -59,9 +56,10 @@ ArePlaces n h = Each (IsWithin n) (places h) × T (distinct (places h))
 places-put : (n : ℕ) (h g : History) (ps ls : List ℕ) → ArePlaces n h → places h ≡ ps ++ ls → places g ≡ ps ++ (n + 1) ∷ ls → ArePlaces (n + 1) g
 places-put n h g ps ls a e f =
     let w : Each (IsWithin n) (ps ++ ls) = subst (Each (IsWithin n)) e a.0 in
-    let d : T (distinct (ps ++ ls)) = subst (λ x. T (distinct x)) e a.1 in
-    (subst (Each (IsWithin (n + 1))) (sym f) (within-put (n + 1) (n + 1) ps ls (omega arith, omega arith) (within-longer n (n + 1) (ps ++ ls) (omega arith) w)),
-    subst (λ x. T (distinct x)) (sym f) (distinct-put (n + 1) ps ls d (within-fresh n (ps ++ ls) w)))
+    let d : T (distinct (ps ++ ls)) = subst (λ x. T (distinct x)) e a.1 in (
+      subst (Each (IsWithin (n + 1))) (sym f) (within-put (n + 1) (n + 1) ps ls (omega arith, omega arith) (within-longer n (n + 1) (ps ++ ls) (omega arith) w)),
+      subst (λ x. T (distinct x)) (sym f) (distinct-put (n + 1) ps ls d (within-fresh n (ps ++ ls) w)),
+    )
 
 one_longer : (ss : List Shown) (s : Shown) → length (ss ++ s ∷ []) ≡ length ss + 1
 one_longer ss s = length-append ss (s ∷ [])

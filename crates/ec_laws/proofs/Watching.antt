@@ -1,12 +1,12 @@
 -- What the lines so far show of a clerk.
-use Rattle.std.proofs.Common.{◌≡◌, refl, sym, ap, subst, ◌∙◌, arith, ◌≤◌, ◌+◌, ℕ, Bool, true, false, ◌==◌, ◌&&◌, ◌||◌, cond, List, [], ◌∷◌, ◌++◌, Option, Some, None, is_some, is_none, append_assoc, append-nil}
+use Rattle.std.proofs.Common.{◌≡◌, refl, sym, ap, subst, ◌∙◌, arith, ◌≤◌, ◌+◌, ℕ, Bool, true, false, ◌==◌, ◌&&◌, cond, List, [], ◌∷◌, ◌++◌, Option, Some, None, is_some, is_none, append_assoc, append-nil}
 use Rattle.std.proofs.lemmas.Bool.{cond_both, cond-true, and_parts, or_parts, eqb-true, true≢false}
 use Rattle.std.specs.List.{list_any}
 use Rattle.ec_volume.specs.Image.{is_id}
 use Rattle.ec_volume.specs.Update.{listed}
 use Rattle.ec_history.specs.Placing.{Watch, watch, watch_from, watch_next, unwatched, begun, answered, or_else, owner, is_running, is_end_of, shows}
 use Rattle.ec_history.specs.declared.shown.Shown.{Shown}
-use Rattle.ec_history.specs.declared.shown.Shown.TheVariants.{Waits, Answered, Durable, Ended, Unseen, Told, Crashed}
+use Rattle.ec_history.specs.declared.shown.Shown.TheVariants.{Waits, Answered, Durable, Ended, Told, Crashed}
 use Rattle.ec_laws.proofs.More.{watch-step}
 
 -- an induction from the front
@@ -26,11 +26,11 @@ pub record IsSound (w : Watch) : Type 0 where
 sound-begun : (w : Watch) → IsSound w → IsSound (begun w)
 sound-begun w h =
     cond_both w.running w (record w { starts = w.starts + 1; running = true }) IsSound (λ e. h)
-      λ e. record {
-        ended_runs = λ u. ((h.ended_runs u).0, refl);
-        counted = λ r. omega arith;
-        opened = λ b o. ((h.opened b o).0, omega (arith, (h.opened b o).1));
-      }
+    λ e. record {
+      ended_runs = λ u. ((h.ended_runs u).0, refl);
+      counted = λ r. omega arith;
+      opened = λ b o. ((h.opened b o).0, omega (arith, (h.opened b o).1));
+    }
 
 runs-begun : (w : Watch) → (begun w).running ≡ true
 runs-begun w = cond_both w.running w (record w { starts = w.starts + 1; running = true }) (λ v. v.running ≡ true) (λ e. e) (λ e. refl)
@@ -67,8 +67,11 @@ sound-next c w (Answered l d cl a op) h =
     cond_both (c == d) (answered (begun w) (shows cl a) op) w IsSound (λ e. sound-answered (begun w) (shows cl a) op (runs-begun w) (sound-begun w h)) (λ e. h)
 sound-next c w (Durable d ns) h = cond_both (c == d) _ w IsSound (λ e. record { ended_runs = h.ended_runs; counted = h.counted; opened = h.opened }) (λ e. h)
 sound-next c w (Ended d ns) h = cond_both (c == d) _ w IsSound (λ e. record {
-  ended_runs = λ u. (refl, cond_both (is_running w (owner w)) (Some ns) w.untold (λ v. is_some v ≡ true → w.running ≡ true)
-    (λ r k. (and_parts w.running (is_id w.starts (owner w)) r).0) (λ r k. (h.ended_runs k).1) u);
+  ended_runs = λ u. (
+    refl,
+    cond_both (is_running w (owner w)) (Some ns) w.untold (λ v. is_some v ≡ true → w.running ≡ true)
+        (λ r k. (and_parts w.running (is_id w.starts (owner w)) r).0) (λ r k. (h.ended_runs k).1) u,
+  );
   counted = h.counted;
   opened = λ b o. absurd (none_some b o);
 }) (λ e. h)
@@ -166,3 +169,14 @@ running-told w h r = go w.untold refl
       where
         some_none : Some w.starts ≡ None → ⊥
         some_none q = cc
+
+pub untold-runs : (c : ℕ) (ss : List Shown) (ns : List ℕ) → (watch c ss).untold ≡ Some ns → ((watch c ss).open_start ≡ None) × ((watch c ss).running ≡ true) × (begun (watch c ss) ≡ watch c ss)
+untold-runs c ss ns u =
+    let k = (sound c ss).ended_runs (ap is_some u) in
+    (k.0, k.1, cond-true (watch c ss).running (watch c ss) _ k.1)
+
+pub running-counted : (c : ℕ) (ss : List Shown) → (watch c ss).running ≡ true → 1 ≤ (watch c ss).starts
+running-counted c ss = (sound c ss).counted
+
+pub open-counted : (c b : ℕ) (ss : List Shown) → (watch c ss).open_start ≡ Some b → (1 ≤ b) × (b ≤ (watch c ss).starts)
+open-counted c b ss = (sound c ss).opened b

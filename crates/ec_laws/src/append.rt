@@ -12,13 +12,11 @@ pub fn longer_history_is_legal()
     ensures one_more { (base : Base) (most : ℕ) (h : History) (e : ℕ × Entry) → IsLegal base most h → IsLegalNext base most h e → IsLegal base most (h ++ e ∷ []) }
     ensures more { (base : Base) (most : ℕ) (h g : History) → IsLegal base most h → Throughout (IsLegalNext base most) h g → IsLegal base most (h ++ g) }
     ensures cut { (base : Base) (most : ℕ) (h g : History) → IsLegal base most (h ++ g) → IsLegal base most h × Throughout (IsLegalNext base most) h g }
-{
-}
+{}
 
 /// The same for the lines of a placeable transcript.
 pub fn longer_transcript_is_placeable()
     ensures one_more { (ss : List Shown) (s : Shown) → ArePlaceable [] ss → MayFollow ss s → ArePlaceable [] (ss ++ s ∷ []) }
     ensures more { (ss ts : List Shown) → ArePlaceable [] ss → ArePlaceable ss ts → ArePlaceable [] (ss ++ ts) }
     ensures cut { (ss ts : List Shown) → ArePlaceable [] (ss ++ ts) → ArePlaceable [] ss × ArePlaceable ss ts }
-{
-}
+{}

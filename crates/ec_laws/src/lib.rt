@@ -3,7 +3,9 @@
 #![tactic(auto)]
 
 mod append;
+mod placing;
 mod steps;
 
 pub use append::{longer_history_is_legal, longer_transcript_is_placeable};
+pub use placing::{each_line_is_placed, places_are_distinct, watched_starts_are_counted};
 pub use steps::{longer_history, longer_transcript};

@@ -16,8 +16,7 @@ pub fn longer_history()
     ensures owes { (base : Base) (h g : History) (c b : ℕ) → owed base (h ++ g) c b ≡ owed_from base c b (kept base h) (owed base h c b) g }
     ensures owes_next { (base : Base) (h : History) (e : ℕ × Entry) (c b : ℕ) → owed base (h ++ e ∷ []) c b ≡ owed_next base c b (kept base h) (owed base h c b) e }
     ensures loses { (c b n : ℕ) (h g : History) → is_lost c b n (h ++ g) ≡ (is_lost c b n h || is_lost c b n g) }
-{
-}
+{}
 
 /// What a transcript with more lines behind it shows of a clerk, makes durable, and has as the last
 /// place of a start; and with one more.
@@ -26,11 +25,6 @@ pub fn longer_transcript()
     ensures shows_next { (c : ℕ) (ss : List Shown) (s : Shown) → watch c (ss ++ s ∷ []) ≡ watch_next c (watch c ss) s }
     ensures stores { (c b : ℕ) (ss ts : List Shown) → durable c b (ss ++ ts) ≡ durable c b ss ++ durable_from c b (watch c ss) ts }
     ensures stores_next { (c b : ℕ) (ss : List Shown) (s : Shown) → durable c b (ss ++ s ∷ []) ≡ durable c b ss ++ made_durable c b (watch c ss) s }
-    ensures places_next {
-        (c b : ℕ) (ss : List Shown) (s : Shown) → last_place c b unwatched 1 0 (ss ++ s ∷ []) ≡ (if gives_entry c b (watch c ss) s then length ss + 1 else last_place c b unwatched 1 0 ss)
-    }
-    ensures begins {
-        (l : ℕ) (ss ts : List Shown) → before_line l (ss ++ ts) ≡ (if list_any (is_numbered l) ss then before_line l ss else ss ++ before_line l ts)
-    }
-{
-}
+    ensures places_next { (c b : ℕ) (ss : List Shown) (s : Shown) → last_place c b unwatched 1 0 (ss ++ s ∷ []) ≡ (if gives_entry c b (watch c ss) s then length ss + 1 else last_place c b unwatched 1 0 ss) }
+    ensures begins { (l : ℕ) (ss ts : List Shown) → before_line l (ss ++ ts) ≡ (if list_any (is_numbered l) ss then before_line l ss else ss ++ before_line l ts) }
+{}
