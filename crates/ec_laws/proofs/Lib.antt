@@ -4,3 +4,4 @@ pub mod Watching
 pub mod Late
 pub mod Held
 pub mod Places
+pub mod Numbers
