@@ -5,3 +5,4 @@ pub mod Late
 pub mod Held
 pub mod Places
 pub mod Numbers
+pub mod LateLoss
