@@ -21,7 +21,7 @@ use Rattle.ec_laws.proofs.Cuts.{throughout-append}
 use Rattle.ec_laws.proofs.Late.{same_number}
 use Rattle.ec_laws.proofs.Numbers.{each-append, each-filter, each-map, kept-each, throughout-issued, count, IsUpTo, issued-up_to, covers-up_to}
 
-both : (a b : Bool) → T a → T b → T (a && b)
+pub both : (a b : Bool) → T a → T b → T (a && b)
 both true b p q = q
 both false b p q = p
 
@@ -49,7 +49,7 @@ all-more : {A : Type 0} (p q : A → Bool) → ((x : A) → T (p x) → T (q x))
 all-more p q f [] h = tt
 all-more p q f (x ∷ xs) h = both (q x) (list_all q xs) (f x (first (p x) (list_all p xs) h)) (all-more p q f xs (second (p x) (list_all p xs) h))
 
-or_first : (a b : Bool) → T a → T (a || b)
+pub or_first : (a b : Bool) → T a → T (a || b)
 or_first true b h = tt
 or_first false b h = absurd h
 
@@ -154,7 +154,7 @@ module _ (c b m : ℕ) (ks : List Op) (ns ms : List ℕ) (new : IsNew c b m ks m
           let y = and_parts (of_start c b k) (member k.number ms) e in
           and_from (of_start c b k) (member k.number (ns ++ ms)) y.0 (list_any-append (λ o. k.number == o) ns ms ∙ ap (λ x. member k.number ns || x) y.1 ∙ or_true (member k.number ns))
 
-  new-own : Each (λ k. of_start c b k ≡ true) ks
+  pub new-own : Each (λ k. of_start c b k ≡ true) ks
   new-own = each-map (λ k. is_one_of c b ms k ≡ true) (λ k. of_start c b k ≡ true) (λ k e. (and_parts (of_start c b k) (member k.number ms) e).0) ks new.own
 
   pub filter-old : (xs : List Op) → Each (IsUpTo c b m) xs → filter new_loss xs ≡ filter old_loss xs

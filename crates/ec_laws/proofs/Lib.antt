@@ -6,3 +6,5 @@ pub mod Held
 pub mod Places
 pub mod Numbers
 pub mod LateLoss
+pub mod Beside
+pub mod Inserted
