@@ -37,13 +37,13 @@ loss_of_other true false m n e = absurd (true≢false e)
 loss_of_other false false m n e = refl
 
 module _ (base : Base) (most c b p l g : ℕ) (cl : Call) (a : Answer) (op : Option ℕ) (q : ℕ) (ns : List ℕ) (h : History) (legal : IsLegal base most h) (call : IsCall base most h c b p cl a op) where
-  abbrev late : ℕ × Entry
+  abbrev pub late : ℕ × Entry
   late = (p, entry.Call c b l g cl a op)
 
-  abbrev old : ℕ × Entry
+  abbrev pub old : ℕ × Entry
   old = (q, entry.Loss c b ns)
 
-  abbrev new : ℕ × Entry
+  abbrev pub new : ℕ × Entry
   new = (q, entry.Loss c b (ns ++ listed op))
 
   abbrev Uncovered : ℕ → ℕ → List ℕ → History → ℕ × Entry → Type 0
@@ -53,19 +53,19 @@ module _ (base : Base) (most c b p l g : ℕ) (cl : Call) (a : Answer) (op : Opt
   Untouched d f ms past e = T (leaves base (kept base past) d (filter (is_one_of d f ms) (kept base past)) e)
 
   -- without the call, and with it
-  record IsInserted (past later : History) : Type 0 where
-    beside : IsBeside base c b past later
-    uncovered : (d f : ℕ) (ms : List ℕ) → Other base c b d f → Throughout (Uncovered d f ms) [] past → Throughout (Uncovered d f ms) [] later
-    untouched : (d f : ℕ) (ms : List ℕ) → Untouched d f ms h late → Throughout (Untouched d f ms) [] past → Throughout (Untouched d f ms) [] later
+  pub record IsInserted (past later : History) : Type 0 where
+    pub beside : IsBeside base c b past later
+    pub uncovered : (d f : ℕ) (ms : List ℕ) → Other base c b d f → Throughout (Uncovered d f ms) [] past → Throughout (Uncovered d f ms) [] later
+    pub untouched : (d f : ℕ) (ms : List ℕ) → Untouched d f ms h late → Throughout (Untouched d f ms) [] past → Throughout (Untouched d f ms) [] later
 
-  kept-both : kept base ((h ++ late ∷ []) ++ new ∷ []) ≡ kept base (h ++ old ∷ [])
+  pub kept-both : kept base ((h ++ late ∷ []) ++ new ∷ []) ≡ kept base (h ++ old ∷ [])
   kept-both =
       kept-step base (h ++ late ∷ []) new
       ∙ ap (λ ks. without c b (ns ++ listed op) ks) (kept-step base h late)
       ∙ without-new c b (count c b h) (issued_by base (kept base h) late) ns (listed op) (late-new base most c b p l g cl a op ns h legal call) (kept base h) (old-kept base most c b p l g cl a op ns h legal call)
       ∙ sym (kept-step base h old)
 
-  beside-first : IsBeside base c b (h ++ old ∷ []) ((h ++ late ∷ []) ++ new ∷ [])
+  pub beside-first : IsBeside base c b (h ++ old ∷ []) ((h ++ late ∷ []) ++ new ∷ [])
   beside-first = record {
     keeps = kept-both;
     issues = λ r n.

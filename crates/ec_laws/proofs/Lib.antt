@@ -8,3 +8,4 @@ pub mod Numbers
 pub mod LateLoss
 pub mod Beside
 pub mod Inserted
+pub mod Taken

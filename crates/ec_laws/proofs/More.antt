@@ -2,10 +2,12 @@
 use Rattle.std.proofs.Common.{◌≡◌, refl, sym, ap, ◌∙◌, arith, ◌+◌, ℕ, Bool, true, false, ◌||◌, cond, List, [], ◌∷◌, ◌++◌, length, append_assoc, append-nil}
 use Rattle.std.specs.List.{list_any}
 use Rattle.std.proofs.lemmas.List.Folds.{list_any-append}
-use Rattle.ec_history.specs.History.{Base, History, Op, Owed, kept, kept_from, kept_next, issued, issued_by, issued_from, owed, owed_from, owed_next, is_lost, names}
+use Rattle.ec_history.specs.History.{Base, History, Op, Owed, kept, kept_from, kept_next, issued, issued_by, issued_from, owed, owed_from, owed_next, is_lost, names, is_entry_of, same_start}
 use Rattle.ec_history.specs.Placing.{Watch, watch, watch_from, watch_next, unwatched, last_place, gives_entry, before_line, is_numbered}
 use Rattle.ec_history.specs.Lines.{durable, durable_from, made_durable}
 use Rattle.ec_history.specs.declared.entry.Entry.{Entry}
+use Rattle.ec_history.specs.declared.entry.Entry.TheVariants as entry
+use Rattle.std.proofs.lemmas.Bool.{or_parts, cond-false}
 use Rattle.ec_history.specs.declared.shown.Shown.{Shown}
 
 -- Histories.
@@ -95,3 +97,16 @@ before_line-append l (s ∷ ss) ts = go (is_numbered l s) (before_line-append l 
         out : (a : Bool) → s ∷ cond a (before_line l ss) (ss ++ before_line l ts) ≡ cond a (s ∷ before_line l ss) (s ∷ (ss ++ before_line l ts))
         out true = refl
         out false = refl
+
+owed_from-others : (base : Base) (c b : ℕ) (ks : List Op) (qs : Owed) (g : History) → list_any (λ e. is_entry_of c b e.1) g ≡ false → owed_from base c b ks qs g ≡ qs
+owed_from-others base c b ks qs [] n = refl
+owed_from-others base c b ks qs (e ∷ g) n =
+    let k = or_parts (is_entry_of c b e.1) (list_any (λ x. is_entry_of c b x.1) g) n in
+    ap (λ x. owed_from base c b (kept_next base ks e) x g) (one e k.0) ∙ owed_from-others base c b (kept_next base ks e) qs g k.1
+  where
+    one : (x : ℕ × Entry) → is_entry_of c b x.1 ≡ false → owed_next base c b ks qs x ≡ qs
+    one (p, entry.Call d f l begun cl a op) m = cond-false (same_start c b d f) _ qs m
+    one (p, entry.Loss d f ns) m = cond-false (same_start c b d f) _ qs m
+
+pub owed-others : (base : Base) (h g : History) (c b : ℕ) → list_any (λ e. is_entry_of c b e.1) g ≡ false → owed base (h ++ g) c b ≡ owed base h c b
+owed-others base h g c b n = owed-append base h g c b ∙ owed_from-others base c b (kept base h) (owed base h c b) g n

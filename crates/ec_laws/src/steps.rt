@@ -1,7 +1,7 @@
 // What histories and transcripts come to with more behind them.
-ghost use Rattle.std.specs.Prelude.{◌≡◌, ◌+◌, ℕ, ◌||◌, if◌then◌else◌, List, [], ◌∷◌, ◌++◌, length};
+ghost use Rattle.std.specs.Prelude.{◌≡◌, ◌+◌, ℕ, ◌||◌, Bool, true, false, if◌then◌else◌, List, [], ◌∷◌, ◌++◌, length};
 ghost use Rattle.std.specs.List.{list_any};
-ghost use Rattle.ec_history.specs.History.{Base, History, kept, kept_from, kept_next, issued, issued_by, issued_from, owed, owed_from, owed_next, is_lost};
+ghost use Rattle.ec_history.specs.History.{Base, History, kept, kept_from, kept_next, issued, issued_by, issued_from, owed, owed_from, owed_next, is_lost, is_entry_of};
 ghost use Rattle.ec_history.specs.Placing.{watch, watch_from, watch_next, unwatched, last_place, gives_entry, before_line, is_numbered};
 ghost use Rattle.ec_history.specs.Lines.{durable, durable_from, made_durable};
 ghost use Rattle.ec_history.specs.declared.entry.Entry.{Entry};
@@ -15,6 +15,7 @@ pub fn longer_history()
     ensures issues_next { (base : Base) (h : History) (e : ℕ × Entry) → issued base (h ++ e ∷ []) ≡ issued base h ++ issued_by base (kept base h) e }
     ensures owes { (base : Base) (h g : History) (c b : ℕ) → owed base (h ++ g) c b ≡ owed_from base c b (kept base h) (owed base h c b) g }
     ensures owes_next { (base : Base) (h : History) (e : ℕ × Entry) (c b : ℕ) → owed base (h ++ e ∷ []) c b ≡ owed_next base c b (kept base h) (owed base h c b) e }
+    ensures others_owe { (base : Base) (h g : History) (c b : ℕ) → list_any (λ e. is_entry_of c b e.1) g ≡ false → owed base (h ++ g) c b ≡ owed base h c b }
     ensures loses { (c b n : ℕ) (h g : History) → is_lost c b n (h ++ g) ≡ (is_lost c b n h || is_lost c b n g) }
 {}
 

@@ -1,4 +1,4 @@
-use Rattle.ec_laws.proofs.More.{kept-append, kept-step, issued-append, issued-step, owed-append, owed-step, is_lost-append}
+use Rattle.ec_laws.proofs.More.{kept-append, kept-step, issued-append, issued-step, owed-append, owed-step, owed-others, is_lost-append}
 use Rattle.ec_laws.proofs.steps.longer_history.Goals as goal
 
 pub returns-clause-keeps : goal.returns-clause-keeps
@@ -18,6 +18,9 @@ returns-clause-owes c = owed-append
 
 pub returns-clause-owes_next : goal.returns-clause-owes_next
 returns-clause-owes_next c = owed-step
+
+pub returns-clause-others_owe : goal.returns-clause-others_owe
+returns-clause-others_owe c = owed-others
 
 pub returns-clause-loses : goal.returns-clause-loses
 returns-clause-loses c = is_lost-append
