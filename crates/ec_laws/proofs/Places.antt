@@ -1,10 +1,12 @@
 -- The places of a transcript's entries.
-use Rattle.std.proofs.Common.{◌≡◌, refl, sym, ap, subst, ◌∙◌, arith, ◌≤◌, ◌+◌, ℕ, T, Bool, true, false, ◌==◌, ◌&&◌, ◌||◌, not, map, List, [], ◌∷◌, ◌++◌, length, Option, Some, None, length-append, append-nil, append_assoc}
+use Rattle.std.proofs.Common.{◌≡◌, refl, sym, ap, subst, ◌∙◌, arith, ◌≤◌, ◌+◌, ◌-◌, take, ℕ, T, Bool, true, false, ◌==◌, ◌&&◌, ◌||◌, not, map, List, [], ◌∷◌, ◌++◌, length, Option, Some, None, length-append, append-nil, append_assoc}
 use Rattle.std.proofs.lemmas.Bool.{or_parts, or_from, ne_eqb, true≢false}
 use Rattle.std.proofs.lemmas.List.{map-append}
 use Rattle.std.proofs.lemmas.List.Folds.{list_any-append}
 use Rattle.ec_volume.specs.Update.{member, distinct}
-use Rattle.ec_history.specs.History.{History, Each}
+use Rattle.ec_history.specs.History.{Base, History, Each, Throughout}
+use Rattle.ec_history.specs.Lines.{durable, IsCovered, AreCovered}
+use Rattle.std.proofs.lemmas.List.{take-append-le}
 use Rattle.ec_history.specs.declared.entry.Entry.{Entry}
 use Rattle.ec_history.specs.declared.entry.Entry.TheVariants as entry
 use Rattle.ec_history.specs.Placing.{watch, owner, or_zero, place}
@@ -99,3 +101,18 @@ places-within ss = (placed ss).0
 
 pub places-distinct : (ss : List Shown) → T (distinct (map (λ e. e.0) (place ss)))
 places-distinct ss = (placed ss).1
+
+-- Durable lines above an entry's line are among the lines before the last.
+module _ (base : Base) (ss : List Shown) (s : Shown) where
+  covered-one : (past : History) (e : ℕ × Entry) → e.0 ≤ length (ss ++ s ∷ []) → IsCovered base ss past e → IsCovered base (ss ++ s ∷ []) past e
+  covered-one past (p, entry.Call c b l g cl a op) m v =
+      let short : p - 1 ≤ length ss = omega (arith, one_longer ss s) in
+      λ n w. subst (λ x. T (member n (durable c b x))) (sym (take-append-le (p - 1) ss (s ∷ []) short)) (v n w)
+  covered-one past (p, entry.Loss c b ns) m v = tt
+
+  covered-all : (past h : History) → Each (IsWithin (length (ss ++ s ∷ []))) (places h) → Throughout (IsCovered base ss) past h → Throughout (IsCovered base (ss ++ s ∷ [])) past h
+  covered-all past [] w t = tt
+  covered-all past (e ∷ h) w t = (covered-one past e w.0.1 t.0, covered-all (past ++ e ∷ []) h w.1 t.1)
+
+  pub covered-longer : Throughout (IsCovered base ss) [] (place (ss ++ s ∷ [])) → AreCovered base (ss ++ s ∷ [])
+  covered-longer t = covered-all [] (place (ss ++ s ∷ [])) (places-within (ss ++ s ∷ [])) t

@@ -3,7 +3,8 @@ ghost use Rattle.std.specs.Prelude.{◌≡◌, ◌≤◌, ◌+◌, ℕ, Bool, T,
 ghost use Rattle.std.specs.List.{list_any};
 ghost use Rattle.ec_volume.specs.Update.{listed, distinct};
 ghost use Rattle.ec_plain.specs.declared.call.Call.{Call};
-ghost use Rattle.ec_history.specs.History.{History, Each, is_entry_of};
+ghost use Rattle.ec_history.specs.History.{Base, History, Each, Throughout, is_entry_of};
+ghost use Rattle.ec_history.specs.Lines.{IsCovered, AreCovered};
 ghost use Rattle.ec_history.specs.Placing.{Watch, watch, begun, owner, or_zero, gives_entry, call_entry, place};
 ghost use Rattle.ec_history.specs.declared.entry.Answer.{Answer};
 ghost use Rattle.ec_history.specs.declared.entry.Entry.TheVariants as entry;
@@ -38,4 +39,9 @@ pub fn watched_starts_are_counted()
     ensures untold { (c : ℕ) (ss : List Shown) (ns : List ℕ) → (watch c ss).untold ≡ Some ns → ((watch c ss).open_start ≡ None) × ((watch c ss).running ≡ true) × (begun (watch c ss) ≡ watch c ss) }
     ensures running { (c : ℕ) (ss : List Shown) → (watch c ss).running ≡ true → 1 ≤ (watch c ss).starts }
     ensures opened { (c b : ℕ) (ss : List Shown) → (watch c ss).open_start ≡ Some b → (1 ≤ b) × (b ≤ (watch c ss).starts) }
+{}
+
+/// Durable lines name all that a transcript's calls cover, if they do so above its last line.
+pub fn lines_above_cover()
+    ensures { (base : Base) (ss : List Shown) (s : Shown) → Throughout (IsCovered base ss) [] (place (ss ++ s ∷ [])) → AreCovered base (ss ++ s ∷ []) }
 {}
