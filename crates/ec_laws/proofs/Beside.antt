@@ -2,24 +2,24 @@
 use Rattle.std.proofs.Common.{◌≡◌, refl, sym, ap, subst, ◌∙◌, inl, inr, ◌+◌, ℕ, T, Bool, true, false, not, ◌==◌, ◌&&◌, ◌||◌, cond, map, List, [], ◌∷◌, ◌++◌, length, Option, Some, None}
 use Rattle.std.proofs.lemmas.Bool.{cases_Bool, and_parts, and_from, eqb-true, true≢false}
 use Rattle.std.specs.Prelude.{nat_le}
-use Rattle.std.specs.List.{filter, list_any}
+use Rattle.std.specs.List.{filter}
 use Rattle.std.proofs.lemmas.List.Elements.{filter-append}
 use Rattle.ec_volume.specs.Update.{has_operand, member}
 use Rattle.ec_volume.specs.Volume.{after}
-use Rattle.ec_plain.specs.Walk.{Reached, At, Not, walk, Path}
+use Rattle.ec_plain.specs.Walk.{Reached, At, Not, walk}
 use Rattle.ec_plain.specs.declared.call.Call.{Call}
 use Rattle.ec_plain.specs.declared.call.Call.TheVariants as call
 use Rattle.ec_plain.specs.declared.call.Reply.TheVariants as reply
 use Rattle.ec_order.specs.Order.{InClosure}
-use Rattle.ec_history.specs.History.{Base, History, Op, Owed, updates, numbers, same_start, of_start, outcome, kept, kept_next, issued, issued_by, of_issue, asks, is_entry_of, is_lost, Covers, owed, owed_next, meets, distinct_numbers, due}
+use Rattle.ec_history.specs.History.{Base, History, Op, updates, numbers, same_start, of_start, outcome, kept, kept_next, issued, issued_by, of_issue, asks, is_entry_of, is_lost, Covers, owed, owed_next, meets, distinct_numbers, due}
 use Rattle.ec_history.specs.Legal.{IsCall, IsNext, IsReported, IsFull, IsReply, is_op_of}
 use Rattle.ec_history.specs.declared.entry.Answer.{Answer}
 use Rattle.ec_history.specs.declared.entry.Answer.TheVariants as answer
 use Rattle.ec_history.specs.declared.entry.Entry.{Entry}
 use Rattle.ec_history.specs.declared.entry.Entry.TheVariants as entry
-use Rattle.ec_laws.proofs.More.{kept-step, issued-step, owed-step, is_lost-append}
+use Rattle.ec_laws.proofs.More.{kept-step, issued-step, owed-step, is_lost-append, count-step}
 use Rattle.ec_laws.proofs.Late.{same_number}
-use Rattle.ec_laws.proofs.Numbers.{count, count-step}
+use Rattle.ec_laws.proofs.Numbers.{count}
 
 -- starts that differ have no operation in common
 pub apart : (c b d f : ℕ) → same_start c b d f ≡ false → (k : Op) → of_start c b k ≡ true → of_start d f k ≡ false
@@ -52,18 +52,18 @@ module _ (base : Base) (c b : ℕ) where
   beside-next past later e h = record {
     keeps = kept-step base later e ∙ ap (λ ks. kept_next base ks e) h.keeps ∙ sym (kept-step base past e);
     issues = λ r n.
-      ap (filter r) (issued-step base later e)
-      ∙ filter-append r (issued base later) (issued_by base (kept base later) e)
-      ∙ ap (λ x. x ++ filter r (issued_by base (kept base later) e)) (h.issues r n)
-      ∙ ap (λ ks. filter r (issued base past) ++ filter r (issued_by base ks e)) h.keeps
-      ∙ sym (filter-append r (issued base past) (issued_by base (kept base past) e))
-      ∙ ap (filter r) (sym (issued-step base past e));
+        ap (filter r) (issued-step base later e)
+        ∙ filter-append r (issued base later) (issued_by base (kept base later) e)
+        ∙ ap (λ x. x ++ filter r (issued_by base (kept base later) e)) (h.issues r n)
+        ∙ ap (λ ks. filter r (issued base past) ++ filter r (issued_by base ks e)) h.keeps
+        ∙ sym (filter-append r (issued base past) (issued_by base (kept base past) e))
+        ∙ ap (filter r) (sym (issued-step base past e));
     loses = λ d f n o. is_lost-append d f n later (e ∷ []) ∙ ap (λ x. x || is_lost d f n (e ∷ [])) (h.loses d f n o) ∙ sym (is_lost-append d f n past (e ∷ []));
     owes = λ d f o.
-      owed-step base later e d f
-      ∙ ap (λ ks. owed_next base d f ks (owed base later d f) e) h.keeps
-      ∙ ap (λ qs. owed_next base d f (kept base past) qs e) (h.owes d f o)
-      ∙ sym (owed-step base past e d f);
+        owed-step base later e d f
+        ∙ ap (λ ks. owed_next base d f ks (owed base later d f) e) h.keeps
+        ∙ ap (λ qs. owed_next base d f (kept base past) qs e) (h.owes d f o)
+        ∙ sym (owed-step base past e d f);
     counts = λ d f o. count-step d f later e ∙ ap (λ n. n + length (cond (is_op_of d f e) (e ∷ []) [])) (h.counts d f o) ∙ sym (count-step d f past e);
   }
 

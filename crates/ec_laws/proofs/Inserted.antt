@@ -1,21 +1,21 @@
 -- A call of a start before the loss of that start: the history stays legal.
-use Rattle.std.proofs.Common.{◌≡◌, refl, sym, ap, subst, ◌∙◌, arith, ◌+◌, ℕ, T, Bool, true, false, not, ◌==◌, ◌&&◌, ◌||◌, cond, List, [], ◌∷◌, ◌++◌, length, Option, Some, None, is_some, append-nil}
+use Rattle.std.proofs.Common.{◌≡◌, refl, sym, ap, subst, ◌∙◌, arith, ℕ, T, Bool, true, false, ◌==◌, ◌&&◌, ◌||◌, cond, List, [], ◌∷◌, ◌++◌, length, Option, is_some, append-nil}
 use Rattle.std.proofs.lemmas.Bool.{or_parts, and_parts, cond-false, eqb-true, true≢false}
 use Rattle.std.specs.List.{filter, list_any, list_all}
 use Rattle.std.proofs.lemmas.List.Elements.{filter-append}
 use Rattle.ec_volume.specs.Update.{listed}
 use Rattle.ec_volume.specs.Volume.{Fits}
 use Rattle.ec_plain.specs.declared.call.Call.{Call}
-use Rattle.ec_history.specs.History.{Base, History, Op, Throughout, Each, updates, same_start, of_start, is_one_of, kept, kept_next, issued, issued_by, is_entry_of, is_lost, Covers, owed, owed_next, without, outcome, meets, pairs_of}
-use Rattle.ec_history.specs.Legal.{IsLegal, IsLegalNext, IsCall, IsLawful, leaves, is_closed, is_op_of}
+use Rattle.ec_history.specs.History.{Base, History, Throughout, Each, updates, same_start, of_start, is_one_of, kept, issued, issued_by, is_entry_of, is_lost, Covers, owed, owed_next, without}
+use Rattle.ec_history.specs.Legal.{IsLegal, IsLegalNext, IsCall, leaves, is_closed}
 use Rattle.ec_history.specs.declared.entry.Answer.{Answer}
 use Rattle.ec_history.specs.declared.entry.Entry.{Entry}
 use Rattle.ec_history.specs.declared.entry.Entry.TheVariants as entry
-use Rattle.ec_laws.proofs.More.{kept-step, issued-step, owed-step, is_lost-append}
+use Rattle.ec_laws.proofs.More.{kept-step, issued-step, owed-step, is_lost-append, count-step}
 use Rattle.ec_laws.proofs.Cuts.{throughout-append, throughout-front, throughout-back, legal-append, legal-step, legal-split}
-use Rattle.ec_laws.proofs.Numbers.{each-map, count, count-step, IsUpTo}
-use Rattle.ec_laws.proofs.LateLoss.{filter-none, filter-new, without-new, new-own, late-new, old-issued, old-kept, late-lawful}
-use Rattle.ec_laws.proofs.Beside.{apart, Other, IsBeside, beside-next, covers-same, call-same}
+use Rattle.ec_laws.proofs.Numbers.{each-map, count}
+use Rattle.ec_laws.proofs.LateLoss.{filter-none, without-new, new-own, late-new, old-kept, late-lawful}
+use Rattle.ec_laws.proofs.Beside.{Other, IsBeside, beside-next, covers-same, call-same}
 
 -- two starts that differ, either way round
 other_way : (c b d f : ℕ) → same_start c b d f ≡ false → same_start d f c b ≡ false
@@ -69,23 +69,23 @@ module _ (base : Base) (most c b p l g : ℕ) (cl : Call) (a : Answer) (op : Opt
   beside-first = record {
     keeps = kept-both;
     issues = λ r n.
-      ap (filter r) (issued-step base (h ++ late ∷ []) new ∙ append-nil (issued base (h ++ late ∷ [])) ∙ issued-step base h late)
-      ∙ filter-append r (issued base h) (issued_by base (kept base h) late)
-      ∙ ap (λ x. filter r (issued base h) ++ x) (filter-none r (issued_by base (kept base h) late) (each-map (λ k. of_start c b k ≡ true) (λ k. r k ≡ false) n (issued_by base (kept base h) late) own))
-      ∙ append-nil (filter r (issued base h))
-      ∙ sym (ap (filter r) (issued-step base h old ∙ append-nil (issued base h)));
+        ap (filter r) (issued-step base (h ++ late ∷ []) new ∙ append-nil (issued base (h ++ late ∷ [])) ∙ issued-step base h late)
+        ∙ filter-append r (issued base h) (issued_by base (kept base h) late)
+        ∙ ap (λ x. filter r (issued base h) ++ x) (filter-none r (issued_by base (kept base h) late) (each-map (λ k. of_start c b k ≡ true) (λ k. r k ≡ false) n (issued_by base (kept base h) late) own))
+        ∙ append-nil (filter r (issued base h))
+        ∙ sym (ap (filter r) (issued-step base h old ∙ append-nil (issued base h)));
     loses = λ d f n o.
-      is_lost-append d f n (h ++ late ∷ []) (new ∷ [])
-      ∙ ap (λ x. x || is_lost d f n (new ∷ [])) (is_lost-append d f n h (late ∷ []))
-      ∙ tests d f n o
-      ∙ sym (is_lost-append d f n h (old ∷ []));
+        is_lost-append d f n (h ++ late ∷ []) (new ∷ [])
+        ∙ ap (λ x. x || is_lost d f n (new ∷ [])) (is_lost-append d f n h (late ∷ []))
+        ∙ tests d f n o
+        ∙ sym (is_lost-append d f n h (old ∷ []));
     owes = λ d f o.
-      owed-step base (h ++ late ∷ []) new d f
-      ∙ unmet d f o (owed base (h ++ late ∷ []) d f)
-      ∙ owed-step base h late d f
-      ∙ cond-false (same_start d f c b) _ (owed base h d f) (other_way c b d f o)
-      ∙ sym (cond-false (same_start d f c b) _ (owed base h d f) (other_way c b d f o))
-      ∙ sym (owed-step base h old d f);
+        owed-step base (h ++ late ∷ []) new d f
+        ∙ unmet d f o (owed base (h ++ late ∷ []) d f)
+        ∙ owed-step base h late d f
+        ∙ cond-false (same_start d f c b) _ (owed base h d f) (other_way c b d f o)
+        ∙ sym (cond-false (same_start d f c b) _ (owed base h d f) (other_way c b d f o))
+        ∙ sym (owed-step base h old d f);
     counts = λ d f o. omega (arith, count-step d f (h ++ late ∷ []) new, count-step d f h late, no_op d f o, count-step d f h old);
   }
     where
@@ -106,12 +106,12 @@ module _ (base : Base) (most c b p l g : ℕ) (cl : Call) (a : Answer) (op : Opt
   inserted-first = record {
     beside = beside-first;
     uncovered = λ d f ms o t.
-      throughout-append (Uncovered d f ms) [] (h ++ late ∷ []) (new ∷ [])
-      (throughout-append (Uncovered d f ms) [] h (late ∷ []) (throughout-front (Uncovered d f ms) [] h (old ∷ []) t) (not_own d f h late (other_way c b d f o) ms, tt))
-      (not_own d f (h ++ late ∷ []) new (other_way c b d f o) ms, tt);
+        throughout-append (Uncovered d f ms) [] (h ++ late ∷ []) (new ∷ [])
+        (throughout-append (Uncovered d f ms) [] h (late ∷ []) (throughout-front (Uncovered d f ms) [] h (old ∷ []) t) (not_own d f h late (other_way c b d f o) ms, tt))
+        (not_own d f (h ++ late ∷ []) new (other_way c b d f o) ms, tt);
     untouched = λ d f ms u t.
-      throughout-append (Untouched d f ms) [] (h ++ late ∷ []) (new ∷ [])
-      (throughout-append (Untouched d f ms) [] h (late ∷ []) (throughout-front (Untouched d f ms) [] h (old ∷ []) t) (u, tt)) (tt, tt);
+        throughout-append (Untouched d f ms) [] (h ++ late ∷ []) (new ∷ [])
+        (throughout-append (Untouched d f ms) [] h (late ∷ []) (throughout-front (Untouched d f ms) [] h (old ∷ []) t) (u, tt)) (tt, tt);
   }
     where
       not_own : (d f : ℕ) (past : History) (e : ℕ × Entry) → is_entry_of d f e.1 ≡ false → (ms : List ℕ) → Uncovered d f ms past e
@@ -122,11 +122,11 @@ module _ (base : Base) (most c b p l g : ℕ) (cl : Call) (a : Answer) (op : Opt
   inserted-next past later e n i = record {
     beside = beside-next base c b past later e i.beside;
     uncovered = λ d f ms o t.
-      throughout-append (Uncovered d f ms) [] later (e ∷ []) (i.uncovered d f ms o (throughout-front (Uncovered d f ms) [] past (e ∷ []) t))
-      (each-map (λ m. ¬ (Covers base past e d f m)) (λ m. ¬ (Covers base later e d f m)) (λ m k v. k (covers-same base c b past later i.beside e d f m n o v)) ms (throughout-back (Uncovered d f ms) [] past (e ∷ []) t).0, tt);
+        throughout-append (Uncovered d f ms) [] later (e ∷ []) (i.uncovered d f ms o (throughout-front (Uncovered d f ms) [] past (e ∷ []) t))
+        (each-map (λ m. ¬ (Covers base past e d f m)) (λ m. ¬ (Covers base later e d f m)) (λ m k v. k (covers-same base c b past later i.beside e d f m n o v)) ms (throughout-back (Uncovered d f ms) [] past (e ∷ []) t).0, tt);
     untouched = λ d f ms u t.
-      throughout-append (Untouched d f ms) [] later (e ∷ []) (i.untouched d f ms u (throughout-front (Untouched d f ms) [] past (e ∷ []) t))
-      (subst (λ ks. T (leaves base ks d (filter (is_one_of d f ms) ks) e)) (sym i.beside.keeps) (throughout-back (Untouched d f ms) [] past (e ∷ []) t).0, tt);
+        throughout-append (Untouched d f ms) [] later (e ∷ []) (i.untouched d f ms u (throughout-front (Untouched d f ms) [] past (e ∷ []) t))
+        (subst (λ ks. T (leaves base ks d (filter (is_one_of d f ms) ks) e)) (sym i.beside.keeps) (throughout-back (Untouched d f ms) [] past (e ∷ []) t).0, tt);
   }
 
   -- the call touches no operand of what this loss of another clerk names
@@ -161,5 +161,5 @@ insertion base most c b p l g q cl a op ns h h' t call n v u =
     let parts = legal-split base most h ((q, entry.Loss c b ns) ∷ h') t in
     let lawful = late-lawful base most c b p l g cl a op ns h parts.0 call parts.1.0 v in
     let behind = legal-behind base most c b p l g cl a op q ns h parts.0 call (h ++ (q, entry.Loss c b ns) ∷ []) ((h ++ (p, entry.Call c b l g cl a op) ∷ []) ++ (q, entry.Loss c b (ns ++ listed op)) ∷ []) h'
-        (inserted-first base most c b p l g cl a op q ns h parts.0 call) n u parts.1.1 in
+    (inserted-first base most c b p l g cl a op q ns h parts.0 call) n u parts.1.1 in
     legal-append base most (h ++ (p, entry.Call c b l g cl a op) ∷ []) ((q, entry.Loss c b (ns ++ listed op)) ∷ h') (legal-step base most h (p, entry.Call c b l g cl a op) parts.0 call) (lawful, behind)

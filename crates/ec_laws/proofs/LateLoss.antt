@@ -1,6 +1,6 @@
 -- A loss that takes one more operation of its start, issued just before it.
-use Rattle.std.proofs.Common.{◌≡◌, refl, sym, ap, subst, ◌∙◌, inl, inr, arith, ◌≤◌, ◌<◌, ◌+◌, ℕ, T, Bool, true, false, not, ◌==◌, ◌&&◌, ◌||◌, cond, List, [], ◌∷◌, ◌++◌, length, Option, Some, None, is_some, append-nil}
-use Rattle.std.proofs.lemmas.Bool.{cases_Bool, and_parts, and_from, or_from, eqb-true, ne_eqb, true≢false}
+use Rattle.std.proofs.Common.{◌≡◌, refl, sym, ap, subst, ◌∙◌, arith, ◌≤◌, ◌<◌, ℕ, T, Bool, true, false, not, ◌==◌, ◌&&◌, ◌||◌, cond, List, [], ◌∷◌, ◌++◌, Option, Some, None, is_some, append-nil}
+use Rattle.std.proofs.lemmas.Bool.{and_parts, and_from, or_from, ne_eqb, true≢false}
 use Rattle.std.specs.List.{filter, list_any, list_all}
 use Rattle.std.proofs.lemmas.List.Folds.{list_any-append, list_all-append}
 use Rattle.std.proofs.lemmas.List.Elements.{filter-append}
@@ -8,9 +8,8 @@ use Rattle.ec_volume.specs.Update.{listed, member}
 use Rattle.ec_volume.specs.Volume.{Fits}
 use Rattle.ec_volume.specs.declared.update.Update.{Update}
 use Rattle.ec_plain.specs.declared.call.Call.{Call}
-use Rattle.ec_plain.specs.declared.call.Outcome.{Outcome}
 use Rattle.ec_order.specs.Order.{before}
-use Rattle.ec_history.specs.History.{Base, History, Op, Throughout, Each, updates, same_start, of_start, is_one_of, outcome, kept, issued, issued_by, without, Covers}
+use Rattle.ec_history.specs.History.{Base, History, Op, Each, updates, of_start, is_one_of, outcome, kept, issued, issued_by, without, Covers}
 use Rattle.ec_history.specs.Legal.{IsLegal, IsCall, IsReply, IsLawful, leaves, is_closed}
 use Rattle.ec_history.specs.declared.entry.Answer.{Answer}
 use Rattle.ec_history.specs.declared.entry.Answer.TheVariants as answer
@@ -19,7 +18,7 @@ use Rattle.ec_history.specs.declared.entry.Entry.TheVariants as entry
 use Rattle.ec_laws.proofs.More.{kept-step}
 use Rattle.ec_laws.proofs.Cuts.{throughout-append}
 use Rattle.ec_laws.proofs.Late.{same_number}
-use Rattle.ec_laws.proofs.Numbers.{each-append, each-filter, each-map, kept-each, throughout-issued, count, IsUpTo, issued-up_to, covers-up_to}
+use Rattle.ec_laws.proofs.Numbers.{each-append, each-filter, each-map, kept-each, throughout-issued, count, IsUpTo, issued-up_to, kept-up_to, covers-up_to}
 
 pub both : (a b : Bool) → T a → T b → T (a && b)
 both true b p q = q
@@ -198,7 +197,7 @@ module _ (base : Base) (most c b p l g : ℕ) (cl : Call) (a : Answer) (op : Opt
   old-issued = issued-up_to base most c b h legal
 
   pub old-kept : Each (IsUpTo c b (count c b h)) (kept base h)
-  old-kept = kept-each base (IsUpTo c b (count c b h)) h old-issued
+  old-kept = kept-up_to base most c b h legal
 
   uncovered-new : (past : History) (e : ℕ × Entry) → Each (IsUpTo c b (count c b h)) (issued base past) → Each (λ n. ¬ (Covers base past e c b n)) (listed op)
   uncovered-new past e u = each-map (λ n. count c b h < n) (λ n. ¬ (Covers base past e c b n)) (λ n k v. omega (arith, covers-up_to base past e c b (count c b h) n u v)) (listed op) late-new.above

@@ -1,8 +1,11 @@
 -- What histories and lines come to with more behind them.
-use Rattle.std.proofs.Common.{◌≡◌, refl, sym, ap, ◌∙◌, arith, ◌+◌, ℕ, Bool, true, false, ◌||◌, cond, List, [], ◌∷◌, ◌++◌, length, append_assoc, append-nil}
-use Rattle.std.specs.List.{list_any}
+use Rattle.std.proofs.Common.{◌≡◌, refl, sym, ap, ◌∙◌, arith, ◌+◌, ℕ, Bool, true, false, ◌||◌, cond, List, [], ◌∷◌, ◌++◌, length, length-append, append_assoc, append-nil}
+use Rattle.std.specs.List.{filter, list_any}
+use Rattle.std.proofs.lemmas.List.Elements.{filter-append}
+use Rattle.ec_plain.specs.declared.call.Call.{Call}
+use Rattle.ec_history.specs.Legal.{is_op_of}
 use Rattle.std.proofs.lemmas.List.Folds.{list_any-append}
-use Rattle.ec_history.specs.History.{Base, History, Op, Owed, kept, kept_from, kept_next, issued, issued_by, issued_from, owed, owed_from, owed_next, is_lost, names, is_entry_of, same_start}
+use Rattle.ec_history.specs.History.{Base, History, Op, Owed, kept, kept_from, kept_next, issued, issued_by, issued_from, owed, owed_from, owed_next, is_lost, names, is_entry_of, same_start, due, distinct_numbers, meets, outcome}
 use Rattle.ec_history.specs.Placing.{Watch, watch, watch_from, watch_next, unwatched, last_place, gives_entry, before_line, is_numbered}
 use Rattle.ec_history.specs.Lines.{durable, durable_from, made_durable}
 use Rattle.ec_history.specs.declared.entry.Entry.{Entry}
@@ -110,3 +113,19 @@ owed_from-others base c b ks qs (e ∷ g) n =
 
 pub owed-others : (base : Base) (h g : History) (c b : ℕ) → list_any (λ e. is_entry_of c b e.1) g ≡ false → owed base (h ++ g) c b ≡ owed base h c b
 owed-others base h g c b n = owed-append base h g c b ∙ owed_from-others base c b (kept base h) (owed base h c b) g n
+
+pub due-step : (base : Base) (h : History) (e : ℕ × Entry) (c b p : ℕ) (cl : Call)
+    → due base (h ++ e ∷ []) c b p cl ≡ distinct_numbers (filter (meets (outcome base (kept_next base (kept base h) e) p cl) cl) (owed_next base c b (kept base h) (owed base h c b) e))
+due-step base h e c b p cl =
+    ap (λ ks. distinct_numbers (filter (meets (outcome base ks p cl) cl) (owed base (h ++ e ∷ []) c b))) (kept-step base h e)
+    ∙ ap (λ qs. distinct_numbers (filter (meets (outcome base (kept_next base (kept base h) e) p cl) cl) qs)) (owed-step base h e c b)
+
+pub count-step : (c b : ℕ) (h : History) (e : ℕ × Entry) → length (filter (is_op_of c b) (h ++ e ∷ [])) ≡ length (filter (is_op_of c b) h) + length (cond (is_op_of c b e) (e ∷ []) [])
+count-step c b h e = ap length (filter-append (is_op_of c b) h (e ∷ [])) ∙ length-append (filter (is_op_of c b) h) (cond (is_op_of c b e) (e ∷ []) [])
+
+pub count-next : (c b : ℕ) (h : History) (e : ℕ × Entry) → length (filter (is_op_of c b) (h ++ e ∷ [])) ≡ cond (is_op_of c b e) (length (filter (is_op_of c b) h) + 1) (length (filter (is_op_of c b) h))
+count-next c b h e = count-step c b h e ∙ go (is_op_of c b e)
+  where
+    go : (x : Bool) → length (filter (is_op_of c b) h) + length (cond x (e ∷ []) []) ≡ cond x (length (filter (is_op_of c b) h) + 1) (length (filter (is_op_of c b) h))
+    go true = refl
+    go false = omega arith

@@ -1,18 +1,14 @@
 -- The numbers of a start's operations: none is above the count of its entries with an operation.
-use Rattle.std.proofs.Common.{◌≡◌, refl, sym, ap, subst, ◌∙◌, inl, inr, arith, ◌≤◌, ◌<◌, ◌+◌, ℕ, T, Bool, true, false, not, ◌==◌, ◌&&◌, ◌||◌, cond, map, List, [], ◌∷◌, ◌++◌, length, Option, Some, None, is_some, append-nil, append_assoc, length-append}
-use Rattle.std.proofs.lemmas.Bool.{cases_Bool, and_parts, eqb-true, true≢false}
+use Rattle.std.proofs.Common.{◌≡◌, refl, sym, ap, subst, ◌∙◌, inl, inr, arith, ◌≤◌, ◌+◌, ℕ, Bool, true, false, not, ◌==◌, ◌&&◌, cond, map, List, [], ◌∷◌, ◌++◌, length, Option, Some, None, append-nil, append_assoc}
+use Rattle.std.proofs.lemmas.Bool.{and_parts, eqb-true}
 use Rattle.std.specs.List.{filter}
-use Rattle.std.proofs.lemmas.List.Elements.{filter-append}
 use Rattle.ec_volume.specs.declared.update.Update.{Update}
-use Rattle.ec_plain.specs.declared.call.Call.{Call}
 use Rattle.ec_order.specs.Order.{Holds, InClosure, ask, need}
-use Rattle.ec_history.specs.History.{Base, History, Op, Throughout, Each, same_start, of_start, is_one_of, of_issue, outcome, kept, kept_from, kept_next, issued, issued_by, issued_from, without, Covers, asks}
+use Rattle.ec_history.specs.History.{Base, History, Op, Throughout, Each, same_start, of_start, is_one_of, of_issue, outcome, kept, kept_from, issued, issued_by, issued_from, without, Covers}
 use Rattle.ec_history.specs.Legal.{IsLegal, IsLegalNext, is_op_of}
-use Rattle.ec_history.specs.declared.entry.Answer.{Answer}
 use Rattle.ec_history.specs.declared.entry.Entry.{Entry}
 use Rattle.ec_history.specs.declared.entry.Entry.TheVariants as entry
-use Rattle.ec_laws.proofs.More.{issued-append, issued-step}
-use Rattle.ec_laws.proofs.Cuts.{legal-split}
+use Rattle.ec_laws.proofs.More.{issued-append, issued-step, count-step}
 
 module _ {A : Type 0} (P : A → Type 0) where
   pub each-append : (xs ys : List A) → Each P xs → Each P ys → Each P (xs ++ ys)
@@ -68,9 +64,6 @@ count c b h = length (filter (is_op_of c b) h)
 abbrev pub IsUpTo : ℕ → ℕ → ℕ → Op → Type 0
 IsUpTo c b m k = of_start c b k ≡ true → k.number ≤ m
 
-pub count-step : (c b : ℕ) (h : History) (e : ℕ × Entry) → count c b (h ++ e ∷ []) ≡ count c b h + length (cond (is_op_of c b e) (e ∷ []) [])
-count-step c b h e = ap length (filter-append (is_op_of c b) h (e ∷ [])) ∙ length-append (filter (is_op_of c b) h) (cond (is_op_of c b e) (e ∷ []) [])
-
 module _ (base : Base) (most c b : ℕ) where
   new-up_to : (past : History) (e : ℕ × Entry) → IsLegalNext base most past e → Each (IsUpTo c b (count c b (past ++ e ∷ []))) (issued_by base (kept base past) e)
   new-up_to past (p, entry.Call d f l begun cl a None) n = tt
@@ -82,7 +75,7 @@ module _ (base : Base) (most c b : ℕ) where
           let k = and_parts (c == d) (b == f) y in
           let last : m ≡ count c b past + 1 = n.number ∙ ap (λ x. count x f past + 1) (sym (eqb-true c d k.0)) ∙ ap (λ x. count c x past + 1) (sym (eqb-true b f k.1)) in
           let one : length {A = ℕ × Entry} (cond (same_start c b d f && true) ((p, entry.Call d f l begun cl a (Some m)) ∷ []) []) ≡ 1 =
-              ap (λ x. length {A = ℕ × Entry} (cond (x && true) ((p, entry.Call d f l begun cl a (Some m)) ∷ []) [])) y in
+          ap (λ x. length {A = ℕ × Entry} (cond (x && true) ((p, entry.Call d f l begun cl a (Some m)) ∷ []) [])) y in
           omega (arith, last, one, count-step c b past (p, entry.Call d f l begun cl a (Some m)))
 
       go : (u : Option Update) → Each (IsUpTo c b (count c b (past ++ (p, entry.Call d f l begun cl a (Some m)) ∷ [])))
@@ -95,11 +88,14 @@ module _ (base : Base) (most c b : ℕ) where
   issued-up_to-from past (e ∷ h) t i =
       let old : Each (IsUpTo c b (count c b (past ++ e ∷ []))) (issued base past) = each-map (IsUpTo c b (count c b past)) (IsUpTo c b (count c b (past ++ e ∷ []))) (λ k u o. omega (arith, u o, count-step c b past e)) (issued base past) i in
       let all : Each (IsUpTo c b (count c b (past ++ e ∷ []))) (issued base (past ++ e ∷ [])) =
-          subst (Each (IsUpTo c b (count c b (past ++ e ∷ [])))) (sym (issued-step base past e)) (each-append _ (issued base past) (issued_by base (kept base past) e) old (new-up_to past e t.0)) in
+      subst (Each (IsUpTo c b (count c b (past ++ e ∷ [])))) (sym (issued-step base past e)) (each-append _ (issued base past) (issued_by base (kept base past) e) old (new-up_to past e t.0)) in
       subst (λ x. Each (IsUpTo c b (count c b x)) (issued base x)) (append_assoc past (e ∷ []) h) (issued-up_to-from (past ++ e ∷ []) h t.1 all)
 
   pub issued-up_to : (h : History) → IsLegal base most h → Each (IsUpTo c b (count c b h)) (issued base h)
   issued-up_to h t = issued-up_to-from [] h t tt
+
+  pub kept-up_to : (h : History) → IsLegal base most h → Each (IsUpTo c b (count c b h)) (kept base h)
+  kept-up_to h t = kept-each base (IsUpTo c b (count c b h)) h (issued-up_to h t)
 
 -- A closure has issued operations alone.
 closure-held : (is : List (ℕ × Update)) (asked : ℕ → Bool) (n : ℕ) → InClosure is asked n → (u : Update) × Holds is n u

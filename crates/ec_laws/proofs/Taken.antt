@@ -1,23 +1,23 @@
 -- What a history keeps, issued, owes and covers, with a late call before the loss of its start.
-use Rattle.std.proofs.Common.{◌≡◌, refl, sym, ap, subst, ◌∙◌, ◌+◌, ℕ, T, Bool, true, false, not, ◌==◌, ◌&&◌, ◌||◌, cond, List, [], ◌∷◌, ◌++◌, Option, append-nil, append_assoc}
+use Rattle.std.proofs.Common.{◌≡◌, sym, ap, subst, ◌∙◌, ℕ, true, false, not, ◌==◌, List, [], ◌∷◌, ◌++◌, Option, append-nil, append_assoc}
 use Rattle.std.proofs.lemmas.Bool.{or_parts, and_from, cond-true}
 use Rattle.std.specs.List.{filter, list_any}
 use Rattle.ec_volume.specs.Update.{listed}
 use Rattle.ec_plain.specs.declared.call.Call.{Call}
-use Rattle.ec_history.specs.History.{Base, History, Op, Throughout, same_start, is_one_of, kept, kept_next, issued, issued_by, issued_from, is_entry_of, owed, outcome, meets, pairs_of}
+use Rattle.ec_history.specs.History.{Base, History, Throughout, same_start, is_one_of, kept, kept_next, issued, issued_by, issued_from, is_entry_of, owed, outcome, meets, pairs_of}
 use Rattle.ec_history.specs.Legal.{IsLegal, IsCall}
 use Rattle.ec_history.specs.Lines.{IsCovered}
 use Rattle.ec_history.specs.declared.entry.Answer.{Answer}
 use Rattle.ec_history.specs.declared.entry.Entry.{Entry}
 use Rattle.ec_history.specs.declared.entry.Entry.TheVariants as entry
 use Rattle.ec_history.specs.declared.shown.Shown.{Shown}
-use Rattle.ec_laws.proofs.More.{kept-step, kept-append, issued-append, issued-step, owed-step, owed-others}
+use Rattle.ec_laws.proofs.More.{kept-step, issued-append, issued-step, owed-step, owed-others}
 use Rattle.ec_laws.proofs.Cuts.{throughout-append, throughout-front, throughout-back}
 use Rattle.ec_laws.proofs.Late.{same_number}
 use Rattle.ec_laws.proofs.Numbers.{count}
 use Rattle.ec_laws.proofs.LateLoss.{filter-new, late-new, old-kept}
-use Rattle.ec_laws.proofs.Beside.{Other, IsBeside, beside-next, covers-same}
-use Rattle.ec_laws.proofs.Inserted.{kept-both, beside-first, late, old, new}
+use Rattle.ec_laws.proofs.Beside.{IsBeside, beside-next, covers-same}
+use Rattle.ec_laws.proofs.Inserted.{kept-both, beside-first}
 
 -- an entry behind two others, and what follows
 pub past_last : (h : History) (x : ℕ × Entry) (g : History) → h ++ x ∷ g ≡ (h ++ x ∷ []) ++ g

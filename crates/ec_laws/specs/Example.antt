@@ -1,5 +1,5 @@
 -- Two clerks write a file each, lose what they wrote, and the first one writes again before it is told.
-use Rattle.std.specs.Prelude.{◌+◌, ℕ, List, [], ◌∷◌, ◌++◌, Some}
+use Rattle.std.specs.Prelude.{◌+◌, List, [], ◌∷◌, Some}
 use Rattle.ec_volume.specs.Volume.{images}
 use Rattle.ec_volume.specs.declared.image.Image.TheVariants.{File, Dir}
 use Rattle.ec_plain.specs.declared.call.Call.{Call}

@@ -1,13 +1,16 @@
 // What histories and transcripts come to with more behind them.
 ghost use Rattle.std.specs.Prelude.{◌≡◌, ◌+◌, ℕ, ◌||◌, Bool, true, false, if◌then◌else◌, List, [], ◌∷◌, ◌++◌, length};
-ghost use Rattle.std.specs.List.{list_any};
-ghost use Rattle.ec_history.specs.History.{Base, History, kept, kept_from, kept_next, issued, issued_by, issued_from, owed, owed_from, owed_next, is_lost, is_entry_of};
+ghost use Rattle.std.specs.List.{filter, list_any};
+ghost use Rattle.ec_plain.specs.declared.call.Call.{Call};
+ghost use Rattle.ec_history.specs.Legal.{is_op_of};
+ghost use Rattle.ec_history.specs.History.{Base, History, kept, kept_from, kept_next, issued, issued_by, issued_from, owed, owed_from, owed_next, is_lost, is_entry_of, due, distinct_numbers, meets, outcome};
 ghost use Rattle.ec_history.specs.Placing.{watch, watch_from, watch_next, unwatched, last_place, gives_entry, before_line, is_numbered};
 ghost use Rattle.ec_history.specs.Lines.{durable, durable_from, made_durable};
 ghost use Rattle.ec_history.specs.declared.entry.Entry.{Entry};
 ghost use Rattle.ec_history.specs.declared.shown.Shown.{Shown};
 
-/// What a history with more entries behind it keeps, issued, owes and lost; and with one more.
+/// What a history with more entries behind it keeps, issued, owes, has to report, counts and lost;
+/// and with one more.
 pub fn longer_history()
     ensures keeps { (base : Base) (h g : History) → kept base (h ++ g) ≡ kept_from base (kept base h) g }
     ensures keeps_next { (base : Base) (h : History) (e : ℕ × Entry) → kept base (h ++ e ∷ []) ≡ kept_next base (kept base h) e }
@@ -16,6 +19,9 @@ pub fn longer_history()
     ensures owes { (base : Base) (h g : History) (c b : ℕ) → owed base (h ++ g) c b ≡ owed_from base c b (kept base h) (owed base h c b) g }
     ensures owes_next { (base : Base) (h : History) (e : ℕ × Entry) (c b : ℕ) → owed base (h ++ e ∷ []) c b ≡ owed_next base c b (kept base h) (owed base h c b) e }
     ensures others_owe { (base : Base) (h g : History) (c b : ℕ) → list_any (λ e. is_entry_of c b e.1) g ≡ false → owed base (h ++ g) c b ≡ owed base h c b }
+    ensures reports_next { (base : Base) (h : History) (e : ℕ × Entry) (c b p : ℕ) (cl : Call)
+        → due base (h ++ e ∷ []) c b p cl ≡ distinct_numbers (filter (meets (outcome base (kept_next base (kept base h) e) p cl) cl) (owed_next base c b (kept base h) (owed base h c b) e)) }
+    ensures counts_next { (c b : ℕ) (h : History) (e : ℕ × Entry) → length (filter (is_op_of c b) (h ++ e ∷ [])) ≡ (if is_op_of c b e then length (filter (is_op_of c b) h) + 1 else length (filter (is_op_of c b) h)) }
     ensures loses { (c b n : ℕ) (h g : History) → is_lost c b n (h ++ g) ≡ (is_lost c b n h || is_lost c b n g) }
 {}
 

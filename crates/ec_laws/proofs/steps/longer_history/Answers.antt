@@ -1,4 +1,4 @@
-use Rattle.ec_laws.proofs.More.{kept-append, kept-step, issued-append, issued-step, owed-append, owed-step, owed-others, is_lost-append}
+use Rattle.ec_laws.proofs.More.{kept-append, kept-step, issued-append, issued-step, owed-append, owed-step, owed-others, is_lost-append, due-step, count-next}
 use Rattle.ec_laws.proofs.steps.longer_history.Goals as goal
 
 pub returns-clause-keeps : goal.returns-clause-keeps
@@ -24,3 +24,9 @@ returns-clause-others_owe c = owed-others
 
 pub returns-clause-loses : goal.returns-clause-loses
 returns-clause-loses c = is_lost-append
+
+pub returns-clause-reports_next : goal.returns-clause-reports_next
+returns-clause-reports_next c = due-step
+
+pub returns-clause-counts_next : goal.returns-clause-counts_next
+returns-clause-counts_next c = count-next
