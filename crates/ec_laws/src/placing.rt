@@ -41,7 +41,7 @@ pub fn watched_starts_are_counted()
     ensures opened { (c b : ℕ) (ss : List Shown) → (watch c ss).open_start ≡ Some b → (1 ≤ b) × (b ≤ (watch c ss).starts) }
 {}
 
-/// Durable lines name all that a transcript's calls cover, if they do so above its last line.
+/// Durable lines name all that a transcript's calls cover, if those above its last line do.
 pub fn lines_above_cover()
     ensures { (base : Base) (ss : List Shown) (s : Shown) → Throughout (IsCovered base ss) [] (place (ss ++ s ∷ [])) → AreCovered base (ss ++ s ∷ []) }
 {}
