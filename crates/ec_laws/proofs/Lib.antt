@@ -1,0 +1,11 @@
+pub mod More
+pub mod Cuts
+pub mod Watching
+pub mod Late
+pub mod Held
+pub mod Places
+pub mod Numbers
+pub mod LateLoss
+pub mod Beside
+pub mod Inserted
+pub mod Taken

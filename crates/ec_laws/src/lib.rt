@@ -1,0 +1,17 @@
+//! Laws over the definitions of histories, transcripts and placing: each function has an empty
+//! body, and its contract is a law.
+#![tactic(auto)]
+
+mod append;
+mod example;
+mod insertion;
+mod placing;
+mod steps;
+
+pub use append::{longer_history_is_legal, longer_transcript_is_placeable, next_number_is_new};
+pub use example::premises_can_be_met;
+pub use insertion::{late_call_is_covered, late_call_is_legal, late_call_is_lost};
+pub use placing::{
+    each_line_is_placed, lines_above_cover, places_are_distinct, watched_starts_are_counted,
+};
+pub use steps::{longer_history, longer_transcript};
