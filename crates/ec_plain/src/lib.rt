@@ -2,5 +2,10 @@
 #![tactic(auto)]
 
 mod call;
+mod file;
+mod make;
+mod object;
+mod outcome;
+mod walk;
 
 pub use call::{Call, Outcome, Refusal, Reply};

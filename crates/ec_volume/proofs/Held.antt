@@ -1,12 +1,12 @@
 -- What a volume's list shows after a change, and that it stays one.
 use Rattle.std.proofs.Common.{Bor, ◌≡◌, ℕ, suc, ◌+◌, ◌-◌, ◌≤◌, ◌<◌, arith, length, List, [], ◌∷◌, Option, None, Some, Bool, true, false, cond, refl, sym, ap, subst, ◌∙◌}
-use Rattle.std.specs.Prelude.{◌==◌, ◌&&◌, if◌then◌else◌, T, not, unwrap_or, is_some, Result, Ok, Err, is_err, OnOk, OnErr, OnSome, MatchOption, option_copied, slice_get}
+use Rattle.std.specs.Prelude.{◌==◌, if◌then◌else◌, T, not, unwrap_or, is_some, Result, Ok, Err, is_err, OnOk, OnErr, OnSome, MatchOption, option_copied, slice_get}
 use Rattle.std.specs.declared.cmp.Ordering.TheVariants.{Less, Equal, Greater}
 use Rattle.std.specs.List.{list_all}
 use Rattle.std.specs.Ordering.{nat_cmp, eq_by_cmp, is_lt}
 use Rattle.std.proofs.lemmas.Bool.Decides.{nat_tests}
 use Rattle.std.specs.Cmp.{nat_cmp_total, eq_by_cmp_equiv, unsigned_ties}
-use Rattle.std.specs.FinMap.{nat_cmp-IsAntisymmetric, find, put, is_sorted}
+use Rattle.std.specs.FinMap.{find, put, is_sorted}
 use Rattle.std.specs.FinMap.Entries.{by_order, where_key, is_sorted-put, is_sorted-where_key, find-put}
 use Rattle.ec_base.specs.Sorted.{without}
 use Rattle.ec_volume.specs.Entries.{Entries}
@@ -15,15 +15,15 @@ use Rattle.ec_volume.specs.Volume.{images}
 use Rattle.ec_volume.specs.Held.{IsVolume, instead, cleared}
 use Rattle.ec_volume.specs.declared.image.Image.{Image}
 use Rattle.ec_volume.specs.declared.image.Image.TheVariants.{Gone, File, Dir}
-use Rattle.ec_volume.proofs.Pairs.{find-without, put-put, put-found, without-new}
+use Rattle.ec_base.specs.SortedLaws.{first, second, both, find-without, put-put, put-found, without-put_new}
 
 pick : (b : Bool) (i r : Image) (f : Option Image) → r ≡ unwrap_or f Gone → (if b then i else r) ≡ unwrap_or (cond b (Some i) f) Gone
 pick true i r f e = refl
 pick false i r f e = e
 
-pick_not : (b : Bool) (r : Image) (f : Option Image) → r ≡ unwrap_or f Gone → (if b then Gone else r) ≡ unwrap_or (cond (not b) f None) Gone
-pick_not true r f e = refl
-pick_not false r f e = e
+pick_gone : (b : Bool) (r : Image) (f : Option Image) → r ≡ unwrap_or f Gone → (if b then Gone else r) ≡ unwrap_or (cond b None f) Gone
+pick_gone true r f e = refl
+pick_gone false r f e = e
 
 pub images_find : (es : List (ℕ × Image)) (p : ℕ) → images es p ≡ unwrap_or (find nat_cmp p es) Gone
 images_find [] p = refl
@@ -41,23 +41,11 @@ images-put k i es p =
 pub images-without : (k : ℕ) (es : List (ℕ × Image)) (p : ℕ) → images (without nat_cmp k es) p ≡ cleared (Some k) (images es) p
 images-without k es p =
     images_find (without nat_cmp k es) p
-    ∙ ap (λ f. unwrap_or f Gone) (find-without nat_cmp nat_cmp_total nat_cmp-IsAntisymmetric p k es)
-    ∙ ap (λ b. unwrap_or (cond (not b) (find nat_cmp p es) None) Gone) ((eq_by_cmp_equiv nat_cmp_total).symm k p ∙ sym (unsigned_ties p k))
-    ∙ sym (pick_not (p == k) (images es p) (find nat_cmp p es) (images_find es p))
+    ∙ ap (λ f. unwrap_or f Gone) (find-without nat_cmp nat_cmp_total p k es)
+    ∙ ap (λ b. unwrap_or (cond b None (find nat_cmp p es)) Gone) ((eq_by_cmp_equiv nat_cmp_total).symm k p ∙ sym (unsigned_ties p k))
+    ∙ sym (pick_gone (p == k) (images es p) (find nat_cmp p es) (images_find es p))
 
 -- Images that aren't Gone.
-
-both : (a b : Bool) → T a → T b → T (a && b)
-both true b p q = q
-both false b p q = p
-
-first : (a b : Bool) → T (a && b) → T a
-first true b p = tt
-first false b p = p
-
-second : (a b : Bool) → T (a && b) → T b
-second true b p = p
-second false b p = absurd p
 
 stands : (i : Image) → is_gone i ≡ false → T (not (is_gone i))
 stands i e = subst (λ b. T (not b)) (sym e) tt
@@ -146,10 +134,10 @@ then_err (Err e) P Q f p = f p
 -- An image that was taken out and another one that was put back.
 
 pub given : (k : ℕ) (i j : Image) (es middle new : List (ℕ × Image)) → IsVolume es → middle ≡ put nat_cmp k j es → new ≡ put nat_cmp k i middle → new ≡ put nat_cmp k i es
-given k i j es middle new v e f = f ∙ ap (put nat_cmp k i) e ∙ put-put nat_cmp nat_cmp_total nat_cmp-IsAntisymmetric k i j es v.sorted
+given k i j es middle new v e f = f ∙ ap (put nat_cmp k i) e ∙ put-put nat_cmp nat_cmp_total k j i es
 
 pub given_back : (k : ℕ) (es new : List (ℕ × Image)) → IsVolume es → is_gone (images es k) ≡ false → new ≡ put nat_cmp k (images es k) es → new ≡ es
-given_back k es new v h e = e ∙ put-found nat_cmp nat_cmp_total nat_cmp-IsAntisymmetric k (images es k) es v.sorted (found es k h)
+given_back k es new v h e = e ∙ put-found nat_cmp nat_cmp_total k (images es k) es v.sorted (found es k h)
 
 pub changed : (k : ℕ) (i : Image) (es new : List (ℕ × Image)) → new ≡ put nat_cmp k i es → (o : ℕ) → images new o ≡ instead k i (images es) o
 changed k i es new e o = ap (λ xs. images xs o) e ∙ images-put k i es o
@@ -171,7 +159,7 @@ live-with_entries f (Dir m s w es) h = refl
 
 -- an object that was added and removed again
 pub added_removed : (k : ℕ) (i : Image) (es middle new : List (ℕ × Image)) → IsVolume es → is_gone (images es k) ≡ true → middle ≡ put nat_cmp k i es → new ≡ without nat_cmp k middle → new ≡ es
-added_removed k i es middle new v h e f = f ∙ ap (without nat_cmp k) e ∙ without-new nat_cmp nat_cmp_total nat_cmp-IsAntisymmetric k i es v.sorted (absent es k v h)
+added_removed k i es middle new v h e f = f ∙ ap (without nat_cmp k) e ∙ without-put_new nat_cmp nat_cmp_total k i es v.sorted (absent es k v h)
 
 -- the images of other objects stay
 pub image_stays : (k o : ℕ) (i : Image) (es new : List (ℕ × Image)) → (o == k) ≡ false → new ≡ put nat_cmp k i es → images new o ≡ images es o

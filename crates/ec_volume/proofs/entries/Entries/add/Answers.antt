@@ -1,5 +1,5 @@
 use Rattle.std.specs.Cmp.Lexicographic.{nat_list_cmp_total}
-use Rattle.ec_base.proofs.SortedPairs.{sorted_on_ok}
+use Rattle.ec_base.specs.SortedLaws.{sorted_on_ok}
 use Rattle.ec_volume.specs.Entries.{by_bytes}
 use Rattle.ec_volume.proofs.entries.Entries.add.Goals as goal
 

@@ -1,4 +1,4 @@
-use Rattle.ec_base.proofs.SortedPairs.{sorted_without}
+use Rattle.ec_base.specs.SortedLaws.{sorted_without}
 use Rattle.ec_volume.specs.Entries.{by_bytes}
 use Rattle.ec_volume.proofs.entries.Entries.remove.Goals as goal
 

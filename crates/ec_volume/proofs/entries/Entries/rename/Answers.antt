@@ -1,7 +1,7 @@
 use Rattle.std.proofs.Common.{◌∙◌, ap}
 use Rattle.std.specs.Cmp.Lexicographic.{nat_list_cmp_total}
 use Rattle.std.specs.FinMap.{slice_cmp-IsAntisymmetric, nat_cmp-IsAntisymmetric}
-use Rattle.ec_base.proofs.SortedPairs.{sorted_put, sorted_without}
+use Rattle.ec_base.specs.SortedLaws.{sorted_put, sorted_without}
 use Rattle.ec_volume.specs.Entries.{by_bytes, with_entry, without_entry}
 use Rattle.ec_volume.proofs.Pairs.{without-put}
 use Rattle.ec_volume.proofs.entries.Entries.rename.Goals as goal

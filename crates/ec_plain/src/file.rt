@@ -1,0 +1,78 @@
+// What is done at the object that a walk reached.
+ghost use Rattle.std.specs.Prelude.{◌≡◌, ◌≤◌, ◌<◌, ◌+◌, ◌^◌, length, take, drop, IfOk};
+ghost use Rattle.ec_volume.specs.Image.{bytes_of};
+ghost use Rattle.ec_volume.specs.Volume.{images};
+ghost use Rattle.ec_plain.specs.Plain.{write_in, len_in, read_in};
+
+use crate::call::{Outcome, Refusal, Reply};
+use crate::object::{bytes_of, is_dir};
+use crate::outcome::{answers, issues, refuses};
+use ec_base::{Duplicate, List, NoMemory, ObjId};
+use ec_volume::{Update, Volume};
+use std::alloc::Global;
+
+pub(crate) fn write_in(
+    v: &Volume,
+    at: u32,
+    bytes: &List<u8>,
+    obj: ObjId,
+    read: Vec<ObjId>,
+) -> Result<Outcome, NoMemory>
+    ensures { IfOk result (λ o. o ≡ write_in (images v.now) at bytes.now obj read.items) }
+{
+    if is_dir(v, obj) {
+        return Ok(refuses(Refusal::IsDir, read));
+    }
+    let end = at as usize + bytes.as_slice().len();
+    if end > 65536 {
+        return Ok(refuses(Refusal::TooLong, read));
+    }
+    let inside = end <= bytes_of(v, obj).len();
+    let bytes = bytes.duplicate()?;
+    Ok(issues(
+        Update::Put {
+            obj,
+            at,
+            bytes,
+            inside,
+        },
+        read,
+    ))
+}
+
+pub(crate) fn len_in(v: &Volume, len: u32, obj: ObjId, read: Vec<ObjId>) -> Outcome
+    ensures { result ≡ len_in (images v.now) len obj read.items }
+{
+    if is_dir(v, obj) {
+        return refuses(Refusal::IsDir, read);
+    }
+    if len > 65536 {
+        return refuses(Refusal::TooLong, read);
+    }
+    issues(Update::Len { obj, len }, read)
+}
+
+pub(crate) fn read_in(
+    alloc: Global,
+    v: &Volume,
+    at: u32,
+    count: u32,
+    obj: ObjId,
+    read: Vec<ObjId>,
+) -> Result<Outcome, NoMemory>
+    ensures { IfOk result (λ o. o ≡ read_in (images v.now) at count obj read.items) }
+{
+    if is_dir(v, obj) {
+        return Ok(refuses(Refusal::IsDir, read));
+    }
+    let bytes = Vec::from_slice(alloc, part(bytes_of(v, obj), at as usize, count as usize))?;
+    Ok(answers(Reply::Data(List::of(bytes)), read))
+}
+
+// At most so many bytes from a place on.
+fn part(bytes: &[u8], at: usize, count: usize) -> &[u8]
+    ensures { result.now ≡ take count (drop at bytes.now) }
+{
+    let rest = &bytes[at.min(bytes.len())..];
+    &rest[..count.min(rest.len())]
+}

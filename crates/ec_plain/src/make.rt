@@ -1,0 +1,80 @@
+// New objects.
+ghost use Rattle.std.specs.Prelude.{◌≡◌, ◌≤◌, length, IfOk};
+ghost use Rattle.ec_volume.specs.Volume.{images};
+ghost use Rattle.ec_plain.specs.Walk.{last_of};
+ghost use Rattle.ec_plain.specs.Plain.{on_parent, make_in, plain_make};
+
+use crate::call::{Outcome, Refusal};
+use crate::object::entries_of;
+use crate::outcome::{issues, refuses};
+use crate::walk::{Walked, last_of, parent_of, walk};
+use ec_base::{Duplicate, Name, NoMemory, ObjId};
+use ec_volume::{Entries, Kind, Update, Volume};
+use std::alloc::Global;
+
+pub(crate) fn plain_make(
+    alloc: Global,
+    v: &Volume,
+    kind: Kind,
+    names: &[Name],
+    fresh: ObjId,
+) -> Result<Outcome, NoMemory>
+    requires { length names.now ≤ 16 }
+    ensures { IfOk result (λ o. o ≡ plain_make (images v.now) kind names.now fresh) }
+{
+    match names {
+        [] => Ok(refuses(Refusal::Root, Vec::new(alloc))),
+        [_, ..] => make_below(alloc, v, kind, names, fresh),
+    }
+}
+
+fn make_below(
+    alloc: Global,
+    v: &Volume,
+    kind: Kind,
+    names: &[Name],
+    fresh: ObjId,
+) -> Result<Outcome, NoMemory>
+    requires some { 1 ≤ length names.now }
+    requires few { length names.now ≤ 16 }
+    ensures { IfOk result (λ o. o ≡ on_parent (images v.now) names.now (make_in kind (last_of names.now) fresh)) }
+{
+    let Walked { to, read } = walk(alloc, v, parent_of(names))?;
+    match to {
+        Err(refusal) => Ok(refuses(refusal, read)),
+        Ok(dir) => match entries_of(v, dir) {
+            None => Ok(refuses(Refusal::NotDir(names.len() as u8 - 1), read)),
+            Some(entries) => make_in(kind, last_of(names), fresh, dir, entries, read),
+        },
+    }
+}
+
+// A new object of this name in the directory.
+fn make_in(
+    kind: Kind,
+    name: &Name,
+    fresh: ObjId,
+    dir: ObjId,
+    entries: &Entries,
+    mut read: Vec<ObjId>,
+) -> Result<Outcome, NoMemory>
+    ensures { IfOk result (λ o. o ≡ make_in kind name.now fresh dir entries.now read.items) }
+{
+    if entries.get(name).is_some() {
+        return Ok(refuses(Refusal::Exists, read));
+    }
+    if entries.len() >= 128 {
+        return Ok(refuses(Refusal::DirFull, read));
+    }
+    read.push(fresh)?;
+    let name = name.duplicate()?;
+    Ok(issues(
+        Update::Make {
+            dir,
+            name,
+            obj: fresh,
+            kind,
+        },
+        read,
+    ))
+}
