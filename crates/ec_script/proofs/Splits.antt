@@ -1,9 +1,9 @@
 -- How a line falls into words, and a script into lines.
 use Rattle.std.proofs.Common.{◌≡◌, ◌≢◌, ℕ, suc, ◌+◌, ◌<◌, ◌≤◌, List, [], ◌∷◌, ◌++◌, zero, length, take, drop, drop-cons, get_or, add-one, map, true, false, refl, sym, ap, ◌∙◌, append_assoc, arith}
-use Rattle.std.specs.Prelude.{◌==◌, if◌then◌else◌}
+use Rattle.std.specs.Prelude.{◌==◌, nat_lt, if◌then◌else◌}
 use Rattle.std.specs.List.{take-map, drop-map}
 use Rattle.std.proofs.lemmas.List.{length-map}
-use Rattle.std.proofs.lemmas.Bool.{lt-ltb, le-ltb}
+use Rattle.std.proofs.lemmas.Bool.{lt-ltb, le-ltb, ltb-true}
 use Rattle.ec_script.specs.Pieces.{piece_len, onto}
 use Rattle.ec_script.specs.Words.{words_of, spaced_len, column_of}
 use Rattle.ec_script.specs.Lines.{lines_of}
@@ -99,3 +99,16 @@ column_behind f words k bs e le =
 -- the word behind the first k ones, as the code holds it
 pub word_behind : {A : Type 0} (f : A → List ℕ) (words : List A) (k : ℕ) (d : A) → k < length words → drop k (map f words) ≡ f (get_or words k d) ∷ drop (k + 1) (map f words)
 word_behind f words k d lt = rw add-one (drop-map f k words ∙ ap (map f) (drop-cons words k d lt) ∙ ap (λ r. f (get_or words k d) ∷ r) (sym (drop-map f (suc k) words)))
+
+spaced_len-take_lt : (k : ℕ) (ws : List (List ℕ)) → k < length ws → spaced_len (take k ws) + 1 ≤ spaced_len ws
+spaced_len-take_lt k [] lt = absurd (omega arith)
+spaced_len-take_lt zero (w ∷ ws) lt = omega arith
+spaced_len-take_lt (suc k) (w ∷ ws) lt = let le : spaced_len (take k ws) + 1 ≤ spaced_len ws = spaced_len-take_lt k ws (omega arith) in omega arith
+
+pub column_within : (bs : List ℕ) (k : ℕ) → column_of bs k ≤ length bs + 1
+column_within bs k =
+    let inside : k < length (words_of bs) → spaced_len (take k (words_of bs)) + 1 ≤ length bs + 1 = λ lt. omega (arith, spaced_len-take_lt k (words_of bs) lt, (spaced_len-words_of bs).1) in
+    elim (nat_lt k (length (words_of bs))) as (λ t. (nat_lt k (length (words_of bs)) ≡ t) → (if t then spaced_len (take k (words_of bs)) + 1 else length bs + 1) ≤ length bs + 1) [
+      | true ↦ λ e. inside (ltb-true k (length (words_of bs)) e)
+      | false ↦ λ e. omega arith
+    ] refl

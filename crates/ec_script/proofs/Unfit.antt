@@ -81,32 +81,32 @@ some_first G b = (codes "/a" ∷ b.0, ((codes "a" ∷ [], b.1.0), (a_path, b.1.1
 
 -- Calls by their first words.
 
-in_create : (ws : List Word) (c : Call) → SpellsCall (codes "create" ∷ ws) c → (x : Path × Unit {0}) × (IsPathWord ▸ End) ws x
-in_create ws (call.Create p) g = ((p, tt), g.1)
+pub in_create : (ws : List Word) (c : Call) → SpellsCall (codes "create" ∷ ws) c → (x : Path × Unit {0}) × (((IsPathWord ▸ End) ws x) × (call.Create x.0 ≡ c))
+in_create ws (call.Create p) g = ((p, tt), (g.1, refl))
 in_create ws (call.Write p at bytes) g = let e : codes "create" ≡ codes "write" = g.0 in cc
 in_create ws (call.Read p at count) g = let e : codes "create" ≡ codes "read" = g.0 in cc
 in_create ws c g = absurd g
 
-in_write : (ws : List Word) (c : Call) → SpellsCall (codes "write" ∷ ws) c → (x : Path × (ℕ × (List ℕ × Unit {0}))) × (IsPathWord ▸ IsNumberWord ▸ IsTextWord ▸ End) ws x
-in_write ws (call.Write p at bytes) g = ((p, (at, (bytes, tt))), g.1)
+pub in_write : (ws : List Word) (c : Call) → SpellsCall (codes "write" ∷ ws) c → (x : Path × (ℕ × (List ℕ × Unit {0}))) × (((IsPathWord ▸ IsNumberWord ▸ IsTextWord ▸ End) ws x) × (call.Write x.0 x.1.0 x.1.1.0 ≡ c))
+in_write ws (call.Write p at bytes) g = ((p, (at, (bytes, tt))), (g.1, refl))
 in_write ws (call.Create p) g = let e : codes "write" ≡ codes "create" = g.0 in cc
 in_write ws (call.Read p at count) g = let e : codes "write" ≡ codes "read" = g.0 in cc
 in_write ws c g = absurd g
 
-in_read : (ws : List Word) (c : Call) → SpellsCall (codes "read" ∷ ws) c → (x : Path × (ℕ × (ℕ × Unit {0}))) × (IsPathWord ▸ IsNumberWord ▸ IsCountWord ▸ End) ws x
-in_read ws (call.Read p at count) g = ((p, (at, (count, tt))), g.1)
+pub in_read : (ws : List Word) (c : Call) → SpellsCall (codes "read" ∷ ws) c → (x : Path × (ℕ × (ℕ × Unit {0}))) × (((IsPathWord ▸ IsNumberWord ▸ IsCountWord ▸ End) ws x) × (call.Read x.0 x.1.0 x.1.1.0 ≡ c))
+in_read ws (call.Read p at count) g = ((p, (at, (count, tt))), (g.1, refl))
 in_read ws (call.Create p) g = let e : codes "read" ≡ codes "create" = g.0 in cc
 in_read ws (call.Write p at bytes) g = let e : codes "read" ≡ codes "write" = g.0 in cc
 in_read ws c g = absurd g
 
 pub in_call_create : (ws : List Word) (e : WordFault) → drop 1 ws ≡ codes "create" ∷ drop 2 ws → IsRefused (IsPathWord ▸ End) 2 ws e → IsRefused SpellsCall 1 ws e
-in_call_create ws e is r = refused_behind (IsPathWord ▸ End) SpellsCall (codes "create") (λ x. call.Create x.0) (λ ws x g. (refl, g)) in_create 1 ws e is r
+in_call_create ws e is r = refused_behind (IsPathWord ▸ End) SpellsCall (codes "create") (λ x. call.Create x.0) (λ ws x g. (refl, g)) (λ ws c g. let d = in_create ws c g in (d.0, d.1.0)) 1 ws e is r
 
 pub in_call_write : (ws : List Word) (e : WordFault) → drop 1 ws ≡ codes "write" ∷ drop 2 ws → IsRefused (IsPathWord ▸ IsNumberWord ▸ IsTextWord ▸ End) 2 ws e → IsRefused SpellsCall 1 ws e
-in_call_write ws e is r = refused_behind (IsPathWord ▸ IsNumberWord ▸ IsTextWord ▸ End) SpellsCall (codes "write") (λ x. call.Write x.0 x.1.0 x.1.1.0) (λ ws x g. (refl, g)) in_write 1 ws e is r
+in_call_write ws e is r = refused_behind (IsPathWord ▸ IsNumberWord ▸ IsTextWord ▸ End) SpellsCall (codes "write") (λ x. call.Write x.0 x.1.0 x.1.1.0) (λ ws x g. (refl, g)) (λ ws c g. let d = in_write ws c g in (d.0, d.1.0)) 1 ws e is r
 
 pub in_call_read : (ws : List Word) (e : WordFault) → drop 1 ws ≡ codes "read" ∷ drop 2 ws → IsRefused (IsPathWord ▸ IsNumberWord ▸ IsCountWord ▸ End) 2 ws e → IsRefused SpellsCall 1 ws e
-in_call_read ws e is r = refused_behind (IsPathWord ▸ IsNumberWord ▸ IsCountWord ▸ End) SpellsCall (codes "read") (λ x. call.Read x.0 x.1.0 x.1.1.0) (λ ws x g. (refl, g)) in_read 1 ws e is r
+in_call_read ws e is r = refused_behind (IsPathWord ▸ IsNumberWord ▸ IsCountWord ▸ End) SpellsCall (codes "read") (λ x. call.Read x.0 x.1.0 x.1.1.0) (λ ws x g. (refl, g)) (λ ws c g. let d = in_read ws c g in (d.0, d.1.0)) 1 ws e is r
 
 -- Lines by their first words.
 

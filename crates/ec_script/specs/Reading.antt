@@ -1,8 +1,13 @@
 -- What reading the words of a line one after the other tells.
-use Rattle.std.specs.Prelude.{◌≡◌, ◌+◌, ℕ, List, ◌∷◌, drop, ⊤}
+use Rattle.std.specs.Prelude.{◌≡◌, ◌+◌, ℕ, List, ◌∷◌, map, drop, ⊤}
+use Rattle.std.proofs.Common.{Bor}
 use Rattle.ec_script.specs.Grammar.{Word, FirstUnfit}
 use Rattle.ec_script.specs.declared.value.WordFault.{WordFault}
 use Rattle.ec_script.specs.declared.value.WordFault.TheVariants as fault
+
+-- the words that the code holds
+abbrev pub texts : List (Bor (List ℕ)) → List Word
+texts words = map (λ word. word.now) words
 
 -- the word behind the first k ones stands for this value
 abbrev pub Has : {V : Type 0} → (Word → V → Type 0) → ℕ → List Word → V → Type 0

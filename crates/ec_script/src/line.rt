@@ -1,7 +1,7 @@
 // The grammar of a line.
-ghost use Rattle.std.specs.Prelude.{◌≡◌, ◌∷◌, drop, map, codes, IfOk, MatchBool, MatchResult};
+ghost use Rattle.std.specs.Prelude.{◌≡◌, ◌∷◌, drop, codes, IfOk, MatchBool, MatchResult};
 ghost use Rattle.ec_script.specs.Grammar.{Spells, SpellsCall, IsComment, IsLine, IsFault, IsSmall};
-ghost use Rattle.ec_script.specs.Reading.{IsRefused};
+ghost use Rattle.ec_script.specs.Reading.{texts, IsRefused};
 
 use crate::value::{
     WordFault, clerk_at, count_at, end_at, is_word, number_at, path_at, text_at, word_at,
@@ -65,7 +65,7 @@ fn is_comment(line: &[u8]) -> bool
 }
 
 fn read_words(alloc: Global, words: &[&[u8]]) -> Result<Line, WordFault>
-    ensures { MatchResult result (Spells (map (λ w. w.now) words.now)) (IsRefused Spells 0 (map (λ w. w.now) words.now)) }
+    ensures { MatchResult result (Spells (texts words.now)) (IsRefused Spells 0 (texts words.now)) }
 {
     if is_word(word_at(words, 0)?, b"crash") {
         return read_crash(words);
@@ -75,8 +75,8 @@ fn read_words(alloc: Global, words: &[&[u8]]) -> Result<Line, WordFault>
 }
 
 fn read_crash(words: &[&[u8]]) -> Result<Line, WordFault>
-    requires { map (λ w. w.now) words.now ≡ codes "crash" ∷ drop 1 (map (λ w. w.now) words.now) }
-    ensures { MatchResult result (Spells (map (λ w. w.now) words.now)) (IsRefused Spells 0 (map (λ w. w.now) words.now)) }
+    requires { texts words.now ≡ codes "crash" ∷ drop 1 (texts words.now) }
+    ensures { MatchResult result (Spells (texts words.now)) (IsRefused Spells 0 (texts words.now)) }
 {
     let clerk = clerk_at(words, 1)?;
     end_at(words, 2)?;
@@ -84,7 +84,9 @@ fn read_crash(words: &[&[u8]]) -> Result<Line, WordFault>
 }
 
 fn read_call(alloc: Global, words: &[&[u8]]) -> Result<Call, WordFault>
-    ensures { MatchResult result (SpellsCall (drop 1 (map (λ w. w.now) words.now))) (IsRefused SpellsCall 1 (map (λ w. w.now) words.now)) }
+    ensures { MatchResult result
+        (SpellsCall (drop 1 (texts words.now)))
+        (IsRefused SpellsCall 1 (texts words.now)) }
 {
     let verb = word_at(words, 1)?;
     if is_word(verb, b"create") {
@@ -99,8 +101,10 @@ fn read_call(alloc: Global, words: &[&[u8]]) -> Result<Call, WordFault>
 }
 
 fn read_create(alloc: Global, words: &[&[u8]]) -> Result<Call, WordFault>
-    requires { drop 1 (map (λ w. w.now) words.now) ≡ codes "create" ∷ drop 2 (map (λ w. w.now) words.now) }
-    ensures { MatchResult result (SpellsCall (drop 1 (map (λ w. w.now) words.now))) (IsRefused SpellsCall 1 (map (λ w. w.now) words.now)) }
+    requires { drop 1 (texts words.now) ≡ codes "create" ∷ drop 2 (texts words.now) }
+    ensures { MatchResult result
+        (SpellsCall (drop 1 (texts words.now)))
+        (IsRefused SpellsCall 1 (texts words.now)) }
 {
     let path = path_at(alloc, words, 2)?;
     end_at(words, 3)?;
@@ -108,8 +112,10 @@ fn read_create(alloc: Global, words: &[&[u8]]) -> Result<Call, WordFault>
 }
 
 fn read_write(alloc: Global, words: &[&[u8]]) -> Result<Call, WordFault>
-    requires { drop 1 (map (λ w. w.now) words.now) ≡ codes "write" ∷ drop 2 (map (λ w. w.now) words.now) }
-    ensures { MatchResult result (SpellsCall (drop 1 (map (λ w. w.now) words.now))) (IsRefused SpellsCall 1 (map (λ w. w.now) words.now)) }
+    requires { drop 1 (texts words.now) ≡ codes "write" ∷ drop 2 (texts words.now) }
+    ensures { MatchResult result
+        (SpellsCall (drop 1 (texts words.now)))
+        (IsRefused SpellsCall 1 (texts words.now)) }
 {
     let path = path_at(alloc, words, 2)?;
     let at = number_at(alloc, words, 3)?;
@@ -119,8 +125,10 @@ fn read_write(alloc: Global, words: &[&[u8]]) -> Result<Call, WordFault>
 }
 
 fn read_read(alloc: Global, words: &[&[u8]]) -> Result<Call, WordFault>
-    requires { drop 1 (map (λ w. w.now) words.now) ≡ codes "read" ∷ drop 2 (map (λ w. w.now) words.now) }
-    ensures { MatchResult result (SpellsCall (drop 1 (map (λ w. w.now) words.now))) (IsRefused SpellsCall 1 (map (λ w. w.now) words.now)) }
+    requires { drop 1 (texts words.now) ≡ codes "read" ∷ drop 2 (texts words.now) }
+    ensures { MatchResult result
+        (SpellsCall (drop 1 (texts words.now)))
+        (IsRefused SpellsCall 1 (texts words.now)) }
 {
     let path = path_at(alloc, words, 2)?;
     let at = number_at(alloc, words, 3)?;

@@ -1,9 +1,9 @@
 // What words stand for.
-ghost use Rattle.std.specs.Prelude.{◌≡◌, ◌<◌, ◌+◌, ◌^◌, ◌∷◌, [], ℕ, List, drop, map, Some, IfOk, MatchOption, MatchBool, MatchResult};
+ghost use Rattle.std.specs.Prelude.{◌≡◌, ◌<◌, ◌+◌, ◌^◌, ◌∷◌, [], ℕ, List, drop, Some, IfOk, MatchOption, MatchBool, MatchResult};
 ghost use Rattle.std.specs.Fmt.{decimal};
 ghost use Rattle.ec_plain.specs.Walk.{Path as PathNames};
 ghost use Rattle.ec_script.specs.Grammar.{IsPlain, IsClerkWord, IsPathWord, IsNumberWord, IsCountWord, IsTextWord, End};
-ghost use Rattle.ec_script.specs.Reading.{Has, Lacks, IsRefused};
+ghost use Rattle.ec_script.specs.Reading.{texts, Has, Lacks, IsRefused};
 
 use ec_base::{ClerkId, List as ByteList, Name, NameFault, NoMemory, Path};
 use std::alloc::Global;
@@ -28,7 +28,9 @@ impl From<NoMemory> for WordFault {
 
 /// The word behind the first `at` ones.
 pub(crate) fn word_at<'a>(words: &[&'a [u8]], at: usize) -> Result<&'a [u8], WordFault>
-    ensures { MatchResult result (λ word. drop at (map (λ w. w.now) words.now) ≡ word.now ∷ drop (at + 1) (map (λ w. w.now) words.now)) (λ f. (f ≡ WordFault.Unfit at) × (drop at (map (λ w. w.now) words.now) ≡ [])) }
+    ensures { MatchResult result
+        (λ word. drop at (texts words.now) ≡ word.now ∷ drop (at + 1) (texts words.now))
+        (λ f. (f ≡ WordFault.Unfit at) × (drop at (texts words.now) ≡ [])) }
 {
     if at < words.len() {
         Ok(words[at])
@@ -38,7 +40,9 @@ pub(crate) fn word_at<'a>(words: &[&'a [u8]], at: usize) -> Result<&'a [u8], Wor
 }
 
 pub(crate) fn clerk_at(words: &[&[u8]], at: usize) -> Result<ClerkId, WordFault>
-    ensures { MatchResult result (Has IsClerkWord at (map (λ w. w.now) words.now)) (Lacks IsClerkWord at (map (λ w. w.now) words.now)) }
+    ensures { MatchResult result
+        (Has IsClerkWord at (texts words.now))
+        (Lacks IsClerkWord at (texts words.now)) }
 {
     match clerk_of(word_at(words, at)?) {
         Some(clerk) => Ok(clerk),
@@ -63,7 +67,9 @@ pub(crate) fn is_word(word: &[u8], text: &[u8]) -> bool
 }
 
 pub(crate) fn path_at(alloc: Global, words: &[&[u8]], at: usize) -> Result<Path, WordFault>
-    ensures { MatchResult result (Has IsPathWord at (map (λ w. w.now) words.now)) (Lacks IsPathWord at (map (λ w. w.now) words.now)) }
+    ensures { MatchResult result
+        (Has IsPathWord at (texts words.now))
+        (Lacks IsPathWord at (texts words.now)) }
 {
     match path_of(alloc, word_at(words, at)?)? {
         Some(path) => Ok(path),
@@ -72,7 +78,8 @@ pub(crate) fn path_at(alloc: Global, words: &[&[u8]], at: usize) -> Result<Path,
 }
 
 fn path_of(alloc: Global, word: &[u8]) -> Result<Option<Path>, NoMemory>
-    ensures { IfOk result (λ found. MatchOption found ((p : PathNames) → IsPathWord word.now p → ⊥) (λ p. IsPathWord word.now p)) }
+    ensures { IfOk result
+        (λ found. MatchOption found ((p : PathNames) → IsPathWord word.now p → ⊥) (λ p. IsPathWord word.now p)) }
 {
     let Some((first, name)) = word.split_first() else {
         return Ok(None);
@@ -107,7 +114,9 @@ fn is_plain(bytes: &[u8]) -> bool
 }
 
 pub(crate) fn number_at(alloc: Global, words: &[&[u8]], at: usize) -> Result<u32, WordFault>
-    ensures { MatchResult result (Has IsNumberWord at (map (λ w. w.now) words.now)) (Lacks IsNumberWord at (map (λ w. w.now) words.now)) }
+    ensures { MatchResult result
+        (Has IsNumberWord at (texts words.now))
+        (Lacks IsNumberWord at (texts words.now)) }
 {
     match number_of(alloc, word_at(words, at)?)? {
         Some(number) => Ok(number),
@@ -117,7 +126,9 @@ pub(crate) fn number_at(alloc: Global, words: &[&[u8]], at: usize) -> Result<u32
 
 /// A number of at most 4,096.
 pub(crate) fn count_at(alloc: Global, words: &[&[u8]], at: usize) -> Result<u32, WordFault>
-    ensures { MatchResult result (Has IsCountWord at (map (λ w. w.now) words.now)) (Lacks IsCountWord at (map (λ w. w.now) words.now)) }
+    ensures { MatchResult result
+        (Has IsCountWord at (texts words.now))
+        (Lacks IsCountWord at (texts words.now)) }
 {
     match count_of(alloc, word_at(words, at)?)? {
         Some(count) => Ok(count),
@@ -126,7 +137,8 @@ pub(crate) fn count_at(alloc: Global, words: &[&[u8]], at: usize) -> Result<u32,
 }
 
 fn count_of(alloc: Global, word: &[u8]) -> Result<Option<u32>, NoMemory>
-    ensures { IfOk result (λ found. MatchOption found ((n : ℕ) → IsCountWord word.now n → ⊥) (λ n. IsCountWord word.now n)) }
+    ensures { IfOk result
+        (λ found. MatchOption found ((n : ℕ) → IsCountWord word.now n → ⊥) (λ n. IsCountWord word.now n)) }
 {
     let Some(count) = number_of(alloc, word)? else {
         return Ok(None);
@@ -139,7 +151,8 @@ fn count_of(alloc: Global, word: &[u8]) -> Result<Option<u32>, NoMemory>
 
 // A number in its one spelling.
 fn number_of(alloc: Global, word: &[u8]) -> Result<Option<u32>, NoMemory>
-    ensures { IfOk result (λ found. MatchOption found ((n : ℕ) → IsNumberWord word.now n → ⊥) (λ n. IsNumberWord word.now n)) }
+    ensures { IfOk result
+        (λ found. MatchOption found ((n : ℕ) → IsNumberWord word.now n → ⊥) (λ n. IsNumberWord word.now n)) }
 {
     let Some(number) = parsed(word) else {
         return Ok(None);
@@ -162,7 +175,9 @@ fn parsed(word: &[u8]) -> Option<u32>
 }
 
 pub(crate) fn text_at(alloc: Global, words: &[&[u8]], at: usize) -> Result<ByteList<u8>, WordFault>
-    ensures { MatchResult result (Has IsTextWord at (map (λ w. w.now) words.now)) (Lacks IsTextWord at (map (λ w. w.now) words.now)) }
+    ensures { MatchResult result
+        (Has IsTextWord at (texts words.now))
+        (Lacks IsTextWord at (texts words.now)) }
 {
     match text_of(alloc, word_at(words, at)?)? {
         Some(text) => Ok(text),
@@ -171,7 +186,8 @@ pub(crate) fn text_at(alloc: Global, words: &[&[u8]], at: usize) -> Result<ByteL
 }
 
 fn text_of(alloc: Global, word: &[u8]) -> Result<Option<ByteList<u8>>, NoMemory>
-    ensures { IfOk result (λ found. MatchOption found ((bytes : List ℕ) → IsTextWord word.now bytes → ⊥) (λ bytes. IsTextWord word.now bytes)) }
+    ensures { IfOk result
+        (λ found. MatchOption found ((bytes : List ℕ) → IsTextWord word.now bytes → ⊥) (λ bytes. IsTextWord word.now bytes)) }
 {
     if word.is_empty() || word.len() > 4096 || !is_plain(word) {
         return Ok(None);
@@ -181,7 +197,9 @@ fn text_of(alloc: Global, word: &[u8]) -> Result<Option<ByteList<u8>>, NoMemory>
 
 /// Refuses a word too many.
 pub(crate) fn end_at(words: &[&[u8]], at: usize) -> Result<(), WordFault>
-    ensures { MatchResult result (λ _. drop at (map (λ w. w.now) words.now) ≡ []) (IsRefused End at (map (λ w. w.now) words.now)) }
+    ensures { MatchResult result
+        (λ _. drop at (texts words.now) ≡ [])
+        (IsRefused End at (texts words.now)) }
 {
     if at < words.len() {
         return Err(WordFault::Unfit(at));
