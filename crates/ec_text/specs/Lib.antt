@@ -1,0 +1,4 @@
+pub mod Pieces
+pub mod Calls
+pub mod Answers
+pub mod Lines

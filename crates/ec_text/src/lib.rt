@@ -1,0 +1,9 @@
+//! The text of transcripts.
+#![tactic(auto)]
+
+mod answer;
+mod asked;
+mod line;
+mod pieces;
+
+pub use line::print;
