@@ -39,6 +39,7 @@ impl ObjId {
         ObjId { number: 1 }
     }
 
+    /// The number, from 1.
     pub fn get(&self) -> u32
         ensures value { result ≡ self.now }
         ensures from_one { 1 ≤ result }
@@ -81,6 +82,7 @@ impl ClerkId {
         Some(ClerkId { number })
     }
 
+    /// The number, 0 to 15.
     pub fn get(&self) -> u8
         ensures value { result ≡ self.now }
         ensures below { result ≤ 15 }

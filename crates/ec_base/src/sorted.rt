@@ -73,6 +73,7 @@ impl<K: Ord, V> SortedMap<K, V> {
         self.items.len()
     }
 
+    /// Whether there is no key.
     pub fn is_empty(&self) -> bool
         ensures { result ≡ (length self.now == 0) }
     {
@@ -86,6 +87,7 @@ impl<K: Ord, V> SortedMap<K, V> {
         value_at(&self.items, key)
     }
 
+    /// Whether the key is there.
     pub fn contains(&self, key: &K) -> bool
         ensures { result ≡ is_some (find K.cmp key.now self.now) }
     {
