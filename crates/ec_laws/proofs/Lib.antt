@@ -9,3 +9,6 @@ pub mod LateLoss
 pub mod Beside
 pub mod Inserted
 pub mod Taken
+pub mod Objects
+pub mod Ranges
+pub mod Overwriting

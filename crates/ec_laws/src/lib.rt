@@ -5,13 +5,22 @@
 mod append;
 mod example;
 mod insertion;
+mod overwrites;
 mod placing;
+mod projection;
 mod steps;
 
 pub use append::{longer_history_is_legal, longer_transcript_is_placeable, next_number_is_new};
 pub use example::premises_can_be_met;
 pub use insertion::{late_call_is_covered, late_call_is_legal, late_call_is_lost};
+pub use overwrites::{
+    overwrites_change_places, overwrites_fit_by_length, overwrites_keep_the_stat,
+};
 pub use placing::{
     each_line_is_placed, lines_above_cover, places_are_distinct, watched_starts_are_counted,
+};
+pub use projection::{
+    an_object_sees_its_own_updates, equal_projections_are_enough, longer_lists_go_on,
+    operands_are_enough, strangers_change_places,
 };
 pub use steps::{longer_history, longer_transcript};
