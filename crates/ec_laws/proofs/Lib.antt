@@ -12,3 +12,4 @@ pub mod Taken
 pub mod Objects
 pub mod Ranges
 pub mod Overwriting
+pub mod Pulled

@@ -8,6 +8,7 @@ mod insertion;
 mod overwrites;
 mod placing;
 mod projection;
+mod pull;
 mod steps;
 
 pub use append::{longer_history_is_legal, longer_transcript_is_placeable, next_number_is_new};
@@ -22,5 +23,9 @@ pub use placing::{
 pub use projection::{
     an_object_sees_its_own_updates, equal_projections_are_enough, longer_lists_go_on,
     operands_are_enough, strangers_change_places,
+};
+pub use pull::{
+    numbered_operations_come_first, what_holds_its_needs_comes_first,
+    what_holds_its_needs_fits_first,
 };
 pub use steps::{longer_history, longer_transcript};
