@@ -13,3 +13,6 @@ pub mod Objects
 pub mod Ranges
 pub mod Overwriting
 pub mod Pulled
+pub mod Touching
+pub mod Removed
+pub mod Left

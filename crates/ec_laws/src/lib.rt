@@ -9,6 +9,7 @@ mod overwrites;
 mod placing;
 mod projection;
 mod pull;
+mod removal;
 mod steps;
 
 pub use append::{longer_history_is_legal, longer_transcript_is_placeable, next_number_is_new};
@@ -27,5 +28,9 @@ pub use projection::{
 pub use pull::{
     numbered_operations_come_first, what_holds_its_needs_comes_first,
     what_holds_its_needs_fits_first,
+};
+pub use removal::{
+    calls_touch_operands, what_a_closed_loss_leaves_fits, what_an_untouched_loss_leaves_fits,
+    what_is_kept_fits,
 };
 pub use steps::{longer_history, longer_transcript};
