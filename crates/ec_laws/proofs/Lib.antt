@@ -16,3 +16,5 @@ pub mod Pulled
 pub mod Touching
 pub mod Removed
 pub mod Left
+pub mod Least
+pub mod Parts
