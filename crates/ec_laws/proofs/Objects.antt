@@ -1,9 +1,9 @@
 -- Lists of updates, object by object.
-use Rattle.std.proofs.Common.{◌≡◌, refl, sym, ap, subst, ◌∙◌, inl, inr, ℕ, T, Bool, true, false, not, ◌==◌, ◌&&◌, ◌||◌, cond, List, [], ◌∷◌, ◌++◌}
+use Rattle.std.proofs.Common.{◌≡◌, refl, sym, ap, subst, ◌∙◌, inl, inr, ℕ, T, Bool, true, false, not, ◌==◌, ◌&&◌, ◌||◌, cond, List, [], ◌∷◌, ◌++◌, Option, Some, None}
 use Rattle.std.proofs.lemmas.Bool.{cases_Bool, and_parts, and_from, or_parts, or_left, or_right, eqb-true, true≢false}
 use Rattle.std.proofs.lemmas.List.Elements.{filter-append}
 use Rattle.std.specs.List.{filter, list_all, list_any}
-use Rattle.ec_volume.specs.Update.{operands, has_operand, member, fits, effect}
+use Rattle.ec_volume.specs.Update.{operands, has_operand, member, fits, effect, first_unfit}
 use Rattle.ec_volume.specs.Volume.{Images, image_next, image_after, after, fits_in_turn, Fits}
 use Rattle.ec_volume.specs.declared.image.Image.{Image}
 use Rattle.ec_volume.specs.declared.update.Update.{Update}
@@ -105,6 +105,24 @@ fits-tried base us h o = elim (cases_Bool (list_any (has_operand o) us)) [
   | inl e ↦ holds (tried (λ p. fits_in_turn p (base p) us) us o (is-true _ h) e)
   | inr e ↦ fits-elsewhere o (base o) us e
 ]
+
+-- an update of which no operand is unfit
+fits-listed : (u : Update) (v : Images) (os : List ℕ) → first_unfit u v os ≡ None → list_all (λ o. fits u o (v o)) os ≡ true
+fits-listed u v [] e = refl
+fits-listed u v (o ∷ os) e = elim (cases_Bool (fits u o (v o))) [
+  | inl f ↦ and_from (fits u o (v o)) (list_all (λ o. fits u o (v o)) os) f (fits-listed u v os (sym (ap (λ b. cond b (first_unfit u v os) (Some o)) f) ∙ e))
+  | inr f ↦ absurd (none (sym (ap (λ b. cond b (first_unfit u v os) (Some o)) f) ∙ e))
+]
+  where
+    none : ◌≡◌ {A = Option ℕ} (Some o) None → ⊥
+    none e = cc
+
+pub fits-operands : (v : Images) (u : Update) → first_unfit u v (operands u) ≡ None → (o : ℕ) → T (not (has_operand o u) || fits u o (v o))
+fits-operands v u e o = go (has_operand o u) (member-all (λ p. fits u p (v p)) (operands u) o (fits-listed u v (operands u) e))
+  where
+    go : (b : Bool) → (b ≡ true → fits u o (v o) ≡ true) → T (not b || fits u o (v o))
+    go true h = holds (h refl)
+    go false h = tt
 
 -- Lists with equal projections.
 module _ (base : Images) (us ws : List Update) (same : (o : ℕ) → filter (has_operand o) us ≡ filter (has_operand o) ws) where

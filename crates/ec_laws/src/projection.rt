@@ -1,7 +1,7 @@
 // Lists of updates, object by object.
-ghost use Rattle.std.specs.Prelude.{◌≡◌, ℕ, T, Bool, true, false, ◌&&◌, ◌||◌, not, List, [], ◌∷◌, ◌++◌};
+ghost use Rattle.std.specs.Prelude.{◌≡◌, ℕ, T, Bool, true, false, ◌&&◌, ◌||◌, not, List, [], ◌∷◌, ◌++◌, None};
 ghost use Rattle.std.specs.List.{filter, list_all, list_any};
-ghost use Rattle.ec_volume.specs.Update.{operands, has_operand, fits};
+ghost use Rattle.ec_volume.specs.Update.{operands, has_operand, fits, first_unfit};
 ghost use Rattle.ec_volume.specs.Volume.{Images, image_after, after, fits_in_turn, Fits};
 ghost use Rattle.ec_volume.specs.declared.image.Image.{Image};
 ghost use Rattle.ec_volume.specs.declared.update.Update.{Update};
@@ -24,9 +24,11 @@ pub fn an_object_sees_its_own_updates()
     ensures none { (o : ℕ) (i : Image) (us : List Update) → list_any (has_operand o) us ≡ false → T (fits_in_turn o i us) }
 {}
 
-/// A list fits a volume if it fits at the operands of its updates.
+/// A list fits a volume if it fits at the operands of its updates; and an update at each object, if
+/// none of its operands is unfit.
 pub fn operands_are_enough()
-    ensures { (base : Images) (us : List Update) → T (list_all (λ u. list_all (λ o. fits_in_turn o (base o) us) (operands u)) us) → Fits base us }
+    ensures one { (v : Images) (u : Update) → first_unfit u v (operands u) ≡ None → (o : ℕ) → T (not (has_operand o u) || fits u o (v o)) }
+    ensures list { (base : Images) (us : List Update) → T (list_all (λ u. list_all (λ o. fits_in_turn o (base o) us) (operands u)) us) → Fits base us }
 {}
 
 /// Lists that have the same updates in the same order at each object leave the same volume, and fit

@@ -1,0 +1,57 @@
+// The premises of the laws of lists, overwrites, losses and closures can be met.
+ghost use Rattle.std.specs.Prelude.{◌≡◌, ◌==◌, ℕ, T, Bool, true, false, not, List, [], ◌∷◌, None};
+ghost use Rattle.std.specs.List.{filter, list_all, list_any};
+ghost use Rattle.std.specs.Ordering.{nat_cmp};
+ghost use Rattle.std.specs.FinMap.{is_sorted};
+ghost use Rattle.ec_volume.specs.Update.{operands, has_operand, member, fits, first_unfit};
+ghost use Rattle.ec_volume.specs.Volume.{after, fits_in_turn, Fits};
+ghost use Rattle.ec_order.specs.Order.{is_overwrite, share, under, closure};
+ghost use Rattle.ec_history.specs.History.{Throughout, updates, of_start, is_one_of, is_entry_of, kept, touched};
+ghost use Rattle.ec_history.specs.Legal.{IsLegal, is_closed};
+ghost use Rattle.ec_laws.specs.Needs.{holds_needed};
+ghost use Rattle.ec_laws.specs.Example.{two_files, writes};
+ghost use Rattle.ec_laws.specs.ListExample.{file, one_file, early, late, new_mode, make_g, overwrites, numbered};
+
+/// Two overwrites and a new file fit; the overwrites change the file's operands alone, and the new
+/// file is a stranger to them.
+pub fn lists_can_fit()
+    ensures tried { T (list_all (λ u. list_all (λ o. fits_in_turn o (one_file o) (early ∷ late ∷ make_g ∷ [])) (operands u)) (early ∷ late ∷ make_g ∷ [])) }
+    ensures fitting { first_unfit late (after one_file (early ∷ [])) (operands late) ≡ None }
+    ensures strangers { share late make_g ≡ false }
+    ensures elsewhere { list_any (has_operand 3) (early ∷ late ∷ []) ≡ false }
+{}
+
+/// The overwrites fit the file, and their ranges don't meet.
+pub fn overwrites_can_be_apart()
+    ensures overwrites { (is_overwrite early ≡ true) × (is_overwrite late ≡ true) }
+    ensures one_file { (has_operand 2 early ≡ true) × (has_operand 2 late ≡ true) }
+    ensures fitting { T (fits early 2 file) × T (fits late 2 file) }
+    ensures apart { under early late ≡ false }
+{}
+
+/// The later overwrite needs nothing of the earlier one: it may come first, and stay where the
+/// earlier one is lost.
+pub fn sets_can_hold_their_needs()
+    ensures first { T (holds_needed (λ k. k.update) (is_one_of 0 1 (2 ∷ [])) overwrites) }
+    ensures fitting { T (list_all (λ u. list_all (λ o. fits_in_turn o (one_file o) (updates overwrites)) (operands u)) (updates overwrites)) }
+    ensures lost { T (is_closed (is_one_of 0 1 (1 ∷ [])) overwrites) }
+{}
+
+/// The change of mode needs both overwrites; a set of the later one alone holds its needs, and so
+/// does the earlier one among the rest.
+pub fn closures_can_be_met()
+    ensures rising { T (is_sorted nat_cmp numbered) }
+    ensures of_mode { closure (λ n. n == 3) numbered ≡ numbered }
+    ensures of_overwrite { closure (λ n. n == 2) numbered ≡ (2, late) ∷ [] }
+    ensures inside { T (holds_needed (λ x. x.1) (λ x. x.0 == 2) numbered) }
+    ensures next { T (holds_needed (λ x. x.1) (λ x. x.0 == 1) (filter (λ x. not (x.0 == 2)) numbered)) }
+{}
+
+/// Of two starts' writes one may be lost: what is left of its start is not ordered after it, and
+/// the other start's call touched other objects.
+pub fn losses_can_be_untouched()
+    ensures kept { T (list_all (λ u. list_all (λ o. fits_in_turn o (two_files.volume o) (updates (kept two_files writes))) (operands u)) (updates (kept two_files writes))) }
+    ensures closed { T (is_closed (is_one_of 0 1 (1 ∷ [])) (filter (of_start 0 1) (kept two_files writes))) }
+    ensures untouched { Throughout (λ h e. is_entry_of 0 1 e.1 ≡ false → T (list_all (λ k. not (list_any (λ o. member o (touched two_files (kept two_files h) e)) (operands k.update))) (filter (is_one_of 0 1 (1 ∷ [])) (kept two_files h)))) [] writes }
+    ensures legal { IsLegal two_files 1024 writes }
+{}
