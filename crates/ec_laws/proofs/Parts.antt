@@ -75,7 +75,7 @@ module _ {A : Type 0} (update : A → Update) where
         (joined inside next xs parts.1 (sym (ap (λ b. holds_needed update next (cond (not b) (x ∷ filter (λ x. not (inside x)) xs) (filter (λ x. not (inside x)) xs))) e) ∙ k))
     | inr e ↦
         let rest = and_parts (next x || unneeded next x (filter (λ x. not (inside x)) xs)) (holds_needed update next (filter (λ x. not (inside x)) xs))
-            (sym (ap (λ b. holds_needed update next (cond (not b) (x ∷ filter (λ x. not (inside x)) xs) (filter (λ x. not (inside x)) xs))) e) ∙ k) in
+        (sym (ap (λ b. holds_needed update next (cond (not b) (x ∷ filter (λ x. not (inside x)) xs) (filter (λ x. not (inside x)) xs))) e) ∙ k) in
         and_from ((inside x || next x) || unneeded (λ y. inside y || next y) x xs) (holds_needed update (λ x. inside x || next x) xs)
         (ap (λ b. (b || next x) || unneeded (λ y. inside y || next y) x xs) e ∙ first (next x) (sym (ap (λ b. b || unneeded inside x xs) e) ∙ parts.0) rest.0 (more inside next x xs))
         (joined inside next xs parts.1 rest.1)

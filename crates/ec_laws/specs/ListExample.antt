@@ -1,5 +1,5 @@
 -- Operations of one start on a file of four bytes: two overwrites that don't meet, and a change of its mode.
-use Rattle.std.specs.Prelude.{◌+◌, ℕ, true, List, [], ◌∷◌}
+use Rattle.std.specs.Prelude.{ℕ, true, List, [], ◌∷◌}
 use Rattle.ec_volume.specs.Volume.{Images, images}
 use Rattle.ec_volume.specs.declared.image.Image.{Image}
 use Rattle.ec_volume.specs.declared.image.Image.TheVariants.{File, Dir}
