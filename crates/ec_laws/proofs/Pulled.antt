@@ -1,13 +1,14 @@
 -- Operations that come before others which they don't need.
 use Rattle.std.proofs.Common.{◌≡◌, refl, sym, ap, subst, ◌∙◌, inl, inr, ℕ, T, Bool, true, false, not, ◌&&◌, ◌||◌, cond, List, [], ◌∷◌, ◌++◌}
-use Rattle.std.specs.Prelude.{⊤, map}
-use Rattle.std.proofs.lemmas.Bool.{cases_Bool, and_parts, and_from, or_parts, not-false, not-true, true≢false}
+use Rattle.std.specs.Prelude.{⊤, ◌==◌, map, length}
+use Rattle.std.proofs.lemmas.Bool.{cases_Bool, and_parts, and_from, or_parts, or_left, not-false, not-true, true≢false}
 use Rattle.std.specs.List.{filter, list_all}
-use Rattle.ec_volume.specs.Update.{operands, has_operand, fits, effect}
+use Rattle.ec_volume.specs.Update.{operands, has_operand, member, fits, effect}
 use Rattle.ec_volume.specs.Volume.{Images, image_next, image_after, after, fits_in_turn, Fits}
 use Rattle.ec_volume.specs.declared.image.Image.{Image}
 use Rattle.ec_volume.specs.declared.update.Update.{Update}
-use Rattle.ec_order.specs.Order.{is_overwrite, share, before, under, needs}
+use Rattle.ec_volume.specs.declared.update.Update.TheVariants.{Put}
+use Rattle.ec_order.specs.Order.{is_overwrite, share, before, meet, under, needs}
 use Rattle.ec_laws.specs.Needs.{holds_needed}
 use Rattle.ec_laws.proofs.Objects.{holds, is-true, common, fits-append}
 use Rattle.ec_laws.proofs.Overwriting.{effects-commute, still-fits, either-order}
@@ -18,6 +19,19 @@ both-overwrite o a d ha hd e =
     let s : share a d ≡ true = common o (operands a) (operands d) ha hd in
     let n : not (is_overwrite a && is_overwrite d) ≡ false = ap (λ b. b && not (is_overwrite a && is_overwrite d)) (sym s) ∙ e in
     and_parts (is_overwrite a) (is_overwrite d) (not-false (is_overwrite a && is_overwrite d) n)
+
+pub needs-common : (o : ℕ) (a d : Update) → has_operand o a ≡ true → has_operand o d ≡ true → needs a d ≡ (not (is_overwrite a && is_overwrite d) || under a d)
+needs-common o a d ha hd = ap (λ s. (s && not (is_overwrite a && is_overwrite d)) || under a d) (common o (operands a) (operands d) ha hd)
+
+under-shares : (a d : Update) → under a d ≡ true → share a d ≡ true
+under-shares (Put o m xs true) (Put p n ys true) e =
+    or_left (member o (p ∷ [])) false (or_left (o == p) false (and_parts (o == p) (meet m (length xs) n (length ys)) e).0)
+under-shares a d e = absurd (true≢false (sym e))
+
+pub needs-strangers : (a d : Update) → share a d ≡ false → needs a d ≡ false
+needs-strangers a d e =
+    ap (λ s. (s && not (is_overwrite a && is_overwrite d)) || under a d) e
+    ∙ elim (cases_Bool (under a d)) [ inl u ↦ absurd (true≢false (sym (under-shares a d u) ∙ e)) | inr u ↦ u ]
 
 -- Lists that come to the same at an object.
 module _ (o : ℕ) where
@@ -196,3 +210,40 @@ module _ {A : Type 0} (update : A → Update) where
 
   pub pulled-fit_alone : (base : Images) (inside : A → Bool) (xs : List A) → T (holds_needed update inside xs) → Fits base (map update xs) → Fits base (first inside xs)
   pulled-fit_alone base inside xs h f o = pulled-alone o (base o) inside xs (at-object o inside xs h) (f o)
+
+-- A set, and then others.
+module _ {A : Type 0} (p q : A → Bool) where
+  inside-either : (xs : List A) → filter p (filter (λ x. p x || q x) xs) ≡ filter p xs
+  inside-either [] = refl
+  inside-either (x ∷ xs) = go (p x) (q x) refl (inside-either xs)
+    where
+      go : (a b : Bool) → p x ≡ a → filter p (filter (λ x. p x || q x) xs) ≡ filter p xs → filter p (cond (a || b) (x ∷ filter (λ x. p x || q x) xs) (filter (λ x. p x || q x) xs)) ≡ cond a (x ∷ filter p xs) (filter p xs)
+      go true b e r = ap (λ c. cond c (x ∷ filter p (filter (λ x. p x || q x) xs)) (filter p (filter (λ x. p x || q x) xs))) e ∙ ap (λ ys. x ∷ ys) r
+      go false true e r = ap (λ c. cond c (x ∷ filter p (filter (λ x. p x || q x) xs)) (filter p (filter (λ x. p x || q x) xs))) e ∙ r
+      go false false e r = r
+
+  outside-either : (xs : List A) → filter (λ x. not (p x)) (filter (λ x. p x || q x) xs) ≡ filter (λ x. not (p x) && q x) xs
+  outside-either [] = refl
+  outside-either (x ∷ xs) = go (p x) (q x) refl (outside-either xs)
+    where
+      go : (a b : Bool) → p x ≡ a → filter (λ x. not (p x)) (filter (λ x. p x || q x) xs) ≡ filter (λ x. not (p x) && q x) xs
+          → filter (λ x. not (p x)) (cond (a || b) (x ∷ filter (λ x. p x || q x) xs) (filter (λ x. p x || q x) xs)) ≡ cond (not a && b) (x ∷ filter (λ x. not (p x) && q x) xs) (filter (λ x. not (p x) && q x) xs)
+      go true b e r = ap (λ c. cond (not c) (x ∷ filter (λ x. not (p x)) (filter (λ x. p x || q x) xs)) (filter (λ x. not (p x)) (filter (λ x. p x || q x) xs))) e ∙ r
+      go false true e r = ap (λ c. cond (not c) (x ∷ filter (λ x. not (p x)) (filter (λ x. p x || q x) xs)) (filter (λ x. not (p x)) (filter (λ x. p x || q x) xs))) e ∙ ap (λ ys. x ∷ ys) r
+      go false false e r = r
+
+module _ {A : Type 0} (update : A → Update) (base : Images) (inside next : A → Bool) (xs : List A) where
+  abbrev either : List A
+  either = filter (λ x. inside x || next x) xs
+
+  two-parts : map update (filter inside either) ++ map update (filter (λ x. not (inside x)) either) ≡ map update (filter inside xs) ++ map update (filter (λ x. not (inside x) && next x) xs)
+  two-parts = ap (λ ys. map update ys ++ map update (filter (λ x. not (inside x)) either)) (inside-either inside next xs) ∙ ap (λ ys. map update (filter inside xs) ++ map update ys) (outside-either inside next xs)
+
+  either-needed : T (holds_needed update inside xs) → T (holds_needed update inside either)
+  either-needed h = holds (needed-part update inside (λ x. inside x || next x) xs (is-true _ h))
+
+  pub next-after : T (holds_needed update inside xs) → after base (map update (filter inside xs) ++ map update (filter (λ x. not (inside x) && next x) xs)) ≡ after base (map update (filter (λ x. inside x || next x) xs))
+  next-after h = sym (ap (after base) two-parts) ∙ pulled-volume update base inside either (either-needed h)
+
+  pub next-fits : T (holds_needed update inside xs) → T (holds_needed update (λ x. inside x || next x) xs) → Fits base (map update xs) → Fits base (map update (filter inside xs) ++ map update (filter (λ x. not (inside x) && next x) xs))
+  next-fits h k f = subst (Fits base) two-parts (pulled-fit update base inside either (either-needed h) (pulled-fit_alone update base (λ x. inside x || next x) xs k f))

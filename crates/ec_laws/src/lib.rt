@@ -36,8 +36,8 @@ pub use projection::{
     operands_are_enough, strangers_change_places,
 };
 pub use pull::{
-    numbered_operations_come_first, what_holds_its_needs_comes_first,
-    what_holds_its_needs_fits_first,
+    needs_within_an_object, numbered_operations_come_first, what_holds_its_needs_comes_first,
+    what_holds_its_needs_comes_next, what_holds_its_needs_fits_first,
 };
 pub use removal::{
     calls_touch_operands, what_a_closed_loss_leaves_fits, what_an_untouched_loss_leaves_fits,
