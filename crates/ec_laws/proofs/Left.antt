@@ -9,7 +9,7 @@ use Rattle.ec_volume.specs.declared.update.Update.{Update}
 use Rattle.ec_plain.specs.declared.call.Call.{Call}
 use Rattle.ec_order.specs.Order.{before, share, is_overwrite}
 use Rattle.ec_history.specs.History.{Base, History, Op, Throughout, Each, updates, kept, kept_from, kept_next, issued_by, outcome, of_start, same_start, is_one_of, is_entry_of, touched, without}
-use Rattle.ec_history.specs.Legal.{IsLegal, IsLegalNext, is_closed}
+use Rattle.ec_history.specs.Legal.{IsLegal, IsLegalNext, is_call_of_other, is_closed, leaves}
 use Rattle.ec_history.specs.declared.entry.Answer.{Answer}
 use Rattle.ec_history.specs.declared.entry.Entry.{Entry}
 use Rattle.ec_history.specs.declared.entry.Entry.TheVariants as entry
@@ -176,6 +176,29 @@ module _ (base : Base) (c b : ℕ) (ns : List ℕ) where
 pub loss-kept : (base : Base) (c b p : ℕ) (ns : List ℕ) (past : History) → Fits base.volume (updates (kept base past)) → T (is_closed (is_one_of c b ns) (filter (of_start c b) (kept base past))) → Throughout (Untouched base c b ns) [] past
     → Fits base.volume (updates (kept base (past ++ (p, entry.Loss c b ns) ∷ [])))
 loss-kept base c b p ns past f cl un = subst (λ ks. Fits base.volume (updates ks)) (sym (kept-step base past (p, entry.Loss c b ns))) (loss-fits base c b ns past f cl un)
+
+-- the same, where no call of another clerk touched one, nor one of another start of the clerk
+throughout-both : (P Q R : History → ℕ × Entry → Type 0) → ((h : History) (e : ℕ × Entry) → P h e → Q h e → R h e) → (past h : History) → Throughout P past h → Throughout Q past h → Throughout R past h
+throughout-both P Q R f past [] t u = tt
+throughout-both P Q R f past (e ∷ h) t u = (f past e t.0 u.0, throughout-both P Q R f (past ++ e ∷ []) h t.1 u.1)
+
+pub lawful-fits : (base : Base) (c b : ℕ) (ns : List ℕ) (past : History) → Fits base.volume (updates (kept base past)) → T (is_closed (is_one_of c b ns) (filter (of_start c b) (kept base past)))
+    → Throughout (λ h e. T (leaves base (kept base h) c (filter (is_one_of c b ns) (kept base h)) e)) [] past
+    → Throughout (λ h e. is_call_of_other c e.1 ≡ false → Untouched base c b ns h e) [] past
+    → Fits base.volume (updates (without c b ns (kept base past)))
+lawful-fits base c b ns past f cl un own = loss-fits base c b ns past f cl (throughout-both Other Own (Untouched base c b ns) all [] past un own)
+  where
+    Other : History → ℕ × Entry → Type 0
+    Other = λ h e. T (leaves base (kept base h) c (filter (is_one_of c b ns) (kept base h)) e)
+
+    Own : History → ℕ × Entry → Type 0
+    Own = λ h e. is_call_of_other c e.1 ≡ false → Untouched base c b ns h e
+
+    all : (h : History) (e : ℕ × Entry) → T (leaves base (kept base h) c (filter (is_one_of c b ns) (kept base h)) e) → (is_call_of_other c e.1 ≡ false → Untouched base c b ns h e) → Untouched base c b ns h e
+    all h e t u = elim (cases_Bool (is_call_of_other c e.1)) [
+      | inl y ↦ λ n. subst (λ x. T (not x || list_all (λ k. not (list_any (λ o. member o (touched base (kept base h) e)) (operands k.update))) (filter (is_one_of c b ns) (kept base h)))) y t
+      | inr n ↦ u n
+    ]
 
 -- Calls.
 

@@ -22,8 +22,8 @@ pub use closure::{
 pub use example::premises_can_be_met;
 pub use insertion::{late_call_is_covered, late_call_is_legal, late_call_is_lost};
 pub use list_example::{
-    closures_can_be_met, lists_can_fit, losses_can_be_untouched, overwrites_can_be_apart,
-    sets_can_hold_their_needs,
+    another_start_counts, closures_can_be_met, lists_can_fit, losses_can_be_untouched,
+    overwrites_can_be_apart, sets_can_hold_their_needs,
 };
 pub use overwrites::{
     overwrites_change_places, overwrites_fit_by_length, overwrites_keep_the_stat,

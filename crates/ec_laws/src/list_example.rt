@@ -6,11 +6,11 @@ ghost use Rattle.std.specs.FinMap.{is_sorted};
 ghost use Rattle.ec_volume.specs.Update.{operands, has_operand, member, fits, first_unfit};
 ghost use Rattle.ec_volume.specs.Volume.{after, fits_in_turn, Fits};
 ghost use Rattle.ec_order.specs.Order.{is_overwrite, share, under, closure};
-ghost use Rattle.ec_history.specs.History.{Throughout, updates, of_start, is_one_of, is_entry_of, kept, touched};
-ghost use Rattle.ec_history.specs.Legal.{IsLegal, is_closed};
+ghost use Rattle.ec_history.specs.History.{Throughout, updates, of_start, is_one_of, is_entry_of, kept, touched, without};
+ghost use Rattle.ec_history.specs.Legal.{IsLegal, from_formatted, is_closed, leaves};
 ghost use Rattle.ec_laws.specs.Needs.{holds_needed};
 ghost use Rattle.ec_laws.specs.Example.{two_files, writes};
-ghost use Rattle.ec_laws.specs.ListExample.{file, one_file, early, late, new_mode, make_g, overwrites, numbered};
+ghost use Rattle.ec_laws.specs.ListExample.{file, one_file, early, late, new_mode, make_g, overwrites, numbered, two_starts};
 
 /// Two overwrites and a new file fit; the overwrites change the file's operands alone, and the new
 /// file is a stranger to them.
@@ -54,4 +54,14 @@ pub fn losses_can_be_untouched()
     ensures closed { T (is_closed (is_one_of 0 1 (1 ∷ [])) (filter (of_start 0 1) (kept two_files writes))) }
     ensures untouched { Throughout (λ h e. is_entry_of 0 1 e.1 ≡ false → T (list_all (λ k. not (list_any (λ o. member o (touched two_files (kept two_files h) e)) (operands k.update))) (filter (is_one_of 0 1 (1 ∷ [])) (kept two_files h)))) [] writes }
     ensures legal { IsLegal two_files 1024 writes }
+{}
+
+/// Why a call of another start counts, and not of another clerk alone: a start makes a file and the
+/// next one of the clerk writes it. Where the first operation is lost, nothing of its start is
+/// ordered after it and no other clerk touched its operands; but what is left doesn't fit.
+pub fn another_start_counts()
+    ensures legal { IsLegal from_formatted 1024 two_starts }
+    ensures closed { T (is_closed (is_one_of 0 1 (1 ∷ [])) (filter (of_start 0 1) (kept from_formatted two_starts))) }
+    ensures untouched { Throughout (λ h e. T (leaves from_formatted (kept from_formatted h) 0 (filter (is_one_of 0 1 (1 ∷ [])) (kept from_formatted h)) e)) [] two_starts }
+    ensures unfit { ¬ Fits from_formatted.volume (updates (without 0 1 (1 ∷ []) (kept from_formatted two_starts))) }
 {}

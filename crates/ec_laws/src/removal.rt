@@ -8,7 +8,7 @@ ghost use Rattle.ec_volume.specs.declared.update.Update.{Update};
 ghost use Rattle.ec_plain.specs.Plain.{plain};
 ghost use Rattle.ec_plain.specs.declared.call.Call.{Call};
 ghost use Rattle.ec_history.specs.History.{Base, History, Op, Each, Throughout, updates, of_start, is_one_of, is_entry_of, kept, issued_by, without, touched};
-ghost use Rattle.ec_history.specs.Legal.{IsLegal, is_closed};
+ghost use Rattle.ec_history.specs.Legal.{IsLegal, is_call_of_other, is_closed, leaves};
 ghost use Rattle.ec_history.specs.declared.entry.Answer.{Answer};
 ghost use Rattle.ec_history.specs.declared.entry.Entry.TheVariants as entry;
 ghost use Rattle.ec_laws.specs.Needs.{holds_needed};
@@ -28,11 +28,17 @@ pub fn what_a_closed_loss_leaves_fits()
 
 /// A loss leaves what fits, where what was kept fits, none of its start's operations that it leaves
 /// is ordered after a lost one, and no call of another start touched an operand of a lost operation
-/// that was kept so far.
+/// that was kept so far. So the last rule of a lawful loss follows from the others, where no call of
+/// another start of the clerk did so.
 pub fn what_an_untouched_loss_leaves_fits()
     ensures without { (base : Base) (c b : ℕ) (ns : List ℕ) (past : History) → Fits base.volume (updates (kept base past))
         → T (is_closed (is_one_of c b ns) (filter (of_start c b) (kept base past)))
         → Throughout (λ h e. is_entry_of c b e.1 ≡ false → T (list_all (λ k. not (list_any (λ o. member o (touched base (kept base h) e)) (operands k.update))) (filter (is_one_of c b ns) (kept base h)))) [] past
+        → Fits base.volume (updates (without c b ns (kept base past))) }
+    ensures lawful { (base : Base) (c b : ℕ) (ns : List ℕ) (past : History) → Fits base.volume (updates (kept base past))
+        → T (is_closed (is_one_of c b ns) (filter (of_start c b) (kept base past)))
+        → Throughout (λ h e. T (leaves base (kept base h) c (filter (is_one_of c b ns) (kept base h)) e)) [] past
+        → Throughout (λ h e. is_call_of_other c e.1 ≡ false → is_entry_of c b e.1 ≡ false → T (list_all (λ k. not (list_any (λ o. member o (touched base (kept base h) e)) (operands k.update))) (filter (is_one_of c b ns) (kept base h)))) [] past
         → Fits base.volume (updates (without c b ns (kept base past))) }
     ensures kept { (base : Base) (c b p : ℕ) (ns : List ℕ) (past : History) → Fits base.volume (updates (kept base past))
         → T (is_closed (is_one_of c b ns) (filter (of_start c b) (kept base past)))
