@@ -1,12 +1,12 @@
 // The premises of the laws of lists, overwrites, losses and closures can be met.
-ghost use Rattle.std.specs.Prelude.{◌≡◌, ◌==◌, ℕ, T, Bool, true, false, not, List, [], ◌∷◌, None};
+ghost use Rattle.std.specs.Prelude.{◌≡◌, ◌==◌, ◌||◌, ℕ, T, Bool, true, false, not, map, List, [], ◌∷◌, None};
 ghost use Rattle.std.specs.List.{filter, list_all, list_any};
 ghost use Rattle.std.specs.Ordering.{nat_cmp};
 ghost use Rattle.std.specs.FinMap.{is_sorted};
 ghost use Rattle.ec_volume.specs.Update.{operands, has_operand, member, fits, first_unfit};
 ghost use Rattle.ec_volume.specs.Volume.{after, fits_in_turn, Fits};
 ghost use Rattle.ec_order.specs.Order.{is_overwrite, share, under, closure};
-ghost use Rattle.ec_history.specs.History.{Throughout, updates, of_start, is_one_of, is_entry_of, kept, touched, without};
+ghost use Rattle.ec_history.specs.History.{Each, Throughout, updates, of_start, is_one_of, is_entry_of, issued_by, kept, touched, without};
 ghost use Rattle.ec_history.specs.Legal.{IsLegal, from_formatted, is_closed, leaves};
 ghost use Rattle.ec_laws.specs.Needs.{holds_needed};
 ghost use Rattle.ec_laws.specs.Example.{two_files, writes};
@@ -18,6 +18,7 @@ pub fn lists_can_fit()
     ensures tried { T (list_all (λ u. list_all (λ o. fits_in_turn o (one_file o) (early ∷ late ∷ make_g ∷ [])) (operands u)) (early ∷ late ∷ make_g ∷ [])) }
     ensures fitting { first_unfit late (after one_file (early ∷ [])) (operands late) ≡ None }
     ensures strangers { share late make_g ≡ false }
+    ensures equal { (o : ℕ) → filter (has_operand o) (early ∷ make_g ∷ []) ≡ filter (has_operand o) (make_g ∷ early ∷ []) }
     ensures elsewhere { list_any (has_operand 3) (early ∷ late ∷ []) ≡ false }
 {}
 
@@ -33,6 +34,7 @@ pub fn overwrites_can_be_apart()
 /// earlier one is lost.
 pub fn sets_can_hold_their_needs()
     ensures first { T (holds_needed (λ k. k.update) (is_one_of 0 1 (2 ∷ [])) overwrites) }
+    ensures both { T (holds_needed (λ k. k.update) (λ k. is_one_of 0 1 (2 ∷ []) k || is_one_of 0 1 (1 ∷ []) k) overwrites) }
     ensures fitting { T (list_all (λ u. list_all (λ o. fits_in_turn o (one_file o) (updates overwrites)) (operands u)) (updates overwrites)) }
     ensures lost { T (is_closed (is_one_of 0 1 (1 ∷ [])) overwrites) }
 {}
@@ -44,6 +46,7 @@ pub fn closures_can_be_met()
     ensures of_mode { closure (λ n. n == 3) numbered ≡ numbered }
     ensures of_overwrite { closure (λ n. n == 2) numbered ≡ (2, late) ∷ [] }
     ensures inside { T (holds_needed (λ x. x.1) (λ x. x.0 == 2) numbered) }
+    ensures whole { T (holds_needed (λ x. x.1) (λ x. member x.0 (map (λ y. y.0) numbered)) numbered) }
     ensures next { T (holds_needed (λ x. x.1) (λ x. x.0 == 1) (filter (λ x. not (x.0 == 2)) numbered)) }
 {}
 
@@ -54,6 +57,7 @@ pub fn losses_can_be_untouched()
     ensures closed { T (is_closed (is_one_of 0 1 (1 ∷ [])) (filter (of_start 0 1) (kept two_files writes))) }
     ensures untouched { Throughout (λ h e. is_entry_of 0 1 e.1 ≡ false → T (list_all (λ k. not (list_any (λ o. member o (touched two_files (kept two_files h) e)) (operands k.update))) (filter (is_one_of 0 1 (1 ∷ [])) (kept two_files h)))) [] writes }
     ensures legal { IsLegal two_files 1024 writes }
+    ensures fitting { Throughout (λ past e. Each (λ k. (o : ℕ) → T (not (has_operand o k.update) || fits k.update o (after two_files.volume (updates (kept two_files past)) o))) (issued_by two_files (kept two_files past) e)) [] writes }
 {}
 
 /// Why a call of another start counts, and not of another clerk alone: a start makes a file and the
