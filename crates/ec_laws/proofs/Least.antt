@@ -4,7 +4,7 @@ use Rattle.std.specs.Prelude.{⊤, map}
 use Rattle.std.specs.Ordering.{nat_cmp, is_lt}
 use Rattle.std.specs.FinMap.{is_sorted}
 use Rattle.std.specs.FinMap.Entries.{below_all}
-use Rattle.std.specs.List.{list_any, list_all}
+use Rattle.std.specs.List.{filter, list_any, list_all}
 use Rattle.std.proofs.lemmas.Bool.{cases_Bool, and_parts, and_from, or_cases, eqb-true, true≢false}
 use Rattle.std.proofs.lemmas.Bool.Decides.{nat_tests}
 use Rattle.ec_volume.specs.Update.{member}
@@ -226,6 +226,42 @@ module _ (inside : ℕ → Bool) where
   closure-inside xs asked h q n (ask m u k t) = q m u k t
   closure-inside xs asked h q n (need m l a b i j s t c) = h m l a b i j s t (closure-inside xs asked h q l c)
 
+-- Closures among a part of the operations.
+
+module _ (q : ℕ × Update → Bool) where
+  holds-front : (xs : Issued) (n : ℕ) (u : Update) → Holds (filter q xs) n u → Holds xs n u
+  holds-front [] n u h = h
+  holds-front (x ∷ xs) n u h = go (q x) h (holds-front xs n u)
+    where
+      go : (b : Bool) → Holds (cond b (x ∷ filter q xs) (filter q xs)) n u → (Holds (filter q xs) n u → Holds xs n u) → Holds (x ∷ xs) n u
+      go true (inl e) r = inl e
+      go true (inr k) r = inr (r k)
+      go false k r = inr (r k)
+
+  holds-kept : (xs : Issued) (n : ℕ) (u : Update) → Holds xs n u → q (n, u) ≡ true → Holds (filter q xs) n u
+  holds-kept [] n u h t = h
+  holds-kept (x ∷ xs) n u (inl e) t =
+      let here : q x ≡ true = ap (λ m. q (m, x.1)) e.0 ∙ ap (λ w. q (n, w)) e.1 ∙ t in
+      subst (λ b. Holds (cond b (x ∷ filter q xs) (filter q xs)) n u) (sym here) (inl e)
+  holds-kept (x ∷ xs) n u (inr h) t = go (q x) (holds-kept xs n u h t)
+    where
+      go : (b : Bool) → Holds (filter q xs) n u → Holds (cond b (x ∷ filter q xs) (filter q xs)) n u
+      go true k = inr k
+      go false k = k
+
+  pub closure-more : (xs : Issued) (asked : ℕ → Bool) (n : ℕ) → InClosure (filter q xs) asked n → InClosure xs asked n
+  closure-more xs asked n (ask m u k t) = ask m u (holds-front xs m u k) t
+  closure-more xs asked n (need m l a b i j s t c) = need m l a b (holds-front xs m a i) (holds-front xs l b j) s t (closure-more xs asked l c)
+
+module _ (done : ℕ → Bool) where
+  closure-outside : (xs : Issued) (asked : ℕ → Bool) → ByNumber xs done → (n : ℕ) → InClosure xs asked n → done n ≡ false → InClosure (filter (λ x. not (done x.0)) xs) asked n
+  closure-outside xs asked h n (ask m u k t) e = ask m u (holds-kept (λ x. not (done x.0)) xs m u k (ap not e)) t
+  closure-outside xs asked h n (need m l a b i j s t c) e = elim (cases_Bool (done l)) [
+    | inl y ↦ absurd (true≢false (sym (is-true _ (h m l a b i j s t (holds y))) ∙ e))
+    | inr f ↦
+        need m l a b (holds-kept (λ x. not (done x.0)) xs m a i (ap not e)) (holds-kept (λ x. not (done x.0)) xs l b j (ap not f)) s t (closure-outside xs asked h l c f)
+  ]
+
 -- Members by their numbers.
 
 number-of : (xs : Issued) (n : ℕ) (u : Update) → Holds xs n u → T (member n (numbers_of xs))
@@ -307,3 +343,7 @@ taken-needed issued ys k s r h = needed-from_numbers issued (λ n. member n (num
     closed m n a b i j l t e =
         let whole : T (member m (numbers_of ys)) = needed-by_number issued (λ n. member n (numbers_of ys)) s h m n a b i j l t (holds (front k ys n (is-true _ e))) in
         holds (taken-number k ys (rising-from ys r) m n l (is-true _ whole) (is-true _ e))
+
+pub closure-rest : (issued : Issued) (asked done : ℕ → Bool) (n : ℕ) → T (is_sorted nat_cmp issued) → T (holds_needed (λ x. x.1) (λ x. done x.0) issued)
+    → InClosure issued asked n → done n ≡ false → InClosure (filter (λ x. not (done x.0)) issued) asked n
+closure-rest issued asked done n s h c e = closure-outside done issued asked (needed-by_number issued done s h) n c e

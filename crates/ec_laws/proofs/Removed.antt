@@ -46,7 +46,7 @@ module _ (o : ℕ) (i : Image) (u : Update) (us : List Update) where
   get-no : has_operand o u ≡ false → T (fits_in_turn o i (u ∷ us)) → T (fits_in_turn o i us)
   get-no e h = subst T (fits-no o i u us e) h
 
--- two files of one length, or two images that are none
+-- both are files or neither, and of one length
 record Alike (i j : Image) : Type 0 where
   kind : is_file i ≡ is_file j
   size : length (bytes_of i) ≡ length (bytes_of j)

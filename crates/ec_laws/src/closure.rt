@@ -1,5 +1,5 @@
 // What operations need, and sets of them that hold what their members need.
-ghost use Rattle.std.specs.Prelude.{◌≡◌, ◌<◌, ℕ, T, Bool, not, ◌&&◌, ◌||◌, map, take, List};
+ghost use Rattle.std.specs.Prelude.{◌≡◌, ◌<◌, ℕ, T, Bool, false, not, ◌&&◌, ◌||◌, map, take, List};
 ghost use Rattle.std.specs.List.{filter};
 ghost use Rattle.std.specs.Ordering.{nat_cmp};
 ghost use Rattle.std.specs.FinMap.{is_sorted};
@@ -24,6 +24,15 @@ pub fn closure_holds_its_needs()
     ensures needs { (issued : Issued) (asked : ℕ → Bool) → T (is_sorted nat_cmp issued) → T (holds_needed (λ x. x.1) (λ x. member x.0 (map (λ y. y.0) (closure asked issued))) issued) }
     ensures within { (issued : Issued) (asked inside : ℕ → Bool) → T (is_sorted nat_cmp issued) → T (holds_needed (λ x. x.1) (λ x. inside x.0) issued)
         → ((n : ℕ) (u : Update) → Holds issued n u → T (asked n) → T (inside n)) → (n : ℕ) → InClosure issued asked n → T (inside n) }
+{}
+
+/// A closure among a part of the operations is within the closure among all. Beside a set that
+/// holds what its members need, such as the durable operations, the closure among the rest has all
+/// that the closure has outside that set.
+pub fn closure_goes_by_the_rest()
+    ensures within { (part : ℕ × Update → Bool) (issued : Issued) (asked : ℕ → Bool) (n : ℕ) → InClosure (filter part issued) asked n → InClosure issued asked n }
+    ensures rest { (issued : Issued) (asked done : ℕ → Bool) (n : ℕ) → T (is_sorted nat_cmp issued) → T (holds_needed (λ x. x.1) (λ x. done x.0) issued)
+        → InClosure issued asked n → done n ≡ false → InClosure (filter (λ x. not (done x.0)) issued) asked n }
 {}
 
 /// Of operations with rising numbers, a set of numbers holds what its members need exactly if each

@@ -16,8 +16,8 @@ mod steps;
 
 pub use append::{longer_history_is_legal, longer_transcript_is_placeable, next_number_is_new};
 pub use closure::{
-    closure_holds_its_needs, closure_lists_the_least_set, first_members_hold_their_needs,
-    needs_go_by_numbers, parts_hold_their_needs,
+    closure_goes_by_the_rest, closure_holds_its_needs, closure_lists_the_least_set,
+    first_members_hold_their_needs, needs_go_by_numbers, parts_hold_their_needs,
 };
 pub use example::premises_can_be_met;
 pub use insertion::{late_call_is_covered, late_call_is_legal, late_call_is_lost};
