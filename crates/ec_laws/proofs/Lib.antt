@@ -9,3 +9,12 @@ pub mod LateLoss
 pub mod Beside
 pub mod Inserted
 pub mod Taken
+pub mod Objects
+pub mod Ranges
+pub mod Overwriting
+pub mod Pulled
+pub mod Touching
+pub mod Removed
+pub mod Left
+pub mod Least
+pub mod Parts

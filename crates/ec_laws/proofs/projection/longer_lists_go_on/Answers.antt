@@ -1,0 +1,11 @@
+use Rattle.ec_laws.proofs.Objects.{after-append, fits-append, fits-next}
+use Rattle.ec_laws.proofs.projection.longer_lists_go_on.Goals as goal
+
+pub returns-clause-leave : goal.returns-clause-leave
+returns-clause-leave c = after-append
+
+pub returns-clause-fit : goal.returns-clause-fit
+returns-clause-fit c = fits-append
+
+pub returns-clause-fit_next : goal.returns-clause-fit_next
+returns-clause-fit_next c = fits-next
