@@ -1,0 +1,7 @@
+pub mod Clerks
+pub mod Alone
+pub mod Durable
+pub mod Ended
+pub mod WrongLosses
+pub mod WrongReplies
+pub mod WrongLines

@@ -1,0 +1,92 @@
+// Which operations may be lost.
+ghost use Rattle.std.specs.Prelude.{[], ◌∷◌};
+ghost use Rattle.ec_history.specs.declared.shown.Shown.TheVariants.{Durable, Told};
+ghost use Rattle.ec_history.specs.Legal.{IsLegal, from_formatted};
+ghost use Rattle.ec_history.specs.Lines.{AreCovered};
+ghost use Rattle.ec_history.specs.Placing.{ArePlaceable, place};
+ghost use Rattle.ec_rows.specs.Clerks.{A};
+ghost use Rattle.ec_rows.specs.WrongLosses.{fsynced_write, answered_fsync, answered_sync, written_file, tied_writes, moved_below, seen_create, two_creates, two_ends};
+
+/// A loss may not name a write that an answered `fsync` covers.
+pub fn refuses_lost_fsynced_write()
+    ensures right { ArePlaceable [] (fsynced_write (2 ∷ [])) }
+    ensures legal { IsLegal from_formatted 1024 (place (fsynced_write (2 ∷ []))) }
+    ensures wrong { ¬ (ArePlaceable [] (fsynced_write (2 ∷ 3 ∷ []))) }
+    ensures illegal { ¬ (IsLegal from_formatted 1024 (place (fsynced_write (2 ∷ 3 ∷ [])))) }
+{
+}
+
+/// An `fsync` may not be answered before its operations are durable.
+pub fn refuses_early_fsync()
+    ensures placeable { ArePlaceable [] (answered_fsync (Durable A (1 ∷ []) ∷ []) []) }
+    ensures legal { IsLegal from_formatted 1024 (place (answered_fsync (Durable A (1 ∷ []) ∷ []) [])) }
+    ensures covered { AreCovered from_formatted (answered_fsync (Durable A (1 ∷ []) ∷ []) []) }
+    ensures early_placeable { ArePlaceable [] (answered_fsync [] (1 ∷ [])) }
+    ensures early_illegal { ¬ (IsLegal from_formatted 1024 (place (answered_fsync [] (1 ∷ [])))) }
+    ensures early_uncovered { ¬ (AreCovered from_formatted (answered_fsync [] (1 ∷ []))) }
+{
+}
+
+/// A `sync` may not be answered before each operation is durable.
+pub fn refuses_early_sync()
+    ensures placeable { ArePlaceable [] (answered_sync (Durable A (1 ∷ 2 ∷ []) ∷ []) []) }
+    ensures legal { IsLegal from_formatted 1024 (place (answered_sync (Durable A (1 ∷ 2 ∷ []) ∷ []) [])) }
+    ensures covered { AreCovered from_formatted (answered_sync (Durable A (1 ∷ 2 ∷ []) ∷ []) []) }
+    ensures early_placeable { ArePlaceable [] (answered_sync (Durable A (1 ∷ []) ∷ []) (2 ∷ [])) }
+    ensures early_illegal { ¬ (IsLegal from_formatted 1024 (place (answered_sync (Durable A (1 ∷ []) ∷ []) (2 ∷ [])))) }
+    ensures early_uncovered { ¬ (AreCovered from_formatted (answered_sync (Durable A (1 ∷ []) ∷ []) (2 ∷ []))) }
+{
+}
+
+/// A write may not be kept without the create of its file.
+pub fn refuses_write_without_create()
+    ensures placeable { ArePlaceable [] (written_file (1 ∷ []) (2 ∷ [])) }
+    ensures legal { IsLegal from_formatted 1024 (place (written_file (1 ∷ []) (2 ∷ []))) }
+    ensures swapped_placeable { ArePlaceable [] (written_file (2 ∷ []) (1 ∷ [])) }
+    ensures swapped_illegal { ¬ (IsLegal from_formatted 1024 (place (written_file (2 ∷ []) (1 ∷ [])))) }
+{
+}
+
+/// Of two files tied by `forder` the later write may not be kept without the earlier one.
+pub fn refuses_untied_write()
+    ensures placeable { ArePlaceable [] (tied_writes (3 ∷ []) (4 ∷ 5 ∷ [])) }
+    ensures legal { IsLegal from_formatted 1024 (place (tied_writes (3 ∷ []) (4 ∷ 5 ∷ []))) }
+    ensures untied_placeable { ArePlaceable [] (tied_writes (4 ∷ 5 ∷ []) (3 ∷ [])) }
+    ensures untied_illegal { ¬ (IsLegal from_formatted 1024 (place (tied_writes (4 ∷ 5 ∷ []) (3 ∷ [])))) }
+{
+}
+
+/// A directory's move may not be kept without the earlier move of a directory above its new parent.
+pub fn refuses_move_without_earlier()
+    ensures placeable { ArePlaceable [] (moved_below (4 ∷ []) (5 ∷ [])) }
+    ensures legal { IsLegal from_formatted 1024 (place (moved_below (4 ∷ []) (5 ∷ []))) }
+    ensures swapped_placeable { ArePlaceable [] (moved_below (5 ∷ []) (4 ∷ [])) }
+    ensures swapped_illegal { ¬ (IsLegal from_formatted 1024 (place (moved_below (5 ∷ []) (4 ∷ [])))) }
+{
+}
+
+/// What another clerk saw may not be lost.
+pub fn refuses_lost_seen_create()
+    ensures placeable { ArePlaceable [] (seen_create (Durable A (1 ∷ []) ∷ []) []) }
+    ensures legal { IsLegal from_formatted 1024 (place (seen_create (Durable A (1 ∷ []) ∷ []) [])) }
+    ensures lost_placeable { ArePlaceable [] (seen_create [] (1 ∷ [])) }
+    ensures lost_illegal { ¬ (IsLegal from_formatted 1024 (place (seen_create [] (1 ∷ [])))) }
+{
+}
+
+/// A loss names all operations of its session that no durable line names, and no others.
+pub fn refuses_partial_loss()
+    ensures placeable { ArePlaceable [] (two_creates (1 ∷ 2 ∷ [])) }
+    ensures legal { IsLegal from_formatted 1024 (place (two_creates (1 ∷ 2 ∷ []))) }
+    ensures one_too_few { ¬ (ArePlaceable [] (two_creates (2 ∷ []))) }
+    ensures one_too_many { ¬ (ArePlaceable [] (two_creates (1 ∷ 2 ∷ 3 ∷ []))) }
+{
+}
+
+/// A session ends once.
+pub fn refuses_two_ends()
+    ensures placeable { ArePlaceable [] (two_ends (Told A (1 ∷ []) ∷ [])) }
+    ensures legal { IsLegal from_formatted 1024 (place (two_ends (Told A (1 ∷ []) ∷ []))) }
+    ensures at_once { ¬ (ArePlaceable [] (two_ends [])) }
+{
+}
