@@ -66,7 +66,7 @@ abbrev pub throughout : (History → ℕ × Entry → Bool) → History → Hist
 throughout p past [] = true
 throughout p past (e ∷ h) = p past e && throughout p (past ++ e ∷ []) h
 
-throughout_by_test : (P : History → ℕ × Entry → Type 0) (p : History → ℕ × Entry → Bool) → ((h : History) (e : ℕ × Entry) → T (p h e) → P h e) → (past h : History) → T (throughout p past h) → Throughout P past h
+pub throughout_by_test : (P : History → ℕ × Entry → Type 0) (p : History → ℕ × Entry → Bool) → ((h : History) (e : ℕ × Entry) → T (p h e) → P h e) → (past h : History) → T (throughout p past h) → Throughout P past h
 throughout_by_test P p f past [] t = tt
 throughout_by_test P p f past (e ∷ h) t = (f past e (left _ _ t), throughout_by_test P p f (past ++ e ∷ []) h (right _ _ t))
 

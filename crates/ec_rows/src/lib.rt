@@ -4,6 +4,7 @@
 pub mod alone;
 pub mod durable;
 pub mod ended;
+pub mod renamed;
 pub mod wrong_lines;
 pub mod wrong_losses;
 pub mod wrong_replies;
