@@ -68,6 +68,17 @@ chowned_file =
     ∷ Answered 3 A (call.Stat (codes "f" ∷ [])) (answer.Reply (reply.Stat kind.File 420 0 7 0)) None
     ∷ []
 
+-- a write of the last byte that a file may have
+abbrev pub farthest_byte : List Shown
+farthest_byte =
+    Waits 1 A (call.Create (codes "f" ∷ []))
+    ∷ Answered 1 A (call.Create (codes "f" ∷ [])) (answer.Reply reply.Ok) (Some 1)
+    ∷ Answered 2 A (call.Write (codes "f" ∷ []) 65535 (codes "x")) (answer.Reply reply.Ok) (Some 2)
+    ∷ Answered 3 A (call.Write (codes "f" ∷ []) 65535 (codes "xy")) (answer.Reply (reply.Refused no.TooLong)) None
+    ∷ Answered 4 A (call.Stat (codes "f" ∷ [])) (answer.Reply (reply.Stat kind.File 420 0 0 65536)) None
+    ∷ Answered 5 A (call.Read (codes "f" ∷ []) 65536 0) (answer.Reply (reply.Data [])) None
+    ∷ []
+
 -- a directory is not moved below itself
 abbrev pub refused_loop : List Shown
 refused_loop =

@@ -2,7 +2,8 @@ pub mod Clerks
 pub mod Alone
 pub mod Durable
 pub mod Ended
-pub mod Renamed
+pub mod Long
 pub mod WrongLosses
 pub mod WrongReplies
 pub mod WrongLines
+pub mod Small

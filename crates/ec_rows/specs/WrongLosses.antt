@@ -1,11 +1,13 @@
 -- Transcripts with a loss, right or not.
 use Rattle.std.specs.Prelude.{◌++◌, ℕ, List, [], ◌∷◌, None, Some, codes}
 use Rattle.ec_volume.specs.declared.image.Kind.TheVariants as kind
+use Rattle.ec_plain.specs.declared.call.Call.{Call}
 use Rattle.ec_plain.specs.declared.call.Call.TheVariants as call
 use Rattle.ec_plain.specs.declared.call.Reply.TheVariants as reply
+use Rattle.ec_history.specs.declared.entry.Answer.{Answer}
 use Rattle.ec_history.specs.declared.entry.Answer.TheVariants as answer
 use Rattle.ec_history.specs.declared.shown.Shown.{Shown}
-use Rattle.ec_history.specs.declared.shown.Shown.TheVariants.{Waits, Answered, Durable, Ended, Crashed}
+use Rattle.ec_history.specs.declared.shown.Shown.TheVariants.{Waits, Answered, Durable, Ended, Told, Crashed}
 use Rattle.ec_rows.specs.Clerks.{A, B}
 
 -- an fsync of one of two files, and a loss
@@ -100,6 +102,56 @@ seen_create made_durable lost =
     ++ Answered 2 B (call.Stat (codes "f" ∷ [])) (answer.Reply (reply.Stat kind.File 420 0 0 0)) None
     ∷ Crashed A
     ∷ Ended A lost
+    ∷ [])
+
+-- another clerk calls before a write is lost
+abbrev pub seen_write : Call → Answer → List Shown
+seen_write next given =
+    Waits 1 A (call.Create (codes "f" ∷ []))
+    ∷ Answered 1 A (call.Create (codes "f" ∷ [])) (answer.Reply reply.Ok) (Some 1)
+    ∷ Waits 2 B (call.Stat [])
+    ∷ Durable A (1 ∷ [])
+    ∷ Answered 2 B (call.Stat []) (answer.Reply (reply.Stat kind.Dir 493 0 0 1)) None
+    ∷ Waits 3 A (call.Write (codes "f" ∷ []) 0 (codes "x"))
+    ∷ Answered 3 A (call.Write (codes "f" ∷ []) 0 (codes "x")) (answer.Reply reply.Ok) (Some 2)
+    ∷ Answered 4 B next given None
+    ∷ Crashed A
+    ∷ Ended A (2 ∷ [])
+    ∷ []
+
+-- an fsync that waits, with these lines before and behind its begin, and a loss
+abbrev pub fsync_begun : List Shown → List Shown → List Shown
+fsync_begun before behind =
+    Waits 1 A (call.Create (codes "f" ∷ []))
+    ∷ Answered 1 A (call.Create (codes "f" ∷ [])) (answer.Reply reply.Ok) (Some 1)
+    ∷ (before
+    ++ Waits 2 A (call.Fsync (codes "f" ∷ []))
+    ∷ (behind
+    ++ Durable A (1 ∷ [])
+    ∷ Answered 2 A (call.Fsync (codes "f" ∷ [])) (answer.Reply reply.Ok) None
+    ∷ Crashed A
+    ∷ Ended A (2 ∷ [])
+    ∷ []))
+
+-- an fsync of a file whose last write is ordered behind lost operations, with these lines before its answer
+abbrev pub fsync_over_lost : List Shown → List Shown
+fsync_over_lost made_durable =
+    Waits 1 A (call.Create (codes "f" ∷ []))
+    ∷ Answered 1 A (call.Create (codes "f" ∷ [])) (answer.Reply reply.Ok) (Some 1)
+    ∷ Waits 2 A call.Sync
+    ∷ Durable A (1 ∷ [])
+    ∷ Answered 2 A call.Sync (answer.Reply reply.Ok) None
+    ∷ Answered 3 A (call.Create (codes "g" ∷ [])) (answer.Reply reply.Ok) (Some 2)
+    ∷ Answered 4 A (call.Forder ((codes "f" ∷ []) ∷ (codes "g" ∷ []) ∷ [])) (answer.Reply reply.Ok) (Some 3)
+    ∷ Ended A (2 ∷ 3 ∷ [])
+    ∷ Told A (2 ∷ 3 ∷ [])
+    ∷ Waits 5 A (call.Stat (codes "f" ∷ []))
+    ∷ Answered 5 A (call.Stat (codes "f" ∷ [])) (answer.Lost (2 ∷ 3 ∷ [])) None
+    ∷ Waits 6 A (call.Write (codes "f" ∷ []) 0 (codes "x"))
+    ∷ Answered 6 A (call.Write (codes "f" ∷ []) 0 (codes "x")) (answer.Reply reply.Ok) (Some 4)
+    ∷ Waits 7 A (call.Fsync (codes "f" ∷ []))
+    ∷ (made_durable
+    ++ Answered 7 A (call.Fsync (codes "f" ∷ [])) (answer.Reply reply.Ok) None
     ∷ [])
 
 -- two creates, and a loss

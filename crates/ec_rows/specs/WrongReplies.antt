@@ -47,6 +47,17 @@ told_of_loss next given =
     ∷ Answered 3 A next given None
     ∷ []
 
+-- a second sync behind the report of a loss
+abbrev pub second_sync : Answer → List Shown
+second_sync given =
+    Waits 1 A (call.Create (codes "f" ∷ []))
+    ∷ Answered 1 A (call.Create (codes "f" ∷ [])) (answer.Reply reply.Ok) (Some 1)
+    ∷ Ended A (1 ∷ [])
+    ∷ Told A (1 ∷ [])
+    ∷ Answered 3 A call.Sync (answer.Lost (1 ∷ [])) None
+    ∷ Answered 4 A call.Sync given None
+    ∷ []
+
 -- a second call on an object behind the report of its loss
 abbrev pub reported_loss : Answer → List Shown
 reported_loss given =

@@ -3,7 +3,7 @@ ghost use Rattle.std.specs.Prelude.{[]};
 ghost use Rattle.ec_history.specs.Legal.{IsLegal, from_formatted};
 ghost use Rattle.ec_history.specs.Lines.{AreCovered};
 ghost use Rattle.ec_history.specs.Placing.{ArePlaceable, place};
-ghost use Rattle.ec_rows.specs.Alone.{own_write, malformed_line, refusals, replaced_directory, chowned_file, refused_loop, moved_file, tied_files, untied_files, closed_gate, open_gate, two_stops, repeated_batch};
+ghost use Rattle.ec_rows.specs.Alone.{own_write, malformed_line, refusals, replaced_directory, chowned_file, farthest_byte, refused_loop, moved_file, tied_files, untied_files, closed_gate, open_gate, two_stops, repeated_batch};
 
 /// A clerk reads what it wrote.
 pub fn accepts_own_write()
@@ -37,6 +37,13 @@ pub fn accepts_replaced_directory()
 pub fn accepts_chowned_file()
     ensures placeable { ArePlaceable [] chowned_file }
     ensures legal { IsLegal from_formatted 1024 (place chowned_file) }
+{
+}
+
+/// A write of the last byte that a file may have.
+pub fn accepts_farthest_byte()
+    ensures placeable { ArePlaceable [] farthest_byte }
+    ensures legal { IsLegal from_formatted 1024 (place farthest_byte) }
 {
 }
 

@@ -1,11 +1,16 @@
 // Which operations may be lost.
-ghost use Rattle.std.specs.Prelude.{[], ◌∷◌};
-ghost use Rattle.ec_history.specs.declared.shown.Shown.TheVariants.{Durable, Told};
+ghost use Rattle.std.specs.Prelude.{[], ◌∷◌, Some, codes};
+ghost use Rattle.ec_volume.specs.declared.image.Kind.TheVariants as kind;
+ghost use Rattle.ec_plain.specs.declared.call.Call.TheVariants as call;
+ghost use Rattle.ec_plain.specs.declared.call.Refusal.TheVariants as no;
+ghost use Rattle.ec_plain.specs.declared.call.Reply.TheVariants as reply;
+ghost use Rattle.ec_history.specs.declared.entry.Answer.TheVariants as answer;
+ghost use Rattle.ec_history.specs.declared.shown.Shown.TheVariants.{Answered, Durable, Told};
 ghost use Rattle.ec_history.specs.Legal.{IsLegal, from_formatted};
 ghost use Rattle.ec_history.specs.Lines.{AreCovered};
 ghost use Rattle.ec_history.specs.Placing.{ArePlaceable, place};
 ghost use Rattle.ec_rows.specs.Clerks.{A};
-ghost use Rattle.ec_rows.specs.WrongLosses.{fsynced_write, answered_fsync, answered_sync, written_file, tied_writes, moved_below, seen_create, two_creates, two_ends};
+ghost use Rattle.ec_rows.specs.WrongLosses.{fsynced_write, answered_fsync, answered_sync, written_file, tied_writes, moved_below, seen_create, seen_write, fsync_begun, fsync_over_lost, two_creates, two_ends};
 
 /// A loss may not name a write that an answered `fsync` covers.
 pub fn refuses_lost_fsynced_write()
@@ -71,6 +76,33 @@ pub fn refuses_lost_seen_create()
     ensures legal { IsLegal from_formatted 1024 (place (seen_create (Durable A (1 ∷ []) ∷ []) [])) }
     ensures lost_placeable { ArePlaceable [] (seen_create [] (1 ∷ [])) }
     ensures lost_illegal { ¬ (IsLegal from_formatted 1024 (place (seen_create [] (1 ∷ [])))) }
+{
+}
+
+/// A file that another clerk found by its name alone was not touched: its write may be lost.
+pub fn refuses_lost_seen_write()
+    ensures name { IsLegal from_formatted 1024 (place (seen_write (call.Create (codes "f" ∷ [])) (answer.Reply (reply.Refused no.Exists)))) }
+    ensures size { ¬ (IsLegal from_formatted 1024 (place (seen_write (call.Stat (codes "f" ∷ [])) (answer.Reply (reply.Stat kind.File 420 0 0 1))))) }
+{
+}
+
+/// An `fsync` covers what was issued before it began, and not what was issued while it waited.
+pub fn refuses_lost_earlier_write()
+    ensures placeable { ArePlaceable [] (fsync_begun [] (Answered 3 A (call.Write (codes "f" ∷ []) 0 (codes "x")) (answer.Reply reply.Ok) (Some 2) ∷ [])) }
+    ensures legal { IsLegal from_formatted 1024 (place (fsync_begun [] (Answered 3 A (call.Write (codes "f" ∷ []) 0 (codes "x")) (answer.Reply reply.Ok) (Some 2) ∷ []))) }
+    ensures covered { AreCovered from_formatted (fsync_begun [] (Answered 3 A (call.Write (codes "f" ∷ []) 0 (codes "x")) (answer.Reply reply.Ok) (Some 2) ∷ [])) }
+    ensures earlier_placeable { ArePlaceable [] (fsync_begun (Answered 3 A (call.Write (codes "f" ∷ []) 0 (codes "x")) (answer.Reply reply.Ok) (Some 2) ∷ []) []) }
+    ensures earlier_illegal { ¬ (IsLegal from_formatted 1024 (place (fsync_begun (Answered 3 A (call.Write (codes "f" ∷ []) 0 (codes "x")) (answer.Reply reply.Ok) (Some 2) ∷ []) []))) }
+    ensures earlier_uncovered { ¬ (AreCovered from_formatted (fsync_begun (Answered 3 A (call.Write (codes "f" ∷ []) 0 (codes "x")) (answer.Reply reply.Ok) (Some 2) ∷ []) [])) }
+{
+}
+
+/// An `fsync` of a file waits for the file's last write, and not for the lost operations before it.
+pub fn refuses_fsync_without_write()
+    ensures placeable { ArePlaceable [] (fsync_over_lost (Durable A (4 ∷ []) ∷ [])) }
+    ensures legal { IsLegal from_formatted 1024 (place (fsync_over_lost (Durable A (4 ∷ []) ∷ []))) }
+    ensures covered { AreCovered from_formatted (fsync_over_lost (Durable A (4 ∷ []) ∷ [])) }
+    ensures uncovered { ¬ (AreCovered from_formatted (fsync_over_lost [])) }
 {
 }
 

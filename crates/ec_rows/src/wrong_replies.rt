@@ -6,8 +6,9 @@ ghost use Rattle.ec_plain.specs.declared.call.Refusal.TheVariants as no;
 ghost use Rattle.ec_plain.specs.declared.call.Reply.TheVariants as reply;
 ghost use Rattle.ec_history.specs.declared.entry.Answer.TheVariants as answer;
 ghost use Rattle.ec_history.specs.Legal.{IsLegal, from_formatted};
+ghost use Rattle.ec_history.specs.Lines.{AreCovered};
 ghost use Rattle.ec_history.specs.Placing.{place};
-ghost use Rattle.ec_rows.specs.WrongReplies.{stat_of_lost, read_behind_write, told_of_loss, reported_loss, two_lost, numbered_write, numbered_stat, noroom_behind_create};
+ghost use Rattle.ec_rows.specs.WrongReplies.{stat_of_lost, read_behind_write, told_of_loss, second_sync, reported_loss, two_lost, numbered_write, numbered_stat, noroom_behind_create};
 
 /// A start may not see what the start before it lost.
 pub fn refuses_stat_of_lost()
@@ -35,6 +36,14 @@ pub fn refuses_silent_call()
 pub fn refuses_silent_sync()
     ensures reported { IsLegal from_formatted 1024 (place (told_of_loss call.Sync (answer.Lost (1 ∷ [])))) }
     ensures silent { ¬ (IsLegal from_formatted 1024 (place (told_of_loss call.Sync (answer.Reply reply.Ok)))) }
+{
+}
+
+/// A `sync` reports a loss once.
+pub fn refuses_second_sync_report()
+    ensures once { IsLegal from_formatted 1024 (place (second_sync (answer.Reply reply.Ok))) }
+    ensures covered { AreCovered from_formatted (second_sync (answer.Reply reply.Ok)) }
+    ensures twice { ¬ (IsLegal from_formatted 1024 (place (second_sync (answer.Lost (1 ∷ []))))) }
 {
 }
 

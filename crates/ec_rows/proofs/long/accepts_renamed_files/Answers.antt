@@ -1,9 +1,9 @@
 use Rattle.std.proofs.Common.{refl, []}
 use Rattle.ec_history.specs.Legal.{from_formatted}
 use Rattle.ec_history.specs.Placing.{place}
-use Rattle.ec_rows.specs.Renamed.{renamed_files}
+use Rattle.ec_rows.specs.Long.{renamed_files}
 use Rattle.ec_rows.proofs.LongRows.{placeable_by_test, legal_by_test}
-use Rattle.ec_rows.proofs.renamed.accepts_renamed_files.Goals as goal
+use Rattle.ec_rows.proofs.long.accepts_renamed_files.Goals as goal
 
 pub returns-clause-placeable : goal.returns-clause-placeable
 returns-clause-placeable c = placeable_by_test [] renamed_files tt
