@@ -1,5 +1,5 @@
 -- The closure as a list has all that the least set of its definition has.
-use Rattle.std.proofs.Common.{◌≡◌, refl, sym, subst, ◌∙◌, inl, inr, arith, ◌<◌, ◌⊎◌, ℕ, T, Bool, true, false, ◌||◌, cond, [], ◌∷◌}
+use Rattle.std.proofs.Common.{◌≡◌, refl, sym, subst, ◌∙◌, inl, inr, arith, ◌<◌, ℕ, T, Bool, true, false, ◌||◌, cond, [], ◌∷◌}
 use Rattle.std.specs.List.{list_any}
 use Rattle.std.specs.Prelude.{⊤}
 use Rattle.ec_volume.specs.declared.update.Update.{Update}

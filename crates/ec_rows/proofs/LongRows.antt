@@ -1,5 +1,5 @@
 -- Tests for long transcripts: of lines that fit together, and of calls that are answered ok.
-use Rattle.std.proofs.Common.{◌==◌, ◌≡◌, refl, sym, ap, subst, append-nil, append_assoc, take-append-drop, take, drop, ◌∙◌, ◌+◌, ℕ, T, Bool, true, false, not, ◌&&◌, ◌||◌, List, [], ◌∷◌, ◌++◌, length, Option, None, Some, is_none, is_some, eqb, eqb→eq}
+use Rattle.std.proofs.Common.{◌==◌, ◌≡◌, refl, sym, ap, subst, append-nil, append_assoc, take-append-drop, take, drop, ◌∙◌, ◌+◌, ℕ, T, Bool, true, false, not, ◌&&◌, ◌||◌, List, [], ◌∷◌, ◌++◌, length, Some, is_some, eqb, eqb→eq}
 use Rattle.std.specs.Bool.{OnTrue}
 use Rattle.std.specs.List.{filter, list_all}
 use Rattle.ec_volume.specs.Update.{member}
@@ -9,17 +9,16 @@ use Rattle.ec_plain.specs.declared.call.Call.TheVariants as call
 use Rattle.ec_plain.specs.declared.call.Reply.{Reply}
 use Rattle.ec_plain.specs.declared.call.Reply.TheVariants as reply
 use Rattle.ec_plain.specs.declared.call.Outcome.{Outcome}
-use Rattle.ec_history.specs.declared.entry.Answer.{Answer}
 use Rattle.ec_history.specs.declared.entry.Answer.TheVariants as answer
 use Rattle.ec_history.specs.declared.entry.Entry.{Entry}
 use Rattle.ec_history.specs.declared.entry.Entry.TheVariants as entry
 use Rattle.ec_history.specs.declared.shown.Shown.{Shown}
-use Rattle.ec_history.specs.declared.shown.Shown.TheVariants.{Waits, Answered, Durable, Ended, Unseen, Told, Crashed, Stopped, Started, Nothing, Unsettled, Bad, DiskBad, Limit, Spent}
+use Rattle.ec_history.specs.declared.shown.Shown.TheVariants.{Waits, Answered, Durable}
 use Rattle.ec_history.specs.History.{Base, History, Throughout, kept, outcome, due}
-use Rattle.ec_history.specs.Legal.{IsCall, IsLegal, IsLegalNext, is_op_of}
+use Rattle.ec_history.specs.Legal.{IsLegal, IsLegalNext, is_op_of}
 use Rattle.ec_history.specs.Placing.{EachLine, Agrees, Unanswered, MayFollow, ArePlaceable, shows, may_show, begun, watch}
-use Rattle.ec_rows.proofs.Fits.{left, right, on}
-use Rattle.ec_rows.proofs.Tests.{throughout, throughout_by_test}
+use Rattle.ec_rows.proofs.Fits.{left, right}
+use Rattle.ec_rows.proofs.Tests.{throughout}
 
 -- Calls of one path.
 

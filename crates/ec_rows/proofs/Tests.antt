@@ -1,5 +1,5 @@
 -- Tests of covering and of lawful losses, which the check computes, and that they show what they should.
-use Rattle.std.proofs.Common.{◌≡◌, ap, subst, sym, ◌∙◌, inl, inr, arith, ℕ, T, Bool, true, false, not, ◌&&◌, ◌||◌, ◌-◌, List, [], ◌∷◌, ◌++◌, take, ltb, ltb→lt, eqb}
+use Rattle.std.proofs.Common.{◌≡◌, subst, sym, inl, inr, arith, ℕ, T, Bool, true, false, not, ◌&&◌, ◌||◌, ◌-◌, List, [], ◌∷◌, ◌++◌, take, ltb, ltb→lt, eqb}
 use Rattle.std.specs.List.{list_any, list_all, filter}
 use Rattle.ec_volume.specs.declared.update.Update.{Update}
 use Rattle.ec_volume.specs.Update.{member}
@@ -13,7 +13,7 @@ use Rattle.ec_history.specs.Legal.{IsLawful, leaves, is_closed}
 use Rattle.ec_history.specs.Placing.{place}
 use Rattle.ec_history.specs.Lines.{IsCovered, AreCovered, durable}
 use Rattle.ec_rows.proofs.Closure.{Above, Rising, closure-complete}
-use Rattle.ec_rows.proofs.Fits.{or_l, or_r, left, right, on, fits_by_test, all_operands}
+use Rattle.ec_rows.proofs.Fits.{or_l, or_r, left, right, fits_by_test, all_operands}
 
 -- The numbers rise.
 

@@ -7,3 +7,4 @@ pub mod WrongLosses
 pub mod WrongReplies
 pub mod WrongLines
 pub mod Small
+pub mod Histories

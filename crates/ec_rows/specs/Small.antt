@@ -16,25 +16,25 @@ bytes_from (suc k) byte = (byte ∷ [], byte) ∷ bytes_from k (byte + 1)
 abbrev pub small : Images
 small o =
     images
-      ((1, Dir 493 0 0 ((codes "d", 3) ∷ (codes "e", 5) ∷ (codes "f", 2) ∷ []))
-      ∷ (2, File 420 0 0 (codes "hi"))
-      ∷ (3, Dir 448 5 6 ((codes "s", 6) ∷ (codes "t", 8) ∷ (codes "x", 4) ∷ []))
-      ∷ (4, File 384 9 7 (codes "abcdef"))
-      ∷ (5, Dir 493 0 0 [])
-      ∷ (6, Dir 493 0 0 [])
-      ∷ (8, Dir 493 0 0 [])
-      ∷ []) o
+    ((1, Dir 493 0 0 ((codes "d", 3) ∷ (codes "e", 5) ∷ (codes "f", 2) ∷ []))
+    ∷ (2, File 420 0 0 (codes "hi"))
+    ∷ (3, Dir 448 5 6 ((codes "s", 6) ∷ (codes "t", 8) ∷ (codes "x", 4) ∷ []))
+    ∷ (4, File 384 9 7 (codes "abcdef"))
+    ∷ (5, Dir 493 0 0 [])
+    ∷ (6, Dir 493 0 0 [])
+    ∷ (8, Dir 493 0 0 [])
+    ∷ []) o
 
 -- the file /f, the empty directory /d/s, and the directory /full with 128 empty files
 abbrev pub crowded : Images
 crowded o =
     images
-      ((1, Dir 493 0 0 ((codes "d", 3) ∷ (codes "f", 2) ∷ (codes "full", 7) ∷ []))
-      ∷ (2, File 420 0 0 (codes "hi"))
-      ∷ (3, Dir 493 0 0 ((codes "s", 6) ∷ []))
-      ∷ (6, Dir 493 0 0 [])
-      ∷ (7, Dir 493 0 0 (bytes_from 128 100))
-      ∷ map (λ e. (e.1, File 420 0 0 [])) (bytes_from 128 100)) o
+    ((1, Dir 493 0 0 ((codes "d", 3) ∷ (codes "f", 2) ∷ (codes "full", 7) ∷ []))
+    ∷ (2, File 420 0 0 (codes "hi"))
+    ∷ (3, Dir 493 0 0 ((codes "s", 6) ∷ []))
+    ∷ (6, Dir 493 0 0 [])
+    ∷ (7, Dir 493 0 0 (bytes_from 128 100))
+    ∷ map (λ e. (e.1, File 420 0 0 [])) (bytes_from 128 100)) o
 
 -- the first operand of the update that it doesn't fit
 abbrev pub unfit : Images → Update → Option ℕ

@@ -15,8 +15,7 @@ pub fn walks_that_end()
     ensures behind_no_name { plain small (call.Stat (codes "q" ∷ codes "x" ∷ [])) 9 ≡ refuses (no.NotFound 1) (1 ∷ []) }
     ensures through_file { plain small (call.Stat (codes "f" ∷ codes "x" ∷ [])) 9 ≡ refuses (no.NotDir 1) (1 ∷ 2 ∷ []) }
     ensures through_second { plain small (call.Stat (codes "d" ∷ codes "x" ∷ codes "y" ∷ [])) 9 ≡ refuses (no.NotDir 2) (1 ∷ 3 ∷ 4 ∷ []) }
-{
-}
+{}
 
 /// New objects: refused without a name, below a file, under a taken name, and in a full directory.
 pub fn creates()
@@ -30,8 +29,7 @@ pub fn creates()
     ensures no_parent { plain small (call.Create (codes "q" ∷ codes "g" ∷ [])) 9 ≡ refuses (no.NotFound 1) (1 ∷ []) }
     ensures below_file { plain small (call.Create (codes "f" ∷ codes "g" ∷ [])) 9 ≡ refuses (no.NotDir 1) (1 ∷ 2 ∷ []) }
     ensures deep_below_file { plain small (call.Create (codes "d" ∷ codes "x" ∷ codes "y" ∷ codes "z" ∷ [])) 9 ≡ refuses (no.NotDir 2) (1 ∷ 3 ∷ 4 ∷ []) }
-{
-}
+{}
 
 /// Writes and lengths: for files alone, up to 65,536 bytes.
 pub fn writes()
@@ -43,8 +41,7 @@ pub fn writes()
     ensures length { plain small (call.SetLen (codes "f" ∷ []) 65536) 9 ≡ issues (update.Len 2 65536) (1 ∷ 2 ∷ []) }
     ensures too_long { plain small (call.SetLen (codes "f" ∷ []) 65537) 9 ≡ refuses no.TooLong (1 ∷ 2 ∷ []) }
     ensures directory_length { plain small (call.SetLen (codes "d" ∷ []) 0) 9 ≡ refuses no.IsDir (1 ∷ 3 ∷ []) }
-{
-}
+{}
 
 /// Reads give no bytes past the end, and lists the names in their order.
 pub fn reads()
@@ -56,8 +53,7 @@ pub fn reads()
     ensures names_of_file { plain small (call.List (codes "d" ∷ codes "x" ∷ [])) 9 ≡ refuses (no.NotDir 2) (1 ∷ 3 ∷ 4 ∷ []) }
     ensures file_stat { plain small (call.Stat (codes "d" ∷ codes "x" ∷ [])) 9 ≡ answers (reply.Stat kind.File 384 9 7 6) (1 ∷ 3 ∷ 4 ∷ []) }
     ensures directory_stat { plain small (call.Stat (codes "d" ∷ [])) 9 ≡ answers (reply.Stat kind.Dir 448 5 6 3) (1 ∷ 3 ∷ []) }
-{
-}
+{}
 
 /// Attributes of any object, and calls for durability.
 pub fn attributes()
@@ -71,8 +67,7 @@ pub fn attributes()
     ensures sync { plain small call.Sync 9 ≡ answers reply.Ok [] }
     ensures order { plain small (call.Forder ((codes "f" ∷ []) ∷ (codes "d" ∷ []) ∷ (codes "f" ∷ []) ∷ [])) 9 ≡ issues (update.Order (2 ∷ 3 ∷ [])) (1 ∷ 2 ∷ 1 ∷ 3 ∷ 1 ∷ 2 ∷ []) }
     ensures order_refused { plain small (call.Forder ((codes "f" ∷ []) ∷ (codes "q" ∷ []) ∷ (codes "d" ∷ []) ∷ [])) 9 ≡ refuses (no.NotFound 1) (1 ∷ 2 ∷ 1 ∷ []) }
-{
-}
+{}
 
 /// Removals, of a file and of an empty directory.
 pub fn removals()
@@ -85,8 +80,7 @@ pub fn removals()
     ensures directory_root { plain small (call.Rmdir []) 9 ≡ refuses no.Root [] }
     ensures directory_file { plain small (call.Rmdir (codes "d" ∷ codes "x" ∷ [])) 9 ≡ refuses (no.NotDir 2) (1 ∷ 3 ∷ 4 ∷ []) }
     ensures directory_full { plain small (call.Rmdir (codes "d" ∷ [])) 9 ≡ refuses no.NotEmpty (1 ∷ 3 ∷ []) }
-{
-}
+{}
 
 /// Renames within one directory.
 pub fn renames_in_place()
@@ -101,8 +95,7 @@ pub fn renames_in_place()
     ensures file_over_directory { plain small (call.Rename (codes "f" ∷ []) (codes "e" ∷ [])) 9 ≡ refuses no.IsDir (1 ∷ 2 ∷ 1 ∷ 5 ∷ []) }
     ensures directory_over_file { plain small (call.Rename (codes "e" ∷ []) (codes "f" ∷ [])) 9 ≡ refuses (no.NotDir 1) (1 ∷ 5 ∷ 1 ∷ 2 ∷ []) }
     ensures over_full_directory { plain small (call.Rename (codes "e" ∷ []) (codes "d" ∷ [])) 9 ≡ refuses no.NotEmpty (1 ∷ 5 ∷ 1 ∷ 3 ∷ []) }
-{
-}
+{}
 
 /// Renames into another directory.
 pub fn renames_elsewhere()
@@ -113,8 +106,7 @@ pub fn renames_elsewhere()
     ensures deeper { plain small (call.Rename (codes "d" ∷ codes "t" ∷ []) (codes "d" ∷ codes "s" ∷ codes "t" ∷ [])) 9 ≡ issues (update.Shift 3 (codes "t") 6 (codes "t") 8 kind.Dir None ((1, codes "d") ∷ (3, codes "s") ∷ [])) (1 ∷ 3 ∷ 8 ∷ 1 ∷ 3 ∷ 6 ∷ []) }
     ensures over_directory { plain small (call.Rename (codes "e" ∷ []) (codes "d" ∷ codes "s" ∷ [])) 9 ≡ issues (update.Shift 1 (codes "e") 3 (codes "s") 5 kind.Dir (Some 6) ((1, codes "d") ∷ [])) (1 ∷ 5 ∷ 1 ∷ 3 ∷ 6 ∷ []) }
     ensures over_full { plain crowded (call.Rename (codes "f" ∷ []) (codes "full" ∷ (100 ∷ []) ∷ [])) 9 ≡ issues (update.Shift 1 (codes "f") 7 (100 ∷ []) 2 kind.File (Some 100) []) (1 ∷ 2 ∷ 1 ∷ 7 ∷ 100 ∷ []) }
-{
-}
+{}
 
 /// Refused renames into another directory.
 pub fn refused_renames_elsewhere()
@@ -131,5 +123,4 @@ pub fn refused_renames_elsewhere()
     ensures file_over_directory { plain small (call.Rename (codes "f" ∷ []) (codes "d" ∷ codes "s" ∷ [])) 9 ≡ refuses no.IsDir (1 ∷ 2 ∷ 1 ∷ 3 ∷ 6 ∷ []) }
     ensures directory_over_file { plain small (call.Rename (codes "e" ∷ []) (codes "d" ∷ codes "x" ∷ [])) 9 ≡ refuses (no.NotDir 2) (1 ∷ 5 ∷ 1 ∷ 3 ∷ 4 ∷ []) }
     ensures over_own_parent { plain small (call.Rename (codes "d" ∷ codes "s" ∷ []) (codes "d" ∷ [])) 9 ≡ refuses no.NotEmpty (1 ∷ 3 ∷ 6 ∷ 1 ∷ 3 ∷ []) }
-{
-}
+{}

@@ -1,4 +1,5 @@
-//! Worked transcripts, run through the definitions.
+//! Worked transcripts, run through the definitions: those that must be legal are, and changed ones
+//! are not. Each function carries facts alone and does nothing.
 #![tactic(auto)]
 
 pub mod alone;
@@ -6,6 +7,8 @@ pub mod calls;
 pub mod durable;
 pub mod ended;
 pub mod long;
+pub mod orders;
+pub mod placed;
 pub mod updates;
 pub mod wrong_lines;
 pub mod wrong_losses;

@@ -8,12 +8,10 @@ ghost use Rattle.ec_rows.specs.Long.{full_directory, renamed_files};
 pub fn accepts_full_directory()
     ensures placeable { ArePlaceable [] full_directory }
     ensures legal { IsLegal from_formatted 1024 (place full_directory) }
-{
-}
+{}
 
 /// Forty files, each made, written and renamed, which another clerk then lists.
 pub fn accepts_renamed_files()
     ensures placeable { ArePlaceable [] renamed_files }
     ensures legal { IsLegal from_formatted 1024 (place renamed_files) }
-{
-}
+{}

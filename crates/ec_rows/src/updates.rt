@@ -17,8 +17,7 @@ pub fn make_adds_an_object()
     ensures id_taken { unfit small (update.Make 1 (codes "g") 2 kind.File) ≡ Some 2 }
     ensures in_file { unfit small (update.Make 2 (codes "g") 9 kind.File) ≡ Some 2 }
     ensures full { unfit crowded (update.Make 7 (codes "a") 9 kind.File) ≡ Some 7 }
-{
-}
+{}
 
 /// An object goes with its entry.
 pub fn drop_removes_an_object()
@@ -30,8 +29,7 @@ pub fn drop_removes_an_object()
     ensures other_id { unfit small (update.Drop 1 (codes "f") 4 kind.File) ≡ Some 1 }
     ensures other_kind { unfit small (update.Drop 1 (codes "f") 2 kind.Dir) ≡ Some 2 }
     ensures not_empty { unfit small (update.Drop 1 (codes "d") 3 kind.Dir) ≡ Some 3 }
-{
-}
+{}
 
 /// An object gets another name in its directory, in the place of a victim, if any.
 pub fn move_renames_an_object()
@@ -49,8 +47,7 @@ pub fn move_renames_an_object()
     ensures other_kind { unfit small (update.Move 1 (codes "f") (codes "a") 2 kind.Dir None) ≡ Some 2 }
     ensures victim_not_empty { unfit small (update.Move 1 (codes "e") (codes "d") 5 kind.Dir (Some 3)) ≡ Some 3 }
     ensures no_victim { unfit small (update.Move 1 (codes "e") (codes "a") 5 kind.Dir (Some 3)) ≡ Some 1 }
-{
-}
+{}
 
 /// Bytes stand at their place, behind zeros where the file was shorter.
 pub fn put_writes_bytes()
@@ -63,8 +60,7 @@ pub fn put_writes_bytes()
     ensures extending_fits { unfit small (update.Put 4 5 (codes "XY") false) ≡ None }
     ensures directory { unfit small (update.Put 3 0 (codes "X") false) ≡ Some 3 }
     ensures gone { unfit small (update.Put 9 0 (codes "X") false) ≡ Some 9 }
-{
-}
+{}
 
 /// A file is cut, or filled with zeros.
 pub fn len_sets_the_length()
@@ -74,8 +70,7 @@ pub fn len_sets_the_length()
     ensures fits { unfit small (update.Len 4 2) ≡ None }
     ensures directory { unfit small (update.Len 3 0) ≡ Some 3 }
     ensures gone { unfit small (update.Len 9 0) ≡ Some 9 }
-{
-}
+{}
 
 /// Mode, stamp and owner change alone.
 pub fn attributes_change_alone()
@@ -94,8 +89,7 @@ pub fn attributes_change_alone()
     ensures directory_owner { behind (update.Owner 5 11) 5 ≡ image.Dir 493 0 11 [] }
     ensures owner_fits { unfit small (update.Owner 3 11) ≡ None }
     ensures owner_gone { unfit small (update.Owner 9 11) ≡ Some 9 }
-{
-}
+{}
 
 /// An order changes nothing.
 pub fn order_changes_nothing()
@@ -104,8 +98,7 @@ pub fn order_changes_nothing()
     ensures file { behind (update.Order (4 ∷ 3 ∷ [])) 4 ≡ small 4 }
     ensures directory { behind (update.Order (4 ∷ 3 ∷ [])) 3 ≡ small 3 }
     ensures gone { unfit small (update.Order (4 ∷ 9 ∷ [])) ≡ Some 9 }
-{
-}
+{}
 
 /// A file moves into another directory, in the place of a victim, if any.
 pub fn shift_moves_a_file()
@@ -124,8 +117,7 @@ pub fn shift_moves_a_file()
     ensures other_kind { unfit small (update.Shift 1 (codes "f") 3 (codes "g") 2 kind.Dir None []) ≡ Some 2 }
     ensures name_taken { unfit small (update.Shift 1 (codes "f") 3 (codes "x") 2 kind.File None []) ≡ Some 3 }
     ensures victim_kind { unfit small (update.Shift 1 (codes "f") 3 (codes "s") 2 kind.File (Some 6) []) ≡ Some 6 }
-{
-}
+{}
 
 /// A directory's move tests each directory from the root to its new parent.
 pub fn shift_tests_the_way()
@@ -136,8 +128,7 @@ pub fn shift_tests_the_way()
     ensures no_name { unfit small (update.Shift 3 (codes "s") 5 (codes "g") 6 kind.Dir None ((1, codes "g") ∷ [])) ≡ Some 1 }
     ensures victim_not_empty { unfit crowded (update.Shift 3 (codes "s") 1 (codes "full") 6 kind.Dir (Some 7) []) ≡ Some 7 }
     ensures victim_empty { unfit small (update.Shift 3 (codes "s") 1 (codes "e") 6 kind.Dir (Some 5) []) ≡ None }
-{
-}
+{}
 
 /// A directory that moves deeper below its old parent: the old parent, also above the new one, keeps both tests.
 pub fn shift_tests_the_old_parent_twice()
@@ -149,8 +140,7 @@ pub fn shift_tests_the_old_parent_twice()
     ensures other_way { unfit small (update.Shift 3 (codes "t") 6 (codes "t") 8 kind.Dir None ((1, codes "d") ∷ (3, codes "x") ∷ [])) ≡ Some 3 }
     ensures other_name { unfit small (update.Shift 3 (codes "x") 6 (codes "t") 8 kind.Dir None ((1, codes "d") ∷ (3, codes "s") ∷ [])) ≡ Some 3 }
     ensures other_root { unfit small (update.Shift 3 (codes "t") 6 (codes "t") 8 kind.Dir None ((1, codes "e") ∷ (3, codes "s") ∷ [])) ≡ Some 1 }
-{
-}
+{}
 
 /// Which moves into another directory are sound.
 pub fn sound_shifts()
@@ -170,8 +160,7 @@ pub fn sound_shifts()
     ensures old_parent_repeated { is_sound (update.Shift 3 (codes "t") 6 (codes "q") 8 kind.Dir None ((1, codes "d") ∷ (3, codes "s") ∷ (3, codes "s") ∷ [])) ≡ false }
     ensures fifteen { is_sound (update.Shift 3 (codes "t") 6 (codes "q") 8 kind.Dir None (way 15)) ≡ true }
     ensures sixteen { is_sound (update.Shift 3 (codes "t") 6 (codes "q") 8 kind.Dir None (way 16)) ≡ false }
-{
-}
+{}
 
 /// Which other updates are sound.
 pub fn sound_updates()
@@ -197,5 +186,4 @@ pub fn sound_updates()
     ensures order_of_none { is_sound (update.Order []) ≡ false }
     ensures order_of_nine { is_sound (update.Order (1 ∷ 2 ∷ 3 ∷ 4 ∷ 5 ∷ 6 ∷ 7 ∷ 8 ∷ 9 ∷ [])) ≡ false }
     ensures order_twice { is_sound (update.Order (2 ∷ 2 ∷ [])) ≡ false }
-{
-}
+{}

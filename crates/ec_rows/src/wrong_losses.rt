@@ -18,8 +18,7 @@ pub fn refuses_lost_fsynced_write()
     ensures legal { IsLegal from_formatted 1024 (place (fsynced_write (2 ∷ []))) }
     ensures wrong { ¬ (ArePlaceable [] (fsynced_write (2 ∷ 3 ∷ []))) }
     ensures illegal { ¬ (IsLegal from_formatted 1024 (place (fsynced_write (2 ∷ 3 ∷ [])))) }
-{
-}
+{}
 
 /// An `fsync` may not be answered before its operations are durable.
 pub fn refuses_early_fsync()
@@ -29,8 +28,7 @@ pub fn refuses_early_fsync()
     ensures early_placeable { ArePlaceable [] (answered_fsync [] (1 ∷ [])) }
     ensures early_illegal { ¬ (IsLegal from_formatted 1024 (place (answered_fsync [] (1 ∷ [])))) }
     ensures early_uncovered { ¬ (AreCovered from_formatted (answered_fsync [] (1 ∷ []))) }
-{
-}
+{}
 
 /// A `sync` may not be answered before each operation is durable.
 pub fn refuses_early_sync()
@@ -40,8 +38,7 @@ pub fn refuses_early_sync()
     ensures early_placeable { ArePlaceable [] (answered_sync (Durable A (1 ∷ []) ∷ []) (2 ∷ [])) }
     ensures early_illegal { ¬ (IsLegal from_formatted 1024 (place (answered_sync (Durable A (1 ∷ []) ∷ []) (2 ∷ [])))) }
     ensures early_uncovered { ¬ (AreCovered from_formatted (answered_sync (Durable A (1 ∷ []) ∷ []) (2 ∷ []))) }
-{
-}
+{}
 
 /// A write may not be kept without the create of its file.
 pub fn refuses_write_without_create()
@@ -49,8 +46,7 @@ pub fn refuses_write_without_create()
     ensures legal { IsLegal from_formatted 1024 (place (written_file (1 ∷ []) (2 ∷ []))) }
     ensures swapped_placeable { ArePlaceable [] (written_file (2 ∷ []) (1 ∷ [])) }
     ensures swapped_illegal { ¬ (IsLegal from_formatted 1024 (place (written_file (2 ∷ []) (1 ∷ [])))) }
-{
-}
+{}
 
 /// Of two files tied by `forder` the later write may not be kept without the earlier one.
 pub fn refuses_untied_write()
@@ -58,8 +54,7 @@ pub fn refuses_untied_write()
     ensures legal { IsLegal from_formatted 1024 (place (tied_writes (3 ∷ []) (4 ∷ 5 ∷ []))) }
     ensures untied_placeable { ArePlaceable [] (tied_writes (4 ∷ 5 ∷ []) (3 ∷ [])) }
     ensures untied_illegal { ¬ (IsLegal from_formatted 1024 (place (tied_writes (4 ∷ 5 ∷ []) (3 ∷ [])))) }
-{
-}
+{}
 
 /// A directory's move may not be kept without the earlier move of a directory above its new parent.
 pub fn refuses_move_without_earlier()
@@ -67,8 +62,7 @@ pub fn refuses_move_without_earlier()
     ensures legal { IsLegal from_formatted 1024 (place (moved_below (4 ∷ []) (5 ∷ []))) }
     ensures swapped_placeable { ArePlaceable [] (moved_below (5 ∷ []) (4 ∷ [])) }
     ensures swapped_illegal { ¬ (IsLegal from_formatted 1024 (place (moved_below (5 ∷ []) (4 ∷ [])))) }
-{
-}
+{}
 
 /// What another clerk saw may not be lost.
 pub fn refuses_lost_seen_create()
@@ -76,15 +70,13 @@ pub fn refuses_lost_seen_create()
     ensures legal { IsLegal from_formatted 1024 (place (seen_create (Durable A (1 ∷ []) ∷ []) [])) }
     ensures lost_placeable { ArePlaceable [] (seen_create [] (1 ∷ [])) }
     ensures lost_illegal { ¬ (IsLegal from_formatted 1024 (place (seen_create [] (1 ∷ [])))) }
-{
-}
+{}
 
 /// A file that another clerk found by its name alone was not touched: its write may be lost.
 pub fn refuses_lost_seen_write()
     ensures name { IsLegal from_formatted 1024 (place (seen_write (call.Create (codes "f" ∷ [])) (answer.Reply (reply.Refused no.Exists)))) }
     ensures size { ¬ (IsLegal from_formatted 1024 (place (seen_write (call.Stat (codes "f" ∷ [])) (answer.Reply (reply.Stat kind.File 420 0 0 1))))) }
-{
-}
+{}
 
 /// An `fsync` covers what was issued before it began, and not what was issued while it waited.
 pub fn refuses_lost_earlier_write()
@@ -94,8 +86,7 @@ pub fn refuses_lost_earlier_write()
     ensures earlier_placeable { ArePlaceable [] (fsync_begun (Answered 3 A (call.Write (codes "f" ∷ []) 0 (codes "x")) (answer.Reply reply.Ok) (Some 2) ∷ []) []) }
     ensures earlier_illegal { ¬ (IsLegal from_formatted 1024 (place (fsync_begun (Answered 3 A (call.Write (codes "f" ∷ []) 0 (codes "x")) (answer.Reply reply.Ok) (Some 2) ∷ []) []))) }
     ensures earlier_uncovered { ¬ (AreCovered from_formatted (fsync_begun (Answered 3 A (call.Write (codes "f" ∷ []) 0 (codes "x")) (answer.Reply reply.Ok) (Some 2) ∷ []) [])) }
-{
-}
+{}
 
 /// An `fsync` of a file waits for the file's last write, and not for the lost operations before it.
 pub fn refuses_fsync_without_write()
@@ -103,8 +94,7 @@ pub fn refuses_fsync_without_write()
     ensures legal { IsLegal from_formatted 1024 (place (fsync_over_lost (Durable A (4 ∷ []) ∷ []))) }
     ensures covered { AreCovered from_formatted (fsync_over_lost (Durable A (4 ∷ []) ∷ [])) }
     ensures uncovered { ¬ (AreCovered from_formatted (fsync_over_lost [])) }
-{
-}
+{}
 
 /// A loss names all operations of its session that no durable line names, and no others.
 pub fn refuses_partial_loss()
@@ -112,13 +102,11 @@ pub fn refuses_partial_loss()
     ensures legal { IsLegal from_formatted 1024 (place (two_creates (1 ∷ 2 ∷ []))) }
     ensures one_too_few { ¬ (ArePlaceable [] (two_creates (2 ∷ []))) }
     ensures one_too_many { ¬ (ArePlaceable [] (two_creates (1 ∷ 2 ∷ 3 ∷ []))) }
-{
-}
+{}
 
 /// A session ends once.
 pub fn refuses_two_ends()
     ensures placeable { ArePlaceable [] (two_ends (Told A (1 ∷ []) ∷ [])) }
     ensures legal { IsLegal from_formatted 1024 (place (two_ends (Told A (1 ∷ []) ∷ []))) }
     ensures at_once { ¬ (ArePlaceable [] (two_ends [])) }
-{
-}
+{}

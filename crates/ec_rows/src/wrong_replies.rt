@@ -14,53 +14,46 @@ ghost use Rattle.ec_rows.specs.WrongReplies.{stat_of_lost, read_behind_write, to
 pub fn refuses_stat_of_lost()
     ensures gone { IsLegal from_formatted 1024 (place (stat_of_lost (reply.Refused (no.NotFound 1)))) }
     ensures seen { ¬ (IsLegal from_formatted 1024 (place (stat_of_lost (reply.Stat kind.File 420 0 0 0)))) }
-{
-}
+{}
 
 /// A clerk reads what another one has written over its own bytes.
 pub fn refuses_stale_read()
     ensures new { IsLegal from_formatted 1024 (place (read_behind_write (codes "two"))) }
     ensures stale { ¬ (IsLegal from_formatted 1024 (place (read_behind_write (codes "one")))) }
-{
-}
+{}
 
 /// A call that touches an object with a lost operation reports it.
 pub fn refuses_silent_call()
     ensures reported { IsLegal from_formatted 1024 (place (told_of_loss (call.List []) (answer.Lost (1 ∷ [])))) }
     ensures silent { ¬ (IsLegal from_formatted 1024 (place (told_of_loss (call.List []) (answer.Reply (reply.Names []))))) }
     ensures unnamed { ¬ (IsLegal from_formatted 1024 (place (told_of_loss (call.List []) (answer.Lost [])))) }
-{
-}
+{}
 
 /// A `sync` reports each loss.
 pub fn refuses_silent_sync()
     ensures reported { IsLegal from_formatted 1024 (place (told_of_loss call.Sync (answer.Lost (1 ∷ [])))) }
     ensures silent { ¬ (IsLegal from_formatted 1024 (place (told_of_loss call.Sync (answer.Reply reply.Ok)))) }
-{
-}
+{}
 
 /// A `sync` reports a loss once.
 pub fn refuses_second_sync_report()
     ensures once { IsLegal from_formatted 1024 (place (second_sync (answer.Reply reply.Ok))) }
     ensures covered { AreCovered from_formatted (second_sync (answer.Reply reply.Ok)) }
     ensures twice { ¬ (IsLegal from_formatted 1024 (place (second_sync (answer.Lost (1 ∷ []))))) }
-{
-}
+{}
 
 /// A loss is reported once on each of its objects.
 pub fn refuses_second_report()
     ensures once { IsLegal from_formatted 1024 (place (reported_loss (answer.Reply (reply.Names [])))) }
     ensures twice { ¬ (IsLegal from_formatted 1024 (place (reported_loss (answer.Lost (1 ∷ []))))) }
-{
-}
+{}
 
 /// A report names the lost operations on the objects that its call touched, and no others.
 pub fn refuses_foreign_report()
     ensures own { IsLegal from_formatted 1024 (place (two_lost (3 ∷ []))) }
     ensures both { ¬ (IsLegal from_formatted 1024 (place (two_lost (3 ∷ 4 ∷ [])))) }
     ensures other { ¬ (IsLegal from_formatted 1024 (place (two_lost (4 ∷ [])))) }
-{
-}
+{}
 
 /// Operation numbers rise by one, and each write has one.
 pub fn refuses_skipped_number()
@@ -68,15 +61,13 @@ pub fn refuses_skipped_number()
     ensures skipped { ¬ (IsLegal from_formatted 1024 (place (numbered_write (Some 3)))) }
     ensures repeated { ¬ (IsLegal from_formatted 1024 (place (numbered_write (Some 1)))) }
     ensures missing { ¬ (IsLegal from_formatted 1024 (place (numbered_write None))) }
-{
-}
+{}
 
 /// A call without update has no operation.
 pub fn refuses_numbered_stat()
     ensures none { IsLegal from_formatted 1024 (place (numbered_stat None)) }
     ensures one { ¬ (IsLegal from_formatted 1024 (place (numbered_stat (Some 2)))) }
-{
-}
+{}
 
 /// `noroom` is for a call that makes an object, where 16 ids more are too many.
 pub fn refuses_false_noroom()
@@ -84,5 +75,4 @@ pub fn refuses_false_noroom()
     ensures not_full { ¬ (IsLegal from_formatted 32 (place (noroom_behind_create (call.Create (codes "b" ∷ [])) 14))) }
     ensures no_object { ¬ (IsLegal from_formatted 32 (place (noroom_behind_create (call.Touch (codes "a" ∷ []) 7) 15))) }
     ensures taken_name { ¬ (IsLegal from_formatted 32 (place (noroom_behind_create (call.Create (codes "a" ∷ [])) 15))) }
-{
-}
+{}

@@ -10,8 +10,13 @@ returns-clause-placeable c = placeable_by_test [] full_directory tt
 
 pub returns-clause-legal : goal.returns-clause-legal
 returns-clause-legal c =
-    legal_by_test from_formatted 1024 129 (place full_directory) tt
-      (record { number = tt; report = refl; room = tt; reply = (refl, refl) },
-      (record { number = refl; report = refl; room = tt; reply = (refl, refl) },
-      (record { number = refl; report = refl; room = tt; reply = (refl, refl) },
-      (record { number = refl; report = refl; room = tt; reply = (refl, refl) }, tt))))
+    legal_by_test from_formatted 1024 129 (place full_directory) tt (
+      record { number = tt; report = refl; room = tt; reply = (refl, refl) },
+      (
+        record { number = refl; report = refl; room = tt; reply = (refl, refl) },
+        (
+          record { number = refl; report = refl; room = tt; reply = (refl, refl) },
+          (record { number = refl; report = refl; room = tt; reply = (refl, refl) }, tt),
+        ),
+      ),
+    )

@@ -1,6 +1,5 @@
 use Rattle.std.proofs.Common.{false, refl, inl, inr}
 use Rattle.std.specs.Prelude.{codes}
-use Rattle.ec_volume.specs.declared.image.Kind.TheVariants as kind
 use Rattle.ec_volume.specs.declared.update.Update.TheVariants as update
 use Rattle.ec_order.specs.Order.{ask}
 use Rattle.ec_rows.proofs.wrong_losses.refuses_lost_fsynced_write.Goals as goal
