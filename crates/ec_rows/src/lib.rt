@@ -9,6 +9,7 @@ pub mod ended;
 pub mod long;
 pub mod orders;
 pub mod placed;
+pub mod stored;
 pub mod updates;
 pub mod wrong_lines;
 pub mod wrong_losses;
