@@ -1,8 +1,10 @@
 -- Transcripts whose lines fit together or do not.
 use Rattle.std.specs.Prelude.{◌++◌, ℕ, List, [], ◌∷◌, None, Some, codes}
 use Rattle.ec_volume.specs.declared.image.Kind.TheVariants as kind
+use Rattle.ec_plain.specs.declared.call.Call.{Call}
 use Rattle.ec_plain.specs.declared.call.Call.TheVariants as call
 use Rattle.ec_plain.specs.declared.call.Reply.TheVariants as reply
+use Rattle.ec_history.specs.declared.entry.Answer.{Answer}
 use Rattle.ec_history.specs.declared.entry.Answer.TheVariants as answer
 use Rattle.ec_history.specs.declared.shown.Shown.{Shown}
 use Rattle.ec_history.specs.declared.shown.Shown.TheVariants.{Waits, Answered, Durable, Ended, Unseen, Told, Crashed}
@@ -51,6 +53,31 @@ next_start between =
     ++ Answered 4 A (call.Stat []) (answer.Reply (reply.Stat kind.Dir 493 0 0 1)) None
     ∷ [])
 
+-- the first answer of a second start, while the session of the first one is open
+abbrev pub second_start_begins : Call → Answer → List Shown
+second_start_begins next given =
+    Waits 1 A (call.Create (codes "f" ∷ []))
+    ∷ Answered 1 A (call.Create (codes "f" ∷ [])) (answer.Reply reply.Ok) (Some 1)
+    ∷ Crashed A
+    ∷ Answered 3 A next given None
+    ∷ []
+
+-- a line waits twice
+abbrev pub second_waits : List ℕ → List Shown
+second_waits name =
+    Waits 1 A (call.Create (codes "f" ∷ []))
+    ∷ Waits 1 A (call.Create (name ∷ []))
+    ∷ []
+
+-- told, behind these lines
+abbrev pub told_behind : List Shown → List Shown
+told_behind between =
+    Waits 1 A (call.Create (codes "f" ∷ []))
+    ∷ Answered 1 A (call.Create (codes "f" ∷ [])) (answer.Reply reply.Ok) (Some 1)
+    ∷ (between
+    ++ Told A (1 ∷ [])
+    ∷ [])
+
 -- a second durable line
 abbrev pub two_durable_lines : List ℕ → List Shown
 two_durable_lines second =
@@ -69,10 +96,10 @@ durable_of_none clerk =
     ∷ Durable clerk []
     ∷ []
 
--- an unseen session, behind these lines
-abbrev pub unseen_session : List Shown → List Shown
-unseen_session between =
-    Answered 1 A call.Sync (answer.Reply reply.Ok) None
+-- an unseen session, behind an answer and these lines
+abbrev pub unseen_session : Call → List Shown → List Shown
+unseen_session next between =
+    Answered 1 A next (answer.Reply reply.Ok) None
     ∷ (between
     ++ Unseen A
     ∷ [])

@@ -75,6 +75,22 @@ tied_writes kept lost =
     ∷ Ended A lost
     ∷ []
 
+-- two overwrites of one byte, of which one becomes durable and one is lost
+abbrev pub overwritten_byte : List ℕ → List ℕ → List Shown
+overwritten_byte kept lost =
+    Waits 1 A (call.Create (codes "f" ∷ []))
+    ∷ Answered 1 A (call.Create (codes "f" ∷ [])) (answer.Reply reply.Ok) (Some 1)
+    ∷ Answered 2 A (call.Write (codes "f" ∷ []) 0 (codes "a")) (answer.Reply reply.Ok) (Some 2)
+    ∷ Waits 3 A call.Sync
+    ∷ Durable A (1 ∷ 2 ∷ [])
+    ∷ Answered 3 A call.Sync (answer.Reply reply.Ok) None
+    ∷ Answered 4 A (call.Write (codes "f" ∷ []) 0 (codes "b")) (answer.Reply reply.Ok) (Some 3)
+    ∷ Answered 5 A (call.Write (codes "f" ∷ []) 0 (codes "c")) (answer.Reply reply.Ok) (Some 4)
+    ∷ Durable A kept
+    ∷ Crashed A
+    ∷ Ended A lost
+    ∷ []
+
 -- a directory moves below another one, which itself moved before; of these operations some become durable and some are lost
 abbrev pub moved_below : List ℕ → List ℕ → List Shown
 moved_below kept lost =
@@ -132,6 +148,23 @@ fsync_begun before behind =
     ∷ Crashed A
     ∷ Ended A (2 ∷ [])
     ∷ []))
+
+-- an fsync of a second start, whose operation has the number of a durable one of the first start, behind these lines
+abbrev pub fsync_of_second_start : List Shown → List Shown
+fsync_of_second_start made_durable =
+    Waits 1 A (call.Create (codes "f" ∷ []))
+    ∷ Answered 1 A (call.Create (codes "f" ∷ [])) (answer.Reply reply.Ok) (Some 1)
+    ∷ Waits 2 A call.Sync
+    ∷ Durable A (1 ∷ [])
+    ∷ Answered 2 A call.Sync (answer.Reply reply.Ok) None
+    ∷ Crashed A
+    ∷ Waits 4 A (call.Create (codes "g" ∷ []))
+    ∷ Ended A []
+    ∷ Answered 4 A (call.Create (codes "g" ∷ [])) (answer.Reply reply.Ok) (Some 1)
+    ∷ Waits 5 A (call.Fsync (codes "g" ∷ []))
+    ∷ (made_durable
+    ++ Answered 5 A (call.Fsync (codes "g" ∷ [])) (answer.Reply reply.Ok) None
+    ∷ [])
 
 -- an fsync of a file whose last write is ordered behind lost operations, with these lines before its answer
 abbrev pub fsync_over_lost : List Shown → List Shown

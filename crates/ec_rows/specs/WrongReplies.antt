@@ -95,6 +95,28 @@ numbered_write op =
     ∷ Answered 2 A (call.Write (codes "f" ∷ []) 0 (codes "hi")) (answer.Reply reply.Ok) op
     ∷ []
 
+-- the first operation of a second start has this number
+abbrev pub next_start_create : ℕ → List Shown
+next_start_create op =
+    Waits 1 A (call.Create (codes "f" ∷ []))
+    ∷ Answered 1 A (call.Create (codes "f" ∷ [])) (answer.Reply reply.Ok) (Some 1)
+    ∷ Crashed A
+    ∷ Waits 3 A (call.Create (codes "g" ∷ []))
+    ∷ Ended A (1 ∷ [])
+    ∷ Answered 3 A (call.Create (codes "g" ∷ [])) (answer.Reply reply.Ok) (Some op)
+    ∷ []
+
+-- the first answer of a start, where the one before it crashed and was not told of its loss
+abbrev pub list_of_next_start : Answer → List Shown
+list_of_next_start given =
+    Waits 1 A (call.Create (codes "f" ∷ []))
+    ∷ Answered 1 A (call.Create (codes "f" ∷ [])) (answer.Reply reply.Ok) (Some 1)
+    ∷ Ended A (1 ∷ [])
+    ∷ Crashed A
+    ∷ Waits 4 A (call.List [])
+    ∷ Answered 4 A (call.List []) given None
+    ∷ []
+
 -- a call without update, and an operation of this number, if any
 abbrev pub numbered_stat : Option ℕ → List Shown
 numbered_stat op =

@@ -10,7 +10,7 @@ ghost use Rattle.ec_history.specs.Legal.{IsLegal, from_formatted};
 ghost use Rattle.ec_history.specs.Lines.{AreCovered};
 ghost use Rattle.ec_history.specs.Placing.{ArePlaceable, place};
 ghost use Rattle.ec_rows.specs.Clerks.{A};
-ghost use Rattle.ec_rows.specs.WrongLosses.{fsynced_write, answered_fsync, answered_sync, written_file, tied_writes, moved_below, seen_create, seen_write, fsync_begun, fsync_over_lost, two_creates, two_ends};
+ghost use Rattle.ec_rows.specs.WrongLosses.{fsynced_write, answered_fsync, answered_sync, written_file, tied_writes, overwritten_byte, moved_below, seen_create, seen_write, fsync_begun, fsync_of_second_start, fsync_over_lost, two_creates, two_ends};
 
 /// A loss may not name a write that an answered `fsync` covers.
 pub fn refuses_lost_fsynced_write()
@@ -56,6 +56,13 @@ pub fn refuses_untied_write()
     ensures untied_illegal { ¬ (IsLegal from_formatted 1024 (place (tied_writes (4 ∷ 5 ∷ []) (3 ∷ [])))) }
 {}
 
+/// Of two overwrites of one byte either may be lost: a history does not order overwrites, but the
+/// closure that an operation needs does.
+pub fn allows_lost_overwrite()
+    ensures later_lost { IsLegal from_formatted 1024 (place (overwritten_byte (3 ∷ []) (4 ∷ []))) }
+    ensures earlier_lost { IsLegal from_formatted 1024 (place (overwritten_byte (4 ∷ []) (3 ∷ []))) }
+{}
+
 /// A directory's move may not be kept without the earlier move of a directory above its new parent.
 pub fn refuses_move_without_earlier()
     ensures placeable { ArePlaceable [] (moved_below (4 ∷ []) (5 ∷ [])) }
@@ -86,6 +93,14 @@ pub fn refuses_lost_earlier_write()
     ensures earlier_placeable { ArePlaceable [] (fsync_begun (Answered 3 A (call.Write (codes "f" ∷ []) 0 (codes "x")) (answer.Reply reply.Ok) (Some 2) ∷ []) []) }
     ensures earlier_illegal { ¬ (IsLegal from_formatted 1024 (place (fsync_begun (Answered 3 A (call.Write (codes "f" ∷ []) 0 (codes "x")) (answer.Reply reply.Ok) (Some 2) ∷ []) []))) }
     ensures earlier_uncovered { ¬ (AreCovered from_formatted (fsync_begun (Answered 3 A (call.Write (codes "f" ∷ []) 0 (codes "x")) (answer.Reply reply.Ok) (Some 2) ∷ []) [])) }
+{}
+
+/// A durable line of one start is none of the next one's operation of this number.
+pub fn refuses_durable_of_other_start()
+    ensures placeable { ArePlaceable [] (fsync_of_second_start (Durable A (1 ∷ []) ∷ [])) }
+    ensures legal { IsLegal from_formatted 1024 (place (fsync_of_second_start (Durable A (1 ∷ []) ∷ []))) }
+    ensures covered { AreCovered from_formatted (fsync_of_second_start (Durable A (1 ∷ []) ∷ [])) }
+    ensures uncovered { ¬ (AreCovered from_formatted (fsync_of_second_start [])) }
 {}
 
 /// An `fsync` of a file waits for the file's last write, and not for the lost operations before it.

@@ -8,7 +8,7 @@ ghost use Rattle.ec_history.specs.declared.entry.Answer.TheVariants as answer;
 ghost use Rattle.ec_history.specs.Legal.{IsLegal, from_formatted};
 ghost use Rattle.ec_history.specs.Lines.{AreCovered};
 ghost use Rattle.ec_history.specs.Placing.{place};
-ghost use Rattle.ec_rows.specs.WrongReplies.{stat_of_lost, read_behind_write, told_of_loss, second_sync, reported_loss, two_lost, numbered_write, numbered_stat, noroom_behind_create};
+ghost use Rattle.ec_rows.specs.WrongReplies.{stat_of_lost, read_behind_write, told_of_loss, second_sync, reported_loss, two_lost, numbered_write, next_start_create, list_of_next_start, numbered_stat, noroom_behind_create};
 
 /// A start may not see what the start before it lost.
 pub fn refuses_stat_of_lost()
@@ -46,6 +46,7 @@ pub fn refuses_second_sync_report()
 pub fn refuses_second_report()
     ensures once { IsLegal from_formatted 1024 (place (reported_loss (answer.Reply (reply.Names [])))) }
     ensures twice { ¬ (IsLegal from_formatted 1024 (place (reported_loss (answer.Lost (1 ∷ []))))) }
+    ensures empty { ¬ (IsLegal from_formatted 1024 (place (reported_loss (answer.Lost [])))) }
 {}
 
 /// A report names the lost operations on the objects that its call touched, and no others.
@@ -61,6 +62,19 @@ pub fn refuses_skipped_number()
     ensures skipped { ¬ (IsLegal from_formatted 1024 (place (numbered_write (Some 3)))) }
     ensures repeated { ¬ (IsLegal from_formatted 1024 (place (numbered_write (Some 1)))) }
     ensures missing { ¬ (IsLegal from_formatted 1024 (place (numbered_write None))) }
+{}
+
+/// The operations of a second start are numbered from 1.
+pub fn refuses_continued_number()
+    ensures first { IsLegal from_formatted 1024 (place (next_start_create 1)) }
+    ensures continued { ¬ (IsLegal from_formatted 1024 (place (next_start_create 2))) }
+{}
+
+/// A start has nothing to report of the start before it, which crashed.
+pub fn refuses_report_of_crashed_start()
+    ensures silent { IsLegal from_formatted 1024 (place (list_of_next_start (answer.Reply (reply.Names [])))) }
+    ensures reported { ¬ (IsLegal from_formatted 1024 (place (list_of_next_start (answer.Lost (1 ∷ []))))) }
+    ensures kept { ¬ (IsLegal from_formatted 1024 (place (list_of_next_start (answer.Reply (reply.Names (codes "f" ∷ [])))))) }
 {}
 
 /// A call without update has no operation.
