@@ -1,0 +1,4 @@
+pub mod Closure
+pub mod Fits
+pub mod Tests
+pub mod LongRows

@@ -1,0 +1,10 @@
+pub mod Clerks
+pub mod Alone
+pub mod Durable
+pub mod Ended
+pub mod Long
+pub mod WrongLosses
+pub mod WrongReplies
+pub mod WrongLines
+pub mod Small
+pub mod Histories
