@@ -1,0 +1,2 @@
+//! Sessions of clerks.
+#![tactic(auto)]
