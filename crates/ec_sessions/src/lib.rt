@@ -1,6 +1,8 @@
 //! Sessions of sixteen clerks, the windows of their batches and the ids reserved to them.
 #![tactic(auto)]
 
+mod laws;
 mod window;
 
+pub use laws::marks_of_a_window;
 pub use window::{Marked, Window};
