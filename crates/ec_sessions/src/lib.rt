@@ -2,7 +2,9 @@
 #![tactic(auto)]
 
 mod laws;
+mod slot;
 mod window;
 
 pub use laws::marks_of_a_window;
+pub use slot::{Greeting, Slot};
 pub use window::{Marked, Window};
