@@ -55,12 +55,14 @@ set_other mask k i other = bit_at_or mask (2 ^ k) i ∙ ap (λ b. max (bit_at ma
 -- a marked window has the number, and else what it had
 
 pub has-marked_same : (w : Window) (n : ℕ) → w.low < n → has (marked w n) n ≡ true
+unfolding marked
 has-marked_same w n l =
     let k = n - w.low - 1 in
     let v : Window = record { low = w.low; mask = bit_or w.mask (2 ^ k) } in
     has-moved_past 8 w.low (bit_or w.mask (2 ^ k)) n ∙ has_bit v n l ∙ eq-eqb (bit_at (bit_or w.mask (2 ^ k)) k) 1 (set_here w.mask k)
 
 pub has-marked_other : (w : Window) (n m : ℕ) → w.low < n → (m ≡ n → ⊥) → has (marked w n) m ≡ has w m
+unfolding marked
 has-marked_other w n m l other =
     let k = n - w.low - 1 in
     let i = m - w.low - 1 in
@@ -253,6 +255,7 @@ near w n e =
     ]
 
 after_normal : (w : Window) (n : ℕ) → Normal w → Normal (after_mark w n)
+unfolding marked
 after_normal w n h =
     elim (cases_Bool (is_marked (mark_answer w n))) [
       | inl yes' ↦

@@ -1,5 +1,5 @@
 -- The last session of each of sixteen clerks.
-use Rattle.std.specs.Prelude.{◌≡◌, ◌==◌, ◌+◌, ◌<◌, ◌≤◌, ◌^◌, ℕ, zero, suc, Bool, true, false, not, ◌||◌, ◌&&◌, if◌then◌else◌, nat_lt, nat_le, List, [], ◌∷◌, ◌++◌, length, Option, None, Some, IsTrue, slice_index_or, slice_set, filter}
+use Rattle.std.specs.Prelude.{◌≡◌, ◌==◌, ◌+◌, ◌<◌, ◌≤◌, ◌^◌, ℕ, zero, suc, Bool, true, false, not, ◌||◌, ◌&&◌, if◌then◌else◌, nat_lt, nat_le, List, [], ◌∷◌, ◌++◌, length, Option, None, Some, IsTrue, slice_index_or, slice_set}
 use Rattle.std.specs.List.{list_any}
 use Rattle.std.specs.List.Sorted.{IsStrictlyIncreasing}
 use Rattle.ec_base.specs.declared.ids.Age.{Age}
@@ -86,7 +86,7 @@ abbrev pub run : ℕ → ℕ → List ℕ
 run id zero = []
 run id (suc k) = id ∷ run (id + 1) k
 
-abbrev pub sixteen : ℕ → List ℕ
+unfoldable pub sixteen : ℕ → List ℕ
 sixteen first = run first 16
 
 -- the sixteen ids from first, at their place among rising ids
@@ -98,8 +98,10 @@ abbrev pub granted : ℕ → Option Slot → Option Slot
 granted first None = None
 granted first (Some slot) = Some (record slot { grants = slot.grants + 1; last_first = Some first; unspent = with_ids first slot.unspent })
 
+-- the ids but this one, which stands at most once among rising ids
 abbrev pub without : ℕ → List ℕ → List ℕ
-without id ids = filter (λ other. not (other == id)) ids
+without id [] = []
+without id (other ∷ ids) = if other == id then ids else other ∷ without id ids
 
 abbrev pub spent : ℕ → Option Slot → Option Slot
 spent id None = None

@@ -17,7 +17,7 @@ moved_past zero low mask = record { low = low; mask = mask }
 moved_past (suc k) low mask = if mask % 2 == 1 then moved_past k (low + 1) (mask / 2) else record { low = low; mask = mask }
 
 -- the window with one more number, of the eight behind `low`
-abbrev pub marked : Window → ℕ → Window
+unfoldable pub marked : Window → ℕ → Window
 marked w n = moved_past 8 w.low (bit_or w.mask (2 ^ (n - w.low - 1)))
 
 abbrev pub mark_answer : Window → ℕ → Marked

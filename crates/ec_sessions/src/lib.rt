@@ -3,6 +3,7 @@
 
 mod laws;
 mod slot;
+mod unspent;
 mod window;
 
 pub use laws::marks_of_a_window;

@@ -3,6 +3,7 @@ ghost use Rattle.std.specs.Prelude.{◌≡◌, ◌==◌, ◌+◌, ◌<◌, ◌�
 ghost use Rattle.ec_sessions.specs.Windows.{mark_answer};
 ghost use Rattle.ec_sessions.specs.Slots.{is_older, is_greater, open_session, greeting, is_in, is_reserved, CanMark, CanReserve, batch_answer, new_slot, ended, with_ids, granted, spent, batch_marked, open_count};
 
+use crate::unspent::spend_in;
 use crate::window::{Marked, Window};
 use ec_base::{Age, List as Items, NoMemory, ObjId, SessionNo};
 use std::alloc::Global;
@@ -101,5 +102,15 @@ pub(crate) fn open_count(slot: &Option<Slot>) -> usize
     match slot {
         Some(slot) if slot.is_open => slot.unspent.as_slice().len(),
         _ => 0,
+    }
+}
+
+pub(crate) fn spend(alloc: Global, slot: &mut Option<Slot>, id: ObjId) -> bool
+    ensures answer { result ≡ is_reserved slot.old id }
+    ensures slot { slot.new ≡ spent id slot.old }
+{
+    match slot {
+        Some(slot) if slot.is_open => spend_in(alloc, &mut slot.unspent, id),
+        _ => false,
     }
 }

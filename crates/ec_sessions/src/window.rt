@@ -27,6 +27,7 @@ impl Window {
     }
 
     /// Marks a number. `low` then moves past all marked ones.
+    #[tactic(auto, unfolding(crate::specs::Windows::marked))]
     pub fn mark(&mut self, n: u64) -> Marked
         requires { self.old.low < 2 ^ 62 }
         ensures answer { result ≡ mark_answer self.old n }
