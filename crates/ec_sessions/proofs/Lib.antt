@@ -1,3 +1,4 @@
 pub mod IdLists
 pub mod Marks
 pub mod Rising
+pub mod Tables

@@ -136,3 +136,8 @@ pub record AreSlots (slots : Slots) : Type 0 where
 abbrev pub AreIds : List ℕ → Type 0
 AreIds [] = Unit {0}
 AreIds (id ∷ ids) = (1 ≤ id) × (id < 2 ^ 32) × AreIds ids
+
+-- what holds of the slots that sessions keep
+pub record IsTable (table : Slots) : Type 0 where
+  pub slots : AreSlots table
+  pub ids : AreIds (all_unspent table)

@@ -2,10 +2,12 @@
 #![tactic(auto)]
 
 mod laws;
+mod sessions;
 mod slot;
 mod unspent;
 mod window;
 
 pub use laws::marks_of_a_window;
+pub use sessions::Sessions;
 pub use slot::{Greeting, Slot};
 pub use window::{Marked, Window};

@@ -1,9 +1,9 @@
 // The last session of one clerk.
 ghost use Rattle.std.specs.Prelude.{◌≡◌, ◌==◌, ◌+◌, ◌<◌, ◌≤◌, ◌^◌, ℕ, List, [], ◌++◌, length, None, Some, IfOk, OnOk, OnErr};
 ghost use Rattle.ec_sessions.specs.Windows.{mark_answer};
-ghost use Rattle.ec_sessions.specs.Slots.{is_older, is_greater, open_session, greeting, is_in, is_reserved, CanMark, CanReserve, batch_answer, new_slot, ended, with_ids, granted, spent, batch_marked, open_count};
+ghost use Rattle.ec_sessions.specs.Slots.{is_older, is_greater, open_session, greeting, is_in, is_reserved, CanMark, CanReserve, batch_answer, AreIds, unspent_of, new_slot, ended, with_ids, granted, spent, batch_marked, open_count};
 
-use crate::unspent::spend_in;
+use crate::unspent::{spend_in, with_ids};
 use crate::window::{Marked, Window};
 use ec_base::{Age, List as Items, NoMemory, ObjId, SessionNo};
 use std::alloc::Global;
@@ -105,6 +105,23 @@ pub(crate) fn open_count(slot: &Option<Slot>) -> usize
     }
 }
 
+pub(crate) fn grant(alloc: Global, slot: &mut Option<Slot>, first: ObjId) -> Result<(), NoMemory>
+    requires last { first ≤ 4294967279 }
+    requires room { CanReserve slot.old }
+    ensures ok { OnOk result (slot.new ≡ granted first slot.old) }
+    ensures err { OnErr result (slot.new ≡ slot.old) }
+    ensures from_one { 1 ≤ first }
+{
+    let number = first.get();
+    if let Some(slot) = slot {
+        let unspent = with_ids(alloc, number, slot.unspent.as_slice())?;
+        slot.unspent = Items::of(unspent);
+        slot.grants += 1;
+        slot.last_first = Some(first);
+    }
+    Ok(())
+}
+
 pub(crate) fn spend(alloc: Global, slot: &mut Option<Slot>, id: ObjId) -> bool
     ensures answer { result ≡ is_reserved slot.old id }
     ensures slot { slot.new ≡ spent id slot.old }
@@ -112,5 +129,21 @@ pub(crate) fn spend(alloc: Global, slot: &mut Option<Slot>, id: ObjId) -> bool
     match slot {
         Some(slot) if slot.is_open => spend_in(alloc, &mut slot.unspent, id),
         _ => false,
+    }
+}
+
+pub(crate) fn read_ids(slot: &Option<Slot>)
+    ensures { AreIds (unspent_of slot.now) }
+{
+    if let Some(slot) = slot {
+        read_each(slot.unspent.as_slice());
+    }
+}
+
+fn read_each(ids: &[ObjId])
+    ensures { AreIds ids.now }
+{
+    for id in ids {
+        let _number = id.get();
     }
 }

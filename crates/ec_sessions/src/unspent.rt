@@ -40,8 +40,9 @@ fn place_of(ids: &[ObjId], id: ObjId) -> usize
 
 /// The ids with the sixteen from `first` at their place.
 #[tactic(auto, unfolding(crate::specs::Slots::sixteen))]
-pub(crate) fn with_ids(alloc: Global, first: ObjId, ids: &[ObjId]) -> Result<Vec<ObjId>, NoMemory>
-    requires { first ≤ 4294967279 }
+pub(crate) fn with_ids(alloc: Global, first: u32, ids: &[ObjId]) -> Result<Vec<ObjId>, NoMemory>
+    requires from_one { 1 ≤ first }
+    requires last { first ≤ 4294967279 }
     ensures { IfOk result (λ all. all.items ≡ with_ids first ids.now) }
 {
     let at = count_below(first, ids);
@@ -52,19 +53,20 @@ pub(crate) fn with_ids(alloc: Global, first: ObjId, ids: &[ObjId]) -> Result<Vec
     Ok(all)
 }
 
-fn count_below(first: ObjId, ids: &[ObjId]) -> usize
+fn count_below(first: u32, ids: &[ObjId]) -> usize
     ensures { result ≡ prefix_len (λ id. nat_lt id first) ids.now }
 {
-    ids.iter().take_while(|id| **id < first).count()
+    ids.iter().take_while(|id| id.get() < first).count()
 }
 
 // Adds so many ids from `first` on.
-fn push_run(ids: &mut Vec<ObjId>, first: ObjId, count: u32) -> Result<(), NoMemory>
-    requires { first + count ≤ 4294967296 }
+fn push_run(ids: &mut Vec<ObjId>, first: u32, count: u32) -> Result<(), NoMemory>
+    requires from_one { 1 ≤ first }
+    requires last { first + count ≤ 4294967296 }
     ensures { OnOk result (ids.new.items ≡ ids.old.items ++ run first count) }
 {
     for offset in 0..count {
-        if let Some(id) = ObjId::new(first.get() + offset) {
+        if let Some(id) = ObjId::new(first + offset) {
             ids.push(id)?;
         }
     }

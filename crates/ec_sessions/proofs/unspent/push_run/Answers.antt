@@ -22,6 +22,6 @@ loop-offset-preserved c =
           rw w.ids-is (pushed c.loop-offset.ids.items w.push.new.self.items (c.args.ids.now.items ++ run c.args.first c.args.count) c.args.first c.args.count c.loop-offset.offset w.in-Some.id c.loop-offset-test.true
             w.in_ok-push.ensures.items (omega (arith, w.in-Some.ensures.some)) c.loop-offset.invariant)
       | in_default w ↦
-          let zero : c.get.result + c.loop-offset.offset ≡ 0 = w.in_default.ensures.none.0 refl in
-          absurd (omega (arith, zero))
+          let zero : c.args.first + c.loop-offset.offset ≡ 0 = w.in_default.ensures.none.0 refl in
+          absurd (omega (arith, zero, c.requires.from_one))
     ]
