@@ -1,7 +1,7 @@
 -- Lists of ids: one taken out, and sixteen put in.
 use Rattle.std.proofs.Common.{◌≡◌, ◌==◌, ◌+◌, ◌-◌, ◌<◌, ◌≤◌, ◌^◌, ◌⊎◌, inl, inr, ℕ, zero, suc, Bool, true, false, not, ◌||◌, if◌then◌else◌, nat_lt, cond, List, [], ◌∷◌, ◌++◌, length, take, drop, refl, sym, ◌∙◌, ap, subst, append_assoc, append-nil, arith}
 use Rattle.std.specs.List.{prefix_len, list_any, remove}
-use Rattle.std.proofs.lemmas.Bool.{cases_Bool, cases_eq, eq-eqb, ne_eqb}
+use Rattle.std.proofs.lemmas.Bool.{cases_Bool, cases_eq, eq-eqb, lt-ltb, ne_eqb}
 use Rattle.std.proofs.lemmas.List.{take_rest}
 use Rattle.ec_sessions.specs.Slots.{is_in, without, run, sixteen, with_ids, AreIds}
 use Rattle.ec_sessions.specs.Windows.{times}
@@ -152,3 +152,11 @@ AreIds-with_ids first (other ∷ ids) s h =
       | inl e ↦ subst AreIds (sym (ap (λ b. if b then other ∷ with_ids first ids else sixteen first ++ other ∷ ids) e)) (h.0, h.1, AreIds-with_ids first ids s h.2)
       | inr e ↦ subst AreIds (sym (ap (λ b. if b then other ∷ with_ids first ids else sixteen first ++ other ∷ ids) e)) (AreIds-append (sixteen first) (other ∷ ids) s h)
     ]
+
+-- sixteen ids above all others stand behind them
+pub with_ids-behind : (first : ℕ) (ids : List ℕ) → ((id : ℕ) → 1 ≤ times id ids → id < first) → with_ids first ids ≡ ids ++ sixteen first
+with_ids-behind first [] h = refl
+with_ids-behind first (id ∷ ids) h =
+    let here : nat_lt id first ≡ true = lt-ltb id first (h id (omega (arith, ap as_one (eq-eqb id id refl)))) in
+    ap (λ b. if b then id ∷ with_ids first ids else sixteen first ++ id ∷ ids) here
+    ∙ ap (λ x. id ∷ x) (with_ids-behind first ids (λ other l. h other (omega arith)))

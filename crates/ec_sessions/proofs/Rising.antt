@@ -21,9 +21,10 @@ above_each n (x ∷ xs) h = (h 0 (omega arith), above_each n xs (λ j l. h (suc 
 
 rises_each : (xs : List ℕ) → AllPairs (λ x y. x < y) xs → Rises xs
 rises_each [] h = tt
-rises_each (x ∷ xs) h =
-    (above_each x xs (λ j l. h 0 (suc j) 0 (omega arith) (omega arith)),
-    rises_each xs (λ i j d l m. h (suc i) (suc j) d (omega arith) (omega arith)))
+rises_each (x ∷ xs) h = (
+  above_each x xs (λ j l. h 0 (suc j) 0 (omega arith) (omega arith)),
+  rises_each xs (λ i j d l m. h (suc i) (suc j) d (omega arith) (omega arith)),
+)
 
 pub rises_from : (xs : List ℕ) → IsStrictlyIncreasing xs → Rises xs
 rises_from xs h = rises_each xs (AllPairs-from_increasing xs h)
@@ -71,9 +72,10 @@ above-run n first (suc k) l = (l, above-run n (first + 1) k (omega arith))
 -- a run before ids that are above it
 rises-run : (first k : ℕ) (ids : List ℕ) → ((n : ℕ) → n < first + k → Above n ids) → Rises ids → Rises (run first k ++ ids)
 rises-run first zero ids a h = h
-rises-run first (suc k) ids a h =
-    (above_append first (run (first + 1) k) ids (above-run first (first + 1) k (omega arith)) (a first (omega arith)),
-    rises-run (first + 1) k ids (λ n l. a n (omega arith)) h)
+rises-run first (suc k) ids a h = (
+  above_append first (run (first + 1) k) ids (above-run first (first + 1) k (omega arith)) (a first (omega arith)),
+  rises-run (first + 1) k ids (λ n l. a n (omega arith)) h,
+)
 
 above-with_ids : (n first : ℕ) (ids : List ℕ) → n < first → Above n ids → Above n (with_ids first ids)
 unfolding sixteen
@@ -108,9 +110,9 @@ rises-with_ids first (id ∷ ids) m h =
     elim (cases_Bool (nat_lt id first)) [
       | inl e ↦
           subst Rises (sym (ap (λ b. if b then id ∷ with_ids first ids else run first 16 ++ id ∷ ids) e))
-            (above-with_ids id first ids (ltb-true id first e) h.0, rises-with_ids first ids (misses_tail first id ids m) h.1)
+          (above-with_ids id first ids (ltb-true id first e) h.0, rises-with_ids first ids (misses_tail first id ids m) h.1)
       | inr e ↦
           let far : first + 16 ≤ id = misses_head first id ids m (ltb-false id first e) in
           subst Rises (sym (ap (λ b. if b then id ∷ with_ids first ids else run first 16 ++ id ∷ ids) e))
-            (rises-run first 16 (id ∷ ids) (λ n l. (omega arith, above_lower n id ids (omega arith) h.0)) h)
+          (rises-run first 16 (id ∷ ids) (λ n l. (omega arith, above_lower n id ids (omega arith) h.0)) h)
     ]

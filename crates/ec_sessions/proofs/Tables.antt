@@ -31,7 +31,7 @@ AreIds-with_slot clerk slot [] h k = h
 AreIds-with_slot zero slot (old ∷ slots) h k = AreIds-append (unspent_of slot) (all_unspent slots) k (AreIds-back (unspent_of old) (all_unspent slots) h)
 AreIds-with_slot (suc clerk) slot (old ∷ slots) h k =
     AreIds-append (unspent_of old) (all_unspent (with_slot clerk slot slots)) (AreIds-front (unspent_of old) (all_unspent slots) h)
-      (AreIds-with_slot clerk slot slots (AreIds-back (unspent_of old) (all_unspent slots) h) k)
+    (AreIds-with_slot clerk slot slots (AreIds-back (unspent_of old) (all_unspent slots) h) k)
 
 AreIds-slot_at : (clerk : ℕ) (slots : Slots) → AreIds (all_unspent slots) → AreIds (unspent_of (slot_at slots clerk))
 AreIds-slot_at clerk [] h = tt
@@ -46,11 +46,11 @@ kept clerk slot slots h l rises ids once =
       slots = record {
         sixteen = length-set slots clerk slot ∙ h.slots.sixteen;
         rising = λ other.
-          elim (cases_eq other clerk) [
-            | inl same ↦
-                subst (λ s. IsStrictlyIncreasing (unspent_of s)) (sym (ap (slot_at (with_slot clerk slot slots)) same ∙ get_or-set_same slots clerk slot None within)) (increasing_from (unspent_of slot) rises)
-            | inr apart ↦ subst (λ s. IsStrictlyIncreasing (unspent_of s)) (sym (get_or-set_other slots clerk other slot None apart)) (h.slots.rising other)
-          ];
+            elim (cases_eq other clerk) [
+              | inl same ↦
+                  subst (λ s. IsStrictlyIncreasing (unspent_of s)) (sym (ap (slot_at (with_slot clerk slot slots)) same ∙ get_or-set_same slots clerk slot None within)) (increasing_from (unspent_of slot) rises)
+              | inr apart ↦ subst (λ s. IsStrictlyIncreasing (unspent_of s)) (sym (get_or-set_other slots clerk other slot None apart)) (h.slots.rising other)
+            ];
         once = λ id. omega (arith, times-with_slot id clerk slot slots within, once id);
       };
       ids = AreIds-with_slot clerk slot slots h.ids ids;
@@ -89,7 +89,7 @@ rises_at clerk slots h = rises_from (unspent_of (slot_at slots clerk)) (h.slots.
 fewer : (clerk : ℕ) (new : Option Slot) (slots : Slots) (ids : List ℕ) → IsTable slots → clerk < 16 → unspent_of new ≡ ids → Rises ids → AreIds ids → ((id : ℕ) → times id ids ≤ times id (unspent_of (slot_at slots clerk))) → IsTable (with_slot clerk new slots)
 fewer clerk new slots ids h l e rises are few =
     kept clerk new slots h l (subst Rises (sym e) rises) (subst AreIds (sym e) are)
-      (λ id. omega (arith, ap (times id) e, few id, h.slots.once id))
+    (λ id. omega (arith, ap (times id) e, few id, h.slots.once id))
 
 same_ids : (clerk : ℕ) (new : Option Slot) (slots : Slots) → IsTable slots → clerk < 16 → unspent_of new ≡ unspent_of (slot_at slots clerk) → IsTable (with_slot clerk new slots)
 same_ids clerk new slots h l e =
@@ -155,10 +155,14 @@ granted_keeps clerk first new slots h l low high fresh e =
           let is : unspent_of new ≡ with_ids first ids = ap unspent_of e ∙ more in
           let misses : Misses first ids = λ id a b. omega (arith, times-slot_at id clerk slots, fresh id a b) in
           kept clerk new slots h l
-            (subst Rises (sym is) (rises-with_ids first ids misses (rises_at clerk slots h)))
-            (subst AreIds (sym is) (AreIds-with_ids first ids (AreIds-run first 16 low (omega arith)) (AreIds-slot_at clerk slots h.ids)))
-            (λ id. omega (arith, ap (times id) is, times-with_ids id first ids,
-              sixteen_once first id (times id (all_unspent slots)) (times id ids) (h.slots.once id) (times-slot_at id clerk slots) (fresh id)))
+          (subst Rises (sym is) (rises-with_ids first ids misses (rises_at clerk slots h)))
+          (subst AreIds (sym is) (AreIds-with_ids first ids (AreIds-run first 16 low (omega arith)) (AreIds-slot_at clerk slots h.ids)))
+          (λ id. omega (
+            arith,
+            ap (times id) is,
+            times-with_ids id first ids,
+            sixteen_once first id (times id (all_unspent slots)) (times id ids) (h.slots.once id) (times-slot_at id clerk slots) (fresh id),
+          ))
       | inr same ↦ same_ids clerk new slots h l (ap unspent_of e ∙ same)
     ]
 

@@ -4,10 +4,12 @@
 mod laws;
 mod sessions;
 mod slot;
+#[cfg(test)]
+mod tests;
 mod unspent;
 mod window;
 
-pub use laws::marks_of_a_window;
+pub use laws::{ids_behind, marks_of_a_window, one_slot};
 pub use sessions::Sessions;
 pub use slot::{Greeting, Slot};
 pub use window::{Marked, Window};

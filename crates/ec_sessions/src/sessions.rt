@@ -111,6 +111,14 @@ impl Sessions {
         slot::mark(&mut self.slots[clerk.get() as usize], n)
     }
 
+    /// The slots of the clerks in order.
+    pub fn into_slots(self) -> Vec<Option<Slot>>
+        ensures slots { result.items ≡ self }
+        ensures table { AreSlots self }
+    {
+        self.slots
+    }
+
     /// The sessions with these slots, of the clerks in order.
     pub fn of(slots: Vec<Option<Slot>>) -> Result<Sessions, NoMemory>
         requires { AreSlots slots.items }

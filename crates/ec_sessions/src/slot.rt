@@ -47,7 +47,11 @@ pub(crate) fn greet(slot: &Option<Slot>, age: Age) -> Greeting
         return Greeting::Greater(None);
     };
     if is_older(slot.age, age) {
-        Greeting::Greater(if slot.is_open { Some(slot.session) } else { None })
+        Greeting::Greater(if slot.is_open {
+            Some(slot.session)
+        } else {
+            None
+        })
     } else if is_older(age, slot.age) {
         Greeting::OldBoot(slot.age)
     } else if slot.is_open {

@@ -11,6 +11,7 @@ past_next : (left rest low mask : ℕ) → left ≡ suc rest → mask % 2 ≡ 1 
 past_next left rest low mask e odd = subst (λ k. moved_past k low mask ≡ moved_past rest (low + 1) (mask / 2)) (sym e) (past_one rest low mask odd)
 
 pub bits-preserved : goal.bits-preserved
-bits-preserved c =
-    (sym (past_next (8 - c.bits.counter) (8 - (c.bits.counter + 1)) c.bits.window.low c.bits.window.mask (omega arith) (omega arith)) ∙ c.bits.invariant.0,
-    omega arith)
+bits-preserved c = (
+  sym (past_next (8 - c.bits.counter) (8 - (c.bits.counter + 1)) c.bits.window.low c.bits.window.mask (omega arith) (omega arith)) ∙ c.bits.invariant.0,
+  omega arith,
+)
