@@ -65,6 +65,7 @@ abbrev pub CanMark : Option Slot → Type 0
 CanMark None = ⊥
 CanMark (Some slot) = IsTrue slot.is_open × (slot.window.low < 2 ^ 62)
 
+-- what a mark answers; a clerk without a session marks nothing
 abbrev pub batch_answer : Option Slot → ℕ → Marked
 batch_answer None n = answer.Already
 batch_answer (Some slot) n = mark_answer slot.window n
