@@ -1,4 +1,2 @@
-pub mod IdLists
-pub mod Marks
 pub mod Rising
 pub mod Tables

@@ -1,6 +1,6 @@
 -- The slots of all clerks, as one of them changes.
-use Rattle.std.proofs.Common.{◌≡◌, ◌≢◌, ◌==◌, ◌+◌, ◌-◌, ◌<◌, ◌≤◌, ◌^◌, ◌⊎◌, inl, inr, ℕ, zero, suc, Bool, true, false, if◌then◌else◌, nat_lt, List, [], ◌∷◌, ◌++◌, length, get_or, drop, Option, None, Some, replicate, refl, sym, ◌∙◌, ap, subst, arith, append-nil, append_assoc, get_or-set_other, get_or-set_same, length-append}
-use Rattle.std.proofs.Math.ListN.{set, length-set}
+use Rattle.std.proofs.Common.{◌≡◌, ◌+◌, ◌<◌, ◌≤◌, ◌^◌, ◌⊎◌, inl, inr, ℕ, zero, suc, Bool, false, if◌then◌else◌, nat_lt, List, [], ◌∷◌, length, get_or, drop, Option, None, Some, replicate, refl, sym, ◌∙◌, ap, subst, arith, get_or-set_other, get_or-set_same, length-append}
+use Rattle.std.proofs.Math.ListN.{length-set}
 use Rattle.std.specs.List.Sorted.{IsStrictlyIncreasing}
 use Rattle.std.proofs.lemmas.Bool.{cases_order, cases_eq, cases_Bool, eq-eqb, ne_eqb, ltb-true, ltb-false, lt-ltb, le-ltb}
 use Rattle.std.proofs.lemmas.List.{get_or_default}
@@ -8,8 +8,8 @@ use Rattle.std.specs.Prelude.{Result, Ok, Err}
 use Rattle.std.specs.Result.{OnOk, OnErr}
 use Rattle.ec_sessions.specs.declared.slot.Slot.{Slot}
 use Rattle.ec_sessions.specs.Windows.{times}
-use Rattle.ec_sessions.specs.Slots.{Slots, slot_at, with_slot, unspent_of, all_unspent, open_count, reserved, AreSlots, AreIds, IsTable, granted, ended, spent, batch_marked, with_ids, sixteen, run, without, CanReserve}
-use Rattle.ec_sessions.proofs.IdLists.{times-append, times-with_ids, times-run, times-run_below, times-run_above, times-without, AreIds-append, AreIds-front, AreIds-back, AreIds-run, AreIds-with_ids, AreIds-without}
+use Rattle.ec_sessions.specs.Slots.{Slots, slot_at, with_slot, unspent_of, all_unspent, open_count, reserved, AreIds, IsTable, granted, ended, spent, batch_marked, with_ids, sixteen, run, without}
+use Rattle.ec_sessions.specs.IdLaws.{times-append, times-with_ids, times-run, times-run_below, times-run_above, times-without, AreIds-append, AreIds-front, AreIds-back, AreIds-run, AreIds-with_ids, AreIds-without}
 use Rattle.ec_sessions.proofs.Rising.{Rises, rises_from, increasing_from, rises-with_ids, rises-without, Misses}
 
 -- how often an id stands in the table where one slot is new

@@ -1,6 +1,6 @@
 use Rattle.std.proofs.Common.{◌+◌, take, drop, arith}
 use Rattle.std.proofs.lemmas.Result.{err_from_is_err_and}
-use Rattle.ec_frame.proofs.Fronts.{begins, begins_long, none_in_part, none_in_short}
+use Rattle.ec_frame.specs.FrameLaws.{begins, begins_long, none_in_part, none_in_short}
 use Rattle.ec_frame.proofs.frames.first_body.Goals as goal
 
 pub returns-in_default-clause-none : goal.returns-in_default-clause-none

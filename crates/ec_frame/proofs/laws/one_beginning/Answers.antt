@@ -1,4 +1,4 @@
-use Rattle.ec_frame.proofs.Fronts.{one_front, one_long, long_front, front_stays, long_stays}
+use Rattle.ec_frame.specs.FrameLaws.{one_front, one_long, long_front, front_stays, long_stays}
 use Rattle.ec_frame.proofs.laws.one_beginning.Goals as goal
 
 pub returns : goal.returns

@@ -1,4 +1,4 @@
-use Rattle.ec_frame.proofs.Streams.{one_reading}
+use Rattle.ec_frame.specs.StreamLaws.{one_reading}
 use Rattle.ec_frame.proofs.laws.one_reading.Goals as goal
 
 pub returns : goal.returns

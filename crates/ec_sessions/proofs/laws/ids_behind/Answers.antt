@@ -1,4 +1,4 @@
-use Rattle.ec_sessions.proofs.IdLists.{with_ids-behind}
+use Rattle.ec_sessions.specs.IdLaws.{with_ids-behind}
 use Rattle.ec_sessions.proofs.laws.ids_behind.Goals as goal
 
 pub returns : goal.returns

@@ -1,5 +1,5 @@
 use Rattle.ec_sessions.specs.Windows.{new_window}
-use Rattle.ec_sessions.proofs.Marks.{low_is_last, marked_is_had, new_marks, once}
+use Rattle.ec_sessions.specs.WindowLaws.{low_is_last, marked_is_had, new_marks, once}
 use Rattle.ec_sessions.proofs.laws.marks_of_a_window.Goals as goal
 
 pub returns : goal.returns

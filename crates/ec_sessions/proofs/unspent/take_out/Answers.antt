@@ -1,5 +1,5 @@
-use Rattle.std.proofs.Common.{◌≡◌, ◌<◌, ◌≤◌, length, sym, ◌∙◌, ap, arith}
-use Rattle.ec_sessions.proofs.IdLists.{before, out_found, out_none}
+use Rattle.std.proofs.Common.{◌≡◌, ◌∙◌, ap, arith}
+use Rattle.ec_sessions.specs.IdLaws.{before, out_found, out_none}
 use Rattle.ec_sessions.proofs.unspent.take_out.Goals as goal
 
 pub returns-then-at-len-clause-answer : goal.returns-then-at-len-clause-answer

@@ -1,5 +1,5 @@
 use Rattle.ec_sessions.specs.Slots.{sixteen}
-use Rattle.ec_sessions.proofs.IdLists.{with_ids-made}
+use Rattle.ec_sessions.specs.IdLaws.{with_ids-made}
 use Rattle.ec_sessions.proofs.unspent.with_ids.Goals as goal
 
 pub returns : goal.returns

@@ -1,5 +1,4 @@
-use Rattle.std.proofs.Common.{◌≡◌, ◌==◌, ◌+◌, ◌-◌, ◌*◌, ◌/◌, ◌%◌, ◌<◌, ◌≤◌, ℕ, zero, suc, Bool, true, false, if◌then◌else◌, refl, sym, ◌∙◌, ap, subst, arith, eq-eqb}
-use Rattle.ec_sessions.specs.declared.window.Window.{Window}
+use Rattle.std.proofs.Common.{◌≡◌, ◌+◌, ◌-◌, ◌/◌, ◌%◌, ℕ, suc, refl, sym, ◌∙◌, subst, arith, eq-eqb}
 use Rattle.ec_sessions.specs.Windows.{moved_past}
 use Rattle.ec_sessions.proofs.window.moved_past.Goals as goal
 

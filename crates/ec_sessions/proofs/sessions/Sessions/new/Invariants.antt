@@ -1,4 +1,4 @@
-use Rattle.std.proofs.Common.{◌≡◌, Option, None, replicate}
+use Rattle.std.proofs.Common.{◌≡◌, None, replicate}
 use Rattle.ec_sessions.proofs.sessions.Sessions.new.Given as goal
 
 abbrev pub invariant-clerks : goal.invariant-clerks

@@ -3,7 +3,7 @@ use Rattle.std.proofs.Common.{◌≡◌, ℕ, List, [], ◌∷◌, ◌++◌, fla
 use Rattle.std.specs.List.{AllByRecursion}
 use Rattle.ec_frame.specs.Frames.{frame, IsBody}
 use Rattle.ec_frame.specs.Streams.{Event, Fed, Took, Runs, stream, taken, IsAtEnd, AreMessages}
-use Rattle.ec_frame.proofs.Fronts.{one_front}
+use Rattle.ec_frame.specs.FrameLaws.{one_front}
 
 -- the bytes held and those that come are the frames taken and the bytes left
 pub stream-taken : (old : List ℕ) (events : List Event) (new : List ℕ) → Runs old events new → old ++ stream events ≡ flat_map frame (taken events) ++ new

@@ -1,11 +1,10 @@
 -- What a window has after marks.
-use Rattle.std.proofs.Common.{◌≡◌, ◌==◌, ◌+◌, ◌-◌, ◌*◌, ◌/◌, ◌%◌, ◌^◌, ◌<◌, ◌≤◌, ◌⊎◌, inl, inr, ℕ, zero, suc, Bool, true, false, ◌||◌, ◌&&◌, if◌then◌else◌, nat_le, nat_lt, List, [], ◌∷◌, bit_or, max, refl, sym, ◌∙◌, ap, subst, arith, lit<}
+use Rattle.std.proofs.Common.{◌≡◌, ◌==◌, ◌+◌, ◌-◌, ◌/◌, ◌%◌, ◌^◌, ◌<◌, ◌≤◌, ◌⊎◌, inl, inr, ℕ, zero, suc, true, false, ◌||◌, if◌then◌else◌, nat_le, nat_lt, List, [], ◌∷◌, bit_or, max, refl, sym, ◌∙◌, ap, subst, arith, lit<}
 use Rattle.std.specs.Int.{bit_at}
-use Rattle.std.proofs.lemmas.Bool.{le-leb, lt-leb, leb-true, leb-false, eq-eqb, eqb-true, ne_eqb, ltb-true, ltb-false, or_left, or_right, or_cases, or_parts, cases_order, cases_eq, cases_Bool, true≢false, both_ways}
+use Rattle.std.proofs.lemmas.Bool.{le-leb, lt-leb, leb-false, eq-eqb, ne_eqb, ltb-false, or_left, or_parts, cases_order, cases_eq, cases_Bool, true≢false, both_ways}
 use Rattle.std.proofs.lemmas.Nat.{or_lt, pow_below}
 use Rattle.std.proofs.lemmas.Nat.Bits.{bit_at_lowest, bit_at-suc, bit_at_or, bit_at-pow_same, bit_at-pow_other, bit_at-lt, bit_at-zero}
 use Rattle.ec_sessions.specs.declared.window.Window.{Window}
-use Rattle.ec_sessions.specs.declared.window.Marked.{Marked}
 use Rattle.ec_sessions.specs.declared.window.Marked.TheVariants as answer
 use Rattle.ec_sessions.specs.Windows.{new_window, has, moved_past, marked, mark_answer, is_marked, after_mark, after_marks, newly_marked, times}
 
