@@ -1,0 +1,35 @@
+-- Streams of frames, which come in any pieces.
+use Rattle.std.specs.Prelude.{◌≡◌, ℕ, List, [], ◌∷◌, ◌++◌, flat_map}
+use Rattle.std.specs.List.{AllByRecursion}
+use Rattle.ec_frame.specs.Frames.{frame, IsBody, Begins}
+
+-- A piece comes, or a body is taken.
+pub data Event : Type 0 where
+  Fed : List ℕ → Event
+  Took : List ℕ → Event
+
+-- from the bytes held before these events to the bytes held after them
+abbrev pub Runs : List ℕ → List Event → List ℕ → Type 0
+Runs old [] new = old ≡ new
+Runs old (Fed piece ∷ events) new = Runs (old ++ piece) events new
+Runs old (Took body ∷ events) new = (rest : List ℕ) × Begins old body rest × Runs rest events new
+
+-- all bytes that came
+abbrev pub stream : List Event → List ℕ
+stream [] = []
+stream (Fed piece ∷ events) = piece ++ stream events
+stream (Took body ∷ events) = stream events
+
+abbrev pub taken : List Event → List (List ℕ)
+taken [] = []
+taken (Fed piece ∷ events) = taken events
+taken (Took body ∷ events) = body ∷ taken events
+
+abbrev pub IsAtEnd : List ℕ → Type 0
+IsAtEnd bytes = (body rest : List ℕ) → Begins bytes body rest → ⊥
+
+-- The bytes are the frames of these bodies, and then a rest that begins no whole frame.
+pub record AreMessages (bytes : List ℕ) (bodies : List (List ℕ)) (rest : List ℕ) : Type 0 where
+  pub whole : bytes ≡ flat_map frame bodies ++ rest
+  pub each : AllByRecursion IsBody bodies
+  pub last : IsAtEnd rest

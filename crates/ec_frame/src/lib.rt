@@ -1,0 +1,12 @@
+//! Bodies as frames: a u32 length, the highest byte first, and then the body.
+#![tactic(auto)]
+
+mod fault;
+mod frames;
+mod laws;
+#[cfg(test)]
+mod tests;
+
+pub use fault::FrameFault;
+pub use frames::{Frames, frame};
+pub use laws::{any_pieces, joined_pieces, one_beginning, one_reading};

@@ -1,0 +1,10 @@
+use Rattle.std.proofs.Common.{◌<◌, ◌∙◌, ap, arith}
+use Rattle.ec_sessions.specs.Slots.{spent}
+use Rattle.ec_sessions.proofs.Tables.{spent_keeps, slot_found}
+use Rattle.ec_sessions.proofs.sessions.Sessions.spend.Goals as goal
+
+pub invariant_of-self : goal.invariant_of-self
+invariant_of-self c =
+    let within : c.get.result < 16 = omega (arith, c.get.ensures.below) in
+    let found = slot_found c.self.inside.slots.items c.get.result c.index_mut.result.now c.self.invariant within c.index_mut.ensures.value in
+    spent_keeps c.get.result c.args.id c.spend.new.slot c.self.inside.slots.items c.self.invariant within (c.spend.ensures.slot ∙ ap (spent c.args.id) found)

@@ -1,0 +1,162 @@
+-- Lists of ids: one taken out, and sixteen put in.
+use Rattle.std.proofs.Common.{◌≡◌, ◌==◌, ◌+◌, ◌-◌, ◌<◌, ◌≤◌, ◌^◌, inl, inr, ℕ, zero, suc, Bool, true, false, not, ◌||◌, if◌then◌else◌, nat_lt, cond, List, [], ◌∷◌, ◌++◌, length, take, drop, refl, sym, ◌∙◌, ap, subst, append-nil, arith}
+use Rattle.std.specs.List.{prefix_len, remove}
+use Rattle.std.proofs.lemmas.Bool.{cases_Bool, cases_eq, eq-eqb, lt-ltb, ne_eqb}
+use Rattle.std.proofs.lemmas.List.{take_rest}
+use Rattle.ec_sessions.specs.Slots.{is_in, without, run, sixteen, with_ids, AreIds}
+use Rattle.ec_sessions.specs.Windows.{times}
+
+abbrev pub before : ℕ → List ℕ → ℕ
+before id ids = prefix_len (λ other. not (other == id)) ids
+
+at_hit : (id other : ℕ) (ids : List ℕ) → (other == id) ≡ true → before id (other ∷ ids) ≡ 0
+at_hit id other ids h = ap (λ b. cond (not b) (1 + before id ids) 0) h
+
+at_miss : (id other : ℕ) (ids : List ℕ) → (other == id) ≡ false → before id (other ∷ ids) ≡ 1 + before id ids
+at_miss id other ids h = ap (λ b. cond (not b) (1 + before id ids) 0) h
+
+without-hit : (id other : ℕ) (ids : List ℕ) → (other == id) ≡ true → without id (other ∷ ids) ≡ ids
+without-hit id other ids h = ap (λ b. if b then ids else other ∷ without id ids) h
+
+without-miss : (id other : ℕ) (ids : List ℕ) → (other == id) ≡ false → without id (other ∷ ids) ≡ other ∷ without id ids
+without-miss id other ids h = ap (λ b. if b then ids else other ∷ without id ids) h
+
+-- an id that is there is taken out at its place
+pub out_found : (id n : ℕ) (ids : List ℕ) → n ≡ before id ids → n < length ids → (true ≡ is_in id ids) × (remove ids n ≡ without id ids)
+out_found id n [] e l = absurd (omega arith)
+out_found id zero (other ∷ ids) e l =
+    elim (cases_Bool (other == id)) [
+      | inl h ↦ (sym (ap (λ b. b || is_in id ids) h), sym (without-hit id other ids h))
+      | inr h ↦ absurd (omega (arith, at_miss id other ids h))
+    ]
+out_found id (suc n) (other ∷ ids) e l =
+    elim (cases_Bool (other == id)) [
+      | inl h ↦ absurd (omega (arith, at_hit id other ids h))
+      | inr h ↦
+          let rest : n ≡ before id ids = omega (arith, at_miss id other ids h) in
+          let out = out_found id n ids rest (omega arith) in
+          (out.0 ∙ sym (ap (λ b. b || is_in id ids) h), ap (λ x. other ∷ x) out.1 ∙ sym (without-miss id other ids h))
+    ]
+
+-- and else nothing is taken out
+pub out_none : (id : ℕ) (ids : List ℕ) → length ids ≤ before id ids → (false ≡ is_in id ids) × (ids ≡ without id ids)
+out_none id [] l = (refl, refl)
+out_none id (other ∷ ids) l =
+    elim (cases_Bool (other == id)) [
+      | inl h ↦ absurd (omega (arith, at_hit id other ids h))
+      | inr h ↦
+          let rest : length ids ≤ before id ids = omega (arith, at_miss id other ids h) in
+          let out = out_none id ids rest in
+          (out.0 ∙ sym (ap (λ b. b || is_in id ids) h), ap (λ x. other ∷ x) out.1 ∙ sym (without-miss id other ids h))
+    ]
+
+-- the sixteen ids stand behind those below
+pub with_ids-split : (first n : ℕ) (ids : List ℕ) → n ≡ prefix_len (λ id. nat_lt id first) ids → (take n ids ++ sixteen first) ++ drop n ids ≡ with_ids first ids
+with_ids-split first n [] e = subst (λ k. (take k [] ++ sixteen first) ++ drop k [] ≡ sixteen first) (sym e) (append-nil (sixteen first))
+with_ids-split first zero (id ∷ ids) e =
+    elim (cases_Bool (nat_lt id first)) [
+      | inl h ↦ absurd (omega (arith, ap (λ b. cond b (1 + prefix_len (λ id. nat_lt id first) ids) 0) h))
+      | inr h ↦ sym (ap (λ b. if b then id ∷ with_ids first ids else sixteen first ++ id ∷ ids) h)
+    ]
+with_ids-split first (suc n) (id ∷ ids) e =
+    elim (cases_Bool (nat_lt id first)) [
+      | inl h ↦
+          let rest : n ≡ prefix_len (λ id. nat_lt id first) ids = omega (arith, ap (λ b. cond b (1 + prefix_len (λ id. nat_lt id first) ids) 0) h) in
+          ap (λ x. id ∷ x) (with_ids-split first n ids rest) ∙ sym (ap (λ b. if b then id ∷ with_ids first ids else sixteen first ++ id ∷ ids) h)
+      | inr h ↦ absurd (omega (arith, ap (λ b. cond b (1 + prefix_len (λ id. nat_lt id first) ids) 0) h))
+    ]
+
+-- the same, as slices are appended
+pub with_ids-made : (first at : ℕ) (ids none front more all : List ℕ) → at ≡ prefix_len (λ id. nat_lt id first) ids → none ≡ [] → front ≡ none ++ take at ids → more ≡ front ++ sixteen first → all ≡ more ++ take (length ids - at) (drop at ids) → all ≡ with_ids first ids
+with_ids-made first at ids none front more all e a b c d =
+    d
+    ∙ ap (λ x. more ++ x) (take_rest ids at)
+    ∙ ap (λ x. x ++ drop at ids) (c ∙ ap (λ x. x ++ sixteen first) (b ∙ ap (λ x. x ++ take at ids) a))
+    ∙ with_ids-split first at ids e
+
+-- how often an id stands in a list
+
+abbrev as_one : Bool → ℕ
+as_one b = if b then 1 else 0
+
+pub times-append : (id : ℕ) (xs ys : List ℕ) → times id (xs ++ ys) ≡ times id xs + times id ys
+times-append id [] ys = omega arith
+times-append id (x ∷ xs) ys = omega (arith, times-append id xs ys)
+
+pub times-run_below : (id first k : ℕ) → id < first → times id (run first k) ≡ 0
+times-run_below id first zero l = refl
+times-run_below id first (suc k) l =
+    let miss : (first == id) ≡ false = ne_eqb first id (λ e. absurd (omega arith)) in
+    omega (arith, ap as_one miss, times-run_below id (first + 1) k (omega arith))
+
+pub times-run_above : (id first k : ℕ) → first + k ≤ id → times id (run first k) ≡ 0
+times-run_above id first zero l = refl
+times-run_above id first (suc k) l =
+    let miss : (first == id) ≡ false = ne_eqb first id (λ e. absurd (omega arith)) in
+    omega (arith, ap as_one miss, times-run_above id (first + 1) k (omega arith))
+
+pub times-run : (id first k : ℕ) → times id (run first k) ≤ 1
+times-run id first zero = omega arith
+times-run id first (suc k) =
+    elim (cases_eq first id) [
+      | inl same ↦ omega (arith, ap as_one (eq-eqb first id same), times-run_below id (first + 1) k (omega arith))
+      | inr other ↦ omega (arith, ap as_one (ne_eqb first id other), times-run id (first + 1) k)
+    ]
+
+pub times-with_ids : (id first : ℕ) (ids : List ℕ) → times id (with_ids first ids) ≡ times id ids + times id (sixteen first)
+times-with_ids id first [] = omega arith
+times-with_ids id first (other ∷ ids) =
+    elim (cases_Bool (nat_lt other first)) [
+      | inl h ↦ ap (λ b. times id (if b then other ∷ with_ids first ids else sixteen first ++ other ∷ ids)) h ∙ omega (arith, times-with_ids id first ids)
+      | inr h ↦ ap (λ b. times id (if b then other ∷ with_ids first ids else sixteen first ++ other ∷ ids)) h ∙ omega (arith, times-append id (sixteen first) (other ∷ ids))
+    ]
+
+pub times-without : (id gone : ℕ) (ids : List ℕ) → times id (without gone ids) ≤ times id ids
+times-without id gone [] = omega arith
+times-without id gone (other ∷ ids) =
+    elim (cases_Bool (other == gone)) [
+      | inl h ↦ omega (arith, ap (times id) (without-hit gone other ids h))
+      | inr h ↦ omega (arith, ap (times id) (without-miss gone other ids h), times-without id gone ids)
+    ]
+
+-- ids are u32s from 1
+
+pub AreIds-append : (xs ys : List ℕ) → AreIds xs → AreIds ys → AreIds (xs ++ ys)
+AreIds-append [] ys h k = k
+AreIds-append (x ∷ xs) ys h k = (h.0, h.1, AreIds-append xs ys h.2 k)
+
+pub AreIds-front : (xs ys : List ℕ) → AreIds (xs ++ ys) → AreIds xs
+AreIds-front [] ys h = tt
+AreIds-front (x ∷ xs) ys h = (h.0, h.1, AreIds-front xs ys h.2)
+
+pub AreIds-back : (xs ys : List ℕ) → AreIds (xs ++ ys) → AreIds ys
+AreIds-back [] ys h = h
+AreIds-back (x ∷ xs) ys h = AreIds-back xs ys h.2
+
+pub AreIds-run : (first k : ℕ) → 1 ≤ first → first + k ≤ 2 ^ 32 → AreIds (run first k)
+AreIds-run first zero h l = tt
+AreIds-run first (suc k) h l = (h, omega arith, AreIds-run (first + 1) k (omega arith) (omega arith))
+
+pub AreIds-without : (gone : ℕ) (ids : List ℕ) → AreIds ids → AreIds (without gone ids)
+AreIds-without gone [] h = tt
+AreIds-without gone (other ∷ ids) h =
+    elim (cases_Bool (other == gone)) [
+      | inl e ↦ subst AreIds (sym (without-hit gone other ids e)) h.2
+      | inr e ↦ subst AreIds (sym (without-miss gone other ids e)) (h.0, h.1, AreIds-without gone ids h.2)
+    ]
+
+pub AreIds-with_ids : (first : ℕ) (ids : List ℕ) → AreIds (sixteen first) → AreIds ids → AreIds (with_ids first ids)
+AreIds-with_ids first [] s h = s
+AreIds-with_ids first (other ∷ ids) s h =
+    elim (cases_Bool (nat_lt other first)) [
+      | inl e ↦ subst AreIds (sym (ap (λ b. if b then other ∷ with_ids first ids else sixteen first ++ other ∷ ids) e)) (h.0, h.1, AreIds-with_ids first ids s h.2)
+      | inr e ↦ subst AreIds (sym (ap (λ b. if b then other ∷ with_ids first ids else sixteen first ++ other ∷ ids) e)) (AreIds-append (sixteen first) (other ∷ ids) s h)
+    ]
+
+-- sixteen ids above all others stand behind them
+pub with_ids-behind : (first : ℕ) (ids : List ℕ) → ((id : ℕ) → 1 ≤ times id ids → id < first) → with_ids first ids ≡ ids ++ sixteen first
+with_ids-behind first [] h = refl
+with_ids-behind first (id ∷ ids) h =
+    let here : nat_lt id first ≡ true = lt-ltb id first (h id (omega (arith, ap as_one (eq-eqb id id refl)))) in
+    ap (λ b. if b then id ∷ with_ids first ids else sixteen first ++ id ∷ ids) here
+    ∙ ap (λ x. id ∷ x) (with_ids-behind first ids (λ other l. h other (omega arith)))

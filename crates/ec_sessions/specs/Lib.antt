@@ -1,0 +1,4 @@
+pub mod IdLaws
+pub mod Slots
+pub mod WindowLaws
+pub mod Windows

@@ -1,0 +1,15 @@
+//! Sessions of sixteen clerks, the windows of their batches and the ids reserved to them.
+#![tactic(auto)]
+
+mod laws;
+mod sessions;
+mod slot;
+#[cfg(test)]
+mod tests;
+mod unspent;
+mod window;
+
+pub use laws::{ids_behind, marks_of_a_window, one_slot};
+pub use sessions::Sessions;
+pub use slot::{Greeting, Slot};
+pub use window::{Marked, Window};
