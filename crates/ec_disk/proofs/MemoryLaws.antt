@@ -20,9 +20,9 @@ kept-write undos later len now new old piece log longer at undo was at_is old_is
   now_is = new_is ∙ ap (λ (l : List ℕ). written at piece l) was.now_is ∙ ap (λ s. Shot.now s) (sym shot);
   restores =
       subst (λ l. Restores later len new l) (ap (λ s. Shot.synced s) (sym shot))
-        (subst (λ us. Restores us len new (shot_of log).synced) (sym later_is)
-          (subst (λ l. Restores (undos ++ undo ∷ []) len l (shot_of log).synced) (ap (λ (k : ℕ). written k piece now) at_is ∙ sym new_is)
-            (restores-write undos len now (shot_of log).synced undo piece was.restores (ap length old_is ∙ size) (λ i lt. ap (λ (l : List ℕ). byte l i) old_is ∙ bytes i lt ∙ ap (λ (k : ℕ). byte now (k + i)) (sym at_is)))));
+      (subst (λ us. Restores us len new (shot_of log).synced) (sym later_is)
+      (subst (λ l. Restores (undos ++ undo ∷ []) len l (shot_of log).synced) (ap (λ (k : ℕ). written k piece now) at_is ∙ sym new_is)
+      (restores-write undos len now (shot_of log).synced undo piece was.restores (ap length old_is ∙ size) (λ i lt. ap (λ (l : List ℕ). byte l i) old_is ∙ bytes i lt ∙ ap (λ (k : ℕ). byte now (k + i)) (sym at_is)))));
 }
   where
     shot : shot_of longer ≡ apply (shot_of log) (step.Write at piece)

@@ -17,10 +17,10 @@ undone-push (first ∷ undos) undo image = ap (λ (l : List ℕ). written first.
 written-local : (at : ℕ) (bytes a b : List ℕ) (i : ℕ) → byte a i ≡ byte b i → byte (written at bytes a) i ≡ byte (written at bytes b) i
 written-local at bytes a b i same = elim (in_range_or_not at (length bytes) i) [
   | inl r ↦
-    ap (λ (k : ℕ). byte (written at bytes a) k) (place r)
-    ∙ byte-written_in at bytes a (i - at) (omega (arith, r.0, r.1))
-    ∙ sym (byte-written_in at bytes b (i - at) (omega (arith, r.0, r.1)))
-    ∙ ap (λ (k : ℕ). byte (written at bytes b) k) (sym (place r))
+      ap (λ (k : ℕ). byte (written at bytes a) k) (place r)
+      ∙ byte-written_in at bytes a (i - at) (omega (arith, r.0, r.1))
+      ∙ sym (byte-written_in at bytes b (i - at) (omega (arith, r.0, r.1)))
+      ∙ ap (λ (k : ℕ). byte (written at bytes b) k) (sym (place r))
   | inr out ↦ byte-written_out at bytes a i out ∙ same ∙ sym (byte-written_out at bytes b i out)
 ]
   where
@@ -77,10 +77,10 @@ restores-write undos len now synced undo piece was size kept = record {
     same : (i : ℕ) → byte back i ≡ byte now i
     same i = elim (in_range_or_not undo.at (length piece) i) [
       | inl r ↦
-        ap (λ (k : ℕ). byte back k) (place r)
-        ∙ byte-written_in undo.at undo.old new (i - undo.at) (omega (arith, r.0, r.1, size))
-        ∙ kept (i - undo.at) (omega (arith, r.0, r.1))
-        ∙ ap (λ (k : ℕ). byte now k) (sym (place r))
+          ap (λ (k : ℕ). byte back k) (place r)
+          ∙ byte-written_in undo.at undo.old new (i - undo.at) (omega (arith, r.0, r.1, size))
+          ∙ kept (i - undo.at) (omega (arith, r.0, r.1))
+          ∙ ap (λ (k : ℕ). byte now k) (sym (place r))
       | inr out ↦ byte-written_out undo.at undo.old new i (λ r. out (r.0, omega (arith, r.1, size))) ∙ byte-written_out undo.at piece now i out
     ]
       where
@@ -98,10 +98,10 @@ old-restored undos len now synced was =
 pub torn-restored : (undos : List Undo) (len : ℕ) (now synced : List ℕ) → Restores undos len now synced → torn 0 now (undone undos now) ≡ torn 0 now synced
 torn-restored undos len now synced was =
     ext_get_or 0 (torn 0 now (undone undos now)) (torn 0 now synced) (one ∙ sym other)
-      (λ i lt.
-        get_or-map-range_with_len (torn_byte 0 now (undone undos now)) 0 (length now) i i 0 (omega (arith, lt, one)) (omega arith)
-        ∙ ap (λ (b : ℕ). if (0 + i) % 2 == 0 then byte now i else b) (was.bytes i)
-        ∙ sym (get_or-map-range_with_len (torn_byte 0 now synced) 0 (length now) i i 0 (omega (arith, lt, one)) (omega arith)))
+    (λ i lt.
+    get_or-map-range_with_len (torn_byte 0 now (undone undos now)) 0 (length now) i i 0 (omega (arith, lt, one)) (omega arith)
+    ∙ ap (λ (b : ℕ). if (0 + i) % 2 == 0 then byte now i else b) (was.bytes i)
+    ∙ sym (get_or-map-range_with_len (torn_byte 0 now synced) 0 (length now) i i 0 (omega (arith, lt, one)) (omega arith)))
   where
     one : length (torn 0 now (undone undos now)) ≡ length now
     one = length-map-range_with_len (torn_byte 0 now (undone undos now)) 0 (length now)

@@ -22,8 +22,8 @@ part-one image at lt = ap (λ (l : List ℕ). take 1 l) (drop_more image at 0 lt
 pub part-loose : (W : ℕ → Type 0) (old new : List ℕ) (at n : ℕ) → Loose W old new → at + n ≤ length old → ((i : ℕ) → at ≤ i → i < at + n → W i → ⊥) → part new at n ≡ part old at n
 part-loose W old new at n loose le out =
     ext_get_or 0 (part new at n) (part old at n)
-      (length-part new at n (omega (arith, le, loose.no_shorter)) ∙ sym (length-part old at n le))
-      (λ i lt. same i (omega (arith, lt, length-part new at n (omega (arith, le, loose.no_shorter)))))
+    (length-part new at n (omega (arith, le, loose.no_shorter)) ∙ sym (length-part old at n le))
+    (λ i lt. same i (omega (arith, lt, length-part new at n (omega (arith, le, loose.no_shorter)))))
   where
     same : (i : ℕ) → i < n → byte (part new at n) i ≡ byte (part old at n) i
     same i lt = byte-part new at n i lt ∙ loose.outside (at + i) (omega (arith, lt, le)) (out (at + i) (omega arith) (omega (arith, lt))) ∙ sym (byte-part old at n i lt)
@@ -71,9 +71,9 @@ module _ (at : ℕ) (bytes old : List ℕ) where
       ∙ elim (cases_lt i (length old)) [
         | inl lt ↦ get_or_append_left (take at old) gap 0 i (omega (arith, lt, below, length-take at old)) ∙ get_or-take at old i 0 below
         | inr past ↦
-          get_or-append_right (take at old) gap (length old) i 0 (omega (arith, past, below, length-take at old)) past
-          ∙ get_or-replicate (at - length old) (i - length old) 0 0 (omega (arith, past, below))
-          ∙ sym (get_or_past old i 0 past)
+            get_or-append_right (take at old) gap (length old) i 0 (omega (arith, past, below, length-take at old)) past
+            ∙ get_or-replicate (at - length old) (i - length old) 0 0 (omega (arith, past, below))
+            ∙ sym (get_or_past old i 0 past)
       ]
 
   byte-above : (i : ℕ) → at + length bytes ≤ i → byte (written at bytes old) i ≡ byte old i

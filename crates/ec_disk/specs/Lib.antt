@@ -1,3 +1,4 @@
+pub mod Counting
 pub mod Disk
 pub mod Images
 pub mod Memory

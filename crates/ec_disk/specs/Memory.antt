@@ -42,15 +42,19 @@ next_len disk = len_of (next_len_turn disk.turns) (length (shot_of (steps_of dis
 abbrev pub fails_of : MemDisk → List ℕ
 fails_of disk = disk.turns.fails.items
 
+-- the number of calls so far
+abbrev pub calls_of : MemDisk → ℕ
+calls_of disk = disk.turns.calls
+
 -- one call later
 pub record NextCall (old new : MemDisk) : Type 0 where
   pub fails : fails_of new ≡ fails_of old
-  pub calls : new.turns.calls ≡ next_call old.turns
+  pub calls : calls_of new ≡ next_call old.turns
 
 -- no call of `Disk` since
 pub record SameCall (old new : MemDisk) : Type 0 where
   pub fails : fails_of new ≡ fails_of old
-  pub calls : new.turns.calls ≡ old.turns.calls
+  pub calls : calls_of new ≡ calls_of old
 
 -- a write that stops is carried out, one that fails isn't
 abbrev pub with_write : DiskAnswer → ℕ → List ℕ → List Step → List Step

@@ -110,8 +110,7 @@ module _ (s : Shot) (good : Good s) (at : ℕ) (bytes : List ℕ) where
   wrote-dirty c is left =
       let d = map (before c) (range_with_len 0 (length s.synced)) in
       let size : length d ≡ length s.synced = length-map-range_with_len (before c) 0 (length s.synced) in
-      let place : (i : ℕ) → i < length s.synced → byte d i ≡ before c i = λ i lt. get_or-map-range_with_len (before c) 0 (length s.synced) i i 0 lt (omega arith) in
-      (
+      let place : (i : ℕ) → i < length s.synced → byte d i ≡ before c i = λ i lt. get_or-map-range_with_len (before c) 0 (length s.synced) i i 0 lt (omega arith) in (
         d,
         record {
           no_shorter = omega (arith, size);

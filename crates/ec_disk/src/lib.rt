@@ -2,10 +2,12 @@
 #![tactic(auto)]
 
 mod disk;
+mod file;
 mod lent;
 mod memory;
 mod turns;
 mod undo;
 
 pub use disk::{Choice, CrashDisk, Disk, DiskAnswer, DiskLen};
+pub use file::FileDisk;
 pub use memory::{MemDisk, Step};

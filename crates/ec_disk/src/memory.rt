@@ -32,14 +32,19 @@ pub struct MemDisk {
 
 impl MemDisk {
     ghost use Rattle.std.specs.Prelude.{◌≡◌, [], ◌∷◌, ◌++◌, None, IfOk, OnOk, OnErr};
-    ghost use Rattle.ec_disk.specs.Memory.{steps_of};
+    ghost use Rattle.std.specs.List.Sorted.{IsPermutation};
+    ghost use Rattle.ec_disk.specs.Memory.{steps_of, calls_of, fails_of, counts_of_disk};
     ghost use Rattle.ec_disk.specs.declared.memory.Step.TheVariants as step;
 
     /// The calls of `Disk` whose numbers, from 1, are listed will fail and change nothing.
     pub fn new(alloc: Global, fails: Vec<u64>) -> Result<MemDisk, NoMemory>
         ensures steps { IfOk result (λ disk. steps_of disk ≡ []) }
-        ensures turns { IfOk result (λ disk. disk.turns ≡ record { fails = fails; calls = 0; armed = None; faults = 0; stops = 0 }) }
+        ensures calls { IfOk result (λ disk. calls_of disk ≡ 0) }
+        ensures fails { IfOk result (λ disk. IsPermutation fails.items (fails_of disk)) }
+        ensures counts { IfOk result (λ disk. counts_of_disk disk ≡ record { faults = 0; stops = 0; armed = None }) }
     {
+        let mut fails = fails;
+        fails.sort()?;
         Ok(MemDisk {
             turns: Turns::new(fails),
             image: Vec::new(alloc),
@@ -100,7 +105,13 @@ impl MemDisk {
 }
 
 // What a power cut leaves.
-fn after_cut(alloc: Global, choice: Choice, now: &[u8], undos: &[Undo], synced_len: usize) -> Result<Vec<u8>, AllocError>
+fn after_cut(
+    alloc: Global,
+    choice: Choice,
+    now: &[u8],
+    undos: &[Undo],
+    synced_len: usize,
+) -> Result<Vec<u8>, AllocError>
     requires { length (undone undos.now now.now) ≡ length now.now }
     ensures { IfOk result (λ next. (synced : List ℕ) → Restores undos.now synced_len now.now synced → next.items ≡ cut choice now.now synced) }
 {
@@ -262,5 +273,57 @@ impl CrashDisk for MemDisk {
             }
             Err(_) => DiskAnswer::NoMemory,
         }
+    }
+}
+
+#[cfg(test)]
+mod tests {
+    use super::*;
+
+    #[test]
+    fn stop_takes_back_what_no_sync_kept(rt: HostRuntime) {
+        let mut disk = MemDisk::new(rt.alloc(), Vec::new(rt.alloc())).expect(&rt, "memory");
+        assert_eq!(rt; disk.write_at(0, b"abc"), DiskAnswer::Done);
+        disk.arm(1);
+        assert_eq!(rt; disk.sync(), DiskAnswer::Stopped);
+        assert_eq!(rt; disk.len(), DiskLen::Stopped);
+        assert_eq!(rt; disk.power_cut(Choice::Old), DiskAnswer::Done);
+        assert_eq!(rt; disk.len(), DiskLen::Len(0));
+        assert_eq!(rt; disk.steps().len(), 2);
+    }
+
+    #[test]
+    fn cuts_leave_old_new_or_torn(rt: HostRuntime) {
+        let cases = [
+            (Choice::Old, b"abcd\0\0\0\0", 4),
+            (Choice::New, b"aXYZ\0\0QR", 8),
+            (Choice::Torn, b"abYd\0\0Q\0", 8),
+        ];
+        for (choice, want, len) in cases {
+            let mut disk = MemDisk::new(rt.alloc(), Vec::new(rt.alloc())).expect(&rt, "memory");
+            assert_eq!(rt; disk.write_at(0, b"abcd"), DiskAnswer::Done);
+            assert_eq!(rt; disk.sync(), DiskAnswer::Done);
+            assert_eq!(rt; disk.write_at(1, b"xyz"), DiskAnswer::Done);
+            assert_eq!(rt; disk.write_at(1, b"XYZ"), DiskAnswer::Done);
+            assert_eq!(rt; disk.write_at(6, b"QR"), DiskAnswer::Done);
+            assert_eq!(rt; disk.power_cut(choice), DiskAnswer::Done);
+            assert_eq!(rt; disk.len(), DiskLen::Len(len));
+            assert_eq!(rt; disk.write_at(8, b""), DiskAnswer::Done);
+            let mut bytes = [1; 8];
+            assert_eq!(rt; disk.read_at(0, &mut bytes), DiskAnswer::Done);
+            assert_eq!(rt; &bytes, want, "after {choice:?}");
+        }
+    }
+
+    #[test]
+    fn listed_call_fails_and_changes_nothing(rt: HostRuntime) {
+        let fails = vec![in rt.alloc(); 3, 1].expect(&rt, "memory");
+        let mut disk = MemDisk::new(rt.alloc(), fails).expect(&rt, "memory");
+        assert_eq!(rt; disk.len(), DiskLen::Failed);
+        assert_eq!(rt; disk.write_at(0, b"a"), DiskAnswer::Done);
+        assert_eq!(rt; disk.write_at(0, b"b"), DiskAnswer::Failed);
+        let mut bytes = [0];
+        assert_eq!(rt; disk.read_at(0, &mut bytes), DiskAnswer::Done);
+        assert_eq!(rt; &bytes, b"a");
     }
 }

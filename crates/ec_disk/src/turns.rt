@@ -1,4 +1,8 @@
 // What the next call of a disk does: it goes on, fails or stops.
+ghost use Rattle.std.specs.Prelude.{◌≡◌, nat_eq};
+ghost use Rattle.std.specs.List.{list_any};
+ghost use Rattle.std.specs.List.Sorted.{IsNonDecreasing};
+
 #[derive(Clone, Copy, Debug, Drop, PartialEq, Eq)]
 pub enum Turn {
     Goes,
@@ -14,17 +18,29 @@ pub struct Turns {
     armed: Option<u64>,
     faults: u64,
     stops: u64,
+    ghost sorted: { IsNonDecreasing fails.items },
+}
+
+// Whether a number is in a sorted list.
+fn is_listed(numbers: &[u64], number: u64) -> bool
+    requires { IsNonDecreasing numbers.now }
+    ensures { result ≡ list_any (λ n. nat_eq n number) numbers.now }
+{
+    numbers.binary_search(&number).is_ok()
 }
 
 impl Turns {
-    ghost use Rattle.std.specs.Prelude.{◌≡◌, ◌≤◌, None, Some};
+    ghost use Rattle.std.specs.Prelude.{◌≡◌, ◌≤◌, None, Some, ⊤};
     ghost use Rattle.ec_disk.specs.Disk.{Counted, CountsDown, one_less};
     ghost use Rattle.ec_disk.specs.Turns.{counts_of, next_turn, next_len_turn, turn_of, next_call, is_due, has_stopped, one_more, faults_after, stops_after};
     ghost use Rattle.ec_disk.specs.declared.turns.Turn.TheVariants as turn;
 
     /// The calls whose numbers, from 1, are listed will fail.
     pub fn new(fails: Vec<u64>) -> Turns
-        ensures { result ≡ record { fails = fails; calls = 0; armed = None; faults = 0; stops = 0 } }
+        requires { IsNonDecreasing fails.items }
+        ensures fails { result.fails ≡ fails }
+        ensures calls { result.calls ≡ 0 }
+        ensures counts { counts_of result ≡ record { faults = 0; stops = 0; armed = None } }
     {
         Turns {
             fails,
@@ -49,7 +65,8 @@ impl Turns {
 
     /// Counts a fault of the device.
     pub fn fault(&mut self)
-        ensures { self.new ≡ record self.old { faults = one_more self.old.faults } }
+        ensures counts { Counted (counts_of self.old) (counts_of self.new) ⊤ ⊥ }
+        ensures others { self.new ≡ record self.old { faults = self.new.faults } }
     {
         self.faults = self.faults.saturating_add(1);
     }
@@ -103,7 +120,7 @@ impl Turns {
             self.stops = self.stops.saturating_add(1);
             return Turn::Stops;
         }
-        if self.fails.contains(&self.calls) {
+        if is_listed(&self.fails, self.calls) {
             self.faults = self.faults.saturating_add(1);
             return Turn::Fails;
         }

@@ -81,5 +81,9 @@ fn torn_byte(at: u64, new: &[u8], old: &[u8], i: usize) -> u8
     requires old { i < length old.now }
     ensures { result ≡ torn_byte at new.now old.now i }
 {
-    if at % 2 == i as u64 % 2 { new[i] } else { old[i] }
+    if at % 2 == i as u64 % 2 {
+        new[i]
+    } else {
+        old[i]
+    }
 }

@@ -30,8 +30,7 @@ undos-preserved c =
     let image = c.undos.image.items in
     let is = split c.args.undos.now c.undos.left undo c.undos-test.true c.undos.invariant.2 c.index-undos-left.is in
     let inside = subst (λ (us : List Undo). length (undone us image) ≡ length image) is c.undos.invariant.1 in
-    let put : c.put.new.image.items ≡ written undo.at undo.old image = c.put.ensures ∙ ap (λ (bytes : List ℕ). written undo.at bytes image) c.as_slice.ensures in
-    (
+    let put : c.put.new.image.items ≡ written undo.at undo.old image = c.put.ensures ∙ ap (λ (bytes : List ℕ). written undo.at bytes image) c.as_slice.ensures in (
       ap (λ (l : List ℕ). undone undos l) put ∙ sym (undone-push undos undo image) ∙ ap (λ (us : List Undo). undone us image) (sym is) ∙ c.undos.invariant.0,
       subst (λ (l : List ℕ). length (undone undos l) ≡ length l) (sym put) (rest_inside undos undo image inside),
       omega (arith, c.undos.invariant.2),
