@@ -1,5 +1,5 @@
 -- What a turn does to the counts.
-use Rattle.std.proofs.Common.{◌≡◌, ℕ, ◌+◌, ◌≤◌, refl, sym, ◌∙◌, ap, subst, arith, Option, Some, None, Bool, true, false}
+use Rattle.std.proofs.Common.{◌≡◌, ℕ, ◌≤◌, refl, arith, Option, Some, None, Bool, true, false}
 use Rattle.std.specs.Prelude.{IsSome}
 use Rattle.ec_disk.specs.Disk.{Counts, Counted, one_less}
 use Rattle.ec_disk.specs.Turns.{turn_of, is_due, has_stopped, faults_after, stops_after}

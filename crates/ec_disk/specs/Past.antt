@@ -1,5 +1,5 @@
 -- A disk in memory by the list of its writes, syncs and power cuts.
-use Rattle.std.specs.Prelude.{◌<◌, ◌≡◌, ◌⊎◌, ℕ, zero, suc, ◌+◌, ◌%◌, ◌≤◌, Bool, true, false, ◌==◌, if◌then◌else◌, List, [], ◌∷◌, ◌++◌, length, take}
+use Rattle.std.specs.Prelude.{◌<◌, ◌≡◌, ◌⊎◌, ℕ, ◌≤◌, Bool, true, false, List, [], ◌∷◌, length, take}
 use Rattle.ec_disk.specs.Disk.{View, byte, written, InRange}
 use Rattle.ec_disk.specs.Undo.{torn}
 use Rattle.ec_disk.specs.declared.memory.Step.{Step}

@@ -1,12 +1,12 @@
 -- A disk in memory keeps the laws of a disk.
-use Rattle.std.specs.Prelude.{◌<◌, ◌≡◌, ◌⊎◌, ℕ, ◌+◌, ◌%◌, ◌≤◌, Bool, true, false, ◌==◌, ◌&&◌, nat_le, nat_lt, if◌then◌else◌, List, [], ◌∷◌, ◌++◌, length, take, map}
+use Rattle.std.specs.Prelude.{◌<◌, ◌≡◌, ℕ, ◌+◌, ◌%◌, ◌≤◌, Bool, true, false, ◌==◌, ◌&&◌, nat_le, nat_lt, if◌then◌else◌, List, [], ◌∷◌, ◌++◌, length, map}
 use Rattle.std.specs.List.{range_with_len}
 use Rattle.std.proofs.Common.{inl, inr, ⊎_elim, arith, ◌∙◌, ap, sym, subst, refl, length-append}
 use Rattle.std.proofs.lemmas.Bool.{cases_eq, cases_lt}
 use Rattle.std.proofs.lemmas.Bool.Decides.{nat_tests}
 use Rattle.std.proofs.lemmas.List.{ext_get_or, take_all, take-append-le}
 use Rattle.std.proofs.lemmas.List.FromFn.{length-map-range_with_len, get_or-map-range_with_len}
-use Rattle.ec_disk.specs.Disk.{View, byte, written, InRange, Loose, After, Elapses, Wrote, Rests, Cut, IsSynced}
+use Rattle.ec_disk.specs.Disk.{byte, written, InRange, Loose, Elapses, Wrote, Rests, Cut, IsSynced}
 use Rattle.ec_disk.specs.Images.{in_range_or_not, length-written, byte-written_out}
 use Rattle.ec_disk.specs.Undo.{torn, torn_byte}
 use Rattle.ec_disk.specs.declared.memory.Step.{Step}

@@ -280,9 +280,20 @@ impl CrashDisk for MemDisk {
 mod tests {
     use super::*;
 
+    // All bytes of a disk.
+    fn contents(alloc: Global, disk: &mut MemDisk) -> Result<Vec<u8>, AllocError> {
+        let mut bytes = Vec::new(alloc);
+        if let DiskLen::Len(len) = disk.len() {
+            bytes.resize(len as usize, 0)?;
+            disk.read_at(0, &mut bytes);
+        }
+        Ok(bytes)
+    }
+
     #[test]
     fn stop_takes_back_what_no_sync_kept(rt: HostRuntime) {
-        let mut disk = MemDisk::new(rt.alloc(), Vec::new(rt.alloc())).expect(&rt, "memory");
+        let fails = Vec::new(rt.alloc());
+        let mut disk = MemDisk::new(rt.alloc(), fails).expect(&rt, "memory");
         assert_eq!(rt; disk.write_at(0, b"abc"), DiskAnswer::Done);
         disk.arm(1);
         assert_eq!(rt; disk.sync(), DiskAnswer::Stopped);
@@ -295,23 +306,21 @@ mod tests {
     #[test]
     fn cuts_leave_old_new_or_torn(rt: HostRuntime) {
         let cases = [
-            (Choice::Old, b"abcd\0\0\0\0", 4),
-            (Choice::New, b"aXYZ\0\0QR", 8),
-            (Choice::Torn, b"abYd\0\0Q\0", 8),
+            (Choice::Old, b"abcd".as_slice()),
+            (Choice::New, b"aXYZ\0\0QR".as_slice()),
+            (Choice::Torn, b"abYd\0\0Q\0".as_slice()),
         ];
-        for (choice, want, len) in cases {
-            let mut disk = MemDisk::new(rt.alloc(), Vec::new(rt.alloc())).expect(&rt, "memory");
+        for (choice, want) in cases {
+            let fails = Vec::new(rt.alloc());
+            let mut disk = MemDisk::new(rt.alloc(), fails).expect(&rt, "memory");
             assert_eq!(rt; disk.write_at(0, b"abcd"), DiskAnswer::Done);
             assert_eq!(rt; disk.sync(), DiskAnswer::Done);
             assert_eq!(rt; disk.write_at(1, b"xyz"), DiskAnswer::Done);
             assert_eq!(rt; disk.write_at(1, b"XYZ"), DiskAnswer::Done);
             assert_eq!(rt; disk.write_at(6, b"QR"), DiskAnswer::Done);
             assert_eq!(rt; disk.power_cut(choice), DiskAnswer::Done);
-            assert_eq!(rt; disk.len(), DiskLen::Len(len));
-            assert_eq!(rt; disk.write_at(8, b""), DiskAnswer::Done);
-            let mut bytes = [1; 8];
-            assert_eq!(rt; disk.read_at(0, &mut bytes), DiskAnswer::Done);
-            assert_eq!(rt; &bytes, want, "after {choice:?}");
+            let bytes = contents(rt.alloc(), &mut disk).expect(&rt, "memory");
+            assert_eq!(rt; bytes.as_slice(), want, "after {choice:?}");
         }
     }
 
@@ -322,8 +331,7 @@ mod tests {
         assert_eq!(rt; disk.len(), DiskLen::Failed);
         assert_eq!(rt; disk.write_at(0, b"a"), DiskAnswer::Done);
         assert_eq!(rt; disk.write_at(0, b"b"), DiskAnswer::Failed);
-        let mut bytes = [0];
-        assert_eq!(rt; disk.read_at(0, &mut bytes), DiskAnswer::Done);
-        assert_eq!(rt; &bytes, b"a");
+        let bytes = contents(rt.alloc(), &mut disk).expect(&rt, "memory");
+        assert_eq!(rt; bytes.as_slice(), b"a".as_slice());
     }
 }

@@ -1,4 +1,4 @@
-use Rattle.std.proofs.Common.{rules, ◌≡◌, ◌∙◌, ap, sym, subst, List, ℕ}
+use Rattle.std.proofs.Common.{rules, ◌∙◌, ap, sym, subst, List, ℕ}
 use Rattle.ec_disk.specs.Past.{clean, cut, shot_of}
 use Rattle.ec_disk.specs.Undo.{Restores}
 use Rattle.ec_disk.specs.declared.undo.Undo.{Undo}

@@ -1,5 +1,5 @@
-use Rattle.std.proofs.Common.{rules, ◌≡◌, [], ◌∷◌, ◌++◌, ◌∙◌, ap, sym, arith}
-use Rattle.ec_disk.specs.Past.{clean, shot_of}
+use Rattle.std.proofs.Common.{rules, ap, sym}
+use Rattle.ec_disk.specs.Past.{clean}
 use Rattle.ec_disk.specs.declared.memory.Step.TheVariants as step
 use Rattle.ec_disk.proofs.MemoryLaws.{kept-clean}
 use Rattle.ec_disk.proofs.memory.MemDisk.note_sync.Goals as goal

@@ -1,5 +1,4 @@
-use Rattle.std.proofs.Common.{rules, refl, ◌≡◌, [], ◌∷◌, ◌++◌, ◌∙◌, ap, sym, arith, length, ℕ, List}
-use Rattle.ec_disk.specs.Disk.{byte}
+use Rattle.std.proofs.Common.{rules, refl}
 use Rattle.ec_disk.specs.declared.undo.Undo.{Undo}
 use Rattle.ec_disk.proofs.MemoryLaws.{Kept, kept-write}
 use Rattle.ec_disk.proofs.memory.MemDisk.write.Goals as goal

@@ -1,4 +1,4 @@
-use Rattle.std.proofs.Common.{◌∙◌, ap, sym, subst}
+use Rattle.std.proofs.Common.{◌∙◌, sym, subst}
 use Rattle.std.specs.Prelude.{IsSome}
 use Rattle.ec_disk.proofs.TurnLaws.{counted, stops_where_due, stopped_armed}
 use Rattle.ec_disk.proofs.turns.Turns.next_len.Goals as goal
