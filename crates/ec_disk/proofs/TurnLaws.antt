@@ -1,7 +1,7 @@
 -- What a turn does to the counts.
 use Rattle.std.proofs.Common.{◌≡◌, ℕ, ◌≤◌, refl, arith, Option, Some, None, Bool, true, false}
 use Rattle.std.specs.Prelude.{IsSome}
-use Rattle.ec_disk.specs.Disk.{Counts, Counted, one_less}
+use Rattle.ec_disk.specs.Disk.{Counts, Counted, after_calls}
 use Rattle.ec_disk.specs.Turns.{turn_of, is_due, has_stopped, faults_after, stops_after}
 use Rattle.ec_disk.specs.declared.turns.Turns.{Turns}
 use Rattle.ec_disk.specs.declared.turns.Turn.{Turn}
@@ -47,6 +47,6 @@ pub stopped_armed : (armed : Option ℕ) → has_stopped armed ≡ true → IsSo
 stopped_armed None is = absurd (grind (arith, is))
 stopped_armed (Some n) is = grind arith
 
-pub less_armed : (armed : Option ℕ) → IsSome (one_less armed) → IsSome armed
+pub less_armed : (armed : Option ℕ) → IsSome (after_calls 1 armed) → IsSome armed
 less_armed None is = is
 less_armed (Some n) is = grind arith

@@ -1,11 +1,8 @@
 -- Old bytes written back restore an image.
-use Rattle.std.proofs.Common.{◌≡◌, inl, inr, ℕ, ◌+◌, ◌-◌, ◌<◌, ◌≤◌, List, [], ◌∷◌, ◌++◌, length, take, refl, sym, ◌∙◌, ap, arith}
-use Rattle.std.proofs.lemmas.List.{ext_get_or, get_or-take, length-take}
-use Rattle.std.proofs.lemmas.List.FromFn.{length-map-range_with_len, get_or-map-range_with_len}
-use Rattle.std.specs.Prelude.{◌%◌, ◌==◌, if◌then◌else◌}
+use Rattle.std.proofs.Common.{◌≡◌, inl, inr, ℕ, ◌+◌, ◌-◌, ◌<◌, ◌≤◌, List, [], ◌∷◌, ◌++◌, length, refl, sym, ◌∙◌, ap, arith}
 use Rattle.ec_disk.specs.Disk.{byte, written, InRange}
 use Rattle.ec_disk.specs.Images.{in_range_or_not, length-written, byte-written_in, byte-written_out}
-use Rattle.ec_disk.specs.Undo.{torn, torn_byte, undone, Restores}
+use Rattle.ec_disk.specs.Undo.{undone, Restores}
 use Rattle.ec_disk.specs.declared.undo.Undo.{Undo}
 
 pub undone-push : (undos : List Undo) (undo : Undo) (image : List ℕ) → undone (undos ++ undo ∷ []) image ≡ undone undos (written undo.at undo.old image)
@@ -85,25 +82,3 @@ restores-write undos len now synced undo piece was size kept = record {
       where
         place : InRange undo.at (length piece) i → i ≡ undo.at + (i - undo.at)
         place r = omega (arith, r.0)
-
--- what a power cut takes from the image that is written back
-pub old-restored : (undos : List Undo) (len : ℕ) (now synced : List ℕ) → Restores undos len now synced → take len (undone undos now) ≡ synced
-old-restored undos len now synced was =
-    ext_get_or 0 (take len (undone undos now)) synced size (λ i lt. get_or-take len (undone undos now) i 0 (omega (arith, lt, size, was.len_is)) ∙ was.bytes i)
-  where
-    size : length (take len (undone undos now)) ≡ length synced
-    size = omega (arith, length-take len (undone undos now), was.len_is, was.no_shorter, was.inside)
-
-pub torn-restored : (undos : List Undo) (len : ℕ) (now synced : List ℕ) → Restores undos len now synced → torn 0 now (undone undos now) ≡ torn 0 now synced
-torn-restored undos len now synced was =
-    ext_get_or 0 (torn 0 now (undone undos now)) (torn 0 now synced) (one ∙ sym other)
-    (λ i lt.
-    get_or-map-range_with_len (torn_byte 0 now (undone undos now)) 0 (length now) i i 0 (omega (arith, lt, one)) (omega arith)
-    ∙ ap (λ (b : ℕ). if (0 + i) % 2 == 0 then byte now i else b) (was.bytes i)
-    ∙ sym (get_or-map-range_with_len (torn_byte 0 now synced) 0 (length now) i i 0 (omega (arith, lt, one)) (omega arith)))
-  where
-    one : length (torn 0 now (undone undos now)) ≡ length now
-    one = length-map-range_with_len (torn_byte 0 now (undone undos now)) 0 (length now)
-
-    other : length (torn 0 now synced) ≡ length now
-    other = length-map-range_with_len (torn_byte 0 now synced) 0 (length now)

@@ -1,8 +1,8 @@
 -- Counts over two calls.
-use Rattle.std.specs.Prelude.{◌⊎◌, ◌≤◌, ℕ}
-use Rattle.std.proofs.Common.{⊎_elim, arith}
+use Rattle.std.specs.Prelude.{◌≡◌, ◌⊎◌, ◌+◌, ◌≤◌, ℕ, Option, Some, None}
+use Rattle.std.proofs.Common.{⊎_elim, arith, ap, refl}
 use Rattle.ec_base.specs.Outside.{Rose}
-use Rattle.ec_disk.specs.Disk.{Counts, Counted}
+use Rattle.ec_disk.specs.Disk.{Counts, Counted, after_calls}
 
 rose-later : (a b c : ℕ) → Rose a b → b ≤ c → Rose a c
 rose-later a b c rose le = omega (arith, rose, le)
@@ -20,3 +20,7 @@ counted_both a b c F S G T H K first second fails stops = record {
   armed = λ k. ⊎_elim first.armed (λ t. first.not_rearmed (second.armed t)) (stops k);
   not_rearmed = λ some. first.not_rearmed (second.not_rearmed some);
 }
+
+pub after_calls-add : (m n : ℕ) (armed : Option ℕ) → after_calls n (after_calls m armed) ≡ after_calls (m + n) armed
+after_calls-add m n None = refl
+after_calls-add m n (Some left) = ap (λ (k : ℕ). Some k) (omega arith)

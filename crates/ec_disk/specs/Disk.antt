@@ -88,12 +88,13 @@ abbrev pub IsDue : Option ℕ → Type 0
 IsDue None = ⊥
 IsDue (Some n) = n ≤ 1
 
-abbrev pub one_less : Option ℕ → Option ℕ
-one_less None = None
-one_less (Some n) = Some (n - 1)
+-- so many reads, writes and syncs later
+abbrev pub after_calls : ℕ → Option ℕ → Option ℕ
+after_calls calls None = None
+after_calls calls (Some n) = Some (n - calls)
 
 -- a read, write or sync: it counts down, stops only where that is due, and is not done there
 pub record CountsDown (old new : Option ℕ) (Going Stopping : Type 0) : Type 0 where
-  pub next : new ≡ one_less old
+  pub next : new ≡ after_calls 1 old
   pub stops : Stopping → IsDue old
   pub goes : Going → IsDue old → ⊥

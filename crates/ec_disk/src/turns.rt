@@ -31,7 +31,7 @@ fn is_listed(numbers: &[u64], number: u64) -> bool
 
 impl Turns {
     ghost use Rattle.std.specs.Prelude.{◌≡◌, ◌≤◌, None, Some, ⊤};
-    ghost use Rattle.ec_disk.specs.Disk.{Counted, CountsDown, one_less};
+    ghost use Rattle.ec_disk.specs.Disk.{Counted, CountsDown, after_calls};
     ghost use Rattle.ec_disk.specs.Turns.{counts_of, next_turn, next_len_turn, turn_of, next_call, is_due, has_stopped, one_more, faults_after, stops_after};
     ghost use Rattle.ec_disk.specs.declared.turns.Turn.TheVariants as turn;
 
@@ -96,7 +96,7 @@ impl Turns {
     // Whether the next counted call stops.
     fn count_down(&mut self) -> bool
         ensures due { result ≡ is_due self.old.armed }
-        ensures after { self.new ≡ record self.old { armed = one_less self.old.armed } }
+        ensures after { self.new ≡ record self.old { armed = after_calls 1 self.old.armed } }
     {
         match self.armed {
             Some(left) => {

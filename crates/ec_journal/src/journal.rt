@@ -1,6 +1,6 @@
 // A journal: it reads its records back, and adds one behind them.
 ghost use Rattle.std.specs.Prelude.{◌≡◌, ◌+◌, ◌^◌, ◌<◌, ◌≤◌, ℕ, length, IfOk, OnOk, IsErrOf};
-ghost use Rattle.ec_disk.specs.Disk.{InRange, written, IsSynced, Counted};
+ghost use Rattle.ec_disk.specs.Disk.{InRange, written, IsSynced, Counted, after_calls};
 ghost use Rattle.ec_disk.specs.Runs.{Ran};
 ghost use Rattle.ec_journal.specs.Records.{staged};
 ghost use Rattle.ec_journal.specs.declared.fault.JournalFault.TheVariants as fault;
@@ -24,7 +24,7 @@ pub struct Journal {
 
 impl Journal {
     ghost use Rattle.std.specs.Prelude.{◌≡◌, ◌+◌, ◌^◌, ◌<◌, ◌≤◌, ℕ, length, IfOk, OnOk, OnErr, IsErrOf};
-    ghost use Rattle.ec_disk.specs.Disk.{Counted, Rests};
+    ghost use Rattle.ec_disk.specs.Disk.{Counted, Rests, after_calls};
     ghost use Rattle.ec_disk.specs.Runs.{Ran};
     ghost use Rattle.ec_journal.specs.Records.{records, HasBodies};
     ghost use Rattle.ec_journal.specs.Journal.{place_of, size_of, end_of, free_of, need_of, FromGate, Adds, LeavesEither, IsBad};
@@ -54,6 +54,7 @@ impl Journal {
         ensures bodies { IfOk result (λ opened. D.tells → HasBodies (D.view disk.old).gives at size opened.1.items) }
         ensures journal { IfOk result (λ opened. (place_of opened.0 ≡ at) × (size_of opened.0 ≡ size) × (D.tells → end_of opened.0 ≡ length (records opened.1.items))) }
         ensures bad { (place : ℕ) → IsErrOf result (fault.Bad place) → D.tells → IsBad (D.view disk.old).gives at size place }
+        ensures calls { OnOk result ((D.counts disk.new).armed ≡ after_calls 1 (D.counts disk.old).armed) }
         ensures not_bad { OnOk result (D.tells → (place : ℕ) → IsBad (D.view disk.old).gives at size place → ⊥) }
         ensures rests { D.tells → Rests (D.view disk.old) (D.view disk.new) }
         ensures counts { Counted (D.counts disk.old) (D.counts disk.new) (IsErrOf result fault.DiskFailed) (IsErrOf result fault.DiskStopped) }
@@ -83,6 +84,7 @@ impl Journal {
         requires { length body.now ≤ 524288 }
         ensures ok { OnOk result (D.tells → Adds (D.view disk.old) (D.view disk.new) self.old self.new body.now) }
         ensures any_moment { D.tells → LeavesEither (D.view disk.old) (D.view disk.new) self.old body.now }
+        ensures calls { OnOk result ((D.counts disk.new).armed ≡ after_calls 4 (D.counts disk.old).armed) }
         ensures ran { D.tells → Ran (FromGate self.old) (D.view disk.old) (D.view disk.new) }
         ensures full { free_of self.old < need_of body.now → IsErrOf result (fault.NoRoom (need_of body.now) (free_of self.old)) }
         ensures no_room { (need free : ℕ) → IsErrOf result (fault.NoRoom need free) → (need ≡ need_of body.now) × (free ≡ free_of self.old) × (free < need) × (disk.new ≡ disk.old) }
@@ -116,6 +118,7 @@ fn write_staged<D: Disk>(
     ensures ran { D.tells → Ran (InRange at (length (staged body.now))) (D.view disk.old) (D.view disk.new) }
     ensures written { OnOk result (D.tells → (D.view disk.new).gives ≡ written at (staged body.now) (D.view disk.old).gives) }
     ensures synced { OnOk result (D.tells → IsSynced (D.view disk.new)) }
+    ensures calls { OnOk result ((D.counts disk.new).armed ≡ after_calls 2 (D.counts disk.old).armed) }
     ensures counts { Counted (D.counts disk.old) (D.counts disk.new) (IsErrOf result fault.DiskFailed) (IsErrOf result fault.DiskStopped) }
     ensures no_room { (need free : ℕ) → IsErrOf result (fault.NoRoom need free) → ⊥ }
     ensures no_bad { (place : ℕ) → IsErrOf result (fault.Bad place) → ⊥ }

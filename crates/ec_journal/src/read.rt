@@ -1,7 +1,7 @@
 // Reading the records of a journal.
-ghost use Rattle.std.specs.Prelude.{◌≡◌, ◌≢◌, ◌⊎◌, ◌+◌, ◌^◌, ◌<◌, ◌≤◌, ℕ, Bool, true, false, List, [], length, IfOk, IfSome, IfNone, IsErrOf};
+ghost use Rattle.std.specs.Prelude.{◌≡◌, ◌≢◌, ◌⊎◌, ◌+◌, ◌^◌, ◌<◌, ◌≤◌, ℕ, Bool, true, false, List, [], length, IfOk, OnOk, IfSome, IfNone, IsErrOf};
 ghost use Rattle.std.specs.Int.{w32, from_be_bytes};
-ghost use Rattle.ec_disk.specs.Disk.{byte, part, Rests, Counted};
+ghost use Rattle.ec_disk.specs.Disk.{byte, part, Rests, Counted, after_calls};
 ghost use Rattle.ec_journal.specs.Records.{open_gate, HasBodies, RunsPast};
 ghost use Rattle.ec_journal.specs.Journal.{IsFound};
 ghost use Rattle.ec_journal.specs.declared.fault.JournalFault.TheVariants as fault;
@@ -38,6 +38,7 @@ pub fn read_records<D: Disk>(
     requires inside { D.tells → at + size ≤ length (D.view disk.old).gives }
     ensures found { IfOk result (λ found. D.tells → IsFound (D.view disk.old).gives at size found) }
     ensures end { IfOk result (λ found. found.end < size) }
+    ensures calls { OnOk result ((D.counts disk.new).armed ≡ after_calls 1 (D.counts disk.old).armed) }
     ensures rests { D.tells → Rests (D.view disk.old) (D.view disk.new) }
     ensures counts { Counted (D.counts disk.old) (D.counts disk.new) (IsErrOf result fault.DiskFailed) (IsErrOf result fault.DiskStopped) }
     ensures no_room { (need free : ℕ) → IsErrOf result (fault.NoRoom need free) → ⊥ }

@@ -1,4 +1,6 @@
-use Rattle.std.proofs.Common.{arith}
+use Rattle.std.proofs.Common.{arith, ap, ◌∙◌, Option, ℕ}
+use Rattle.ec_disk.specs.Disk.{after_calls}
+use Rattle.ec_disk.specs.Counting.{after_calls-add}
 use Rattle.ec_journal.specs.Journal.{FromGate}
 use Rattle.ec_journal.proofs.Append.{size-records, first_leaves, both_leave, both_ran, appended}
 use Rattle.ec_journal.proofs.journal.Journal.append.Goals as goal
@@ -46,3 +48,7 @@ returns-clause-ran g c told =
     let j = c.args.self.now in
     both_ran j.at j.size j.end c.args.body.now (omega (arith, c.if-need-free.false)) j.room (FromGate j) (λ i low high. (low, high)) (g.D.Disk.view c.args.disk.now) (g.D.Disk.view c.write_staged.new.disk)
     (g.D.Disk.view c.write_synced.new.disk) (c.write_staged.ensures.ran told) (c.write_synced.ensures.ran told)
+
+pub returns-clause-calls : goal.returns-clause-calls
+returns-clause-calls g c =
+    c.in_ok-write_synced.ensures.calls ∙ ap (λ (armed : Option ℕ). after_calls 2 armed) c.in_ok-write_staged.ensures.calls ∙ after_calls-add 2 2 (g.D.Disk.counts c.args.disk.now).armed
