@@ -1,7 +1,8 @@
 -- What the next call of a disk does.
-use Rattle.std.specs.Prelude.{ℕ, ◌+◌, ◌-◌, ◌^◌, min, Bool, true, false, Option, Some, None, if◌then◌else◌, nat_eq, nat_le}
+use Rattle.std.specs.Prelude.{ℕ, Bool, true, false, Option, Some, None, if◌then◌else◌, nat_eq, nat_le}
 use Rattle.std.specs.List.{list_any}
 use Rattle.std.specs.Option.{option_eq}
+use Rattle.ec_base.specs.Outside.{one_more}
 use Rattle.ec_disk.specs.Disk.{Counts}
 use Rattle.ec_disk.specs.declared.turns.Turns.{Turns}
 use Rattle.ec_disk.specs.declared.turns.Turn.{Turn}
@@ -9,9 +10,6 @@ use Rattle.ec_disk.specs.declared.turns.Turn.TheVariants as turn
 
 abbrev pub counts_of : Turns → Counts
 counts_of t = record { faults = t.faults; stops = t.stops; armed = t.armed }
-
-abbrev pub one_more : ℕ → ℕ
-one_more n = min (n + 1) (2 ^ 64 - 1)
 
 -- the number of the next call, from 1
 abbrev pub next_call : Turns → ℕ

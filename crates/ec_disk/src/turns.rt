@@ -32,7 +32,7 @@ fn is_listed(numbers: &[u64], number: u64) -> bool
 impl Turns {
     ghost use Rattle.std.specs.Prelude.{◌≡◌, ◌≤◌, None, Some, ⊤};
     ghost use Rattle.ec_disk.specs.Disk.{Counted, CountsDown, after_calls};
-    ghost use Rattle.ec_disk.specs.Turns.{counts_of, next_turn, next_len_turn, turn_of, next_call, is_due, has_stopped, one_more, faults_after, stops_after};
+    ghost use Rattle.ec_disk.specs.Turns.{counts_of, next_turn, next_len_turn, turn_of, next_call, is_due, has_stopped, faults_after, stops_after};
     ghost use Rattle.ec_disk.specs.declared.turns.Turn.TheVariants as turn;
 
     /// The calls whose numbers, from 1, are listed will fail.

@@ -12,7 +12,9 @@ use ec_base::List;
 use ec_disk::Disk;
 use std::alloc::{AllocError, Global};
 
-/// A row of records in a range of a disk. A closed gate stands behind the last one, and is on the disk before anything is written behind it.
+/// A row of records in a range of a disk.
+///
+/// A closed gate stands behind the last one. It's on the disk before the gate in front of that record opens.
 #[derive(Debug, Drop)]
 pub struct Journal {
     at: u64,
@@ -24,7 +26,7 @@ pub struct Journal {
 
 impl Journal {
     ghost use Rattle.std.specs.Prelude.{◌≡◌, ◌+◌, ◌^◌, ◌<◌, ◌≤◌, ℕ, length, IfOk, OnOk, OnErr, IsErrOf};
-    ghost use Rattle.ec_disk.specs.Disk.{Counted, Rests, after_calls};
+    ghost use Rattle.ec_disk.specs.Disk.{IsSynced, Counted, Rests, after_calls};
     ghost use Rattle.ec_disk.specs.Runs.{Ran};
     ghost use Rattle.ec_journal.specs.Records.{records, HasBodies};
     ghost use Rattle.ec_journal.specs.Journal.{place_of, size_of, end_of, free_of, need_of, FromGate, Adds, LeavesEither, IsBad};
@@ -74,7 +76,8 @@ impl Journal {
 
     /// Adds a body, by four calls of the disk. At `Ok` it is there after each crash.
     ///
-    /// At `NoRoom`, which shows the bytes needed and those free, there was no call. After a fault of the disk, open again.
+    /// At `NoRoom`, which shows the bytes needed and those free, there was no call. After a fault of the disk, or want of its memory,
+    /// the record may be there or not: open again.
     pub fn append<D: Disk>(
         &mut self,
         alloc: Global,
@@ -83,6 +86,7 @@ impl Journal {
     ) -> Result<(), JournalFault>
         requires { length body.now ≤ 524288 }
         ensures ok { OnOk result (D.tells → Adds (D.view disk.old) (D.view disk.new) self.old self.new body.now) }
+        ensures synced { OnOk result (D.tells → IsSynced (D.view disk.new)) }
         ensures any_moment { D.tells → LeavesEither (D.view disk.old) (D.view disk.new) self.old body.now }
         ensures calls { OnOk result ((D.counts disk.new).armed ≡ after_calls 4 (D.counts disk.old).armed) }
         ensures ran { D.tells → Ran (FromGate self.old) (D.view disk.old) (D.view disk.new) }
