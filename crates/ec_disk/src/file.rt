@@ -22,7 +22,7 @@ pub struct FileDisk {
     undos: Vec<Undo>,
 }
 
-/// Why a call on the file wasn't carried out.
+// Why a call on the file wasn't carried out.
 #[derive(Clone, Copy, Debug, Drop, PartialEq, Eq)]
 enum FileFault {
     Device,
@@ -30,18 +30,33 @@ enum FileFault {
 }
 
 impl From<io::Error> for FileFault {
+    ghost use Rattle.std.specs.Prelude.{◌≡◌};
+    ghost use Rattle.ec_disk.specs.declared.file.FileFault.TheVariants as fault;
+
+    ghost from_gives = { λ _ e. e ≡ fault.Device };
+
     fn from(_: io::Error) -> Self {
         FileFault::Device
     }
 }
 
 impl From<AllocError> for FileFault {
+    ghost use Rattle.std.specs.Prelude.{◌≡◌};
+    ghost use Rattle.ec_disk.specs.declared.file.FileFault.TheVariants as fault;
+
+    ghost from_gives = { λ _ e. e ≡ fault.NoMemory };
+
     fn from(_: AllocError) -> Self {
         FileFault::NoMemory
     }
 }
 
 impl<T: Drop> From<AllocFailed<T>> for FileFault {
+    ghost use Rattle.std.specs.Prelude.{◌≡◌};
+    ghost use Rattle.ec_disk.specs.declared.file.FileFault.TheVariants as fault;
+
+    ghost from_gives = { λ _ e. e ≡ fault.NoMemory };
+
     fn from(_: AllocFailed<T>) -> Self {
         FileFault::NoMemory
     }
