@@ -1,0 +1,3 @@
+mod MemoryLaws
+mod TurnLaws
+mod UndoLaws

@@ -1,0 +1,100 @@
+-- Images of a disk, and what its calls do to them.
+use Rattle.std.specs.Prelude.{◌<◌, ◌≡◌, ◌⊎◌, ℕ, ◌+◌, ◌-◌, ◌≤◌, List, ◌++◌, Option, Some, None, IsSome, length, take, drop, replicate, get_or}
+use Rattle.ec_base.specs.Outside.{Rose}
+
+-- the byte at a place, zero past the end
+abbrev pub byte : List ℕ → ℕ → ℕ
+byte image i = get_or image i 0
+
+-- so many bytes from a place on
+abbrev pub part : List ℕ → ℕ → ℕ → List ℕ
+part image at n = take n (drop at image)
+
+-- an image with these bytes written over it; a gap past the end is zeros
+abbrev pub written : ℕ → List ℕ → List ℕ → List ℕ
+written at bytes old = take at old ++ replicate (at - length old) 0 ++ bytes ++ drop (at + length bytes) old
+
+-- What writes at these places may make of an image that a crash leaves: any bytes there and past its end.
+pub record Loose (W : ℕ → Type 0) (old new : List ℕ) : Type 0 where
+  pub no_shorter : length old ≤ length new
+  pub outside : (i : ℕ) → i < length old → (W i → ⊥) → byte new i ≡ byte old i
+
+-- the places of a range
+abbrev pub InRange : ℕ → ℕ → ℕ → Type 0
+InRange at n i = (at ≤ i) × (i < at + n)
+
+-- a disk at one moment: what a read gives, what a crash may leave, the moment, and what a crash since an earlier one might have left
+pub record View : Type 1 where
+  pub gives : List ℕ
+  pub may_leave : List ℕ → Type 0
+  pub moment : ℕ
+  pub left_since : ℕ → List ℕ → Type 0
+
+-- a crash leaves what a read gives and nothing else
+abbrev pub IsSynced : View → Type 0
+IsSynced now = (c : List ℕ) → now.may_leave c → c ≡ now.gives
+
+-- Time goes on: since an earlier moment a crash might have left what it might have before, or what it may leave now.
+pub record Elapses (old new : View) : Type 0 where
+  pub later : old.moment ≤ new.moment
+  pub nothing_else : (t : ℕ) (c : List ℕ) → t ≤ old.moment → new.left_since t c → old.left_since t c ⊎ new.may_leave c
+  pub keeps : (t : ℕ) (c : List ℕ) → t ≤ old.moment → old.left_since t c → new.left_since t c
+
+-- a call that writes nothing
+pub record Rests (old new : View) : Type 0 where
+  pub gives : new.gives ≡ old.gives
+  pub crash : (c : List ℕ) → new.may_leave c → old.may_leave c
+  pub time : Elapses old new
+
+-- an image that a crash may leave, after writes at these places
+abbrev pub After : View → (ℕ → Type 0) → List ℕ → Type 0
+After old W c = (d : List ℕ) × old.may_leave d × Loose W d c
+
+-- writes at these places alone, whatever they answered
+pub record Wrote (W : ℕ → Type 0) (old new : View) : Type 0 where
+  pub crash : (c : List ℕ) → new.may_leave c → After old W c
+  pub time : Elapses old new
+
+-- a power cut, whatever it answered
+pub record Cut (old new : View) : Type 0 where
+  pub crash : (c : List ℕ) → new.may_leave c → old.may_leave c
+  pub time : Elapses old new
+
+-- Each image that a crash since the old moment might have left has P.
+pub record LeavesOnly (old new : View) (P : List ℕ → Type 0) : Type 0 where
+  pub later : old.moment ≤ new.moment
+  pub each : (c : List ℕ) → new.left_since old.moment c → P c
+  -- for a run that began earlier
+  pub before : (t : ℕ) (c : List ℕ) → t ≤ old.moment → new.left_since t c → old.left_since t c ⊎ P c
+
+-- How often a disk failed and stopped. Where it is armed, the read, write or sync of the number `armed` from now on stops, and so do
+-- all calls after it; at 0 it has stopped.
+pub record Counts : Type 0 where
+  pub faults : ℕ
+  pub stops : ℕ
+  pub armed : Option ℕ
+
+-- Counts don't fall, and have risen where the call answers so. Only an armed disk stops, and no call of these arms one.
+pub record Counted (old new : Counts) (Failing Stopping : Type 0) : Type 0 where
+  pub faults_later : old.faults ≤ new.faults
+  pub stops_later : old.stops ≤ new.stops
+  pub failed : Failing → Rose old.faults new.faults
+  pub stopped : Stopping → Rose old.stops new.stops
+  pub armed : Stopping → IsSome old.armed
+  pub not_rearmed : IsSome new.armed → IsSome old.armed
+
+-- the next read, write or sync stops
+abbrev pub IsDue : Option ℕ → Type 0
+IsDue None = ⊥
+IsDue (Some n) = n ≤ 1
+
+-- so many reads, writes and syncs later
+abbrev pub after_calls : ℕ → Option ℕ → Option ℕ
+after_calls calls None = None
+after_calls calls (Some n) = Some (n - calls)
+
+-- a read, write or sync: it counts down, stops only where that is due, and is not done there
+pub record CountsDown (old new : Option ℕ) (Going Stopping : Type 0) : Type 0 where
+  pub next : new ≡ after_calls 1 old
+  pub stops : Stopping → IsDue old
+  pub goes : Going → IsDue old → ⊥

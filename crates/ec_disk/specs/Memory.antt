@@ -1,0 +1,71 @@
+-- What a disk in memory keeps, and what its calls add.
+use Rattle.std.specs.Prelude.{◌≡◌, ℕ, List, [], ◌∷◌, ◌++◌, length}
+use Rattle.ec_disk.specs.Disk.{Counts}
+use Rattle.ec_disk.specs.Past.{shot_of}
+use Rattle.ec_disk.specs.Turns.{counts_of, next_turn, next_len_turn, next_call}
+use Rattle.ec_disk.specs.declared.disk.DiskAnswer.{DiskAnswer}
+use Rattle.ec_disk.specs.declared.disk.DiskAnswer.TheVariants as answer
+use Rattle.ec_disk.specs.declared.disk.DiskLen.{DiskLen}
+use Rattle.ec_disk.specs.declared.disk.DiskLen.TheVariants as len
+use Rattle.ec_disk.specs.declared.turns.Turn.{Turn}
+use Rattle.ec_disk.specs.declared.turns.Turn.TheVariants as turn
+use Rattle.ec_disk.specs.declared.memory.Step.{Step}
+use Rattle.ec_disk.specs.declared.memory.Step.TheVariants as step
+use Rattle.ec_disk.specs.declared.memory.MemDisk.{MemDisk}
+
+-- the writes, syncs and power cuts of a disk
+abbrev pub steps_of : MemDisk → List Step
+steps_of disk = disk.log.items
+
+abbrev pub counts_of_disk : MemDisk → Counts
+counts_of_disk disk = counts_of disk.turns
+
+abbrev pub answer_of : Turn → DiskAnswer
+answer_of turn.Goes = answer.Done
+answer_of turn.Fails = answer.Failed
+answer_of turn.Stops = answer.Stopped
+
+-- what the next read, write or sync answers, where memory suffices
+abbrev pub next_answer : MemDisk → DiskAnswer
+next_answer disk = answer_of (next_turn disk.turns)
+
+abbrev pub len_of : Turn → ℕ → DiskLen
+len_of turn.Goes n = len.Len n
+len_of turn.Fails n = len.Failed
+len_of turn.Stops n = len.Stopped
+
+-- what the next question for the length answers
+abbrev pub next_len : MemDisk → DiskLen
+next_len disk = len_of (next_len_turn disk.turns) (length (shot_of (steps_of disk)).now)
+
+-- the numbers of the calls that fail
+abbrev pub fails_of : MemDisk → List ℕ
+fails_of disk = disk.turns.fails.items
+
+-- the number of calls so far
+abbrev pub calls_of : MemDisk → ℕ
+calls_of disk = disk.turns.calls
+
+-- one call later
+pub record NextCall (old new : MemDisk) : Type 0 where
+  pub fails : fails_of new ≡ fails_of old
+  pub calls : calls_of new ≡ next_call old.turns
+
+-- no call of `Disk` since
+pub record SameCall (old new : MemDisk) : Type 0 where
+  pub fails : fails_of new ≡ fails_of old
+  pub calls : calls_of new ≡ calls_of old
+
+-- a write that stops is carried out, one that fails isn't
+abbrev pub with_write : DiskAnswer → ℕ → List ℕ → List Step → List Step
+with_write answer.Done at bytes steps = steps ++ step.Write at bytes ∷ []
+with_write answer.Stopped at bytes steps = steps ++ step.Write at bytes ∷ []
+with_write answer.Failed at bytes steps = steps
+with_write answer.NoMemory at bytes steps = steps
+
+-- a sync or a power cut is carried out only where it is done
+abbrev pub with_step : DiskAnswer → Step → List Step → List Step
+with_step answer.Done x steps = steps ++ x ∷ []
+with_step answer.Stopped x steps = steps
+with_step answer.Failed x steps = steps
+with_step answer.NoMemory x steps = steps

@@ -1,0 +1,107 @@
+// Disks: what a read gives, and what a crash may leave.
+ghost use Rattle.std.specs.Prelude.{◌≡◌, ◌+◌, ◌≤◌, List, ℕ, Some, None, length};
+ghost use Rattle.ec_disk.specs.declared.disk.DiskAnswer.TheVariants as answer;
+ghost use Rattle.ec_disk.specs.declared.disk.DiskLen.TheVariants as len;
+ghost use Rattle.ec_disk.specs.Disk.{View, Counts, part, written, IsSynced, Rests, InRange, Wrote, Cut, Counted, CountsDown};
+
+/// What a disk answers. After anything but `Done` a write may have changed any bytes of its range.
+#[derive(Clone, Copy, Debug, Drop, PartialEq, Eq)]
+pub enum DiskAnswer {
+    Done,
+    /// The device failed.
+    Failed,
+    /// The disk is armed and stopped here.
+    Stopped,
+    NoMemory,
+}
+
+/// What a disk answers when asked for its length in bytes.
+#[derive(Clone, Copy, Debug, Drop, PartialEq, Eq)]
+pub enum DiskLen {
+    Len(u64),
+    Failed,
+    Stopped,
+}
+
+/// What a power cut leaves of the writes since the last sync.
+#[derive(Clone, Copy, Debug, Drop, PartialEq, Eq)]
+pub enum Choice {
+    /// None of them.
+    Old,
+    /// All of them.
+    New,
+    /// Their bytes at even places.
+    Torn,
+}
+
+/// A row of bytes that outlives a crash, as far as it was synced.
+pub trait Disk {
+    /// Whether disks of this type tell their content.
+    ghost tells: { Type 0 };
+
+    /// The content at this moment, where told.
+    ghost view: { Self → View };
+
+    ghost counts: { Self → Counts };
+
+    /// Fills `into` with the bytes from `at` on.
+    fn read_at(&mut self, at: u64, into: &mut [u8]) -> DiskAnswer
+        requires inside { tells → at + length into.old ≤ length (view self.old).gives }
+        ensures bytes { tells → result ≡ answer.Done → into.new ≡ part (view self.old).gives at (length into.old) }
+        ensures rests { tells → Rests (view self.old) (view self.new) }
+        ensures counts { Counted (counts self.old) (counts self.new) (result ≡ answer.Failed) (result ≡ answer.Stopped) }
+        ensures armed { CountsDown (counts self.old).armed (counts self.new).armed (result ≡ answer.Done) (result ≡ answer.Stopped) };
+
+    /// Writes `piece` from `at` on. A gap past the end reads as zeros. Until a sync a crash may leave any bytes in the range.
+    fn write_at(&mut self, at: u64, piece: &[u8]) -> DiskAnswer
+        ensures written { tells → result ≡ answer.Done → (view self.new).gives ≡ written at piece.now (view self.old).gives }
+        ensures wrote { tells → Wrote (InRange at (length piece.now)) (view self.old) (view self.new) }
+        ensures counts { Counted (counts self.old) (counts self.new) (result ≡ answer.Failed) (result ≡ answer.Stopped) }
+        ensures armed { CountsDown (counts self.old).armed (counts self.new).armed (result ≡ answer.Done) (result ≡ answer.Stopped) };
+
+    /// Brings what was written to the device: after it a crash leaves what a read gives.
+    fn sync(&mut self) -> DiskAnswer
+        ensures synced { tells → result ≡ answer.Done → IsSynced (view self.new) }
+        ensures rests { tells → Rests (view self.old) (view self.new) }
+        ensures counts { Counted (counts self.old) (counts self.new) (result ≡ answer.Failed) (result ≡ answer.Stopped) }
+        ensures armed { CountsDown (counts self.old).armed (counts self.new).armed (result ≡ answer.Done) (result ≡ answer.Stopped) };
+
+    /// An armed disk doesn't count this call, but answers it no more once it has stopped.
+    fn len(&mut self) -> DiskLen
+        ensures len { tells → (n : ℕ) → result ≡ len.Len n → n ≡ length (view self.old).gives }
+        ensures rests { tells → Rests (view self.old) (view self.new) }
+        ensures counts { Counted (counts self.old) (counts self.new) (result ≡ len.Failed) (result ≡ len.Stopped) }
+        ensures armed { (counts self.new).armed ≡ (counts self.old).armed }
+        ensures stopped { result ≡ len.Stopped → (counts self.old).armed ≡ Some 0 }
+        ensures answers { (n : ℕ) → result ≡ len.Len n → (counts self.old).armed ≡ Some 0 → ⊥ };
+
+    /// What a read gives is one of the images that a crash may leave.
+    ghost given: { tells → (d : Self) → (view d).may_leave (view d).gives };
+
+    /// This moment is one of those since an earlier one.
+    ghost counts_now: { tells → (d : Self) (t : ℕ) (c : List ℕ) → t ≤ (view d).moment → (view d).may_leave c → (view d).left_since t c };
+
+    /// Since this moment there is no other.
+    ghost only_now: { tells → (d : Self) (c : List ℕ) → (view d).left_since (view d).moment c → (view d).may_leave c };
+}
+
+/// A disk on which a crash can be tried out.
+pub trait CrashDisk: Disk {
+    /// Of the reads, writes and syncs from now on, number `calls` (from 1) answers `Stopped`, and so does each later call.
+    fn arm(&mut self, calls: u64)
+        ensures rests { Self.tells → Rests (Self.view self.old) (Self.view self.new) }
+        ensures armed { Self.counts self.new ≡ record (Self.counts self.old) { armed = Some calls } };
+
+    /// Ends an arm or a stop.
+    fn disarm(&mut self)
+        ensures rests { Self.tells → Rests (Self.view self.old) (Self.view self.new) }
+        ensures disarmed { Self.counts self.new ≡ record (Self.counts self.old) { armed = None } };
+
+    /// Leaves one of the images that a crash may leave, with nothing unsynced, and disarms.
+    fn power_cut(&mut self, choice: Choice) -> DiskAnswer
+        ensures cut { Self.tells → Cut (Self.view self.old) (Self.view self.new) }
+        ensures synced { Self.tells → result ≡ answer.Done → IsSynced (Self.view self.new) }
+        ensures counts { Counted (Self.counts self.old) (Self.counts self.new) (result ≡ answer.Failed) (result ≡ answer.Stopped) }
+        ensures never_stops { result ≡ answer.Stopped → ⊥ }
+        ensures disarmed { result ≡ answer.Done → (Self.counts self.new).armed ≡ None };
+}

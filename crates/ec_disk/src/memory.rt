@@ -1,0 +1,337 @@
+// A disk in memory, which keeps the list of its writes, syncs and power cuts.
+ghost use Rattle.std.specs.Prelude.{◌≡◌, ℕ, List, length, vec_len, IfOk};
+ghost use Rattle.ec_disk.specs.Past.{shot_of, cut};
+ghost use Rattle.ec_disk.specs.Undo.{undone, Restores};
+
+use crate::disk::{Choice, CrashDisk, Disk, DiskAnswer, DiskLen};
+use crate::turns::{Turn, Turns};
+use crate::undo::{Undo, bytes_at, overwrite, put_back, torn};
+use ec_base::{List, NoMemory};
+use std::alloc::{AllocError, Global};
+
+/// One change of a disk in memory.
+#[derive(Debug, Drop)]
+pub enum Step {
+    /// These bytes from this place on.
+    Write(u64, List<u8>),
+    Sync,
+    Cut(Choice),
+}
+
+/// A disk in memory, of length 0 at first.
+#[derive(Drop)]
+pub struct MemDisk {
+    turns: Turns,
+    image: Vec<u8>,
+    synced_len: usize,
+    undos: Vec<Undo>,
+    log: Vec<Step>,
+    ghost image_is: { image.items ≡ (shot_of log.items).now },
+    ghost restores: { Restores undos.items synced_len image.items (shot_of log.items).synced },
+}
+
+impl MemDisk {
+    ghost use Rattle.std.specs.Prelude.{◌≡◌, [], ◌∷◌, ◌++◌, None, IfOk, OnOk, OnErr};
+    ghost use Rattle.std.specs.List.Sorted.{IsPermutation};
+    ghost use Rattle.ec_disk.specs.Memory.{steps_of, calls_of, fails_of, counts_of_disk};
+    ghost use Rattle.ec_disk.specs.declared.memory.Step.TheVariants as step;
+
+    /// The calls of `Disk` whose numbers, from 1, are listed will fail and change nothing.
+    pub fn new(alloc: Global, fails: Vec<u64>) -> Result<MemDisk, NoMemory>
+        ensures steps { IfOk result (λ disk. steps_of disk ≡ []) }
+        ensures calls { IfOk result (λ disk. calls_of disk ≡ 0) }
+        ensures fails { IfOk result (λ disk. IsPermutation fails.items (fails_of disk)) }
+        ensures counts { IfOk result (λ disk. counts_of_disk disk ≡ record { faults = 0; stops = 0; armed = None }) }
+    {
+        let mut fails = fails;
+        fails.sort()?;
+        Ok(MemDisk {
+            turns: Turns::new(fails),
+            image: Vec::new(alloc),
+            synced_len: 0,
+            undos: Vec::new(alloc),
+            log: Vec::new(alloc),
+        })
+    }
+
+    /// The writes that were carried out, the syncs and the power cuts, in their order.
+    pub fn steps(&self) -> &[Step]
+        ensures { result.now ≡ steps_of self.now }
+    {
+        &self.log
+    }
+
+    fn write(&mut self, at: u64, piece: &[u8]) -> Result<(), AllocError>
+        ensures ok { OnOk result (steps_of self.new ≡ steps_of self.old ++ step.Write at piece.now ∷ []) }
+        ensures err { OnErr result (steps_of self.new ≡ steps_of self.old) }
+        ensures turns { self.new.turns ≡ self.old.turns }
+    {
+        let alloc = *self.log.allocator();
+        let place = at as usize;
+        let old = List::of(bytes_at(alloc, &self.image, place, piece.len())?);
+        let bytes = List::of(piece.to_vec(alloc)?);
+        self.undos.reserve(1)?;
+        self.log.reserve(1)?;
+        overwrite(&mut self.image, place, piece)?;
+        self.undos.push(Undo { at, old }).unwrap();
+        self.log.push(Step::Write(at, bytes)).unwrap();
+        Ok(())
+    }
+
+    fn note_sync(&mut self) -> Result<(), AllocError>
+        ensures ok { OnOk result (steps_of self.new ≡ steps_of self.old ++ step.Sync ∷ []) }
+        ensures err { OnErr result (steps_of self.new ≡ steps_of self.old) }
+        ensures turns { self.new.turns ≡ self.old.turns }
+    {
+        self.log.push(Step::Sync)?;
+        self.undos.clear();
+        self.synced_len = self.image.len();
+        Ok(())
+    }
+
+    fn cut(&mut self, choice: Choice) -> Result<(), AllocError>
+        ensures ok { OnOk result (steps_of self.new ≡ steps_of self.old ++ step.Cut choice ∷ []) }
+        ensures err { OnErr result (steps_of self.new ≡ steps_of self.old) }
+        ensures turns { self.new.turns ≡ self.old.turns }
+    {
+        let alloc = *self.log.allocator();
+        let next = after_cut(alloc, choice, &self.image, &self.undos, self.synced_len)?;
+        self.log.push(Step::Cut(choice))?;
+        self.undos.clear();
+        self.synced_len = next.len();
+        self.image = next;
+        Ok(())
+    }
+}
+
+// What a power cut leaves.
+fn after_cut(
+    alloc: Global,
+    choice: Choice,
+    now: &[u8],
+    undos: &[Undo],
+    synced_len: usize,
+) -> Result<Vec<u8>, AllocError>
+    requires { length (undone undos.now now.now) ≡ length now.now }
+    ensures { IfOk result (λ next. (synced : List ℕ) → Restores undos.now synced_len now.now synced → next.items ≡ cut choice now.now synced) }
+{
+    let mut old = now.to_vec(alloc)?;
+    put_back(&mut old, undos);
+    match choice {
+        Choice::Old => {
+            old.truncate(synced_len);
+            Ok(old)
+        }
+        Choice::New => now.to_vec(alloc),
+        Choice::Torn => torn(alloc, 0, now, &old),
+    }
+}
+
+impl Disk for MemDisk {
+    ghost use Rattle.std.specs.Prelude.{◌≡◌, ◌+◌, ◌≤◌, ◌⊎◌, ℕ, Some, length};
+    ghost use Rattle.ec_disk.specs.declared.disk.DiskAnswer.TheVariants as answer;
+    ghost use Rattle.ec_disk.specs.declared.disk.DiskLen.TheVariants as len;
+    ghost use Rattle.ec_disk.specs.declared.memory.Step.TheVariants as step;
+    ghost use Rattle.ec_disk.specs.Disk.{part, written, IsSynced, Rests, InRange, Wrote, Counted, CountsDown};
+    ghost use Rattle.ec_disk.specs.Memory.{steps_of, counts_of_disk, next_answer, next_len, NextCall, with_write, with_step};
+    ghost use Rattle.ec_disk.specs.Past.{view_of};
+    ghost use Rattle.ec_disk.specs.PastLaws.{given as past_given, counts_now as past_counts_now, only_now as past_only_now};
+
+    ghost tells = { Unit {0} };
+
+    ghost view = { λ m. view_of (steps_of m) };
+
+    ghost counts = { λ m. counts_of_disk m };
+
+    ghost given = { λ told m. past_given (steps_of m) };
+
+    ghost counts_now = { λ told m t c le left. past_counts_now (steps_of m) t c le left };
+
+    ghost only_now = { λ told m c left. past_only_now (steps_of m) c left };
+
+    fn read_at(&mut self, at: u64, into: &mut [u8]) -> DiskAnswer
+        requires inside { at + length into.old ≤ length (view_of (steps_of self.old)).gives }
+        ensures bytes { result ≡ answer.Done → into.new ≡ part (view_of (steps_of self.old)).gives at (length into.old) }
+        ensures rests { Rests (view_of (steps_of self.old)) (view_of (steps_of self.new)) }
+        ensures counts { Counted (counts_of_disk self.old) (counts_of_disk self.new) (result ≡ answer.Failed) (result ≡ answer.Stopped) }
+        ensures armed { CountsDown (counts_of_disk self.old).armed (counts_of_disk self.new).armed (result ≡ answer.Done) (result ≡ answer.Stopped) }
+        ensures answers { result ≡ next_answer self.old }
+        ensures call { NextCall self.old self.new }
+        ensures steps { steps_of self.new ≡ steps_of self.old }
+    {
+        match self.turns.next() {
+            Turn::Goes => {}
+            Turn::Fails => return DiskAnswer::Failed,
+            Turn::Stops => return DiskAnswer::Stopped,
+        }
+        let from = at as usize;
+        let end = from + into.len();
+        into.copy_from_slice(&self.image[from..end]);
+        DiskAnswer::Done
+    }
+
+    fn write_at(&mut self, at: u64, piece: &[u8]) -> DiskAnswer
+        ensures written { result ≡ answer.Done → (view_of (steps_of self.new)).gives ≡ written at piece.now (view_of (steps_of self.old)).gives }
+        ensures wrote { Wrote (InRange at (length piece.now)) (view_of (steps_of self.old)) (view_of (steps_of self.new)) }
+        ensures counts { Counted (counts_of_disk self.old) (counts_of_disk self.new) (result ≡ answer.Failed) (result ≡ answer.Stopped) }
+        ensures armed { CountsDown (counts_of_disk self.old).armed (counts_of_disk self.new).armed (result ≡ answer.Done) (result ≡ answer.Stopped) }
+        ensures answers { (result ≡ answer.NoMemory) ⊎ (result ≡ next_answer self.old) }
+        ensures call { NextCall self.old self.new }
+        ensures steps { steps_of self.new ≡ with_write result at piece.now (steps_of self.old) }
+    {
+        let turn = self.turns.next();
+        if turn == Turn::Fails {
+            return DiskAnswer::Failed;
+        }
+        match self.write(at, piece) {
+            Ok(()) if turn == Turn::Stops => DiskAnswer::Stopped,
+            Ok(()) => DiskAnswer::Done,
+            Err(_) => DiskAnswer::NoMemory,
+        }
+    }
+
+    fn sync(&mut self) -> DiskAnswer
+        ensures synced { result ≡ answer.Done → IsSynced (view_of (steps_of self.new)) }
+        ensures rests { Rests (view_of (steps_of self.old)) (view_of (steps_of self.new)) }
+        ensures counts { Counted (counts_of_disk self.old) (counts_of_disk self.new) (result ≡ answer.Failed) (result ≡ answer.Stopped) }
+        ensures armed { CountsDown (counts_of_disk self.old).armed (counts_of_disk self.new).armed (result ≡ answer.Done) (result ≡ answer.Stopped) }
+        ensures answers { (result ≡ answer.NoMemory) ⊎ (result ≡ next_answer self.old) }
+        ensures call { NextCall self.old self.new }
+        ensures steps { steps_of self.new ≡ with_step result step.Sync (steps_of self.old) }
+    {
+        match self.turns.next() {
+            Turn::Goes => {}
+            Turn::Fails => return DiskAnswer::Failed,
+            Turn::Stops => return DiskAnswer::Stopped,
+        }
+        match self.note_sync() {
+            Ok(()) => DiskAnswer::Done,
+            Err(_) => DiskAnswer::NoMemory,
+        }
+    }
+
+    fn len(&mut self) -> DiskLen
+        ensures len { (n : ℕ) → result ≡ len.Len n → n ≡ length (view_of (steps_of self.old)).gives }
+        ensures rests { Rests (view_of (steps_of self.old)) (view_of (steps_of self.new)) }
+        ensures counts { Counted (counts_of_disk self.old) (counts_of_disk self.new) (result ≡ len.Failed) (result ≡ len.Stopped) }
+        ensures armed { (counts_of_disk self.new).armed ≡ (counts_of_disk self.old).armed }
+        ensures stopped { result ≡ len.Stopped → (counts_of_disk self.old).armed ≡ Some 0 }
+        ensures answers { (n : ℕ) → result ≡ len.Len n → (counts_of_disk self.old).armed ≡ Some 0 → ⊥ }
+        ensures exact { result ≡ next_len self.old }
+        ensures call { NextCall self.old self.new }
+        ensures steps { steps_of self.new ≡ steps_of self.old }
+    {
+        match self.turns.next_len() {
+            Turn::Goes => DiskLen::Len(self.image.len() as u64),
+            Turn::Fails => DiskLen::Failed,
+            Turn::Stops => DiskLen::Stopped,
+        }
+    }
+}
+
+impl CrashDisk for MemDisk {
+    ghost use Rattle.std.specs.Prelude.{◌≡◌, ◌≢◌, ◌⊎◌, Some, None};
+    ghost use Rattle.ec_disk.specs.declared.disk.DiskAnswer.TheVariants as answer;
+    ghost use Rattle.ec_disk.specs.declared.memory.Step.TheVariants as step;
+    ghost use Rattle.ec_disk.specs.Disk.{IsSynced, Rests, Cut, Counted};
+    ghost use Rattle.ec_disk.specs.Memory.{steps_of, counts_of_disk, with_step, SameCall};
+    ghost use Rattle.ec_disk.specs.Past.{view_of};
+
+    fn arm(&mut self, calls: u64)
+        ensures rests { Rests (view_of (steps_of self.old)) (view_of (steps_of self.new)) }
+        ensures armed { counts_of_disk self.new ≡ record (counts_of_disk self.old) { armed = Some calls } }
+        ensures call { SameCall self.old self.new }
+        ensures steps { steps_of self.new ≡ steps_of self.old }
+    {
+        self.turns.arm(calls);
+    }
+
+    fn disarm(&mut self)
+        ensures rests { Rests (view_of (steps_of self.old)) (view_of (steps_of self.new)) }
+        ensures disarmed { counts_of_disk self.new ≡ record (counts_of_disk self.old) { armed = None } }
+        ensures call { SameCall self.old self.new }
+        ensures steps { steps_of self.new ≡ steps_of self.old }
+    {
+        self.turns.disarm();
+    }
+
+    fn power_cut(&mut self, choice: Choice) -> DiskAnswer
+        ensures cut { Cut (view_of (steps_of self.old)) (view_of (steps_of self.new)) }
+        ensures synced { result ≡ answer.Done → IsSynced (view_of (steps_of self.new)) }
+        ensures counts { Counted (counts_of_disk self.old) (counts_of_disk self.new) (result ≡ answer.Failed) (result ≡ answer.Stopped) }
+        ensures never_stops { result ≡ answer.Stopped → ⊥ }
+        ensures disarmed { result ≡ answer.Done → (counts_of_disk self.new).armed ≡ None }
+        ensures answers { (result ≡ answer.NoMemory) ⊎ (result ≡ answer.Done) }
+        ensures call { SameCall self.old self.new }
+        ensures steps { steps_of self.new ≡ with_step result (step.Cut choice) (steps_of self.old) }
+        ensures unchanged { result ≡ answer.NoMemory → counts_of_disk self.new ≡ counts_of_disk self.old }
+    {
+        match self.cut(choice) {
+            Ok(()) => {
+                self.turns.disarm();
+                DiskAnswer::Done
+            }
+            Err(_) => DiskAnswer::NoMemory,
+        }
+    }
+}
+
+#[cfg(test)]
+mod tests {
+    use super::*;
+
+    // All bytes of a disk.
+    fn contents(alloc: Global, disk: &mut MemDisk) -> Result<Vec<u8>, AllocError> {
+        let mut bytes = Vec::new(alloc);
+        if let DiskLen::Len(len) = disk.len() {
+            bytes.resize(len as usize, 0)?;
+            disk.read_at(0, &mut bytes);
+        }
+        Ok(bytes)
+    }
+
+    #[test]
+    fn stop_takes_back_what_no_sync_kept(rt: HostRuntime) {
+        let fails = Vec::new(rt.alloc());
+        let mut disk = MemDisk::new(rt.alloc(), fails).expect(&rt, "memory");
+        assert_eq!(rt; disk.write_at(0, b"abc"), DiskAnswer::Done);
+        disk.arm(1);
+        assert_eq!(rt; disk.sync(), DiskAnswer::Stopped);
+        assert_eq!(rt; disk.len(), DiskLen::Stopped);
+        assert_eq!(rt; disk.power_cut(Choice::Old), DiskAnswer::Done);
+        assert_eq!(rt; disk.len(), DiskLen::Len(0));
+        assert_eq!(rt; disk.steps().len(), 2);
+    }
+
+    #[test]
+    fn cuts_leave_old_new_or_torn(rt: HostRuntime) {
+        let cases = [
+            (Choice::Old, b"abcd".as_slice()),
+            (Choice::New, b"aXYZ\0\0QR".as_slice()),
+            (Choice::Torn, b"abYd\0\0Q\0".as_slice()),
+        ];
+        for (choice, want) in cases {
+            let fails = Vec::new(rt.alloc());
+            let mut disk = MemDisk::new(rt.alloc(), fails).expect(&rt, "memory");
+            assert_eq!(rt; disk.write_at(0, b"abcd"), DiskAnswer::Done);
+            assert_eq!(rt; disk.sync(), DiskAnswer::Done);
+            assert_eq!(rt; disk.write_at(1, b"xyz"), DiskAnswer::Done);
+            assert_eq!(rt; disk.write_at(1, b"XYZ"), DiskAnswer::Done);
+            assert_eq!(rt; disk.write_at(6, b"QR"), DiskAnswer::Done);
+            assert_eq!(rt; disk.power_cut(choice), DiskAnswer::Done);
+            let bytes = contents(rt.alloc(), &mut disk).expect(&rt, "memory");
+            assert_eq!(rt; bytes.as_slice(), want, "after {choice:?}");
+        }
+    }
+
+    #[test]
+    fn listed_call_fails_and_changes_nothing(rt: HostRuntime) {
+        let fails = vec![in rt.alloc(); 3, 1].expect(&rt, "memory");
+        let mut disk = MemDisk::new(rt.alloc(), fails).expect(&rt, "memory");
+        assert_eq!(rt; disk.len(), DiskLen::Failed);
+        assert_eq!(rt; disk.write_at(0, b"a"), DiskAnswer::Done);
+        assert_eq!(rt; disk.write_at(0, b"b"), DiskAnswer::Failed);
+        let bytes = contents(rt.alloc(), &mut disk).expect(&rt, "memory");
+        assert_eq!(rt; bytes.as_slice(), b"a".as_slice());
+    }
+}

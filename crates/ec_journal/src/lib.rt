@@ -1,0 +1,12 @@
+//! A row of records on a disk: after a crash each is there whole or not at all.
+#![tactic(auto)]
+
+mod device;
+mod fault;
+mod journal;
+mod read;
+
+pub use device::{read_part, write_synced};
+pub use fault::JournalFault;
+pub use journal::Journal;
+pub use read::{Found, read_records};

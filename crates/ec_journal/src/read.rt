@@ -1,0 +1,102 @@
+// Reading the records of a journal.
+ghost use Rattle.std.specs.Prelude.{◌≡◌, ◌≢◌, ◌⊎◌, ◌+◌, ◌^◌, ◌<◌, ◌≤◌, ℕ, Bool, true, false, List, [], length, IfOk, OnOk, IfSome, IfNone, IsErrOf};
+ghost use Rattle.std.specs.Int.{w32, from_be_bytes};
+ghost use Rattle.ec_disk.specs.Disk.{byte, part, Rests, Counted, after_calls};
+ghost use Rattle.ec_journal.specs.Records.{open_gate, HasBodies, RunsPast};
+ghost use Rattle.ec_journal.specs.Journal.{IsFound};
+ghost use Rattle.ec_journal.specs.declared.fault.JournalFault.TheVariants as fault;
+
+use crate::device::read_part;
+use crate::fault::JournalFault;
+use ec_base::{List, NoMemory};
+use ec_disk::Disk;
+use std::alloc::Global;
+
+/// The byte of a gate that is open.
+pub const OPEN: u8 = b'O';
+
+/// The records at the front of a journal.
+#[derive(Debug, Drop)]
+pub struct Found {
+    /// The bodies of those whose gates are open.
+    pub bodies: List<List<u8>>,
+    /// Where the gate behind them stands, from the journal's first byte on.
+    pub end: u64,
+    /// Whether this gate is closed. Else it is open over a record that runs past the journal.
+    pub is_whole: bool,
+}
+
+/// Reads the records of the journal of `size` bytes from `at` on, by one call of the disk.
+/// `Bad` and `NoRoom` never come.
+pub fn read_records<D: Disk>(
+    alloc: Global,
+    disk: &mut D,
+    at: u64,
+    size: u64,
+) -> Result<Found, JournalFault>
+    requires size { 1 ≤ size }
+    requires inside { D.tells → at + size ≤ length (D.view disk.old).gives }
+    ensures found { IfOk result (λ found. D.tells → IsFound (D.view disk.old).gives at size found) }
+    ensures end { IfOk result (λ found. found.end < size) }
+    ensures calls { OnOk result ((D.counts disk.new).armed ≡ after_calls 1 (D.counts disk.old).armed) }
+    ensures rests { D.tells → Rests (D.view disk.old) (D.view disk.new) }
+    ensures counts { Counted (D.counts disk.old) (D.counts disk.new) (IsErrOf result fault.DiskFailed) (IsErrOf result fault.DiskStopped) }
+    ensures no_room { (need free : ℕ) → IsErrOf result (fault.NoRoom need free) → ⊥ }
+    ensures no_bad { (place : ℕ) → IsErrOf result (fault.Bad place) → ⊥ }
+{
+    let bytes = read_part(alloc, disk, at, size)?;
+    let found = records_in(alloc, bytes.as_slice())?;
+    Ok(found)
+}
+
+// The length of the body behind an open gate, where its record and the next gate are inside.
+fn body_len(bytes: &[u8], gate: usize) -> Option<usize>
+    requires { gate < length bytes.now }
+    ensures some { IfSome result (λ len. (len < 2 ^ 32) × (gate + 6 + len ≤ length bytes.now) × (len ≡ from_be_bytes w32 (part bytes.now (gate + 1) 4))) }
+    ensures none { IfNone result ((length bytes.now < gate + 6) ⊎ (length bytes.now < gate + 6 + from_be_bytes w32 (part bytes.now (gate + 1) 4))) }
+{
+    if bytes.len() - gate < 6 {
+        return None;
+    }
+    let len = number_at(bytes, gate + 1) as usize;
+    if bytes.len() - gate - 6 < len {
+        None
+    } else {
+        Some(len)
+    }
+}
+
+fn records_in(alloc: Global, bytes: &[u8]) -> Result<Found, NoMemory>
+    requires { 1 ≤ length bytes.now }
+    ensures found { IfOk result (λ found. IsFound bytes.now 0 (length bytes.now) found) }
+    ensures end { IfOk result (λ found. found.end < length bytes.now) }
+{
+    let mut bodies = Vec::new(alloc);
+    let mut end = 0;
+    'records: while bytes[end] == OPEN {
+        let Some(len) = body_len(bytes, end) else {
+            return Ok(Found {
+                bodies: List::of(bodies),
+                end: end as u64,
+                is_whole: false,
+            });
+        };
+        let body = bytes[end + 5..end + 5 + len].to_vec(alloc)?;
+        bodies.push(List::of(body))?;
+        end += 5 + len;
+    }
+    Ok(Found {
+        bodies: List::of(bodies),
+        end: end as u64,
+        is_whole: true,
+    })
+}
+
+fn number_at(bytes: &[u8], at: usize) -> u32
+    requires { at + 4 ≤ length bytes.now }
+    ensures { result ≡ from_be_bytes w32 (part bytes.now at 4) }
+{
+    let mut four = [0; 4];
+    four.copy_from_slice(&bytes[at..at + 4]);
+    u32::from_be_bytes(four)
+}
