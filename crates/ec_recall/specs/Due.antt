@@ -13,9 +13,9 @@ use Rattle.ec_recall.specs.declared.want.Action.TheVariants.{Grant, Recall}
 abbrev pub is_due : Tokens → Tokens → Want → Bool
 is_due ts given w = is_clear ts w.session w.obj w.hold && is_clear given w.session w.obj w.hold
 
--- The grants of the list so far, as tokens. Free conflicts with nothing, and isn't recorded.
-abbrev pub given_also : Want → Tokens → Tokens
-given_also w given = if is_free w.hold then given else granted w.session w.obj w.hold 0 given
+-- The grants of the list so far, as tokens, and one more. Free conflicts with nothing, and isn't recorded.
+abbrev pub given_to : ℕ → ℕ → Hold → Tokens → Tokens
+given_to s x h given = if is_free h then given else granted s x h 0 given
 
 -- The holder's token, by its number, was recalled for the want since its last noting.
 abbrev pub is_told : List (ℕ × ℕ) → Holder → Bool
@@ -46,7 +46,7 @@ abbrev pub stay : Tokens → Tokens → Want → List Want
 stay ts given w = if is_due ts given w then [] else record w { told = w.told ++ map told_of (news ts w) } ∷ []
 
 abbrev pub given_after : Tokens → Tokens → Want → Tokens
-given_after ts given w = if is_due ts given w then given_also w given else given
+given_after ts given w = if is_due ts given w then given_to w.session w.obj w.hold given else given
 
 -- The actions that are due, in the order of arrival, where some grants stand before them in the list.
 abbrev pub actions_from : Tokens → Tokens → List Want → List Action

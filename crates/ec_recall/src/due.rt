@@ -49,7 +49,7 @@ impl Round {
         requires { IsTrue (tokens.is_clear self.old.given want.now.session want.now.obj want.now.hold) }
         ensures actions { OnOk result (self.new.actions.items ≡ self.old.actions.items ++ Action.Grant want.now.session want.now.obj want.now.hold ∷ []) }
         ensures wants { OnOk result (self.new.wants.items ≡ self.old.wants.items) }
-        ensures given { OnOk result (self.new.given ≡ due.given_also want.now self.old.given) }
+        ensures given { OnOk result (self.new.given ≡ due.given_to want.now.session want.now.obj want.now.hold self.old.given) }
     {
         match want.hold {
             Hold::Free => {}
