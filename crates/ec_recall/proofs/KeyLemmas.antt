@@ -1,5 +1,5 @@
 -- Wants under their keys, and those that stay.
-use Rattle.std.proofs.Common.{◌≡◌, refl, sym, ap, subst, ◌∙◌, arith, ℕ, Bool, true, false, not, cond, ◌&&◌, List, [], ◌∷◌, ◌++◌, map, filter, Option, None, Some}
+use Rattle.std.proofs.Common.{◌≡◌, refl, sym, ap, subst, ◌∙◌, arith, ℕ, Bool, true, false, cond, ◌&&◌, List, [], ◌∷◌, ◌++◌, map, filter, None, Some}
 use Rattle.std.specs.Prelude.{◌==◌}
 use Rattle.std.specs.List.{IsDistinct, AllByRecursion}
 use Rattle.std.specs.Map.{lookup, set_value, keys_of, values_of}
@@ -9,7 +9,7 @@ use Rattle.ec_base.specs.declared.ids.Hold.{Hold}
 use Rattle.ec_tokens.specs.Holds.{stronger}
 use Rattle.ec_tokens.specs.Tokens.{Tokens}
 use Rattle.ec_recall.specs.declared.want.Want.{Want}
-use Rattle.ec_recall.specs.Due.{is_due, news, told_of, stay, given_after, wants_from}
+use Rattle.ec_recall.specs.Due.{is_due, news, told_of, given_after, wants_from}
 use Rattle.ec_recall.specs.Keys.{Key, key_of, same_key, IsKeyed, AreApart}
 use Rattle.ec_recall.specs.Wants.{is_of, noted}
 
@@ -99,6 +99,7 @@ absent_from_apart (e ∷ es) w ws keyed apart = ap (λ b. cond b (Some e.1) (loo
     among : (l : List Want) → AllByRecursion (λ y. same_key (key_of e.1) y ≡ false) (map key_of (l ++ w ∷ ws)) → same_key (key_of e.1) (key_of w) ≡ false
     among [] a = a.0
     among (v ∷ vs) a = among vs a.1
+
     other : same_key (key_of w) e.0 ≡ false
     other = ap (same_key (key_of w)) keyed.0 ∙ same_key-sym (key_of w) (key_of e.1) ∙ among (values_of es) apart.0
 
@@ -117,6 +118,7 @@ apart_stays ts given (w ∷ ws) apart = go (is_due ts given w) (apart_stays ts (
             → AllByRecursion (λ y. same_key k y ≡ false) (map key_of (cond b [] (record v { told = v.told ++ map told_of (news ts v) } ∷ []) ++ wants_from ts (given_after ts g v) vs))
         by true r = r
         by false r = (all.0, r)
+
     go : (b : Bool) → AreApart (wants_from ts (given_after ts given w) ws)
         → AreApart (cond b [] (record w { told = w.told ++ map told_of (news ts w) } ∷ []) ++ wants_from ts (given_after ts given w) ws)
     go true r = r

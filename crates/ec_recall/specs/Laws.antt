@@ -1,8 +1,7 @@
 -- What the actions that are due have in common.
-use Rattle.std.specs.Prelude.{◌≡◌, ℕ, Bool, true, false, not, cond, List, [], ◌∷◌, ◌++◌, map, filter, is_none, refl}
+use Rattle.std.specs.Prelude.{◌≡◌, Bool, true, false, not, cond, List, [], ◌∷◌, ◌++◌, map, filter, is_none, refl}
 use Rattle.std.proofs.Common.{arith}
 use Rattle.std.proofs.lemmas.Bool.{and_parts}
-use Rattle.ec_base.specs.declared.ids.Hold.{Hold}
 use Rattle.ec_tokens.specs.Tokens.{Tokens, Holder, first, conflicts, is_clear}
 use Rattle.ec_recall.specs.declared.want.Want.{Want}
 use Rattle.ec_recall.specs.declared.want.Action.{Action}
@@ -22,6 +21,7 @@ grants_are_clear ts given (w ∷ ws) = go (is_due ts given w) refl (grants_are_c
     past : (hs : List Holder) → GrantsAreClear ts given (actions_from ts given ws) → GrantsAreClear ts given (map (recall_of w) hs ++ actions_from ts given ws)
     past [] later = later
     past (h ∷ hs) later = past hs later
+
     go : (b : Bool) → is_due ts given w ≡ b → GrantsAreClear ts (given_to w.session w.obj w.hold given) (actions_from ts (given_to w.session w.obj w.hold given) ws)
         → GrantsAreClear ts given (actions_from ts given ws)
         → GrantsAreClear ts given (cond b (Grant w.session w.obj w.hold ∷ []) (map (recall_of w) (news ts w)) ++ actions_from ts (cond b (given_to w.session w.obj w.hold given) given) ws)

@@ -1,6 +1,13 @@
 -- What a changed table holds, and that no two tokens conflict after a change.
-use Rattle.std.proofs.Common.{◌≡◌, ◌≢◌, refl, sym, ap, ◌∙◌, arith, ℕ, Bool, true, false, not, cond, ◌&&◌, List, [], ◌∷◌, Option, None, Some, filter, nat_lt}
-use Rattle.std.specs.Prelude.{◌==◌, is_none}
+use Rattle.std.proofs.Common.{◌≡◌, ◌≢◌, refl, sym, ap, ◌∙◌, arith, ℕ, Bool, true, false, not, cond, ◌&&◌, List, [], ◌∷◌, Option, None, Some, filter, nat_lt, subst, length, ◌<◌, ◌⊎◌, inl, inr, ⊎_elim, zero, suc}
+use Rattle.std.specs.Prelude.{◌==◌, is_none, slice_index_or, Contains}
+use Rattle.std.specs.declared.cmp.Ordering.TheVariants.{Less}
+use Rattle.std.specs.List.{AllByRecursion}
+use Rattle.std.specs.List.Sorted.{IsStrictlySortedBy}
+use Rattle.std.specs.Map.{keys_of}
+use Rattle.std.specs.Ordering.{nat_cmp}
+use Rattle.std.proofs.lemmas.Bool.Decides.{nat_tests}
+use Rattle.std.proofs.lemmas.List.Elements.{Contains-append_right}
 use Rattle.std.proofs.lemmas.Bool.{eqb-true, eqb-false, and_parts, not-true}
 use Rattle.std.specs.List.{list_all}
 use Rattle.ec_base.specs.declared.ids.Hold.{Hold}
@@ -8,7 +15,7 @@ use Rattle.ec_base.specs.declared.ids.Hold.TheVariants.{Free, Read, Write}
 use Rattle.ec_tokens.specs.declared.token.Token.{Token}
 use Rattle.ec_tokens.specs.Holds.{is_free, is_below, clash}
 use Rattle.ec_tokens.specs.Table.{Table, at, put, without}
-use Rattle.ec_tokens.specs.Tokens.{Row, Tokens, held_by, is_conflict, row, row_of, token, mode, AllApart, IsSound, holders, conflicts, first, first_conflict, is_clear, granted, fits_back, lowered, claimed_in, claimed, clash_at, first_clash}
+use Rattle.ec_tokens.specs.Tokens.{Row, Tokens, Holder, IsRising, held_by, is_conflict, row, row_of, token, mode, AllApart, IsSound, holders, conflicts, first, first_conflict, is_clear, granted, fits_back, lowered, claimed_in, claimed, clash_at, first_clash}
 
 -- Tables.
 
@@ -55,6 +62,54 @@ module _ {X : Type 0} where
           next true false q w s = s
           next false true q w s = refl
           next false false q w s = s
+
+-- Rising keys.
+
+less_trans : (j k i : ℕ) → nat_cmp j k ≡ Less → nat_cmp k i ≡ Less → nat_cmp j i ≡ Less
+less_trans j k i a b = grind (arith, nat_tests)
+
+module _ {X : Type 0} where
+  above_put : (j k : ℕ) (x : X) (es : Table X) → nat_cmp j k ≡ Less → AllByRecursion (λ y. nat_cmp j y ≡ Less) (keys_of es) → AllByRecursion (λ y. nat_cmp j y ≡ Less) (keys_of (put k x es))
+  above_put j k x [] less all = (less, tt)
+  above_put j k x (e ∷ es) less all = go (k == e.0) (nat_lt k e.0) (above_put j k x es less all.1)
+    where
+      go : (a b : Bool) → AllByRecursion (λ y. nat_cmp j y ≡ Less) (keys_of (put k x es))
+          → AllByRecursion (λ y. nat_cmp j y ≡ Less) (keys_of (cond a ((k, x) ∷ es) (cond b ((k, x) ∷ e ∷ es) (e ∷ put k x es))))
+      go true b r = (less, all.1)
+      go false true r = (less, all)
+      go false false r = (all.0, r)
+
+  above_without : (j k : ℕ) (es : Table X) → AllByRecursion (λ y. nat_cmp j y ≡ Less) (keys_of es) → AllByRecursion (λ y. nat_cmp j y ≡ Less) (keys_of (without k es))
+  above_without j k [] all = tt
+  above_without j k (e ∷ es) all = go (e.0 == k) (above_without j k es all.1)
+    where
+      go : (a : Bool) → AllByRecursion (λ y. nat_cmp j y ≡ Less) (keys_of (without k es)) → AllByRecursion (λ y. nat_cmp j y ≡ Less) (keys_of (cond (not a) (e ∷ without k es) (without k es)))
+      go true r = r
+      go false r = (all.0, r)
+
+  all_above : (j k : ℕ) (es : Table X) → nat_cmp j k ≡ Less → AllByRecursion (λ y. nat_cmp k y ≡ Less) (keys_of es) → AllByRecursion (λ y. nat_cmp j y ≡ Less) (keys_of es)
+  all_above j k [] less all = tt
+  all_above j k (e ∷ es) less all = (less_trans j k e.0 less all.0, all_above j k es less all.1)
+
+  pub rising_put : (k : ℕ) (x : X) (es : Table X) → IsStrictlySortedBy nat_cmp (keys_of es) → IsStrictlySortedBy nat_cmp (keys_of (put k x es))
+  unfolding IsStrictlySortedBy
+  rising_put k x [] rising = (tt, tt)
+  rising_put k x (e ∷ es) rising = go (k == e.0) (nat_lt k e.0) refl refl (rising_put k x es rising.1)
+    where
+      go : (a b : Bool) → (k == e.0) ≡ a → nat_lt k e.0 ≡ b → IsStrictlySortedBy nat_cmp (keys_of (put k x es))
+          → IsStrictlySortedBy nat_cmp (keys_of (cond a ((k, x) ∷ es) (cond b ((k, x) ∷ e ∷ es) (e ∷ put k x es))))
+      go true b p q r = (subst (λ j. AllByRecursion (λ y. nat_cmp j y ≡ Less) (keys_of es)) (sym (eqb-true k e.0 p)) rising.0, rising.1)
+      go false true p q r = let less : nat_cmp k e.0 ≡ Less = grind (arith, nat_tests) in ((less, all_above k e.0 es less rising.0), rising)
+      go false false p q r = let less : nat_cmp e.0 k ≡ Less = grind (arith, nat_tests) in (above_put e.0 k x es less rising.0, r)
+
+  pub rising_without : (k : ℕ) (es : Table X) → IsStrictlySortedBy nat_cmp (keys_of es) → IsStrictlySortedBy nat_cmp (keys_of (without k es))
+  unfolding IsStrictlySortedBy
+  rising_without k [] rising = rising
+  rising_without k (e ∷ es) rising = go (e.0 == k) (rising_without k es rising.1)
+    where
+      go : (a : Bool) → IsStrictlySortedBy nat_cmp (keys_of (without k es)) → IsStrictlySortedBy nat_cmp (keys_of (cond (not a) (e ∷ without k es) (without k es)))
+      go true r = r
+      go false r = (above_without e.0 k es rising.0, r)
 
 self : (k : ℕ) → (k == k) ≡ true
 self k = grind arith
@@ -153,7 +208,7 @@ pub row_apart : (ts : Tokens) (s : ℕ) → AllApart ts → IsRowApart ts s (row
 row_apart ts s apart t x other = apart s t x (λ e. eqb-false t s other (sym e))
 
 pub sound_put : (ts : Tokens) (s : ℕ) (r : Row) → IsSound ts → IsRowApart ts s r → IsRowHeld r → IsSound (put s r ts)
-sound_put ts s r sound apart held = record { apart = λ u v x differ. go u v x differ (u == s) (v == s) refl refl; held = λ u x k found. own u x k found (u == s) refl }
+sound_put ts s r sound apart held = record { apart = λ u v x differ. go u v x differ (u == s) (v == s) refl refl; held = λ u x k found. own u x k found (u == s) refl; rising = rising_put s r ts sound.rising }
   where
     own_mode : (u x : ℕ) → (u == s) ≡ true → mode (token (put s r ts) u x) ≡ mode (at x r)
     own_mode u x e = ap (λ i. mode (token (put s r ts) i x)) (eqb-true u s e) ∙ ap mode (token-put_own s r ts x)
@@ -172,10 +227,11 @@ sound_put ts s r sound apart held = record { apart = λ u v x differ. go u v x d
     own u x k found false p = sound.held u x k (sym (token-put_other s r ts u x p) ∙ found)
 
 pub sound_none : IsSound []
-sound_none = record { apart = λ s t x differ. refl; held = λ s x t found. absurd (grind arith) }
+unfolding IsStrictlySortedBy
+sound_none = record { apart = λ s t x differ. refl; held = λ s x t found. absurd (grind arith); rising = tt }
 
 pub sound_without : (ts : Tokens) (s : ℕ) → IsSound ts → IsSound (without s ts)
-sound_without ts s sound = record { apart = λ u v x differ. go u v x differ (u == s) (v == s) refl refl; held = λ u x k found. own u x k found (u == s) refl }
+sound_without ts s sound = record { apart = λ u v x differ. go u v x differ (u == s) (v == s) refl refl; held = λ u x k found. own u x k found (u == s) refl; rising = rising_without s ts sound.rising }
   where
     is : (u x : ℕ) (b : Bool) → (u == s) ≡ b → token (without s ts) u x ≡ cond b None (token ts u x)
     is u x b e = token-without s ts u x ∙ ap (λ c. cond c None (token ts u x)) e
@@ -263,3 +319,55 @@ sound_claimed ts s list sound held clear = sound_put ts s _ sound (apart list (r
     helds (e ∷ es) r a h =
         let p = and_parts (not (is_free e.1)) (list_all (λ e. not (is_free e.1)) es) a in
         helds es _ p.1 (row_held_put r e.0 (record { hold = e.1; number = 0 }) h (not-true (is_free e.1) p.0))
+
+-- Who holds tokens.
+
+abbrev holder_of : ℕ → Token → Holder
+holder_of s t = (s, t.hold, t.number)
+
+first_or : {X : Type 0} (y : X) (ys : List X) (x : X) → Contains (y ∷ ys) x → (y ≡ x) ⊎ Contains ys x
+first_or y ys x c = go c.0 c.1 c.2
+  where
+    go : (k : ℕ) → k < length (y ∷ ys) → slice_index_or (y ∷ ys) k x ≡ x → (y ≡ x) ⊎ Contains ys x
+    go zero l e = inl e
+    go (suc k) l e = inr (k, omega arith, e)
+
+-- Each token has its holder.
+pub has_holder : (ts : Tokens) (s x : ℕ) (t : Token) → token ts s x ≡ Some t → Contains (holders ts x) (s, t.hold, t.number)
+has_holder [] s x t found = absurd (grind arith)
+has_holder (r ∷ rs) s x t found = go (s == r.0) (at x r.1) refl refl found (has_holder rs s x t)
+  where
+    go : (a : Bool) (o : Option Token) → (s == r.0) ≡ a → at x r.1 ≡ o → at x (row_of (cond a (Some r.1) (at s rs))) ≡ Some t → (token rs s x ≡ Some t → Contains (holders rs x) (holder_of s t))
+        → Contains (held_by r.0 o (holders rs x)) (holder_of s t)
+    go true None p q f more = let none : None ≡ Some t = sym q ∙ f in absurd (grind arith)
+    go true (Some k) p q f more =
+        let found_is : Some k ≡ Some t = sym q ∙ f in
+        let same : k ≡ t = (cc) in
+        (0, omega arith, ap (λ z. holder_of z k) (sym (eqb-true s r.0 p)) ∙ ap (holder_of s) same)
+    go false None p q f more = more f
+    go false (Some k) p q f more = Contains-append_right (holder_of r.0 k ∷ []) (holders rs x) (holder_of s t) (more f)
+
+-- And each holder has its token, where the sessions rise.
+pub holder_has : (ts : Tokens) (x : ℕ) (h : Holder) → IsRising ts → Contains (holders ts x) h → token ts h.0 x ≡ Some (record { hold = h.1; number = h.2 })
+unfolding IsStrictlySortedBy
+holder_has [] x h rising c = absurd (omega (arith, c.1))
+holder_has (r ∷ rs) x h rising c = go (at x r.1) refl c (holder_has rs x h rising.1)
+  where
+    among : (l : Tokens) → AllByRecursion (λ y. nat_cmp r.0 y ≡ Less) (keys_of l) → Contains (holders l x) h → (h.0 == r.0) ≡ false
+    among [] a m = absurd (omega (arith, m.1))
+    among (q ∷ qs) a m = by (at x q.1) m (among qs a.1)
+      where
+        by : (o : Option Token) → Contains (held_by q.0 o (holders qs x)) h → (Contains (holders qs x) h → (h.0 == r.0) ≡ false) → (h.0 == r.0) ≡ false
+        by None m f = f m
+        by (Some k) m f = ⊎_elim (λ e. ap (λ z. z.0 == r.0) (sym e) ∙ higher) f (first_or (holder_of q.0 k) (holders qs x) h m)
+          where
+            higher : (q.0 == r.0) ≡ false
+            higher = grind (arith, nat_tests, a.0)
+
+    go : (o : Option Token) → at x r.1 ≡ o → Contains (held_by r.0 o (holders rs x)) h → (Contains (holders rs x) h → token rs h.0 x ≡ Some (record { hold = h.1; number = h.2 }))
+        → at x (row_of (cond (h.0 == r.0) (Some r.1) (at h.0 rs))) ≡ Some (record { hold = h.1; number = h.2 })
+    go None q m f = ap (λ b. at x (row_of (cond b (Some r.1) (at h.0 rs)))) (among rs rising.0 m) ∙ f m
+    go (Some k) q m f = ⊎_elim (λ e. here e) (λ n. ap (λ b. at x (row_of (cond b (Some r.1) (at h.0 rs)))) (among rs rising.0 n) ∙ f n) (first_or (holder_of r.0 k) (holders rs x) h m)
+      where
+        here : holder_of r.0 k ≡ h → at x (row_of (cond (h.0 == r.0) (Some r.1) (at h.0 rs))) ≡ Some (record { hold = h.1; number = h.2 })
+        here e = ap (λ b. at x (row_of (cond b (Some r.1) (at h.0 rs)))) (ap (λ z. z.0 == r.0) (sym e) ∙ self r.0) ∙ q ∙ ap (λ z. Some (record { hold = z.1; number = z.2 })) e

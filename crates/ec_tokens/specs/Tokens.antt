@@ -1,6 +1,9 @@
 -- The tokens that sessions hold: a table by session of tables by object.
 use Rattle.std.specs.Prelude.{◌≡◌, ◌≢◌, ◌==◌, ℕ, Bool, true, false, not, ◌&&◌, if◌then◌else◌, List, [], ◌∷◌, filter, is_none, nat_lt, Option, None, Some}
 use Rattle.std.specs.List.{list_all}
+use Rattle.std.specs.List.Sorted.{IsStrictlySortedBy}
+use Rattle.std.specs.Map.{keys_of}
+use Rattle.std.specs.Ordering.{nat_cmp}
 use Rattle.ec_base.specs.declared.ids.Hold.{Hold}
 use Rattle.ec_base.specs.declared.ids.Hold.TheVariants.{Free}
 use Rattle.ec_tokens.specs.declared.token.Token.{Token}
@@ -36,9 +39,14 @@ AllApart ts = (s t x : ℕ) → s ≢ t → clash (mode (token ts s x)) (mode (t
 abbrev pub NoneFree : Tokens → Type 0
 NoneFree ts = (s x : ℕ) (t : Token) → token ts s x ≡ Some t → is_free t.hold ≡ false
 
+-- The sessions rise, each standing once.
+abbrev pub IsRising : Tokens → Type 0
+IsRising ts = IsStrictlySortedBy nat_cmp (keys_of ts)
+
 pub record IsSound (ts : Tokens) : Type 0 where
   pub apart : AllApart ts
   pub held : NoneFree ts
+  pub rising : IsRising ts
 
 -- Who holds a token on the object, in session order: the session, the mode and the number.
 abbrev pub Holder : Type 0

@@ -39,6 +39,9 @@ impl From<NoMemory> for ClaimFault {
 ///
 /// Two tokens of different sessions on one object conflict where one is Write and the other isn't
 /// Free. No two of the tokens kept here conflict.
+///
+/// They are kept by session, and then by object, in ordered maps: a look-up by object takes a search
+/// in the row of each session, and a session is dropped, or claims, in one piece.
 #[derive(Drop)]
 pub struct Tokens {
     rows: Rows,

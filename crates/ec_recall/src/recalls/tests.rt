@@ -15,7 +15,7 @@ enum Step<'a> {
 }
 
 use Hold::{Free, Read, Write};
-use Step::{Back, Due, Drop, Token, Want as Wants};
+use Step::{Back, Drop, Due, Token, Want as Wants};
 
 fn object(rt: &impl Abort, number: u32) -> ObjId {
     ObjId::new(number).expect(rt, "an id")
@@ -84,7 +84,12 @@ fn two_readers_are_recalled_once_for_a_writer(rt: HostRuntime) -> Result<(), Fai
 fn twelve_cases(rt: HostRuntime) -> Result<(), Fail> {
     let cases: [&[Step]; 12] = [
         // Readers share.
-        &[Token(1, 5, 1, Read), Wants(2, 5, Read), Due(&[(2, 5, None, Read)]), Due(&[])],
+        &[
+            Token(1, 5, 1, Read),
+            Wants(2, 5, Read),
+            Due(&[(2, 5, None, Read)]),
+            Due(&[]),
+        ],
         // A writer is brought down to Read for a reader.
         &[
             Token(1, 5, 1, Write),
@@ -94,7 +99,11 @@ fn twelve_cases(rt: HostRuntime) -> Result<(), Fail> {
             Due(&[(2, 5, None, Read)]),
         ],
         // A session's own token never stands in its way.
-        &[Token(1, 5, 1, Read), Wants(1, 5, Write), Due(&[(1, 5, None, Write)])],
+        &[
+            Token(1, 5, 1, Read),
+            Wants(1, 5, Write),
+            Due(&[(1, 5, None, Write)]),
+        ],
         // An upgrade recalls the other readers alone.
         &[
             Token(1, 5, 1, Read),
@@ -142,9 +151,18 @@ fn twelve_cases(rt: HostRuntime) -> Result<(), Fail> {
             Due(&[(1, 5, Some(2), Free)]),
         ],
         // The wants of a dropped session are forgotten.
-        &[Wants(1, 5, Write), Wants(2, 5, Read), Drop(1), Due(&[(2, 5, None, Read)])],
+        &[
+            Wants(1, 5, Write),
+            Wants(2, 5, Read),
+            Drop(1),
+            Due(&[(2, 5, None, Read)]),
+        ],
         // Grants come in the order of arrival, whatever the objects.
-        &[Wants(2, 6, Read), Wants(1, 5, Write), Due(&[(2, 6, None, Read), (1, 5, None, Write)])],
+        &[
+            Wants(2, 6, Read),
+            Wants(1, 5, Write),
+            Due(&[(2, 6, None, Read), (1, 5, None, Write)]),
+        ],
         // A reader behind a waiting writer isn't held up by it.
         &[
             Token(1, 5, 1, Read),

@@ -5,5 +5,5 @@ use Rattle.ec_recall.proofs.due.serve.Given as goal
 abbrev pub invariant-loop-want : goal.invariant-loop-want
 invariant-loop-want l = record {
   actions : l.round.actions.items ++ actions_from l.tokens l.round.given (drop l.want-index l.wants) ≡ actions l.tokens l.wants;
-  wants : l.round.wants.items ++ wants_from l.tokens l.round.given (drop l.want-index l.wants) ≡ wants_after l.tokens l.wants
+  wants : l.round.wants.items ++ wants_from l.tokens l.round.given (drop l.want-index l.wants) ≡ wants_after l.tokens l.wants;
 }

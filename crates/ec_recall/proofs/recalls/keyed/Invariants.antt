@@ -8,5 +8,5 @@ abbrev pub invariant-loop-want : goal.invariant-loop-want
 invariant-loop-want l = record {
   wants : values l.map ++ into_iter_items l.want-iterator ≡ l.fn.wants.items;
   keyed : IsKeyed l.map.entries;
-  unique : IsUnique same_key l.map
+  unique : IsUnique same_key l.map;
 }
