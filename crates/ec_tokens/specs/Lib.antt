@@ -1,0 +1,5 @@
+pub mod Claims
+pub mod Holds
+pub mod Laws
+pub mod Table
+pub mod Tokens

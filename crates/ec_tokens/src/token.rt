@@ -1,0 +1,8 @@
+use ec_base::Hold;
+
+/// What a session holds on an object: the mode, and the number of its grant.
+#[derive(Clone, Copy, Debug, Drop, PartialEq, Eq)]
+pub struct Token {
+    pub hold: Hold,
+    pub number: u64,
+}
