@@ -7,7 +7,7 @@ use Rattle.std.specs.Ordering.{nat_cmp, eq_by_cmp, is_lt}
 use Rattle.std.proofs.lemmas.Bool.Decides.{nat_tests}
 use Rattle.std.specs.Cmp.{nat_cmp_total, eq_by_cmp_equiv, unsigned_ties}
 use Rattle.std.specs.FinMap.{find, put, is_sorted}
-use Rattle.std.specs.FinMap.Entries.{by_order, where_key, is_sorted-put, is_sorted-where_key, find-put}
+use Rattle.std.specs.FinMap.Entries.{by_order, below_all, where_key, is_sorted-put, is_sorted-where_key, find-put}
 use Rattle.ec_base.specs.Sorted.{without}
 use Rattle.ec_volume.specs.Entries.{Entries}
 use Rattle.ec_volume.specs.Image.{is_gone, with_entries}
@@ -185,8 +185,8 @@ lower a b h = grind (arith, nat_tests)
 climbs : (e : ℕ × Image) (es : List (ℕ × Image)) (b : ℕ × Image) → T (is_sorted nat_cmp (e ∷ es)) → Some b ≡ slice_get (e ∷ es) (length es) → e.0 + length es ≤ b.0
 climbs e [] b h g = let same : b ≡ e = cc in subst (λ (x : ℕ × Image). e.0 + 0 ≤ x.0) (sym same) (omega arith)
 climbs e (f ∷ fs) b h g =
-    let later : f.0 + length fs ≤ b.0 = climbs f fs b (second _ _ h) g in
-    let here : e.0 < f.0 = lower e.0 f.0 (first _ _ (first _ _ h)) in
+    let later : f.0 + length fs ≤ b.0 = climbs f fs b (second (below_all nat_cmp e.0 (f ∷ fs)) (is_sorted nat_cmp (f ∷ fs)) h) g in
+    let here : e.0 < f.0 = lower e.0 f.0 (first (is_lt (nat_cmp e.0 f.0)) (below_all nat_cmp e.0 fs) (first (below_all nat_cmp e.0 (f ∷ fs)) (is_sorted nat_cmp (f ∷ fs)) h)) in
     omega arith
 
 -- rising ids from 1 are no more than the last one says

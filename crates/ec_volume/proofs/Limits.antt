@@ -88,7 +88,7 @@ make_held n o (File m s w bs) e h = h
 make_held n o (Dir m s w es) e h =
     let f = fine m s w es h in
     let k : length (with_entry es n o) ≤ length es + 1 = longer es n o f.sorted in
-    let room : length es < 128 = leb-true (suc (length es)) 128 (right _ _ e) in
+    let room : length es < 128 = leb-true (suc (length es)) 128 (right (lacks n (Dir m s w es)) (nat_lt (length es) 128) e) in
     put_held m s w es n o f (omega arith)
 
 move_held : (from to : List ℕ) (o p : ℕ) (i : Image) → gives from o i ≡ true → is_held i ≡ true → is_held (with_entries (λ es. with_entry (without_entry es from) to p) i) ≡ true
@@ -131,7 +131,7 @@ put_bytes_held : (at : ℕ) (new : List ℕ) (i : Image) → at + length new ≤
 put_bytes_held at new Gone e h = h
 put_bytes_held at new (Dir m s w es) e h = h
 put_bytes_held at new (File m s w bs) e h =
-    let few : length bs ≤ 65536 = leb-true _ _ (right _ _ h) in
+    let few : length bs ≤ 65536 = leb-true (length bs) 65536 (right (nat_le m 4095) (nat_le (length bs) 65536) h) in
     let k : length (overwritten at new bs) ≡ at + length new + (length bs - (at + length new)) = overwritten_len at new bs in
     file_held m s w _ (leb-true _ _ (left _ _ h)) (omega arith)
 
@@ -165,25 +165,25 @@ not_gone : (P : Type 0) → is_gone Gone ≡ false → P
 not_gone P e = absurd (let t : true ≡ false = e in cc)
 
 make_case : (b : Bool) (n : List ℕ) (o : ℕ) (k : Kind) (i : Image) → (if b then (lacks n i && nat_lt (length (entries_of i)) 128) else is_gone i) ≡ true → is_held i ≡ true
-  → is_held (if b then with_entries (λ es. with_entry es n o) i else new_object k) ≡ true
+    → is_held (if b then with_entries (λ es. with_entry es n o) i else new_object k) ≡ true
 make_case true n o k i f h = make_held n o i f h
 make_case false n o k i f h = new_held k
 
 drop_case : (b : Bool) (n : List ℕ) (i : Image) → is_held i ≡ true → is_gone (if b then with_entries (λ es. without_entry es n) i else Gone) ≡ false
-  → is_held (if b then with_entries (λ es. without_entry es n) i else Gone) ≡ true
+    → is_held (if b then with_entries (λ es. without_entry es n) i else Gone) ≡ true
 drop_case true n i h g = without_held n i h
 drop_case false n i h g = not_gone _ g
 
 move_case : (a b x y : Bool) (from to : List ℕ) (o : ℕ) (i : Image) → (if a then (gives from o i && x) else y) ≡ true → is_held i ≡ true
-  → is_gone (if a then with_entries (λ es. with_entry (without_entry es from) to o) i else (if b then i else Gone)) ≡ false
-  → is_held (if a then with_entries (λ es. with_entry (without_entry es from) to o) i else (if b then i else Gone)) ≡ true
+    → is_gone (if a then with_entries (λ es. with_entry (without_entry es from) to o) i else (if b then i else Gone)) ≡ false
+    → is_held (if a then with_entries (λ es. with_entry (without_entry es from) to o) i else (if b then i else Gone)) ≡ true
 move_case true b x y from to o i f h g = move_held from to o o i (left _ _ f) h
 move_case false true x y from to o i f h g = h
 move_case false false x y from to o i f h g = not_gone _ g
 
 shift_case : (a b c x y : Bool) (from to : List ℕ) (victim : Option ℕ) (o : ℕ) (i : Image) → (if a then x else if b then (yields to victim i && has_room victim i) else y) ≡ true → is_held i ≡ true
-  → is_gone (if a then with_entries (λ es. without_entry es from) i else if b then with_entries (λ es. with_entry es to o) i else if c then Gone else i) ≡ false
-  → is_held (if a then with_entries (λ es. without_entry es from) i else if b then with_entries (λ es. with_entry es to o) i else if c then Gone else i) ≡ true
+    → is_gone (if a then with_entries (λ es. without_entry es from) i else if b then with_entries (λ es. with_entry es to o) i else if c then Gone else i) ≡ false
+    → is_held (if a then with_entries (λ es. without_entry es from) i else if b then with_entries (λ es. with_entry es to o) i else if c then Gone else i) ≡ true
 shift_case true b c x y from to victim o i f h g = without_held from i h
 shift_case false true c x y from to victim o i f h g = shift_held to victim o i f h
 shift_case false false true x y from to victim o i f h g = not_gone _ g
