@@ -1,5 +1,5 @@
 // Calls and their outcomes.
-use ec_base::{List, Name, ObjId, Path};
+use ec_base::{Duplicate, List, Name, NoMemory, ObjId, Path};
 use ec_volume::{Kind, Update};
 
 /// A call. A write has 1 to 4,096 bytes, a read asks for at most 4,096, a mode is at most 0o7777
@@ -65,4 +65,53 @@ pub struct Outcome {
     pub reply: Reply,
     pub update: Option<Update>,
     pub touched: List<ObjId>,
+}
+
+impl Duplicate for Call {
+    fn duplicate(&self) -> Result<Self, NoMemory> {
+        Ok(match self {
+            Call::Mkdir(path) => Call::Mkdir(path.duplicate()?),
+            Call::Create(path) => Call::Create(path.duplicate()?),
+            Call::Write(path, at, bytes) => {
+                Call::Write(path.duplicate()?, *at, bytes.duplicate()?)
+            }
+            Call::SetLen(path, len) => Call::SetLen(path.duplicate()?, *len),
+            Call::Read(path, at, count) => Call::Read(path.duplicate()?, *at, *count),
+            Call::Chmod(path, mode) => Call::Chmod(path.duplicate()?, *mode),
+            Call::Touch(path, stamp) => Call::Touch(path.duplicate()?, *stamp),
+            Call::Stat(path) => Call::Stat(path.duplicate()?),
+            Call::List(path) => Call::List(path.duplicate()?),
+            Call::Remove(path) => Call::Remove(path.duplicate()?),
+            Call::Rmdir(path) => Call::Rmdir(path.duplicate()?),
+            Call::Rename(path, to) => Call::Rename(path.duplicate()?, to.duplicate()?),
+            Call::Fsync(path) => Call::Fsync(path.duplicate()?),
+            Call::Forder(paths) => Call::Forder(paths.duplicate()?),
+            Call::Sync => Call::Sync,
+            Call::Chown(path, owner) => Call::Chown(path.duplicate()?, *owner),
+        })
+    }
+}
+
+impl Duplicate for Reply {
+    fn duplicate(&self) -> Result<Self, NoMemory> {
+        Ok(match self {
+            Reply::Ok => Reply::Ok,
+            Reply::Data(bytes) => Reply::Data(bytes.duplicate()?),
+            Reply::Stat {
+                kind,
+                mode,
+                stamp,
+                owner,
+                size,
+            } => Reply::Stat {
+                kind: *kind,
+                mode: *mode,
+                stamp: *stamp,
+                owner: *owner,
+                size: *size,
+            },
+            Reply::Names(names) => Reply::Names(names.duplicate()?),
+            Reply::Refused(refusal) => Reply::Refused(*refusal),
+        })
+    }
 }

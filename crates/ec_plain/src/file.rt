@@ -1,14 +1,15 @@
 // What is done at the object that a walk reached.
-ghost use Rattle.std.specs.Prelude.{◌≡◌, ◌≤◌, ◌<◌, ◌+◌, ◌^◌, length, take, drop, IfOk};
-ghost use Rattle.ec_volume.specs.Image.{bytes_of};
+ghost use Rattle.std.specs.Prelude.{◌≡◌, length, map, take, drop, IfOk};
+ghost use Rattle.ec_volume.specs.Image.{bytes_of, entries_of};
 ghost use Rattle.ec_volume.specs.Volume.{images};
-ghost use Rattle.ec_plain.specs.Plain.{write_in, len_in, read_in};
+ghost use Rattle.ec_plain.specs.Walk.{Path};
+ghost use Rattle.ec_plain.specs.Plain.{write_in, len_in, read_in, list_in, stat_of};
 
 use crate::call::{Outcome, Refusal, Reply};
-use crate::object::{bytes_of, is_dir};
+use crate::object::{bytes_of, entries_of, is_dir};
 use crate::outcome::{answers, issues, refuses};
-use ec_base::{Duplicate, List, NoMemory, ObjId};
-use ec_volume::{Update, Volume};
+use ec_base::{Duplicate, List, Name, NoMemory, ObjId};
+use ec_volume::{Entries, Image, Kind, Update, Volume};
 use std::alloc::Global;
 
 pub(crate) fn write_in(
@@ -75,4 +76,71 @@ fn part(bytes: &[u8], at: usize, count: usize) -> &[u8]
 {
     let rest = &bytes[at.min(bytes.len())..];
     &rest[..count.min(rest.len())]
+}
+
+pub(crate) fn list_in(
+    alloc: Global,
+    v: &Volume,
+    place: u8,
+    obj: ObjId,
+    read: Vec<ObjId>,
+) -> Result<Outcome, NoMemory>
+    ensures { IfOk result (λ o. (p : Path) → length p ≡ place → o ≡ list_in (images v.now) p obj read.items) }
+{
+    match entries_of(v, obj) {
+        None => Ok(refuses(Refusal::NotDir(place), read)),
+        Some(entries) => {
+            let names = names_of(alloc, entries)?;
+            Ok(answers(Reply::Names(List::of(names)), read))
+        }
+    }
+}
+
+fn names_of(alloc: Global, entries: &Entries) -> Result<Vec<Name>, NoMemory>
+    ensures { IfOk result (λ names. names.items ≡ map (λ e. e.0) entries.now) }
+{
+    let mut names = Vec::with_capacity(alloc, entries.len())?;
+    'names: while let Some((name, _)) = entries.at(names.len()) {
+        names.push(name.duplicate()?)?;
+    }
+    Ok(names)
+}
+
+// What the object shows.
+pub(crate) fn stat_of(v: &Volume, obj: ObjId) -> Reply
+    ensures { result ≡ stat_of (images v.now obj) }
+{
+    match v.look(obj) {
+        Some(Image::File {
+            mode,
+            stamp,
+            owner,
+            bytes,
+        }) => Reply::Stat {
+            kind: Kind::File,
+            mode: *mode,
+            stamp: *stamp,
+            owner: *owner,
+            size: bytes.as_slice().len() as u32,
+        },
+        Some(Image::Dir {
+            mode,
+            stamp,
+            owner,
+            entries,
+        }) => Reply::Stat {
+            kind: Kind::Dir,
+            mode: *mode,
+            stamp: *stamp,
+            owner: *owner,
+            size: entries.len() as u32,
+        },
+        Some(Image::Gone) | None => Reply::Stat {
+            kind: Kind::File,
+            mode: 0,
+            stamp: 0,
+            owner: 0,
+            size: 0,
+        },
+    }
 }

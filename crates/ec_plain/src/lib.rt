@@ -1,11 +1,16 @@
 //! Calls on one plain volume, which knows no cache, token or failure.
 #![tactic(auto)]
 
+mod answer;
 mod call;
 mod file;
+mod forder;
 mod make;
 mod object;
 mod outcome;
+mod remove;
+mod rename;
 mod walk;
 
+pub use answer::plain;
 pub use call::{Call, Outcome, Refusal, Reply};

@@ -1,11 +1,12 @@
 // Walks along paths.
-ghost use Rattle.std.specs.Prelude.{◌≡◌, ◌≤◌, ◌+◌, ◌++◌, length, IfOk, OnOk};
+ghost use Rattle.std.specs.Prelude.{◌≡◌, ◌≤◌, ◌+◌, ◌++◌, length, IfOk, OnOk, MatchResult};
 ghost use Rattle.ec_volume.specs.Volume.{images};
 ghost use Rattle.ec_plain.specs.Walk.{walk, walk_from, parent_of, last_of};
-ghost use Rattle.ec_plain.specs.Reach.{reached};
+ghost use Rattle.ec_plain.specs.Reach.{reached, Reaches, Refused};
 
-use crate::call::Refusal;
+use crate::call::{Outcome, Refusal};
 use crate::object::is_gone;
+use crate::outcome::refuses;
 use ec_base::{Name, NoMemory, ObjId};
 use ec_volume::{Image, Volume};
 use std::alloc::Global;
@@ -70,4 +71,20 @@ pub(crate) fn last_of(names: &[Name]) -> &Name
     ensures { result.now ≡ last_of names.now }
 {
     &names[names.len() - 1]
+}
+
+// The object that the path reaches and the objects read on the way, or the refusal.
+pub(crate) fn object_at(
+    alloc: Global,
+    v: &Volume,
+    names: &[Name],
+) -> Result<Result<(ObjId, Vec<ObjId>), Outcome>, NoMemory>
+    requires { length names.now ≤ 16 }
+    ensures { IfOk result (λ r. MatchResult r (λ found. Reaches (walk (images v.now) names.now) found.0 found.1.items) (Refused (walk (images v.now) names.now))) }
+{
+    let Walked { to, read } = walk(alloc, v, names)?;
+    Ok(match to {
+        Ok(obj) => Ok((obj, read)),
+        Err(refusal) => Err(refuses(refusal, read)),
+    })
 }

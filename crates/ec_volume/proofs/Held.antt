@@ -1,18 +1,18 @@
 -- What a volume's list shows after a change, and that it stays one.
 use Rattle.std.proofs.Common.{Bor, ◌≡◌, ℕ, suc, ◌+◌, ◌-◌, ◌≤◌, ◌<◌, arith, length, List, [], ◌∷◌, Option, None, Some, Bool, true, false, cond, refl, sym, ap, subst, ◌∙◌}
-use Rattle.std.specs.Prelude.{◌==◌, if◌then◌else◌, T, not, unwrap_or, is_some, Result, Ok, Err, is_err, OnOk, OnErr, OnSome, MatchOption, option_copied, slice_get}
+use Rattle.std.specs.Prelude.{◌==◌, if◌then◌else◌, T, unwrap_or, is_some, Result, Ok, Err, is_err, OnOk, OnErr, OnSome, IfSome, MatchOption, option_copied, slice_get}
 use Rattle.std.specs.declared.cmp.Ordering.TheVariants.{Less, Equal, Greater}
 use Rattle.std.specs.List.{list_all}
 use Rattle.std.specs.Ordering.{nat_cmp, eq_by_cmp, is_lt}
 use Rattle.std.proofs.lemmas.Bool.Decides.{nat_tests}
 use Rattle.std.specs.Cmp.{nat_cmp_total, eq_by_cmp_equiv, unsigned_ties}
 use Rattle.std.specs.FinMap.{find, put, is_sorted}
-use Rattle.std.specs.FinMap.Entries.{by_order, where_key, is_sorted-put, is_sorted-where_key, find-put}
+use Rattle.std.specs.FinMap.Entries.{by_order, below_all, where_key, is_sorted-put, is_sorted-where_key, find-put}
 use Rattle.ec_base.specs.Sorted.{without}
 use Rattle.ec_volume.specs.Entries.{Entries}
 use Rattle.ec_volume.specs.Image.{is_gone, with_entries}
 use Rattle.ec_volume.specs.Volume.{images}
-use Rattle.ec_volume.specs.Held.{IsVolume, instead, cleared}
+use Rattle.ec_volume.specs.Held.{IsVolume, is_held, instead, cleared}
 use Rattle.ec_volume.specs.declared.image.Image.{Image}
 use Rattle.ec_volume.specs.declared.image.Image.TheVariants.{Gone, File, Dir}
 use Rattle.ec_base.specs.SortedLaws.{first, second, both, find-without, put-put, put-found, without-put_new}
@@ -45,10 +45,7 @@ images-without k es p =
     ∙ ap (λ b. unwrap_or (cond b None (find nat_cmp p es)) Gone) ((eq_by_cmp_equiv nat_cmp_total).symm k p ∙ sym (unsigned_ties p k))
     ∙ sym (pick_gone (p == k) (images es p) (find nat_cmp p es) (images_find es p))
 
--- Images that aren't Gone.
-
-stands : (i : Image) → is_gone i ≡ false → T (not (is_gone i))
-stands i e = subst (λ b. T (not b)) (sym e) tt
+-- Images that a volume holds.
 
 module _ (test : (ℕ × Image) → Bool) where
   all-put : (k : ℕ) (i : Image) (es : List (ℕ × Image)) → ((o : ℕ) → T (test (o, i))) → T (list_all test es) → T (list_all test (put nat_cmp k i es))
@@ -69,30 +66,34 @@ module _ (test : (ℕ × Image) → Bool) where
         | false ↦ rest
       ]
 
-pub IsVolume-put : (k : ℕ) (i : Image) (es : List (ℕ × Image)) → is_gone i ≡ false → IsVolume es → IsVolume (put nat_cmp k i es)
+pub IsVolume-put : (k : ℕ) (i : Image) (es : List (ℕ × Image)) → is_held i ≡ true → IsVolume es → IsVolume (put nat_cmp k i es)
 IsVolume-put k i es h v = record {
   sorted = is_sorted-put nat_cmp nat_cmp_total k i es v.sorted;
-  live = all-put (λ e. not (is_gone e.1)) k i es (λ o. stands i h) v.live;
+  held = all-put (λ e. is_held e.1) k i es (λ o. subst T (sym h) tt) v.held;
 }
 
 pub IsVolume-without : (k : ℕ) (es : List (ℕ × Image)) → IsVolume es → IsVolume (without nat_cmp k es)
 IsVolume-without k es v = record {
   sorted = is_sorted-where_key nat_cmp _ es v.sorted;
-  live = all-where_key (λ e. not (is_gone e.1)) _ es v.live;
+  held = all-where_key (λ e. is_held e.1) _ es v.held;
 }
 
-untrue : (b : Bool) → T (not b) → b ≡ false
-untrue true p = absurd p
-untrue false p = refl
+holds : (b : Bool) → T b → b ≡ true
+holds true p = refl
+holds false p = absurd p
 
--- what is found isn't Gone
-pub found_live : (es : List (ℕ × Image)) (k : ℕ) (i : Image) → T (list_all (λ e. not (is_gone e.1)) es) → find nat_cmp k es ≡ Some i → is_gone i ≡ false
-found_live [] k i a f = cc
-found_live (e ∷ es) k i a f =
-    elim (eq_by_cmp nat_cmp k e.0) as (λ b. cond b (Some e.1) (find nat_cmp k es) ≡ Some i → is_gone i ≡ false) [
-      | true ↦ λ g. let same : e.1 ≡ i = cc in subst (λ x. is_gone x ≡ false) same (untrue _ (first _ _ a))
-      | false ↦ λ g. found_live es k i (second _ _ a) g
+found_held : (es : List (ℕ × Image)) (k : ℕ) (i : Image) → T (list_all (λ e. is_held e.1) es) → find nat_cmp k es ≡ Some i → is_held i ≡ true
+found_held [] k i a f = cc
+found_held (e ∷ es) k i a f =
+    elim (eq_by_cmp nat_cmp k e.0) as (λ b. cond b (Some e.1) (find nat_cmp k es) ≡ Some i → is_held i ≡ true) [
+      | true ↦ λ g. let same : e.1 ≡ i = cc in subst (λ x. is_held x ≡ true) same (holds _ (first _ _ a))
+      | false ↦ λ g. found_held es k i (second _ _ a) g
     ] f
+
+pub held_live : (i : Image) → is_held i ≡ true → is_gone i ≡ false
+held_live Gone h = absurd (let t : false ≡ true = h in cc)
+held_live (File m s w bs) h = refl
+held_live (Dir m s w es) h = refl
 
 -- A live object is found, and one that is Gone isn't.
 
@@ -108,7 +109,10 @@ absent_cases None e h = refl
 absent_cases (Some i) e h = absurd (let t : is_gone i ≡ false = h i refl in cc)
 
 pub absent : (es : List (ℕ × Image)) (k : ℕ) → IsVolume es → is_gone (images es k) ≡ true → find nat_cmp k es ≡ None
-absent es k v h = absent_cases (find nat_cmp k es) (ap is_gone (sym (images_find es k)) ∙ h) (λ i f. found_live es k i v.live f)
+absent es k v h = absent_cases (find nat_cmp k es) (ap is_gone (sym (images_find es k)) ∙ h) (λ i f. held_live i (found_held es k i v.held f))
+
+pub image_held : (es : List (ℕ × Image)) (k : ℕ) → IsVolume es → is_gone (images es k) ≡ false → is_held (images es k) ≡ true
+image_held es k v h = found_held es k (images es k) v.held (found es k h)
 
 pub found-put : (k : ℕ) (i : Image) (es new : List (ℕ × Image)) → new ≡ put nat_cmp k i es → is_some (find nat_cmp k new) ≡ true
 found-put k i es new e =
@@ -145,10 +149,10 @@ changed k i es new e o = ap (λ xs. images xs o) e ∙ images-put k i es o
 pub volume_same : (es new : List (ℕ × Image)) → new ≡ es → IsVolume es → IsVolume new
 volume_same es new e v = subst IsVolume (sym e) v
 
-pub volume_put : (k : ℕ) (i : Image) (es new : List (ℕ × Image)) → new ≡ put nat_cmp k i es → is_gone i ≡ false → IsVolume es → IsVolume new
+pub volume_put : (k : ℕ) (i : Image) (es new : List (ℕ × Image)) → new ≡ put nat_cmp k i es → is_held i ≡ true → IsVolume es → IsVolume new
 volume_put k i es new e h v = subst IsVolume (sym e) (IsVolume-put k i es h v)
 
-pub volume_on_ok : {A E : Type 0} (r : Result A E) (k : ℕ) (i : Image) (es new : List (ℕ × Image)) → OnOk r (new ≡ put nat_cmp k i es) → OnErr r (new ≡ es) → is_gone i ≡ false → IsVolume es → IsVolume new
+pub volume_on_ok : {A E : Type 0} (r : Result A E) (k : ℕ) (i : Image) (es new : List (ℕ × Image)) → OnOk r (new ≡ put nat_cmp k i es) → OnErr r (new ≡ es) → is_held i ≡ true → IsVolume es → IsVolume new
 volume_on_ok (Ok a) k i es new ok err h v = volume_put k i es new ok h v
 volume_on_ok (Err a) k i es new ok err h v = volume_same es new err v
 
@@ -169,7 +173,11 @@ image_stays k o i es new h e = changed k i es new e o ∙ rw h
 
 pub looked : (es : List (ℕ × Image)) (k : ℕ) (r : Option (Bor Image)) → IsVolume es → option_copied r ≡ find nat_cmp k es → MatchOption r (images es k ≡ Gone) (λ i. (images es k ≡ i.now) × (is_gone i.now ≡ false))
 looked es k None v e = images_find es k ∙ ap (λ f. unwrap_or f Gone) (sym e)
-looked es k (Some i) v e = (images_find es k ∙ ap (λ f. unwrap_or f Gone) (sym e), found_live es k i.now v.live (sym e))
+looked es k (Some i) v e = (images_find es k ∙ ap (λ f. unwrap_or f Gone) (sym e), held_live i.now (found_held es k i.now v.held (sym e)))
+
+pub looked_held : (es : List (ℕ × Image)) (k : ℕ) (r : Option (Bor Image)) → IsVolume es → option_copied r ≡ find nat_cmp k es → IfSome r (λ i. is_held i.now ≡ true)
+looked_held es k None v e = tt
+looked_held es k (Some i) v e = found_held es k i.now v.held (sym e)
 
 lower : (a b : ℕ) → T (is_lt (nat_cmp a b)) → a < b
 lower a b h = grind (arith, nat_tests)
@@ -177,8 +185,8 @@ lower a b h = grind (arith, nat_tests)
 climbs : (e : ℕ × Image) (es : List (ℕ × Image)) (b : ℕ × Image) → T (is_sorted nat_cmp (e ∷ es)) → Some b ≡ slice_get (e ∷ es) (length es) → e.0 + length es ≤ b.0
 climbs e [] b h g = let same : b ≡ e = cc in subst (λ (x : ℕ × Image). e.0 + 0 ≤ x.0) (sym same) (omega arith)
 climbs e (f ∷ fs) b h g =
-    let later : f.0 + length fs ≤ b.0 = climbs f fs b (second _ _ h) g in
-    let here : e.0 < f.0 = lower e.0 f.0 (first _ _ (first _ _ h)) in
+    let later : f.0 + length fs ≤ b.0 = climbs f fs b (second (below_all nat_cmp e.0 (f ∷ fs)) (is_sorted nat_cmp (f ∷ fs)) h) g in
+    let here : e.0 < f.0 = lower e.0 f.0 (first (is_lt (nat_cmp e.0 f.0)) (below_all nat_cmp e.0 fs) (first (below_all nat_cmp e.0 (f ∷ fs)) (is_sorted nat_cmp (f ∷ fs)) h)) in
     omega arith
 
 -- rising ids from 1 are no more than the last one says

@@ -3,3 +3,4 @@ pub mod Bytes
 pub mod Distinct
 pub mod Held
 pub mod Shift
+pub mod Limits

@@ -27,5 +27,5 @@ module _ {K X : Type 0} (R : K → K → Ordering) (o : IsTotalOrder R) (same : 
   without-put k m v es h other =
       same_entries R o same _ _ (is_sorted-where_key R _ _ (is_sorted-put R o m v es h)) (is_sorted-put R o m v _ (is_sorted-where_key R _ es h))
       (λ q. find-without R o q k (put R m v es) ∙ ap (cond (eq_by_cmp R k q) None) (find-put R o q m v es)
-        ∙ commuted (eq_by_cmp R q m) (eq_by_cmp R k q) (Some v) (find R q es) None (λ t. ap (λ n. eq_by_cmp R k n) (same q m (equal (R q m) t)) ∙ other)
-        ∙ ap (cond (eq_by_cmp R q m) (Some v)) (sym (find-without R o q k es)) ∙ sym (find-put R o q m v (without R k es)))
+      ∙ commuted (eq_by_cmp R q m) (eq_by_cmp R k q) (Some v) (find R q es) None (λ t. ap (λ n. eq_by_cmp R k n) (same q m (equal (R q m) t)) ∙ other)
+      ∙ ap (cond (eq_by_cmp R q m) (Some v)) (sym (find-without R o q k es)) ∙ sym (find-put R o q m v (without R k es)))

@@ -1,21 +1,27 @@
 -- The list of ids and images that a volume holds, and faults of its changes.
-use Rattle.std.specs.Prelude.{◌≡◌, ◌==◌, if◌then◌else◌, ℕ, T, not, List, Option, None, Some}
+use Rattle.std.specs.Prelude.{◌≡◌, ◌==◌, ◌&&◌, if◌then◌else◌, ℕ, Bool, false, nat_le, T, List, length, Option, None, Some}
 use Rattle.std.specs.List.{list_all}
 use Rattle.std.specs.Ordering.{nat_cmp}
 use Rattle.std.specs.FinMap.{is_sorted}
-use Rattle.ec_volume.specs.Image.{is_gone}
+use Rattle.ec_volume.specs.Entries.{by_bytes}
 use Rattle.ec_volume.specs.Update.{operands, first_unfit}
 use Rattle.ec_volume.specs.Volume.{Images}
 use Rattle.ec_volume.specs.declared.image.Image.{Image}
-use Rattle.ec_volume.specs.declared.image.Image.TheVariants.{Gone}
+use Rattle.ec_volume.specs.declared.image.Image.TheVariants.{Gone, File, Dir}
 use Rattle.ec_volume.specs.declared.update.Update.{Update}
 use Rattle.ec_volume.specs.declared.volume.ApplyFault.{ApplyFault}
 use Rattle.ec_volume.specs.declared.volume.ApplyFault.TheVariants as fault
 
--- The ids rise, and no image is Gone.
+-- live, and within the limits of modes, bytes and entries
+abbrev pub is_held : Image → Bool
+is_held Gone = false
+is_held (File m s w bs) = nat_le m 4095 && nat_le (length bs) 65536
+is_held (Dir m s w es) = nat_le m 4095 && nat_le (length es) 128 && is_sorted by_bytes es
+
+-- The ids rise, no image is Gone, and each one is within the limits.
 pub record IsVolume (es : List (ℕ × Image)) : Type 0 where
   pub sorted : T (is_sorted nat_cmp es)
-  pub live : T (list_all (λ e. not (is_gone e.1)) es)
+  pub held : T (list_all (λ e. is_held e.1) es)
 
 -- a fault that names an object names the first operand at which the update doesn't fit
 abbrev pub Unfits : ApplyFault → Update → Images → Type 0

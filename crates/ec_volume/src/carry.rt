@@ -4,9 +4,9 @@ ghost use Rattle.std.specs.Ordering.{nat_cmp};
 ghost use Rattle.std.specs.FinMap.{find, put};
 ghost use Rattle.ec_volume.specs.Entries.{without_entry};
 ghost use Rattle.ec_volume.specs.Image.{is_gone, with_entries, new_object};
-ghost use Rattle.ec_volume.specs.Update.{is_sound, operands, first_unfit, effect};
+ghost use Rattle.ec_volume.specs.Update.{is_sound, operands, first_unfit, fits, effect};
 ghost use Rattle.ec_volume.specs.Volume.{images, after};
-ghost use Rattle.ec_volume.specs.Held.{IsVolume, instead, cleared};
+ghost use Rattle.ec_volume.specs.Held.{IsVolume, is_held, instead, cleared};
 
 use crate::image::{Image, Kind};
 use crate::update::Update;
@@ -71,6 +71,7 @@ fn make(
     requires volume { IsVolume map.old }
     requires sound { T (is_sound update.now) }
     requires apart { (dir == obj) ≡ false }
+    requires fits { fits update.now dir (images map.old dir) ≡ true }
     requires live { is_gone (images map.old dir) ≡ false }
     requires stays { is_gone (effect update.now dir (images map.old dir)) ≡ false }
     requires gone { is_gone (images map.old obj) ≡ true }
@@ -89,7 +90,7 @@ fn make(
 // Adds an object.
 fn add(map: &mut SortedMap<ObjId, Image>, obj: ObjId, image: Image) -> Result<(), NoMemory>
     requires volume { IsVolume map.old }
-    requires live { is_gone image ≡ false }
+    requires held { is_held image ≡ true }
     ensures ok { OnOk result (map.new ≡ put nat_cmp obj image map.old) }
     ensures volume { IsVolume map.new }
     ensures err { OnErr result (map.new ≡ map.old) }
@@ -106,6 +107,7 @@ fn change(
 ) -> Result<(), NoMemory>
     requires volume { IsVolume map.old }
     requires sound { T (is_sound update.now) }
+    requires fits { fits update.now id (images map.old id) ≡ true }
     requires live { is_gone (images map.old id) ≡ false }
     requires stays { is_gone (effect update.now id (images map.old id)) ≡ false }
     ensures ok { OnOk result ((o : ℕ) → images map.new o ≡ instead id (effect update.now id (images map.old id)) (images map.old) o) }

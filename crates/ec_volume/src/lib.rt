@@ -6,6 +6,8 @@ mod effect;
 mod entries;
 mod fits;
 mod image;
+#[cfg(test)]
+mod tests;
 mod update;
 mod volume;
 

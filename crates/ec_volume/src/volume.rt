@@ -1,5 +1,5 @@
 // All objects by their ids.
-ghost use Rattle.std.specs.Prelude.{◌≡◌, ◌≤◌, ℕ, T, true, false, None, Some, [], ◌∷◌, length, not, MatchOption, IfOk, OnOk, OnErr, IfErr, slice_get};
+ghost use Rattle.std.specs.Prelude.{◌≡◌, ◌≤◌, ℕ, T, true, false, None, Some, [], ◌∷◌, length, not, MatchOption, IfOk, OnOk, OnErr, IfErr, slice_get, IfSome};
 ghost use Rattle.std.specs.Ordering.{nat_cmp};
 ghost use Rattle.std.specs.FinMap.{is_sorted, put};
 ghost use Rattle.ec_base.specs.Sorted.{without};
@@ -7,7 +7,7 @@ ghost use Rattle.ec_volume.specs.Entries.{without_entry};
 ghost use Rattle.ec_volume.specs.Image.{is_gone, with_entries};
 ghost use Rattle.ec_volume.specs.Update.{is_sound, operands, first_unfit, fits, effect};
 ghost use Rattle.ec_volume.specs.Volume.{images, formatted, after};
-ghost use Rattle.ec_volume.specs.Held.{IsVolume, Unfits};
+ghost use Rattle.ec_volume.specs.Held.{IsVolume, is_held, Unfits};
 
 use crate::carry::carry_out;
 use crate::image::{Image, Kind};
@@ -68,7 +68,8 @@ impl Volume {
 
     /// The image of a live object.
     pub fn look(&self, id: ObjId) -> Option<&Image>
-        ensures { MatchOption result (images self.now id ≡ Image.Gone) (λ image. (images self.now id ≡ image.now) × (is_gone image.now ≡ false)) }
+        ensures image { MatchOption result (images self.now id ≡ Image.Gone) (λ image. (images self.now id ≡ image.now) × (is_gone image.now ≡ false)) }
+        ensures limits { IfSome result (λ image. is_held image.now ≡ true) }
     {
         self.map.get(&id)
     }

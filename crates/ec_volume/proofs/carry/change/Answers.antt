@@ -5,7 +5,8 @@ use Rattle.ec_volume.specs.Update.{effect}
 use Rattle.ec_volume.specs.Volume.{images}
 use Rattle.ec_volume.specs.Held.{instead}
 use Rattle.ec_volume.specs.declared.image.Image.TheVariants.{Gone}
-use Rattle.ec_volume.proofs.Held.{found-put, given, given_back, changed, volume_on_ok, then_ok, then_err}
+use Rattle.ec_volume.proofs.Held.{found-put, given, given_back, changed, volume_on_ok, then_ok, then_err, image_held}
+use Rattle.ec_volume.proofs.Limits.{effect_held}
 use Rattle.ec_volume.proofs.carry.change.Goals as goal
 
 pub give-requires : goal.give-requires
@@ -32,7 +33,7 @@ returns-clause-volume c =
     (λ e. is ∙ ap (λ i. put nat_cmp c.args.id i old) (e ∙ ap (effect c.args.update.now c.args.id) c.take-image.ensures.image)) c.effect-done.ensures.ok)
     (then_err c.effect-done.result (c.effect-done.new.self ≡ c.take-image.result) (new ≡ old)
     (λ e. given_back c.args.id old new c.requires.volume c.requires.live (is ∙ ap (λ i. put nat_cmp c.args.id i old) (e ∙ c.take-image.ensures.image))) c.effect-done.ensures.err)
-    c.requires.stays c.requires.volume
+    (effect_held c.args.update.now c.args.id (images old c.args.id) c.requires.sound c.requires.fits (image_held old c.args.id c.requires.volume c.requires.live) c.requires.stays) c.requires.volume
 
 pub returns-clause-err : goal.returns-clause-err
 returns-clause-err c =

@@ -1,6 +1,6 @@
 use Rattle.std.proofs.Common.{◌≡◌, ◌∙◌, ℕ, ap, sym}
 use Rattle.ec_volume.specs.Image.{is_gone, new_object}
-use Rattle.ec_volume.specs.Update.{effect}
+use Rattle.ec_volume.specs.Update.{fits, effect}
 use Rattle.ec_volume.specs.Volume.{images}
 use Rattle.ec_volume.specs.Held.{instead}
 use Rattle.ec_volume.proofs.Held.{added_removed, changed, image_stays, volume_same, then_ok, then_err, on_err}
@@ -9,6 +9,10 @@ use Rattle.ec_volume.proofs.carry.make.Goals as goal
 pub change-done-requires-clause-live : goal.change-done-requires-clause-live
 change-done-requires-clause-live c =
     ap is_gone (image_stays c.args.obj c.args.dir c.new_object.result c.args.map.now c.add.new.map c.requires.apart c.in_ok-add.ensures.ok) ∙ c.requires.live
+
+pub change-done-requires-clause-fits : goal.change-done-requires-clause-fits
+change-done-requires-clause-fits c =
+    ap (fits c.args.update.now c.args.dir) (image_stays c.args.obj c.args.dir c.new_object.result c.args.map.now c.add.new.map c.requires.apart c.in_ok-add.ensures.ok) ∙ c.requires.fits
 
 pub change-done-requires-clause-stays : goal.change-done-requires-clause-stays
 change-done-requires-clause-stays c =

@@ -1,0 +1,42 @@
+// Orders of the objects of paths.
+ghost use Rattle.std.specs.Prelude.{◌≡◌, ◌++◌, [], IfOk, OnOk};
+ghost use Rattle.ec_volume.specs.Volume.{images};
+ghost use Rattle.ec_plain.specs.Plain.{once_more, plain_forder};
+
+use crate::call::Outcome;
+use crate::outcome::{issues, refuses};
+use crate::walk::{Walked, walk};
+use ec_base::{List, NoMemory, ObjId, Path};
+use ec_volume::{Update, Volume};
+use std::alloc::Global;
+
+pub(crate) fn plain_forder(
+    alloc: Global,
+    v: &Volume,
+    paths: &[Path],
+) -> Result<Outcome, NoMemory>
+    ensures { IfOk result (λ o. o ≡ plain_forder (images v.now) paths.now [] []) }
+{
+    let mut objs = Vec::new(alloc);
+    let mut touched = Vec::new(alloc);
+    'paths: for path in paths {
+        let Walked { to, read } = walk(alloc, v, path.names())?;
+        touched.extend_from_slice(&read)?;
+        match to {
+            Ok(obj) => once_more(obj, &mut objs)?,
+            Err(refusal) => return Ok(refuses(refusal, touched)),
+        }
+    }
+    let objs = List::of(objs);
+    Ok(issues(Update::Order { objs }, touched))
+}
+
+// Each object once.
+fn once_more(obj: ObjId, objs: &mut Vec<ObjId>) -> Result<(), NoMemory>
+    ensures { OnOk result (objs.new.items ≡ once_more obj objs.old.items) }
+{
+    if !objs.contains(&obj) {
+        objs.push(obj)?;
+    }
+    Ok(())
+}
