@@ -118,7 +118,7 @@ fn read_write(alloc: Global, words: &[&[u8]]) -> Result<Call, WordFault>
         (IsRefused SpellsCall 1 (texts words.now)) }
 {
     let path = path_at(alloc, words, 2)?;
-    let at = number_at(alloc, words, 3)?;
+    let at = number_at(words, 3)?;
     let text = text_at(alloc, words, 4)?;
     end_at(words, 5)?;
     Ok(Call::Write(path, at, text))
@@ -131,8 +131,8 @@ fn read_read(alloc: Global, words: &[&[u8]]) -> Result<Call, WordFault>
         (IsRefused SpellsCall 1 (texts words.now)) }
 {
     let path = path_at(alloc, words, 2)?;
-    let at = number_at(alloc, words, 3)?;
-    let count = count_at(alloc, words, 4)?;
+    let at = number_at(words, 3)?;
+    let count = count_at(words, 4)?;
     end_at(words, 5)?;
     Ok(Call::Read(path, at, count))
 }
