@@ -10,6 +10,7 @@ use crate::word::{column, words};
 use ec_base::{ClerkId, NoMemory};
 use ec_plain::Call;
 use std::alloc::Global;
+use thiserror::Error;
 
 /// A line of a script.
 #[derive(Debug, Drop)]
@@ -21,11 +22,13 @@ pub enum Line {
 }
 
 /// Why a line was not read.
-#[derive(Clone, Copy, Debug, Drop, PartialEq, Eq)]
+#[derive(Clone, Copy, Debug, Drop, PartialEq, Eq, Error)]
 pub enum LineFault {
     /// The line is outside the grammar. The column, from 1, is that of the first byte of the first
     /// word that doesn't fit, or just behind the line where a word is missing.
+    #[error("no such line: column {0}")]
     At(u32),
+    #[error("out of memory")]
     NoMemory,
 }
 
