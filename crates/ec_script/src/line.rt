@@ -10,6 +10,7 @@ use crate::word::{column, words};
 use ec_base::{ClerkId, NoMemory};
 use ec_plain::Call;
 use std::alloc::Global;
+use thiserror::Error;
 
 /// A line of a script.
 #[derive(Debug, Drop)]
@@ -21,11 +22,13 @@ pub enum Line {
 }
 
 /// Why a line was not read.
-#[derive(Clone, Copy, Debug, Drop, PartialEq, Eq)]
+#[derive(Clone, Copy, Debug, Drop, PartialEq, Eq, Error)]
 pub enum LineFault {
     /// The line is outside the grammar. The column, from 1, is that of the first byte of the first
     /// word that doesn't fit, or just behind the line where a word is missing.
+    #[error("no such line: column {0}")]
     At(u32),
+    #[error("out of memory")]
     NoMemory,
 }
 
@@ -118,7 +121,7 @@ fn read_write(alloc: Global, words: &[&[u8]]) -> Result<Call, WordFault>
         (IsRefused SpellsCall 1 (texts words.now)) }
 {
     let path = path_at(alloc, words, 2)?;
-    let at = number_at(alloc, words, 3)?;
+    let at = number_at(words, 3)?;
     let text = text_at(alloc, words, 4)?;
     end_at(words, 5)?;
     Ok(Call::Write(path, at, text))
@@ -131,8 +134,8 @@ fn read_read(alloc: Global, words: &[&[u8]]) -> Result<Call, WordFault>
         (IsRefused SpellsCall 1 (texts words.now)) }
 {
     let path = path_at(alloc, words, 2)?;
-    let at = number_at(alloc, words, 3)?;
-    let count = count_at(alloc, words, 4)?;
+    let at = number_at(words, 3)?;
+    let count = count_at(words, 4)?;
     end_at(words, 5)?;
     Ok(Call::Read(path, at, count))
 }

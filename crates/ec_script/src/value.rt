@@ -7,6 +7,7 @@ ghost use Rattle.ec_script.specs.Grammar.{IsPlain, IsClerkWord, IsPathWord, IsNu
 ghost use Rattle.ec_script.specs.Reading.{texts, Has, Lacks, IsRefused};
 
 use ec_base::{ClerkId, List as ByteList, Name, NameFault, NoMemory, Path};
+use itoa::Buffer;
 use std::alloc::Global;
 
 /// Why words were not read.
@@ -115,55 +116,49 @@ fn is_plain(bytes: &[u8]) -> bool
     true
 }
 
-pub(crate) fn number_at(alloc: Global, words: &[&[u8]], at: usize) -> Result<u32, WordFault>
+pub(crate) fn number_at(words: &[&[u8]], at: usize) -> Result<u32, WordFault>
     ensures { MatchResult result
         (Has IsNumberWord at (texts words.now))
         (Lacks IsNumberWord at (texts words.now)) }
 {
-    match number_of(alloc, word_at(words, at)?)? {
+    match number_of(word_at(words, at)?) {
         Some(number) => Ok(number),
         None => Err(WordFault::Unfit(at)),
     }
 }
 
 /// A number of at most 4,096.
-pub(crate) fn count_at(alloc: Global, words: &[&[u8]], at: usize) -> Result<u32, WordFault>
+pub(crate) fn count_at(words: &[&[u8]], at: usize) -> Result<u32, WordFault>
     ensures { MatchResult result
         (Has IsCountWord at (texts words.now))
         (Lacks IsCountWord at (texts words.now)) }
 {
-    match count_of(alloc, word_at(words, at)?)? {
+    match count_of(word_at(words, at)?) {
         Some(count) => Ok(count),
         None => Err(WordFault::Unfit(at)),
     }
 }
 
-fn count_of(alloc: Global, word: &[u8]) -> Result<Option<u32>, NoMemory>
-    ensures { IfOk result
-        (λ found. MatchOption found ((n : ℕ) → IsCountWord word.now n → ⊥) (λ n. IsCountWord word.now n)) }
+fn count_of(word: &[u8]) -> Option<u32>
+    ensures { MatchOption result ((n : ℕ) → IsCountWord word.now n → ⊥) (λ n. IsCountWord word.now n) }
 {
-    let Some(count) = number_of(alloc, word)? else {
-        return Ok(None);
-    };
+    let count = number_of(word)?;
     if count > 4096 {
-        return Ok(None);
+        return None;
     }
-    Ok(Some(count))
+    Some(count)
 }
 
 // A number in its one spelling.
-fn number_of(alloc: Global, word: &[u8]) -> Result<Option<u32>, NoMemory>
-    ensures { IfOk result
-        (λ found. MatchOption found ((n : ℕ) → IsNumberWord word.now n → ⊥) (λ n. IsNumberWord word.now n)) }
+fn number_of(word: &[u8]) -> Option<u32>
+    ensures { MatchOption result ((n : ℕ) → IsNumberWord word.now n → ⊥) (λ n. IsNumberWord word.now n) }
 {
-    let Some(number) = parsed(word) else {
-        return Ok(None);
-    };
-    let text = number.to_string(alloc)?;
-    if text.as_bytes() == word {
-        Ok(Some(number))
+    let number = parsed(word)?;
+    let mut buffer = Buffer::new();
+    if buffer.format(number).as_bytes() == word {
+        Some(number)
     } else {
-        Ok(None)
+        None
     }
 }
 

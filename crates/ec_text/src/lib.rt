@@ -5,5 +5,7 @@ mod answer;
 mod asked;
 mod line;
 mod pieces;
+#[cfg(test)]
+mod tests;
 
 pub use line::print;

@@ -4,6 +4,7 @@ ghost use Rattle.std.specs.Fmt.{decimal};
 ghost use Rattle.ec_text.specs.Pieces.{escaped, escaped_byte, hex_digit, step_text, path_text, octal, clerk_text, next_number, numbers_text};
 
 use ec_base::{ClerkId, NoMemory, OpNo, Path};
+use itoa::Buffer;
 
 pub(crate) fn push_text(out: &mut Vec<u8>, text: &[u8]) -> Result<(), NoMemory>
     ensures { OnOk result (out.new.items ≡ out.old.items ++ text.now) }
@@ -15,9 +16,8 @@ pub(crate) fn push_text(out: &mut Vec<u8>, text: &[u8]) -> Result<(), NoMemory>
 pub(crate) fn push_number(out: &mut Vec<u8>, number: u64) -> Result<(), NoMemory>
     ensures { OnOk result (out.new.items ≡ out.old.items ++ decimal number) }
 {
-    let text = number.to_string(*out.allocator())?;
-    out.extend_from_slice(text.as_bytes())?;
-    Ok(())
+    let mut buffer = Buffer::new();
+    push_text(out, buffer.format(number).as_bytes())
 }
 
 pub(crate) fn push_clerk(out: &mut Vec<u8>, clerk: ClerkId) -> Result<(), NoMemory>

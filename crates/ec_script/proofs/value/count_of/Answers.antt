@@ -5,6 +5,6 @@ use Rattle.ec_script.proofs.value.count_of.Goals as goal
 
 pub returns-then-count-gt4096 : goal.returns-then-count-gt4096
 returns-then-count-gt4096 c = λ n is.
-    let own : IsNumberWord c.args.word.now c.in-Some.count = rw c.in-Some.is at c.in_ok-count.ensures in
-    let e : n ≡ c.in-Some.count = decimal_injective n c.in-Some.count (omega (arith, is.0.1)) (omega (arith, own.1)) (sym is.0.0 ∙ own.0) in
+    let own : IsNumberWord c.args.word.now c.in_ok-count.count = c.in_ok-count.ensures in
+    let e : n ≡ c.in_ok-count.count = decimal_injective n c.in_ok-count.count (omega (arith, is.0.1)) (omega (arith, own.1)) (sym is.0.0 ∙ own.0) in
     omega (arith, is.1)

@@ -1,5 +1,4 @@
 use Rattle.std.proofs.Common.{◌≡◌, ◌++◌, take}
-use Rattle.std.specs.List.{flat_map}
 use Rattle.ec_text.specs.Pieces.{escaped}
 use Rattle.ec_text.proofs.pieces.push_escaped.Given as goal
 
