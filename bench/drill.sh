@@ -1,0 +1,35 @@
+#!/bin/sh
+# Times the drill on scripts of 8,192 and of 65,536 lines, and prints both times and their ratio.
+# Usage: bench/drill.sh PROGRAM   (the echofs program; `rt run` in crates/echofs builds it)
+set -eu
+program=${1:?usage: bench/drill.sh PROGRAM}
+folder=$(mktemp -d)
+trap 'rm -rf "$folder"' EXIT
+
+# A script of so many lines: files are made, written, read and, now and then, lost by a crash.
+script() {
+    awk -v lines="$1" 'BEGIN {
+        for (n = 1; n <= lines; n++) {
+            file = int(n / 8) % 100
+            if (n % 1000 == 0) print "crash A"
+            else if (n % 8 == 1) print "A create /f" file
+            else if (n % 8 < 5) print "A write /f" file " " (n * 37) % 60000 " text-of-line-" n
+            else print "A read /f" file " 0 64"
+        }
+    }'
+}
+
+seconds() {
+    start=$(date +%s.%N)
+    "$program" drill < "$1" > "$2"
+    end=$(date +%s.%N)
+    echo "$start $end" | awk '{ printf "%.3f", $2 - $1 }'
+}
+
+script 8192 > "$folder/small"
+script 65536 > "$folder/large"
+small=$(seconds "$folder/small" "$folder/small.out")
+large=$(seconds "$folder/large" "$folder/large.out")
+echo "8192 lines:  $small s, $(wc -l < "$folder/small.out") lines out"
+echo "65536 lines: $large s, $(wc -l < "$folder/large.out") lines out"
+echo "$small $large" | awk '{ printf "ratio: %.1f (at most 9)\n", $2 / $1 }'

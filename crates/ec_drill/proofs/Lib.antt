@@ -1,0 +1,9 @@
+pub mod Texts
+pub mod Sofar
+pub mod Small
+pub mod Steps
+pub mod Losses
+pub mod Answering
+pub mod Promises
+pub mod Carries
+pub mod Limits

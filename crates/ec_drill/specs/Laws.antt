@@ -1,0 +1,23 @@
+-- The laws that the steps use, as the contracts of the functions that carry them.
+use Rattle.std.specs.Prelude.{◌≡◌, ◌+◌, ℕ, false, List, [], ◌∷◌, ◌++◌, length, Option, None}
+use Rattle.ec_plain.specs.declared.call.Call.{Call}
+use Rattle.ec_history.specs.History.{Base, History, Throughout, kept, kept_next, owed, owed_next}
+use Rattle.ec_history.specs.Legal.{IsLegal, IsLegalNext}
+use Rattle.ec_history.specs.Placing.{Watch, watch, watch_next, owner, or_zero, gives_entry, call_entry, place, ArePlaceable, MayFollow}
+use Rattle.ec_history.specs.Lines.{IsCovered, AreCovered}
+use Rattle.ec_history.specs.declared.entry.Answer.{Answer}
+use Rattle.ec_history.specs.declared.entry.Entry.{Entry}
+use Rattle.ec_history.specs.declared.entry.Entry.TheVariants as entry
+use Rattle.ec_history.specs.declared.shown.Shown.{Shown}
+use Rattle.ec_history.specs.declared.shown.Shown.TheVariants.{Answered, Ended}
+
+pub record Laws : Type 0 where
+  pub legal_next : (base : Base) (most : ℕ) (h : History) (e : ℕ × Entry) → IsLegal base most h → IsLegalNext base most h e → IsLegal base most (h ++ e ∷ [])
+  pub placeable_next : (ss : List Shown) (s : Shown) → ArePlaceable [] ss → MayFollow ss s → ArePlaceable [] (ss ++ s ∷ [])
+  pub kept_next_is : (base : Base) (h : History) (e : ℕ × Entry) → kept base (h ++ e ∷ []) ≡ kept_next base (kept base h) e
+  pub owed_next_is : (base : Base) (h : History) (e : ℕ × Entry) (c b : ℕ) → owed base (h ++ e ∷ []) c b ≡ owed_next base c b (kept base h) (owed base h c b) e
+  pub watch_next_is : (c : ℕ) (ss : List Shown) (s : Shown) → watch c (ss ++ s ∷ []) ≡ watch_next c (watch c ss) s
+  pub answer_placed : (ss : List Shown) (l c : ℕ) (cl : Call) (a : Answer) (op : Option ℕ) → (watch c ss).untold ≡ None → place (ss ++ Answered l c cl a op ∷ []) ≡ place ss ++ call_entry ss (Answered l c cl a op)
+  pub ended_placed : (ss : List Shown) (c : ℕ) (ns : List ℕ) → place (ss ++ Ended c ns ∷ []) ≡ place ss ++ (length ss + 1, entry.Loss c (or_zero (owner (watch c ss))) ns) ∷ []
+  pub other_placed : (ss : List Shown) (s : Shown) → ((c b : ℕ) (w : Watch) → gives_entry c b w s ≡ false) → place (ss ++ s ∷ []) ≡ place ss
+  pub covered_above : (base : Base) (ss : List Shown) (s : Shown) → Throughout (IsCovered base ss) [] (place (ss ++ s ∷ [])) → AreCovered base (ss ++ s ∷ [])
