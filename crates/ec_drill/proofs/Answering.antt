@@ -1,24 +1,21 @@
 -- An answer of the one clerk.
 use Rattle.std.proofs.Common.{◌≡◌, refl, sym, subst, inl, inr, arith, ◌∙◌, ap, ◌+◌, ◌<◌, ◌≤◌, ◌⊎◌, ℕ, T, Bool, true, false, not, ◌&&◌, ◌||◌, cond, List, [], ◌∷◌, ◌++◌, eqb, Option, Some, None}
 use Rattle.std.proofs.Common.{append-nil, length-append}
-use Rattle.std.specs.Prelude.{length, nat_le, is_some, ◌==◌, map, ⊤}
-use Rattle.std.specs.List.{filter, list_any}
+use Rattle.std.specs.Prelude.{length, is_some}
+use Rattle.std.specs.List.{filter}
 use Rattle.std.specs.Bool.{OnTrue}
 use Rattle.std.proofs.lemmas.List.Elements.{filter-append}
 use Rattle.ec_volume.specs.Update.{operands, member, has_operand, fits, first_unfit, effect, listed}
-use Rattle.ec_volume.specs.Volume.{Images, images, formatted, after, image_next}
-use Rattle.ec_volume.specs.declared.image.Image.{Image}
-use Rattle.ec_volume.specs.declared.image.Image.TheVariants.{Gone}
+use Rattle.ec_volume.specs.Volume.{Images, images, after, image_next}
 use Rattle.ec_volume.specs.declared.update.Update.{Update}
 use Rattle.ec_plain.specs.Plain.{plain}
 use Rattle.ec_plain.specs.declared.call.Call.{Call}
 use Rattle.ec_plain.specs.declared.call.Reply.{Reply}
 use Rattle.ec_plain.specs.declared.call.Outcome.{Outcome}
-use Rattle.ec_history.specs.History.{Base, History, Op, Owed, updates, numbers, of_start, outcome, issued_by, kept, kept_next, owed, owed_next, meets, distinct_numbers, due, Throughout, Each}
-use Rattle.ec_history.specs.Legal.{IsLegal, IsLegalNext, IsCall, IsNext, is_op_of, from_formatted}
-use Rattle.ec_history.specs.Placing.{Watch, watch, watch_next, unwatched, begun, answered, owner, last_place, before_line, call_entry, is_numbered, shows, may_show, place, MayFollow, EachLine, Agrees, Unanswered}
+use Rattle.ec_history.specs.History.{Op, Owed, updates, numbers, of_start, outcome, issued_by, kept, owed, owed_next, meets, distinct_numbers, due, Throughout, Each}
+use Rattle.ec_history.specs.Legal.{IsLegal, IsCall, IsNext, is_op_of, from_formatted}
+use Rattle.ec_history.specs.Placing.{watch, unwatched, begun, answered, last_place, before_line, is_numbered, shows, may_show, place, MayFollow, EachLine, Agrees, Unanswered}
 use Rattle.ec_history.specs.Lines.{IsCovered}
-use Rattle.ec_history.specs.declared.entry.Answer.{Answer}
 use Rattle.ec_history.specs.declared.entry.Answer.TheVariants as answer
 use Rattle.ec_history.specs.declared.entry.Entry.{Entry}
 use Rattle.ec_history.specs.declared.entry.Entry.TheVariants as entry
@@ -112,6 +109,7 @@ untouched_above m m' u fresh fine volume o lt = volume o ∙ go (decide (has_ope
   where
     beyond : T (member o (operands u)) → ⊥
     beyond h = let le : o ≤ fresh = fine.within o h in omega (arith, le, lt)
+
     go : (has_operand o u ≡ true) ⊎ (has_operand o u ≡ false) → image_next o (images m.volume o) u ≡ images m.volume o
     go (inl e) = absurd (beyond (on e))
     go (inr e) = ap (λ b. cond b (effect u o (images m.volume o)) (images m.volume o)) e
@@ -175,10 +173,10 @@ module _ (laws : Laws) (m m' : OneClerk) (n : ℕ) (ss : List Shown) (t : IsTran
 
   follows : (r : Reply) (op : Option ℕ) → MayFollow ss (line r op)
   follows r op =
-      let apart : EachLine (λ s. is_numbered (n + 1) s ≡ false) ss = t.asked (n + 1) (omega arith) in
-      ( each_line-map _ _ ss (agrees (n + 1) 0 cl) apart
-      , each_line-map _ _ ss (unanswered (n + 1)) apart
-      , or_right (not (shows cl (answer.Reply r))) _ (subst (λ w. T (may_show (begun w))) (sym (watched m n ss t)) (may_as m.state (watch 0 ss).starts (numbers_to m.ops) (watch 0 ss).crashed runs))
+      let apart : EachLine (λ s. is_numbered (n + 1) s ≡ false) ss = t.asked (n + 1) (omega arith) in (
+        each_line-map _ _ ss (agrees (n + 1) 0 cl) apart,
+        each_line-map _ _ ss (unanswered (n + 1)) apart,
+        or_right (not (shows cl (answer.Reply r))) _ (subst (λ w. T (may_show (begun w))) (sym (watched m n ss t)) (may_as m.state (watch 0 ss).starts (numbers_to m.ops) (watch 0 ss).crashed runs)),
       )
 
   -- what all answers have in common
@@ -227,12 +225,16 @@ module _ (laws : Laws) (m m' : OneClerk) (n : ℕ) (ss : List Shown) (t : IsTran
     where
       other : (l : ℕ) → n + 1 < l → eqb (n + 1) l ≡ false
       other l lt = grind arith
+
       count : (d : ℕ) → length (filter (is_op_of 0 d) (place (ss ++ line r op ∷ []))) ≡ length (filter (is_op_of 0 d) (place ss)) + length (filter (is_op_of 0 d) (here r op ∷ []))
       count d = ap (λ h. length (filter (is_op_of 0 d) h)) (placed_here r op) ∙ ap length (filter-append (is_op_of 0 d) (place ss) (here r op ∷ [])) ∙ length-append (filter (is_op_of 0 d) (place ss)) (filter (is_op_of 0 d) (here r op ∷ []))
+
       apart : (d b : ℕ) → b < d → eqb d b ≡ false
       apart d b lt = grind arith
+
       none : (d : ℕ) → boot < d → 0 + length (filter (is_op_of 0 d) (here r op ∷ [])) ≡ 0
       none d lt = ap (λ b. 0 + length (cond (b && is_some op) (here r op ∷ []) [])) (apart d boot lt)
+
       clears : (d : ℕ) (qs : Owed) → qs ≡ [] → owed_next from_formatted 0 d (kept from_formatted (place ss)) qs (here r op) ≡ []
       clears d qs e = ap (λ q. owed_next from_formatted 0 d (kept from_formatted (place ss)) q (here r op)) e ∙ cond_nil (eqb d boot)
 
@@ -256,6 +258,7 @@ module _ (laws : Laws) (m m' : OneClerk) (n : ℕ) (ss : List Shown) (t : IsTran
       and_false : (b : Bool) → (b && false) ≡ false
       and_false true = refl
       and_false false = refl
+
       same : (k : ℕ) → k + 0 ≡ k
       same k = omega arith
 
@@ -295,6 +298,7 @@ call_good m n ss t cl small = small_good (images m.volume) (m.places + 2) (λ o 
   where
     above : (k p o : ℕ) → p ≡ k → p + 2 < o → k + 1 < o
     above k p o e lt = omega (arith, e, lt)
+
     next : (k p : ℕ) → p ≡ k → k + 1 < p + 2
     next k p e = omega (arith, e)
 
@@ -312,6 +316,7 @@ answered_any laws m mid m' n ss t cl small calm o is op takes volume ops st plac
   where
     good : IsGood (images m.volume) (m.places + 2) o
     good = subst (IsGood (images m.volume) (m.places + 2)) (sym is) (call_good m n ss t cl small)
+
     go : (u : Option Update) → o.update ≡ u → Takes u op m mid → IsTranscript m' (n + 1) (ss ++ Answered (n + 1) 0 cl (answer.Reply o.reply) op ∷ [])
     go None e k = subst (λ x. IsTranscript m' (n + 1) (ss ++ Answered (n + 1) 0 cl (answer.Reply o.reply) x ∷ [])) (sym k.0) (answered_without laws m m' n ss t cl small calm o.reply (ap (λ x. x.reply) is) good.seen (sym (ap (λ x. x.update) is) ∙ e) (volume ∙ k.1) (ops ∙ k.2) st places)
     go (Some u) e k = subst (λ x. IsTranscript m' (n + 1) (ss ++ Answered (n + 1) 0 cl (answer.Reply o.reply) x ∷ [])) (sym k.0) (answered_with laws m m' n ss t cl small calm o.reply u (ap (λ x. x.reply) is) good.seen (sym (ap (λ x. x.update) is) ∙ e) (good.fine u e) (λ x. ap (λ v. images v x) volume ∙ k.1 x) (ops ∙ k.2) st places)

@@ -1,11 +1,10 @@
 -- The one clerk carries out a line.
-use Rattle.std.proofs.Common.{◌≡◌, ◌≢◌, refl, sym, subst, arith, ◌∙◌, ap, ◌+◌, ◌-◌, ◌<◌, ◌≤◌, ◌⊎◌, ℕ, zero, suc, T, Bool, true, false, ◌||◌, cond, List, [], ◌∷◌, ◌++◌, eqb, Option, Some, None, append-nil, append_assoc, length-append}
-use Rattle.std.specs.Prelude.{length, take, slice_get, if◌then◌else◌, ⊤}
+use Rattle.std.proofs.Common.{◌≡◌, ◌≢◌, refl, sym, subst, arith, ◌∙◌, ap, ◌+◌, ◌-◌, ◌≤◌, ℕ, zero, suc, T, Bool, true, false, ◌||◌, cond, List, [], ◌∷◌, ◌++◌, eqb, Option, Some, append-nil, append_assoc, length-append}
+use Rattle.std.specs.Prelude.{length, take, slice_get, if◌then◌else◌}
 use Rattle.std.specs.Bool.{OnFalse}
 use Rattle.std.specs.List.{filter, list_any}
 use Rattle.std.proofs.lemmas.List.Elements.{filter-append}
 use Rattle.ec_plain.specs.declared.call.Call.{Call}
-use Rattle.ec_history.specs.Legal.{from_formatted}
 use Rattle.ec_history.specs.Placing.{EachLine, is_numbered}
 use Rattle.ec_history.specs.declared.entry.Answer.{Answer}
 use Rattle.ec_history.specs.declared.shown.Shown.{Shown}
@@ -13,9 +12,8 @@ use Rattle.ec_history.specs.declared.shown.Shown.TheVariants.{Answered, Ended, C
 use Rattle.ec_script.specs.declared.line.Line.{Line}
 use Rattle.ec_script.specs.declared.line.Line.TheVariants as line
 use Rattle.ec_drill.specs.Promise.{Lines, Pieces, joined, InScript, IsPiece, ends, may_end}
-use Rattle.ec_drill.specs.Answers.{AreAnsweredFrom, AreAnswered}
+use Rattle.ec_drill.specs.Answers.{AreAnsweredFrom}
 use Rattle.ec_drill.specs.Run.{Carried}
-use Rattle.ec_drill.specs.Numbers.{numbers_to}
 use Rattle.ec_drill.specs.OneClerk.{is_running, is_crashed, state_after, IsTranscript, StandsBehind}
 use Rattle.ec_drill.specs.declared.one_clerk.State.{State}
 use Rattle.ec_drill.specs.declared.one_clerk.State.TheVariants as state
@@ -177,8 +175,8 @@ pub crash_carried : (m m' : OneClerk) (lines : Lines) (pieces : Pieces) (c : ℕ
     → Carried (StandsBehind m') lines (line.Crash c) pieces (s ∷ [])
 crash_carried m m' lines pieces c s sb is ops t shown running crashed silent script piece one =
     let front : IsFrontOf lines (line.Crash c) pieces (s ∷ []) = front_of m' (length lines) lines (line.Crash c) pieces (s ∷ []) t (script, tt) piece
-          (losses _ _ _ (if is_crashed m.state then 1 else 0) _ (quiet 0) sb.losses)
-          (λ d ne. let none : length (filter (ends d) (joined pieces)) ≡ 0 = sb.no_others d ne in let nil : length (filter (ends d) (s ∷ [])) ≡ 0 = quiet d in omega (arith, none, nil)) in
+    (losses _ _ _ (if is_crashed m.state then 1 else 0) _ (quiet 0) sb.losses)
+    (λ d ne. let none : length (filter (ends d) (joined pieces)) ≡ 0 = sb.no_others d ne in let nil : length (filter (ends d) (s ∷ [])) ≡ 0 = quiet d in omega (arith, none, nil)) in
     carries m m' lines (line.Crash c) pieces (s ∷ []) sb (record {
       fronts = fronts_one (IsFrontOf lines (line.Crash c) pieces) s (front_none m lines (line.Crash c) pieces sb) front;
       whole = front;
@@ -192,10 +190,13 @@ crash_carried m m' lines pieces c s sb is ops t shown running crashed silent scr
   where
     quiet : (d : ℕ) → length (filter (ends d) (s ∷ [])) ≡ 0
     quiet d = ap (λ b. length (cond b (s ∷ []) [])) (silent d)
+
     losses : (a w y i q : ℕ) → q ≡ 0 → a + i ≤ w → a + q ≤ w + y
     losses a w y i q e le = omega (arith, e, le)
+
     crash_counts : (c : ℕ) → c ≡ 0 → length (filter (may_end 0) (line.Crash c ∷ [])) ≡ 1
     crash_counts c is = ap (λ d. length (filter (may_end 0) (line.Crash d ∷ []))) is
+
     counts : (a q i' i w y : ℕ) → q ≡ 0 → y ≡ 1 → i' ≤ i + 1 → a + i ≤ w → a + q + i' ≤ w + y
     counts a q i' i w y e f le lt = omega (arith, e, f, le, lt)
 
@@ -206,10 +207,10 @@ on_false_any true k l e = tt
 on_false_any false k l e = e
 
 own_script : (lines : Lines) (n c : ℕ) (cl : Call) (a : Answer) (op : Option ℕ) → n ≡ length lines + 1 → c ≡ 0 → InScript (lines ++ line.Call c cl ∷ []) (Answered n 0 cl a op)
-own_script lines n c cl a op is zero_is =
-    ( omega (arith, is)
-    , ap (slice_get (lines ++ line.Call c cl ∷ [])) (before n (length lines) is) ∙ get-push lines (line.Call c cl) ∙ ap (λ d. Some (line.Call d cl)) zero_is
-    )
+own_script lines n c cl a op is zero_is = (
+  omega (arith, is),
+  ap (slice_get (lines ++ line.Call c cl ∷ [])) (before n (length lines) is) ∙ get-push lines (line.Call c cl) ∙ ap (λ d. Some (line.Call d cl)) zero_is,
+)
   where
     before : (n k : ℕ) → n ≡ k + 1 → n - 1 ≡ k
     before n k e = omega (arith, e)
@@ -224,8 +225,8 @@ call_carried m m' lines pieces n c cl a op sb is zero_is calm t running ops =
     let s : Shown = Answered n 0 cl a op in
     let same : length pieces ≡ length lines = sb.counted in
     let front : IsFrontOf lines (line.Call c cl) pieces (s ∷ []) = front_of m' n lines (line.Call c cl) pieces (s ∷ []) t (own_script lines n c cl a op is zero_is, tt) (own_piece (joined pieces) (1 + length pieces) n cl a op (omega (arith, is, same)))
-          (losses _ _ (if is_crashed m.state then 1 else 0) sb.losses)
-          (λ d ne. let none : length (filter (ends d) (joined pieces)) ≡ 0 = sb.no_others d ne in omega (arith, none)) in
+    (losses _ _ (if is_crashed m.state then 1 else 0) sb.losses)
+    (λ d ne. let none : length (filter (ends d) (joined pieces)) ≡ 0 = sb.no_others d ne in omega (arith, none)) in
     carries m m' lines (line.Call c cl) pieces (s ∷ []) sb (record {
       fronts = fronts_one (IsFrontOf lines (line.Call c cl) pieces) s (front_none m lines (line.Call c cl) pieces sb) front;
       whole = front;
@@ -239,8 +240,10 @@ call_carried m m' lines pieces n c cl a op sb is zero_is calm t running ops =
   where
     number : (n k : ℕ) → n ≡ k + 1 → n ≡ 1 + k
     number n k e = omega (arith, e)
+
     losses : (a w i : ℕ) → a + i ≤ w → a + 0 ≤ w + 0
     losses a w i le = omega (arith, le)
+
     none_pending : (a w i : ℕ) → a + i ≤ w → a + 0 + 0 ≤ w + 0
     none_pending a w i le = omega (arith, le)
 
@@ -255,9 +258,9 @@ loss_carried m mid m' lines pieces n c ns cl a op sb is zero_is crashed before t
     let pending : length (filter (ends 0) (joined pieces)) + 1 ≤ length (filter (may_end 0) lines) = subst (λ st. length (filter (ends 0) (joined pieces)) + (if is_crashed st then 1 else 0) ≤ length (filter (may_end 0) lines)) crashed sb.losses in
     let both : (joined pieces ++ e ∷ []) ++ s ∷ [] ≡ joined pieces ++ e ∷ s ∷ [] = append_assoc (joined pieces) (e ∷ []) (s ∷ []) in
     let first : IsFrontOf lines (line.Call c cl) pieces (e ∷ []) = front_of mid (length lines) lines (line.Call c cl) pieces (e ∷ []) before (tt, tt) (tt, tt) (omega (arith, pending))
-          (λ d ne. let none : length (filter (ends d) (joined pieces)) ≡ 0 = sb.no_others d ne in let own : length (filter (ends d) (e ∷ [])) ≡ 0 = other d ne in omega (arith, none, own)) in
+    (λ d ne. let none : length (filter (ends d) (joined pieces)) ≡ 0 = sb.no_others d ne in let own : length (filter (ends d) (e ∷ [])) ≡ 0 = other d ne in omega (arith, none, own)) in
     let front : IsFrontOf lines (line.Call c cl) pieces (e ∷ s ∷ []) = front_of m' n lines (line.Call c cl) pieces (e ∷ s ∷ []) (subst (IsTranscript m' n) both t) (tt, (own_script lines n c cl a op is zero_is, tt)) (tt, own_piece (joined pieces ++ e ∷ []) (1 + length pieces) n cl a op (omega (arith, is, same))) (omega (arith, pending))
-          (λ d ne. let none : length (filter (ends d) (joined pieces)) ≡ 0 = sb.no_others d ne in let own : length (filter (ends d) (e ∷ s ∷ [])) ≡ 0 = other_two d ne in omega (arith, none, own)) in
+    (λ d ne. let none : length (filter (ends d) (joined pieces)) ≡ 0 = sb.no_others d ne in let own : length (filter (ends d) (e ∷ s ∷ [])) ≡ 0 = other_two d ne in omega (arith, none, own)) in
     carries m m' lines (line.Call c cl) pieces (e ∷ s ∷ []) sb (record {
       fronts = fronts_two (IsFrontOf lines (line.Call c cl) pieces) e s (front_none m lines (line.Call c cl) pieces sb) first front;
       whole = front;
@@ -271,13 +274,17 @@ loss_carried m mid m' lines pieces n c ns cl a op sb is zero_is crashed before t
   where
     number : (n k : ℕ) → n ≡ k + 1 → n ≡ 1 + k
     number n k e = omega (arith, e)
+
     apart : (d : ℕ) → d ≢ 0 → eqb d 0 ≡ false
     apart zero ne = absurd (ne refl)
     apart (suc d) ne = grind arith
+
     other : (d : ℕ) → d ≢ 0 → length (filter (ends d) (Ended 0 ns ∷ [])) ≡ 0
     other d ne = ap (λ b. length (cond b (Ended 0 ns ∷ []) [])) (apart d ne)
+
     other_two : (d : ℕ) → d ≢ 0 → length (filter (ends d) (Ended 0 ns ∷ Answered n 0 cl a op ∷ [])) ≡ 0
     other_two d ne = ap (λ b. length (cond b (Ended 0 ns ∷ []) [])) (apart d ne)
+
     none_pending : (a w : ℕ) → a + 1 ≤ w → a + 1 + 0 ≤ w + 0
     none_pending a w le = omega (arith, le)
 

@@ -1,16 +1,16 @@
 -- The loss of all operations of a crashed start.
-use Rattle.std.proofs.Common.{◌≡◌, refl, sym, subst, arith, ◌∙◌, ap, ◌+◌, ◌<◌, ◌≤◌, ℕ, T, Bool, true, false, not, ◌&&◌, ◌||◌, cond, List, [], ◌∷◌, ◌++◌, eqb, Option, Some, None}
-use Rattle.std.specs.Prelude.{length, is_some, ◌==◌, map, ⊤}
+use Rattle.std.proofs.Common.{◌≡◌, refl, sym, subst, arith, ◌∙◌, ap, ◌+◌, ◌<◌, ◌≤◌, ℕ, T, Bool, true, false, not, ◌&&◌, ◌||◌, cond, List, [], ◌∷◌, ◌++◌, eqb}
+use Rattle.std.specs.Prelude.{length, is_some}
 use Rattle.std.specs.List.{filter, list_any, list_all}
 use Rattle.std.proofs.lemmas.List.Elements.{filter-append}
-use Rattle.std.proofs.Common.{append-nil, length-append}
+use Rattle.std.proofs.Common.{append-nil}
 use Rattle.ec_volume.specs.Update.{member}
-use Rattle.ec_volume.specs.Volume.{images, formatted, after, fits_in_turn, Fits}
+use Rattle.ec_volume.specs.Volume.{images, formatted, after, fits_in_turn}
 use Rattle.ec_volume.specs.declared.image.Image.TheVariants.{Gone}
 use Rattle.ec_order.specs.Order as order
-use Rattle.ec_history.specs.History.{Base, History, Op, Owed, updates, numbers, same_start, of_start, is_one_of, kept, without, owed, owed_next, pairs_of, touched, Throughout, Each, Covers}
-use Rattle.ec_history.specs.Legal.{IsLegal, IsLawful, is_op_of, is_closed, is_call_of_other, leaves, from_formatted}
-use Rattle.ec_history.specs.Placing.{Watch, watch, watch_next, owner, or_zero, is_numbered, place}
+use Rattle.ec_history.specs.History.{History, Op, updates, numbers, of_start, is_one_of, kept, owed, pairs_of, Throughout, Each, Covers}
+use Rattle.ec_history.specs.Legal.{IsLegal, IsLawful, is_op_of, is_closed, is_call_of_other, from_formatted}
+use Rattle.ec_history.specs.Placing.{watch, watch_next, owner, or_zero, is_numbered, place}
 use Rattle.ec_history.specs.Lines.{IsCovered}
 use Rattle.ec_history.specs.declared.entry.Entry.{Entry}
 use Rattle.ec_history.specs.declared.entry.Entry.TheVariants as entry
@@ -95,6 +95,7 @@ lawful h b ns own named all =
     no_cover : (g : History) (e : ℕ × Entry) → IsOwn e → (ms : List ℕ) → Each (λ n. ¬ (Covers from_formatted g e 0 b n)) ms
     no_cover g e o [] = tt
     no_cover g e o (m ∷ ms) = (λ c. covers_nothing from_formatted g e 0 b m o c, no_cover g e o ms)
+
     no_other : (e : ℕ × Entry) → IsOwn e → T (not (is_call_of_other 0 e.1))
     no_other (p, entry.Loss c d ms) o = tt
     no_other (p, entry.Call c d l begun cl a op) o = subst (λ x. T (not (not (eqb 0 x)))) (sym o.0) tt
@@ -115,7 +116,7 @@ module _ (laws : Laws) where
       let law : IsLawful from_formatted (place ss) 0 b ns = lawful (place ss) b ns t.own t.numbered of_one in
       let lost : kept from_formatted (place (ss ++ s ∷ [])) ≡ [] = ap (kept from_formatted) here ∙ laws.kept_next_is from_formatted (place ss) e ∙ none_left (is_one_of 0 b ns) (kept from_formatted (place ss)) (all_named b ns _ of_one (λ k x. subst (λ l. T (member k l)) t.numbered x)) in
       let none_of : (d : ℕ) → b < d → length (filter (is_op_of 0 d) (place (ss ++ s ∷ []))) ≡ 0 =
-          λ d lt. ap (λ h. length (filter (is_op_of 0 d) h)) here ∙ ap length (filter-append (is_op_of 0 d) (place ss) (e ∷ []) ∙ append-nil (filter (is_op_of 0 d) (place ss))) ∙ t.later d (subst (λ x. x < d) (sym start) lt) in
+      λ d lt. ap (λ h. length (filter (is_op_of 0 d) h)) here ∙ ap length (filter-append (is_op_of 0 d) (place ss) (e ∷ []) ∙ append-nil (filter (is_op_of 0 d) (place ss))) ∙ t.later d (subst (λ x. x < d) (sym start) lt) in
       let next : start_of m'.state (watch 0 (ss ++ s ∷ [])).starts ≡ b + 1 = ap (λ st. start_of st (watch 0 (ss ++ s ∷ [])).starts) is' ∙ ap (λ x. x.starts + 1) w in
       record {
         placed = laws.placeable_next ss s t.placed (subst (λ x. T (is_some (owner x)) × (ns ≡ x.undurable)) (sym old) (tt, refl));

@@ -1,19 +1,16 @@
 -- One more line and its piece keep the promise.
-use Rattle.std.proofs.Common.{◌≡◌, ◌≢◌, refl, sym, subst, inl, inr, arith, ◌∙◌, ap, ◌+◌, ◌-◌, ◌<◌, ◌≤◌, ◌⊎◌, ℕ, zero, suc, T, Bool, true, false, cond, List, [], ◌∷◌, ◌++◌, eqb, eqb→eq, Option, Some, None, append-nil, append_assoc, length-append}
-use Rattle.std.specs.Prelude.{length, take, slice_get, nat_le, ⊤}
-use Rattle.std.specs.List.{filter, list_any}
+use Rattle.std.proofs.Common.{◌≡◌, ◌≢◌, refl, sym, subst, inl, inr, arith, ◌∙◌, ap, ◌+◌, ◌≤◌, ◌⊎◌, ℕ, zero, suc, true, false, List, [], ◌∷◌, ◌++◌, eqb, eqb→eq, Option, Some, None, append-nil, append_assoc}
+use Rattle.std.specs.Prelude.{length, take, slice_get, nat_le}
+use Rattle.std.specs.List.{filter}
 use Rattle.std.proofs.lemmas.List.{take-append-le}
-use Rattle.std.proofs.lemmas.List.Elements.{filter-append}
 use Rattle.std.proofs.Math.Seq.{take-length}
-use Rattle.ec_plain.specs.declared.call.Call.{Call}
 use Rattle.ec_history.specs.Legal.{IsLegal, from_formatted}
 use Rattle.ec_history.specs.Placing.{place, ArePlaceable, EachLine}
 use Rattle.ec_history.specs.Lines.{AreCovered}
 use Rattle.ec_history.specs.declared.shown.Shown.{Shown}
 use Rattle.ec_history.specs.declared.shown.Shown.TheVariants.{Waits, Answered, Durable, Ended, Unseen, Told, Crashed, Stopped, Started, Nothing, Unsettled, Bad, DiskBad, Limit, Spent}
 use Rattle.ec_script.specs.declared.line.Line.{Line}
-use Rattle.ec_script.specs.declared.line.Line.TheVariants as line
-use Rattle.ec_drill.specs.Promise.{Lines, Pieces, joined, InScript, IsIn, IsPiece, ArePieces, ends, may_end, AreEndsAsked, Promise}
+use Rattle.ec_drill.specs.Promise.{Lines, Pieces, joined, InScript, IsPiece, ArePieces, ends, may_end, Promise}
 use Rattle.ec_drill.specs.Run.{most}
 use Rattle.ec_drill.proofs.Small.{decide, on}
 use Rattle.ec_drill.proofs.Steps.{length-push}
@@ -93,25 +90,32 @@ longer_promise lines l pieces front p same f =
   where
     longer : length (pieces ++ front ∷ []) ≡ length pieces + 1
     longer = length-push pieces front
+
     more : length (lines ++ l ∷ []) ≡ length lines + 1
     more = length-push lines l
+
     count : length (pieces ++ front ∷ []) ≤ length (lines ++ l ∷ [])
     count = omega (arith, longer, more, same)
+
     old : (c k : ℕ) → k ≤ length pieces → length (filter (ends c) (joined (take k (pieces ++ front ∷ [])))) ≤ length (filter (may_end c) (take k (lines ++ l ∷ [])))
     old c k le = subst (λ ps. length (filter (ends c) (joined ps)) ≤ length (filter (may_end c) (take k (lines ++ l ∷ [])))) (sym (take-append-le k pieces (front ∷ []) le)) (subst (λ ls. length (filter (ends c) (joined (take k pieces))) ≤ length (filter (may_end c) ls)) (sym (take-append-le k lines (l ∷ []) (omega (arith, le, same)))) (p.losses c k le))
+
     whole : (c : ℕ) → (eqb c 0 ≡ true) ⊎ (eqb c 0 ≡ false) → length (filter (ends c) (joined pieces ++ front)) ≤ length (filter (may_end c) (lines ++ l ∷ []))
     whole c (inl is) = subst (λ d. length (filter (ends d) (joined pieces ++ front)) ≤ length (filter (may_end d) (lines ++ l ∷ []))) (sym (eqb→eq c 0 (on is))) f.ended
     whole c (inr is) = let none : length (filter (ends c) (joined pieces ++ front)) ≡ 0 = f.no_others c (λ e. zero_is c e is) in omega (arith, none)
       where
         zero_is : (c : ℕ) → c ≡ 0 → eqb c 0 ≡ false → ⊥
         zero_is c e h = grind arith
+
     new : (c k : ℕ) → k ≡ length pieces + 1 → length (filter (ends c) (joined (take k (pieces ++ front ∷ [])))) ≤ length (filter (may_end c) (take k (lines ++ l ∷ [])))
     new c k is = subst (λ ps. length (filter (ends c) (joined ps)) ≤ length (filter (may_end c) (take k (lines ++ l ∷ [])))) (sym (all_pieces k is)) (subst (λ ls. length (filter (ends c) (joined (pieces ++ front ∷ []))) ≤ length (filter (may_end c) ls)) (sym (all_lines k is)) (subst (λ ss. length (filter (ends c) ss) ≤ length (filter (may_end c) (lines ++ l ∷ []))) (sym (joined-push pieces front)) (whole c (decide (eqb c 0)))))
       where
         all_pieces : (k : ℕ) → k ≡ length pieces + 1 → take k (pieces ++ front ∷ []) ≡ pieces ++ front ∷ []
         all_pieces k is = ap (λ n. take n (pieces ++ front ∷ [])) (is ∙ sym longer) ∙ take-length (pieces ++ front ∷ [])
+
         all_lines : (k : ℕ) → k ≡ length pieces + 1 → take k (lines ++ l ∷ []) ≡ lines ++ l ∷ []
         all_lines k is = ap (λ n. take n (lines ++ l ∷ [])) (is ∙ ap (λ n. n + 1) same ∙ sym more) ∙ take-length (lines ++ l ∷ [])
+
     bound : (c k : ℕ) → (nat_le k (length pieces) ≡ true) ⊎ (nat_le k (length pieces) ≡ false) → k ≤ length (pieces ++ front ∷ []) → length (filter (ends c) (joined (take k (pieces ++ front ∷ [])))) ≤ length (filter (may_end c) (take k (lines ++ l ∷ [])))
     bound c k (inl is) le = old c k (small k (length pieces) is)
       where

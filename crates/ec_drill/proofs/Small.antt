@@ -1,6 +1,6 @@
 -- The calls of this stage on a volume: their updates are sound, fit and touch no id above the fresh one, and nothing is covered.
 use Rattle.std.proofs.Common.{◌≡◌, refl, sym, subst, inl, inr, arith, ◌∙◌, ap, ◌+◌, ◌-◌, ◌<◌, ◌≤◌, ◌⊎◌, ℕ, T, Bool, true, false, not, ◌&&◌, ◌||◌, cond, List, [], ◌∷◌, ◌++◌, eqb, eqb→eq, Option, Some, None}
-use Rattle.std.specs.Prelude.{length, nat_le, nat_lt, is_some, is_none, ◌==◌, take, drop}
+use Rattle.std.specs.Prelude.{length, nat_le, nat_lt, is_some, is_none, take, drop}
 use Rattle.ec_volume.specs.Entries.{Entries, entry as entry_of}
 use Rattle.ec_volume.specs.Image.{entries_of, bytes_of, is_gone, is_dir, is_file, lacks}
 use Rattle.ec_volume.specs.Update.{operands, member, fits, is_sound, root}
@@ -10,8 +10,8 @@ use Rattle.ec_volume.specs.declared.image.Image.TheVariants.{Gone, File, Dir}
 use Rattle.ec_volume.specs.declared.image.Kind.TheVariants as kind
 use Rattle.ec_volume.specs.declared.update.Update.{Update}
 use Rattle.ec_volume.specs.declared.update.Update.TheVariants.{Make, Put}
-use Rattle.ec_plain.specs.Walk.{Path, Reached, At, Not, Walk, walk, walk_from, reading, stop, parent_of, last_of}
-use Rattle.ec_plain.specs.Plain.{plain, answers, refuses, issues, on_reached, on_parent, make_in, plain_make, write_in, read_in}
+use Rattle.ec_plain.specs.Walk.{Path, Reached, At, Not, Walk, walk, walk_from, stop, parent_of, last_of}
+use Rattle.ec_plain.specs.Plain.{plain, answers, refuses, issues, on_reached, on_parent, make_in, write_in, read_in}
 use Rattle.ec_plain.specs.declared.call.Call.{Call}
 use Rattle.ec_plain.specs.declared.call.Call.TheVariants as call
 use Rattle.ec_plain.specs.declared.call.Reply.{Reply}
@@ -20,7 +20,7 @@ use Rattle.ec_plain.specs.declared.call.Refusal.{Refusal}
 use Rattle.ec_plain.specs.declared.call.Refusal.TheVariants as no
 use Rattle.ec_plain.specs.declared.call.Outcome.{Outcome}
 use Rattle.ec_order.specs.Order.{Issued, InClosure, ask, need}
-use Rattle.ec_history.specs.History.{Base, History, Covers, asks}
+use Rattle.ec_history.specs.History.{Base, History, Covers}
 use Rattle.ec_history.specs.Placing.{shows}
 use Rattle.ec_history.specs.declared.entry.Answer.TheVariants as answer
 use Rattle.ec_history.specs.declared.entry.Entry.{Entry}
@@ -133,6 +133,7 @@ module _ (v : Images) (fresh : ℕ) where
     where
       at_not : (q : ℕ) → At q ≡ Not r → ⊥
       at_not q h = cc
+
       go : (b : Bool) → cond b (Not (no.NotFound i)) (At o) ≡ Not r → T (not_root (reply.Refused r))
       go true h = subst (λ x. T (not_root (reply.Refused x))) (same_not (no.NotFound i) r h) tt
       go false h = absurd (at_not o h)
@@ -159,10 +160,13 @@ module _ (v : Images) (fresh : ℕ) where
       where
         gone_live : (i : Image) → i ≡ Gone → is_gone i ≡ false → ⊥
         gone_live i e l = subst T (sym (ap is_gone e) ∙ l) tt
+
         beyond : nat_le o fresh ≡ false → fresh < o
         beyond e = grind arith
+
         inside : nat_le o fresh ≡ true → o ≤ fresh
         inside e = grind arith
+
         go : (nat_le o fresh ≡ true) ⊎ (nat_le o fresh ≡ false) → o ≤ fresh
         go (inl e) = inside e
         go (inr e) = absurd (gone_live (v o) (above o (beyond e)) live)
@@ -216,8 +220,10 @@ module _ (v : Images) (fresh : ℕ) where
       where
         few : (m : ℕ) → nat_le 128 m ≡ false → T (nat_lt m 128)
         few m t = grind arith
+
         dir_gone : (i : Image) → i ≡ Gone → is_dir i ≡ true → ⊥
         dir_gone i e l = subst T (sym l ∙ ap is_dir e) tt
+
         apart : (eqb d fresh ≡ true) ⊎ (eqb d fresh ≡ false) → T (not (eqb d fresh || false))
         apart (inl e) = absurd (dir_gone (v d) (ap v (eqb→eq d fresh (on e)) ∙ free) dir)
         apart (inr e) = subst (λ b. T (not (b || false))) (sym e) tt
@@ -246,10 +252,13 @@ module _ (v : Images) (fresh : ℕ) where
       where
         least : (m : ℕ) → 1 ≤ m → T (nat_le 1 m)
         least m h = grind arith
+
         most_bytes : (m : ℕ) → m ≤ 4096 → T (nat_le m 4096)
         most_bytes m h = grind arith
+
         ends : (m : ℕ) → nat_lt 65536 m ≡ false → T (nat_le m 65536)
         ends m h = grind arith
+
         inside : (b : Bool) → T (not b || b)
         inside true = tt
         inside false = tt

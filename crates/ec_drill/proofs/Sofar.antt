@@ -1,18 +1,17 @@
 -- A run so far, and how it goes on and ends.
-use Rattle.std.proofs.Common.{◌≡◌, ℕ, ◌+◌, ◌≤◌, ◌<◌, ◌⊎◌, List, [], ◌∷◌, ◌++◌, length, take, Option, refl, sym, ap, subst, ◌∙◌, append_assoc, append-nil, arith, inl, inr}
+use Rattle.std.proofs.Common.{◌≡◌, ℕ, ◌+◌, ◌≤◌, ◌<◌, List, [], ◌∷◌, ◌++◌, length, take, Option, refl, sym, ap, subst, ◌∙◌, append_assoc, append-nil, arith, inl, inr}
 use Rattle.std.proofs.Common.{zero, suc, drop, true, ◌==◌}
 use Rattle.std.proofs.Math.ListN.{get_or}
 use Rattle.std.specs.Io.KnownBytes.{Appends}
-use Rattle.ec_base.specs.Outside.{Rose}
 use Rattle.ec_history.specs.Legal.{from_formatted}
 use Rattle.ec_history.specs.declared.shown.Shown.{Shown}
 use Rattle.ec_history.specs.declared.shown.Shown.TheVariants.{Bad}
 use Rattle.ec_script.specs.Lines.{lines_of}
-use Rattle.ec_script.specs.Grammar.{IsLine, IsFault}
+use Rattle.ec_script.specs.Grammar.{IsLine}
 use Rattle.ec_script.specs.declared.line.Line.{Line}
 use Rattle.ec_text.specs.Lines.{shown_text, text_of}
 use Rattle.ec_drill.specs.Promise.{Lines, Pieces, joined, Promise}
-use Rattle.ec_drill.specs.Run.{most, AreLines, IsLast, IsNextText, IsFront, IsPart, EndsBy, CutBy, CutText, CutIn, LastWritten, CarriedOut, CutAfter, IsOut, CutOff, Stepped, Refused, EndedIn, Stopped, Ran}
+use Rattle.ec_drill.specs.Run.{most, AreLines, IsNextText, EndsBy, CutBy, CutText, CutIn, CutAfter, IsOut, Stepped, Refused, Stopped, Ran}
 use Rattle.ec_drill.specs.declared.running.End.{End}
 use Rattle.ec_drill.specs.declared.running.End.TheVariants as ending
 use Rattle.ec_drill.proofs.Texts.{nothing, appends_two, text_of-append, joined-push, rose_later}
@@ -148,9 +147,9 @@ ends_by Stands Shows keeps end script ahead next line n held mid now f g h s e l
       | inl o ↦ out Stands Shows keeps end script ahead n held mid now f h s o
       | inr (inl r) ↦ refused Stands Shows keeps end script ahead next line n held mid now f g h s e le r
       | inr (inr i) ↦ elim i.cut [
-          | inl o ↦ out Stands Shows keeps end script ahead n held mid now f h s o
-          | inr c ↦ cut Stands Shows end script ahead next line n held mid now f g h s e le i.line i.read c
-        ]
+        | inl o ↦ out Stands Shows keeps end script ahead n held mid now f h s o
+        | inr c ↦ cut Stands Shows end script ahead next line n held mid now f g h s e le i.line i.read c
+      ]
     ]
 
 are_lines-length : (bs : List (List ℕ)) (ls : Lines) → AreLines bs ls → length bs ≡ length ls

@@ -1,37 +1,24 @@
 -- One more line of the one clerk's transcript.
-use Rattle.std.proofs.Common.{◌≡◌, ◌≢◌, refl, sym, subst, inl, inr, arith, ◌∙◌, ap, ◌+◌, ◌-◌, ◌<◌, ◌≤◌, ◌⊎◌, ℕ, zero, suc, T, Bool, true, false, not, ◌&&◌, ◌||◌, cond, List, [], ◌∷◌, ◌++◌, eqb, eqb→eq, Option, Some, None, append-nil, append_assoc, length-append}
-use Rattle.std.specs.Prelude.{length, nat_le, nat_lt, is_some, ◌==◌, map, ⊤}
-use Rattle.std.specs.List.{filter, list_any, list_all}
-use Rattle.std.proofs.lemmas.List.Elements.{filter-append}
-use Rattle.ec_volume.specs.Update.{operands, member, has_operand, effect, listed}
-use Rattle.ec_volume.specs.Volume.{Images, images, formatted, after, image_after, image_next, Fits}
+use Rattle.std.proofs.Common.{◌≡◌, refl, sym, subst, arith, ◌∙◌, ap, ◌+◌, ◌<◌, ◌≤◌, ℕ, suc, T, Bool, true, false, List, [], ◌∷◌, ◌++◌, None, append-nil, append_assoc}
+use Rattle.std.specs.Prelude.{length}
+use Rattle.std.specs.List.{filter}
+use Rattle.ec_volume.specs.Volume.{images, after, image_after, image_next}
 use Rattle.ec_volume.specs.declared.image.Image.{Image}
-use Rattle.ec_volume.specs.declared.image.Image.TheVariants.{Gone}
 use Rattle.ec_volume.specs.declared.update.Update.{Update}
-use Rattle.ec_plain.specs.Plain.{plain}
-use Rattle.ec_plain.specs.declared.call.Call.{Call}
-use Rattle.ec_plain.specs.declared.call.Reply.{Reply}
-use Rattle.ec_plain.specs.declared.call.Outcome.{Outcome}
-use Rattle.ec_order.specs.Order as order
-use Rattle.ec_history.specs.History.{Base, History, Op, Owed, updates, numbers, same_start, of_start, is_one_of, outcome, issued_by, kept, kept_next, without, owed, owed_next, meets, touched, distinct_numbers, due, Throughout, Each, Covers}
-use Rattle.ec_history.specs.Legal.{IsLegal, IsLegalNext, IsCall, IsLawful, is_op_of, is_closed, leaves, from_formatted}
-use Rattle.ec_history.specs.Placing.{Watch, watch, watch_next, unwatched, begun, answered, owner, or_zero, last_place, before_line, call_entry, gives_entry, is_numbered, shows, place, ArePlaceable, MayFollow, EachLine, Agrees, Unanswered}
-use Rattle.ec_history.specs.Lines.{IsCovered, AreCovered}
-use Rattle.ec_history.specs.declared.entry.Answer.{Answer}
-use Rattle.ec_history.specs.declared.entry.Answer.TheVariants as answer
+use Rattle.ec_history.specs.History.{History, Op, updates, numbers, of_start, kept, owed, Throughout, Each}
+use Rattle.ec_history.specs.Legal.{IsLegal, is_op_of, from_formatted}
+use Rattle.ec_history.specs.Placing.{Watch, watch, watch_next, gives_entry, is_numbered, place, MayFollow, EachLine}
+use Rattle.ec_history.specs.Lines.{IsCovered}
 use Rattle.ec_history.specs.declared.entry.Entry.{Entry}
-use Rattle.ec_history.specs.declared.entry.Entry.TheVariants as entry
 use Rattle.ec_history.specs.declared.shown.Shown.{Shown}
-use Rattle.ec_history.specs.declared.shown.Shown.TheVariants.{Waits, Answered, Durable, Ended, Unseen, Told, Crashed, Stopped, Started, Nothing, Unsettled, Bad, DiskBad, Limit, Spent}
-use Rattle.ec_script.specs.Grammar.{IsSmallCall}
+use Rattle.ec_history.specs.declared.shown.Shown.TheVariants.{Crashed, Nothing}
 use Rattle.ec_drill.specs.Run.{most}
 use Rattle.ec_drill.specs.Numbers.{numbers_to}
-use Rattle.ec_drill.specs.OneClerk.{is_running, is_crashed, open_of, start_of, IsOwn, IsTranscript}
+use Rattle.ec_drill.specs.OneClerk.{is_running, open_of, start_of, IsOwn, IsTranscript}
 use Rattle.ec_drill.specs.declared.one_clerk.State.{State}
 use Rattle.ec_drill.specs.declared.one_clerk.State.TheVariants as state
 use Rattle.ec_drill.specs.declared.one_clerk.OneClerk.{OneClerk}
 use Rattle.ec_drill.specs.Laws.{Laws}
-use Rattle.ec_drill.proofs.Small.{covers_nothing, IsFine, decide, on}
 
 -- Lists.
 

@@ -1,5 +1,5 @@
 -- What a drill does with its source and its sink.
-use Rattle.std.specs.Prelude.{◌≡◌, ◌<◌, ◌≤◌, ◌⊎◌, ◌+◌, ℕ, List, [], length, take, Option}
+use Rattle.std.specs.Prelude.{◌≡◌, ◌<◌, ◌≤◌, ◌⊎◌, ◌+◌, ℕ, List, length, take, Option}
 use Rattle.std.specs.Io.KnownBytes.{Consumes, Appends, Keeps, IsAtEnd}
 use Rattle.ec_base.specs.Outside.{Rose}
 use Rattle.ec_history.specs.declared.shown.LimitName.{LimitName}

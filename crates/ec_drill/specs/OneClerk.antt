@@ -1,12 +1,12 @@
 -- How the one clerk's state stands behind the transcript.
-use Rattle.std.specs.Prelude.{◌≡◌, ◌≢◌, ◌||◌, ◌+◌, ◌<◌, ◌≤◌, ℕ, zero, suc, T, Bool, true, false, if◌then◌else◌, List, [], ◌∷◌, ◌++◌, length, Option, None, Some, ⊤}
+use Rattle.std.specs.Prelude.{◌≡◌, ◌≢◌, ◌||◌, ◌+◌, ◌<◌, ◌≤◌, ℕ, T, Bool, true, false, if◌then◌else◌, List, [], ◌∷◌, length, Option, None, Some, ⊤}
 use Rattle.std.specs.List.{filter}
 use Rattle.ec_volume.specs.Update.{operands, first_unfit, is_sound}
 use Rattle.ec_volume.specs.Volume.{Images, images, after}
 use Rattle.ec_volume.specs.declared.update.Update.{Update}
 use Rattle.ec_volume.specs.declared.image.Image.TheVariants.{Gone}
 use Rattle.ec_plain.specs.declared.call.Call.{Call}
-use Rattle.ec_history.specs.History.{Op, numbers, updates, of_start, kept, owed, Each}
+use Rattle.ec_history.specs.History.{numbers, updates, of_start, kept, owed, Each}
 use Rattle.ec_history.specs.Legal.{IsLegal, is_op_of, from_formatted}
 use Rattle.ec_history.specs.Placing.{watch, place, ArePlaceable, EachLine, is_numbered}
 use Rattle.ec_history.specs.Lines.{AreCovered}

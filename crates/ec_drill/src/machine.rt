@@ -19,12 +19,7 @@ pub trait Machine: Sized {
     ghost shows: { Lines → Pieces → Type 0 };
 
     /// Carries out the line of this number, from 1. After want of memory the machine is of no use.
-    fn carry_out(
-        &mut self,
-        alloc: Global,
-        number: u32,
-        line: Line,
-    ) -> Result<Vec<Shown>, NoMemory>
+    fn carry_out(&mut self, alloc: Global, number: u32, line: Line) -> Result<Vec<Shown>, NoMemory>
         requires stands { (lines : Lines) × (pieces : Pieces) × stands self.old lines pieces × (number ≡ length lines + 1) }
         requires few { number ≤ 65536 }
         requires carried { IsSmall line }

@@ -29,12 +29,7 @@ pub enum End {
 }
 
 /// Runs a script, and writes its transcript.
-pub fn run<M: Machine, K: Sink>(
-    alloc: Global,
-    machine: &mut M,
-    script: &[u8],
-    sink: &mut K,
-) -> End
+pub fn run<M: Machine, K: Sink>(alloc: Global, machine: &mut M, script: &[u8], sink: &mut K) -> End
     requires stands { M.stands machine.old [] [] }
     requires few { length (lines_of script.now) ≤ 65536 }
     ensures ran { Ran M.shows result script.now (K.held sink.old) (K.held sink.new) (K.faults sink.old) (K.faults sink.new) }

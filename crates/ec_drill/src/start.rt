@@ -15,6 +15,7 @@ use ec_text::print;
 use std::alloc::Global;
 
 const MOST_BYTES: usize = 1_048_576;
+
 const MOST_LINES: usize = 65_536;
 
 /// Runs the script that the source gives, and writes its transcript to the sink. The source is

@@ -1,6 +1,5 @@
-use Rattle.std.proofs.Common.{◌≡◌, ℕ, ◌+◌, ◌≤◌, ◌<◌, ◌^◌, List, [], ◌∷◌, length, refl, arith}
-use Rattle.ec_script.specs.Lines.{lines_of}
-use Rattle.ec_drill.proofs.Sofar.{Sofar, begins, goes_on, ends_well, ends_by, few_before, none_left}
+use Rattle.std.proofs.Common.{◌≤◌, arith}
+use Rattle.ec_drill.proofs.Sofar.{begins, goes_on, ends_well, ends_by, few_before, none_left}
 use Rattle.ec_drill.proofs.running.run.Goals as goal
 
 pub lines-init : goal.lines-init

@@ -1,4 +1,4 @@
-use Rattle.std.proofs.Common.{ℕ, ◌+◌, ◌≤◌, length}
+use Rattle.std.proofs.Common.{◌≤◌, length}
 use Rattle.ec_drill.proofs.Sofar.{Sofar}
 use Rattle.ec_drill.proofs.running.run.Given as goal
 

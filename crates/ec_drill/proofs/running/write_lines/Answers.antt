@@ -1,4 +1,3 @@
-use Rattle.std.proofs.Common.{◌≡◌}
 use Rattle.ec_drill.proofs.Sofar.{cut_in, split_at}
 use Rattle.ec_drill.proofs.running.write_lines.Goals as goal
 

@@ -1,4 +1,4 @@
-use Rattle.std.proofs.Common.{ℕ, ◌≤◌, take}
+use Rattle.std.proofs.Common.{◌≤◌, take}
 use Rattle.std.specs.Io.KnownBytes.{Appends}
 use Rattle.ec_text.specs.Lines.{text_of}
 use Rattle.ec_drill.proofs.running.write_lines.Given as goal

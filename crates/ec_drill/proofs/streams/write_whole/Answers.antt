@@ -1,4 +1,4 @@
-use Rattle.std.proofs.Common.{◌≤◌, arith, length}
+use Rattle.std.proofs.Common.{arith}
 use Rattle.ec_drill.proofs.Texts.{appends_two, take_on}
 use Rattle.ec_drill.proofs.streams.write_whole.Goals as goal
 

@@ -1,4 +1,4 @@
-use Rattle.std.proofs.Common.{◌≡◌, ℕ, ◌+◌, sym, subst, ap, ◌∙◌, refl, List, [], ◌∷◌, ◌++◌}
+use Rattle.std.proofs.Common.{◌≡◌, ◌+◌, sym, subst, ap, ◌∙◌, refl, [], ◌∷◌, ◌++◌}
 use Rattle.ec_volume.specs.Volume.{images}
 use Rattle.ec_plain.specs.Plain.{plain}
 use Rattle.ec_plain.specs.declared.call.Outcome.{Outcome}

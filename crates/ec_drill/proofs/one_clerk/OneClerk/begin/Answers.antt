@@ -1,4 +1,4 @@
-use Rattle.std.proofs.Common.{◌≡◌, ℕ, ◌+◌, ◌≤◌, sym, subst, ap, ◌∙◌, refl, List, [], ◌∷◌, ◌++◌, length, arith}
+use Rattle.std.proofs.Common.{◌≡◌, ℕ, ◌≤◌, sym, subst, ap, ◌∙◌, List, [], ◌∷◌, ◌++◌, length, arith}
 use Rattle.ec_history.specs.declared.shown.Shown.{Shown}
 use Rattle.ec_history.specs.declared.shown.Shown.TheVariants as shown
 use Rattle.ec_script.specs.declared.line.Line.TheVariants as line
@@ -41,8 +41,8 @@ returns c = record {
       let ns : List ℕ = numbers_to m.ops in
       let s : Shown = shown.Answered c.args.number 0 c.args.call told.0.0 told.0.1 in
       let piece : c.push-3.new.self.items ≡ shown.Ended 0 ns ∷ s ∷ [] =
-          c.in_ok-push-3.ensures.items ∙ ap (λ l. l ++ c.in_ok-answered-2.answered ∷ []) (c.in_ok-push-2.ensures.items ∙ ap (λ l. l ++ c.in_ok-ended.ended ∷ []) c.in_ok-piece.ensures.items)
-          ∙ ap (λ e. e ∷ c.in_ok-answered-2.answered ∷ []) ended.0 ∙ ap (λ x. shown.Ended 0 ns ∷ x ∷ []) told.0.2 in
+      c.in_ok-push-3.ensures.items ∙ ap (λ l. l ++ c.in_ok-answered-2.answered ∷ []) (c.in_ok-push-2.ensures.items ∙ ap (λ l. l ++ c.in_ok-ended.ended ∷ []) c.in_ok-piece.ensures.items)
+      ∙ ap (λ e. e ∷ c.in_ok-answered-2.answered ∷ []) ended.0 ∙ ap (λ x. shown.Ended 0 ns ∷ x ∷ []) told.0.2 in
       let few : m'.ops ≤ 1 = omega (arith, after.1, none.1) in
       subst (λ p. Carried (StandsBehind m') lines (line.Call c.args.clerk c.args.call) pieces p) (sym piece)
       (loss_carried m mid m' lines pieces c.args.number c.args.clerk ns c.args.call told.0.0 told.0.1 sb is c.requires.clerk (state_crashed m.state (sym c.is_crashed.ensures ∙ c.if-not-is_crashed.false))

@@ -1,4 +1,4 @@
-use Rattle.std.proofs.Common.{◌≡◌, ℕ, ◌+◌, sym, subst, ◌∙◌, refl, List, [], ◌∷◌, ◌++◌}
+use Rattle.std.proofs.Common.{◌≡◌, ◌+◌, sym, subst, ◌∙◌, refl, [], ◌∷◌, ◌++◌}
 use Rattle.ec_history.specs.declared.shown.Shown.TheVariants as shown
 use Rattle.ec_drill.specs.Numbers.{numbers_to}
 use Rattle.ec_drill.specs.OneClerk.{IsTranscript}
