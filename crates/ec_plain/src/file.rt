@@ -111,24 +111,28 @@ pub(crate) fn stat_of(v: &Volume, obj: ObjId) -> Reply
     ensures { result ≡ stat_of (images v.now obj) }
 {
     match v.look(obj) {
-        Some(Image::File {
-            mode,
-            stamp,
-            owner,
-            bytes,
-        }) => Reply::Stat {
+        Some(
+            Image::File {
+                mode,
+                stamp,
+                owner,
+                bytes,
+            },
+        ) => Reply::Stat {
             kind: Kind::File,
             mode: *mode,
             stamp: *stamp,
             owner: *owner,
             size: bytes.as_slice().len() as u32,
         },
-        Some(Image::Dir {
-            mode,
-            stamp,
-            owner,
-            entries,
-        }) => Reply::Stat {
+        Some(
+            Image::Dir {
+                mode,
+                stamp,
+                owner,
+                entries,
+            },
+        ) => Reply::Stat {
             kind: Kind::Dir,
             mode: *mode,
             stamp: *stamp,

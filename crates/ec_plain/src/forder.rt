@@ -10,11 +10,7 @@ use ec_base::{List, NoMemory, ObjId, Path};
 use ec_volume::{Update, Volume};
 use std::alloc::Global;
 
-pub(crate) fn plain_forder(
-    alloc: Global,
-    v: &Volume,
-    paths: &[Path],
-) -> Result<Outcome, NoMemory>
+pub(crate) fn plain_forder(alloc: Global, v: &Volume, paths: &[Path]) -> Result<Outcome, NoMemory>
     ensures { IfOk result (λ o. o ≡ plain_forder (images v.now) paths.now [] []) }
 {
     let mut objs = Vec::new(alloc);

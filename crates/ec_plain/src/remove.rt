@@ -71,12 +71,7 @@ pub(crate) fn plain_drop(
 }
 
 // The object goes from the directory.
-fn drop_in(
-    v: &Volume,
-    kind: Kind,
-    names: &[Name],
-    found: Found,
-) -> Result<Outcome, NoMemory>
+fn drop_in(v: &Volume, kind: Kind, names: &[Name], found: Found) -> Result<Outcome, NoMemory>
     requires some { 1 ≤ length names.now }
     requires few { length names.now ≤ 16 }
     ensures { IfOk result (λ o. o ≡ drop_in (images v.now) kind names.now found.dir (entries_of (images v.now found.dir)) found.obj found.read.items) }

@@ -201,11 +201,7 @@ fn above(
 }
 
 // Directories, each with the name that leads on from it.
-fn with_names(
-    up: &mut Vec<(ObjId, Name)>,
-    dirs: &[ObjId],
-    names: &[Name],
-) -> Result<(), NoMemory>
+fn with_names(up: &mut Vec<(ObjId, Name)>, dirs: &[ObjId], names: &[Name]) -> Result<(), NoMemory>
     ensures { OnOk result (up.new.items ≡ up.old.items ++ with_names dirs.now names.now) }
 {
     match dirs {
