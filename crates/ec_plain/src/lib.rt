@@ -10,6 +10,8 @@ mod object;
 mod outcome;
 mod remove;
 mod rename;
+#[cfg(test)]
+mod tests;
 mod walk;
 
 pub use answer::plain;
