@@ -6,15 +6,16 @@ program=${1:?usage: bench/drill.sh PROGRAM}
 folder=$(mktemp -d)
 trap 'rm -rf "$folder"' EXIT
 
-# A script of so many lines: files are made, written, read and, now and then, lost by a crash.
+# A script of so many lines: files are made, written, read and, now and then, lost by a crash. The
+# lines are short, since a script has at most 16 bytes a line where it has the most lines.
 script() {
     awk -v lines="$1" 'BEGIN {
         for (n = 1; n <= lines; n++) {
-            file = int(n / 8) % 100
-            if (n % 1000 == 0) print "crash A"
-            else if (n % 8 == 1) print "A create /f" file
-            else if (n % 8 < 5) print "A write /f" file " " (n * 37) % 60000 " text-of-line-" n
-            else print "A read /f" file " 0 64"
+            file = sprintf("%02d", int(n / 8) % 100)
+            if (n % 4000 == 0) print "crash A"
+            else if (n % 8 == 1) print "A create /" file
+            else if (n % 8 < 5) print "A write /" file " " n % 10 " x"
+            else print "A read /" file " 0 9"
         }
     }'
 }

@@ -49,8 +49,15 @@ fn tells_faults(rt: HostRuntime) -> Result<(), Fail> {
     assert!(rt; text.is_empty());
     let (status, _) = drilled(&rt, script, &[2], &[])?;
     assert_eq!(rt; status, 4);
-    let (status, text) = drilled(&rt, script, &[], &[2])?;
-    assert_eq!(rt; status, 5);
+    let (_, whole) = drilled(&rt, script, &[], &[])?;
+    for call in 1..=3 {
+        let (status, text) = drilled(&rt, script, &[], &[call])?;
+        assert_eq!(rt; status, 5);
+        assert!(rt; whole.as_slice().starts_with(text.as_slice()));
+        let lines = text.iter().filter(|byte| **byte == b'\n').count();
+        assert_eq!(rt; lines as u64, call - 1);
+    }
+    let (_, text) = drilled(&rt, script, &[], &[2])?;
     assert!(rt; text.as_slice() == b"1 A create /f -> ok op 1\n".as_slice());
     Ok(())
 }
