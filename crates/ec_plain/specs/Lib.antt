@@ -1,3 +1,4 @@
 pub mod Walk
 pub mod Plain
 pub mod Reach
+pub mod Bounds
