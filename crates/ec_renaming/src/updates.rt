@@ -9,7 +9,7 @@ ghost use Rattle.ec_renaming.specs.Renaming.{IsRenaming, image_by, update_by};
 /// An update of renamed ids has the renamed operands, fits where the update does and does the same;
 /// it is sound where the update is, and needs what the update needs.
 pub fn renamed_updates_do_alike()
-    ensures operands { (r : ℕ → ℕ) (u : Update) → operands (update_by r u) ≡ map r (operands u) }
+    ensures operands { (r : ℕ → ℕ) (u : Update) → IsRenaming r → operands (update_by r u) ≡ map r (operands u) }
     ensures operand { (r : ℕ → ℕ) (o : ℕ) (u : Update) → IsRenaming r → has_operand (r o) (update_by r u) ≡ has_operand o u }
     ensures fits { (r : ℕ → ℕ) (u : Update) (o : ℕ) (i : Image) → IsRenaming r → fits (update_by r u) (r o) (image_by r i) ≡ fits u o i }
     ensures effect { (r : ℕ → ℕ) (u : Update) (o : ℕ) (i : Image) → IsRenaming r → effect (update_by r u) (r o) (image_by r i) ≡ image_by r (effect u o i) }
