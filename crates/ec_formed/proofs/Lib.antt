@@ -1,2 +1,6 @@
 pub mod Change
 pub mod Walked
+pub mod Entries
+pub mod Edited
+pub mod Same
+pub mod Made
