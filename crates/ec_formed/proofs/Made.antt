@@ -1,44 +1,22 @@
 -- A Make that is sound and fits.
 use Rattle.std.proofs.Common.{◌≡◌, refl, sym, ap, subst, ◌∙◌, inl, inr, ℕ, T, Bool, true, false, not, ◌==◌, ◌&&◌, ◌||◌, cond, List, [], ◌∷◌, Some, None}
 use Rattle.std.specs.Prelude.{is_none, length, nat_lt}
-use Rattle.std.proofs.lemmas.Bool.{cases_Bool, and_parts, eqb-true, eqb-false, ne_eqb, true≢false, or_left, or_right}
+use Rattle.std.proofs.lemmas.Bool.{cases_Bool, and_parts, eqb-true, eqb-false, ne_eqb, true≢false}
 use Rattle.std.specs.FinMap.{is_sorted}
 use Rattle.ec_volume.specs.Entries.{Entries, by_bytes, same_name, entry, with_entry}
 use Rattle.ec_volume.specs.Image.{is_gone, is_dir, lacks, entries_of, with_entries, new_object}
-use Rattle.ec_volume.specs.Update.{root, distinct, member, is_sound}
+use Rattle.ec_volume.specs.Update.{root, distinct, is_sound}
 use Rattle.ec_volume.specs.Volume.{Images, Names, after, Fits, WellFormed}
 use Rattle.ec_volume.specs.declared.image.Image.{Image}
 use Rattle.ec_volume.specs.declared.image.Image.TheVariants.{Gone, File, Dir}
 use Rattle.ec_volume.specs.declared.image.Kind.{Kind}
 use Rattle.ec_volume.specs.declared.update.Update.TheVariants.{Make}
 use Rattle.ec_laws.proofs.Late.{same_number}
-use Rattle.ec_laws.proofs.Objects.{holds, is-true}
-use Rattle.ec_laws.proofs.Removed.{left, right, off}
+use Rattle.ec_laws.proofs.Removed.{left, right}
+use Rattle.ec_formed.proofs.Apart.{apart, member-first, not-both}
 use Rattle.ec_formed.proofs.Change.{Change, IsLive, New, Stay}
 use Rattle.ec_formed.proofs.Edited.{Edit, edited}
-use Rattle.ec_formed.proofs.Entries.{at, at-is, at-self, at-from, found-with, sorted-with, no_entry, none-is, entries-with, dir-with, gone-with, entries-gone, entries-new, live-new, dir-live}
-
--- Operands that differ.
-
-pub apart : (x y : ℕ) (ys : List ℕ) → T (distinct (x ∷ ys)) → member y ys ≡ true → (y == x) ≡ false
-apart x y ys d m = elim (cases_Bool (y == x)) [
-  | inr e ↦ e
-  | inl e ↦ absurd (true≢false (sym (subst (λ z. member z ys ≡ true) (eqb-true y x e) m) ∙ lacks_it (member x ys) (distinct ys) d))
-]
-  where
-    lacks_it : (a b : Bool) → T (not a && b) → a ≡ false
-    lacks_it true b h = absurd h
-    lacks_it false b h = refl
-
-pub member-first : (x : ℕ) (ys : List ℕ) → member x (x ∷ ys) ≡ true
-member-first x ys = or_left (x == x) (member x ys) (same_number x)
-
-pub member-next : (x y : ℕ) (ys : List ℕ) → member x ys ≡ true → member x (y ∷ ys) ≡ true
-member-next x y ys m = or_right (x == y) (member x ys) m
-
-pub not-both : (b : Bool) → T b → T (not b) → ⊥
-not-both true p q = q
-not-both false p q = p
+use Rattle.ec_formed.proofs.Entries.{at, at-is, at-from, found-with, sorted-with, no_entry, none-is, dir-with, gone-with, entries-gone, entries-new, live-new, dir-live}
 
 -- The image of an object, by whether it is the directory and whether it is the new object.
 module _ (dir obj : ℕ) (name : List ℕ) (k : Kind) where
