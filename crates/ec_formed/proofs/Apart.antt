@@ -1,6 +1,6 @@
 -- Operands that differ, and the object that goes, if any.
 use Rattle.std.proofs.Common.{◌≡◌, refl, sym, ap, subst, ◌∙◌, inl, inr, ℕ, T, Bool, true, false, not, ◌==◌, ◌&&◌, List, [], ◌∷◌, ◌++◌, Option, Some, None}
-use Rattle.std.proofs.lemmas.Bool.{cases_Bool, eqb-true, true≢false, or_left, or_right}
+use Rattle.std.proofs.lemmas.Bool.{cases_Bool, eqb-true, true≢false, or_left, or_right, or_from}
 use Rattle.ec_volume.specs.Entries.{entry}
 use Rattle.ec_volume.specs.Image.{is_gone, is_dir, is_id, lacks, gives, yields, entries_of}
 use Rattle.ec_volume.specs.Update.{distinct, member, listed}
@@ -38,6 +38,16 @@ distinct-rest x ys d = right (not (member x ys)) (distinct ys) d
 
 pub victim-member : (o : ℕ) (victim : Option ℕ) (ys : List ℕ) → victim ≡ Some o → member o (listed victim ++ ys) ≡ true
 victim-member o victim ys e = subst (λ x. member o (listed x ++ ys) ≡ true) (sym e) (member-first o ys)
+
+pub victim-listed : (o : ℕ) (victim : Option ℕ) → victim ≡ Some o → member o (listed victim) ≡ true
+victim-listed o victim e = subst (λ x. member o (listed x) ≡ true) (sym e) (member-first o [])
+
+pub listed-victim : (o : ℕ) (victim : Option ℕ) → member o (listed victim) ≡ true → victim ≡ Some o
+listed-victim o None m = absurd (true≢false (sym m))
+listed-victim o (Some p) m = elim (cases_Bool (o == p)) [
+  | inl e ↦ ap Some (sym (eqb-true o p e))
+  | inr e ↦ absurd (true≢false (sym m ∙ or_from (o == p) false e refl))
+]
 
 pub gives-is : (n : List ℕ) (o : ℕ) (i : Image) → T (gives n o i) → entry (entries_of i) n ≡ Some o
 gives-is n o i h = id-is o (entry (entries_of i) n) (right (is_dir i) (is_id o (entry (entries_of i) n)) h)

@@ -6,3 +6,5 @@ pub mod Edited
 pub mod Same
 pub mod Made
 pub mod Dropped
+pub mod Moved
+pub mod Shifted
