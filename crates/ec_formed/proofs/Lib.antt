@@ -8,3 +8,5 @@ pub mod Made
 pub mod Dropped
 pub mod Moved
 pub mod Shifted
+pub mod Changed
+pub mod Kept
