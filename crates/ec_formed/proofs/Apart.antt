@@ -2,12 +2,11 @@
 use Rattle.std.proofs.Common.{◌≡◌, refl, sym, ap, subst, ◌∙◌, inl, inr, ℕ, T, Bool, true, false, not, ◌==◌, ◌&&◌, List, [], ◌∷◌, ◌++◌, Option, Some, None}
 use Rattle.std.proofs.lemmas.Bool.{cases_Bool, eqb-true, true≢false, or_left, or_right, or_from}
 use Rattle.ec_volume.specs.Entries.{entry}
-use Rattle.ec_volume.specs.Image.{is_gone, is_dir, is_id, lacks, gives, yields, entries_of}
+use Rattle.ec_volume.specs.Image.{is_dir, is_id, gives, yields, entries_of}
 use Rattle.ec_volume.specs.Update.{distinct, member, listed}
 use Rattle.ec_volume.specs.declared.image.Image.{Image}
 use Rattle.std.specs.Prelude.{is_none}
 use Rattle.ec_laws.proofs.Late.{same_number}
-use Rattle.ec_laws.proofs.Objects.{is-true}
 use Rattle.ec_laws.proofs.Removed.{left, right}
 use Rattle.ec_formed.proofs.Entries.{id-is, none-is}
 

@@ -1,12 +1,11 @@
 -- What an update that is sound and fits makes of a well-formed volume's entries.
-use Rattle.std.proofs.Common.{ℕ, T, ◌==◌, ◌||◌, false, List, [], ◌∷◌}
-use Rattle.std.specs.List.{list_all}
+use Rattle.std.proofs.Common.{T, ◌==◌, ◌||◌, false, [], ◌∷◌}
 use Rattle.ec_volume.specs.Image.{with_bytes, with_mode, with_stamp, with_owner, resized, overwritten}
 use Rattle.ec_volume.specs.Update.{has_operand, is_sound}
 use Rattle.ec_volume.specs.Volume.{Images, after, Fits, WellFormed}
 use Rattle.ec_volume.specs.declared.update.Update.{Update}
 use Rattle.ec_volume.specs.declared.update.Update.TheVariants.{Make, Drop, Move, Put, Len, Mode, Stamp, Order, Shift, Owner}
-use Rattle.ec_formed.proofs.Change.{Change, New, Stay, change_formed}
+use Rattle.ec_formed.proofs.Change.{Change, New, Stay}
 use Rattle.ec_formed.proofs.Same.{same-entries, same-frame, same-frame-self, bytes-frame, mode-frame, stamp-frame, owner-frame}
 use Rattle.ec_formed.proofs.Made.{make-changed}
 use Rattle.ec_formed.proofs.Dropped.{drop-changed}

@@ -11,11 +11,10 @@ use Rattle.ec_volume.specs.declared.image.Image.TheVariants.{Gone, File, Dir}
 use Rattle.ec_volume.specs.declared.image.Kind.{Kind}
 use Rattle.ec_volume.specs.declared.update.Update.TheVariants.{Drop}
 use Rattle.ec_laws.proofs.Late.{same_number}
-use Rattle.ec_laws.proofs.Objects.{holds}
 use Rattle.ec_laws.proofs.Removed.{left}
 use Rattle.ec_formed.proofs.Apart.{apart, member-first, not-both, gives-is}
-use Rattle.ec_formed.proofs.Change.{Change, IsLive, New, Stay}
-use Rattle.ec_formed.proofs.Edited.{Edit, edited}
+use Rattle.ec_formed.proofs.Change.{Change, New, Stay}
+use Rattle.ec_formed.proofs.Edited.{edited}
 use Rattle.ec_formed.proofs.Entries.{at, at-is, at-from, found-without, sorted-without, one_entry, dir-with, gone-with, entries-bare}
 
 -- The image of an object, by whether it is the directory and whether it is the object that goes.

@@ -1,8 +1,8 @@
 -- What sound updates that fit keep: volumes well formed, and images within the limits.
-use Rattle.std.proofs.Common.{◌≡◌, refl, sym, ap, subst, inl, inr, ◌⊎◌, ℕ, T, Bool, true, false, not, ◌==◌, ◌&&◌, ◌||◌, cond, List, [], ◌∷◌}
+use Rattle.std.proofs.Common.{sym, subst, inl, inr, ℕ, T, Bool, true, false, not, ◌==◌, ◌||◌, cond, List, [], ◌∷◌}
 use Rattle.std.specs.List.{list_all}
 use Rattle.std.proofs.lemmas.Bool.{cases_Bool, or_right}
-use Rattle.ec_volume.specs.Image.{is_gone, with_bytes, with_entries, with_mode, with_stamp, with_owner, new_object}
+use Rattle.ec_volume.specs.Image.{is_gone, new_object}
 use Rattle.ec_volume.specs.Held.{is_held}
 use Rattle.ec_volume.specs.Update.{has_operand, is_sound, fits, effect}
 use Rattle.ec_volume.specs.Volume.{Images, image_next, image_after, after, fits_in_turn, Fits, WellFormed}

@@ -6,7 +6,7 @@ use Rattle.std.specs.FinMap.{is_sorted}
 use Rattle.ec_volume.specs.Entries.{Entries, by_bytes, same_name, entry, with_entry}
 use Rattle.ec_volume.specs.Image.{is_gone, is_dir, lacks, entries_of, with_entries, new_object}
 use Rattle.ec_volume.specs.Update.{root, distinct, is_sound}
-use Rattle.ec_volume.specs.Volume.{Images, Names, after, Fits, WellFormed}
+use Rattle.ec_volume.specs.Volume.{Images, after, Fits, WellFormed}
 use Rattle.ec_volume.specs.declared.image.Image.{Image}
 use Rattle.ec_volume.specs.declared.image.Image.TheVariants.{Gone, File, Dir}
 use Rattle.ec_volume.specs.declared.image.Kind.{Kind}
@@ -15,7 +15,7 @@ use Rattle.ec_laws.proofs.Late.{same_number}
 use Rattle.ec_laws.proofs.Removed.{left, right}
 use Rattle.ec_formed.proofs.Apart.{apart, member-first, not-both}
 use Rattle.ec_formed.proofs.Change.{Change, IsLive, New, Stay}
-use Rattle.ec_formed.proofs.Edited.{Edit, edited}
+use Rattle.ec_formed.proofs.Edited.{edited}
 use Rattle.ec_formed.proofs.Entries.{at, at-is, at-from, found-with, sorted-with, no_entry, none-is, dir-with, gone-with, entries-gone, entries-new, live-new, dir-live}
 
 -- The image of an object, by whether it is the directory and whether it is the new object.

@@ -1,6 +1,6 @@
 -- A Move that is sound and fits.
-use Rattle.std.proofs.Common.{◌≡◌, refl, sym, ap, subst, ◌∙◌, inl, inr, ℕ, T, Bool, true, false, not, ◌==◌, ◌&&◌, ◌||◌, cond, List, [], ◌∷◌, ◌++◌, Option, Some, None}
-use Rattle.std.proofs.lemmas.Bool.{cases_Bool, eqb-true, eqb-false, ne_eqb, true≢false, or_parts}
+use Rattle.std.proofs.Common.{◌≡◌, refl, sym, ap, subst, ◌∙◌, inl, inr, ℕ, T, Bool, true, false, not, ◌==◌, ◌&&◌, ◌||◌, cond, List, [], ◌∷◌, Option, Some, None}
+use Rattle.std.proofs.lemmas.Bool.{cases_Bool, eqb-true, eqb-false, true≢false}
 use Rattle.std.specs.FinMap.{is_sorted}
 use Rattle.ec_volume.specs.Entries.{Entries, by_bytes, same_name, entry, with_entry, without_entry}
 use Rattle.ec_volume.specs.Image.{is_gone, is_dir, is_kind, is_bare, gives, yields, entries_of, with_entries}
@@ -12,9 +12,9 @@ use Rattle.ec_volume.specs.declared.image.Kind.{Kind}
 use Rattle.ec_volume.specs.declared.update.Update.TheVariants.{Move}
 use Rattle.ec_laws.proofs.Late.{same_number}
 use Rattle.ec_laws.proofs.Removed.{left, right}
-use Rattle.ec_formed.proofs.Apart.{apart, member-first, member-next, not-both, distinct-rest, victim-listed, listed-victim, gives-is, yields-is}
+use Rattle.ec_formed.proofs.Apart.{apart, member-next, not-both, distinct-rest, victim-listed, listed-victim, gives-is, yields-is}
 use Rattle.ec_formed.proofs.Change.{Change, IsLive, New, Stay}
-use Rattle.ec_formed.proofs.Edited.{Edit, edited}
+use Rattle.ec_formed.proofs.Edited.{edited}
 use Rattle.ec_formed.proofs.Entries.{at, at-is, at-from, found-with, found-without, sorted-with, sorted-without, one_entry, dir-with, gone-with, entries-bare}
 
 -- The image of an object, by whether it is the directory, the object that moves and the victim.

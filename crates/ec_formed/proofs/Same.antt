@@ -1,11 +1,11 @@
 -- Updates that leave the entries, what is live and the directories alone.
-use Rattle.std.proofs.Common.{◌≡◌, refl, sym, ap, subst, inr, ℕ, T, Bool, true, false, not, cond, List, Some}
+use Rattle.std.proofs.Common.{◌≡◌, refl, sym, subst, inr, ℕ, T, Bool, true, false, not, cond, List, Some}
 use Rattle.std.specs.Bool.{⊤}
 use Rattle.std.specs.FinMap.{is_sorted}
 use Rattle.ec_volume.specs.Entries.{by_bytes, entry}
 use Rattle.ec_volume.specs.Image.{is_gone, is_dir, entries_of, with_bytes, with_mode, with_stamp, with_owner}
 use Rattle.ec_volume.specs.Update.{root}
-use Rattle.ec_volume.specs.Volume.{Images, Names, WellFormed}
+use Rattle.ec_volume.specs.Volume.{Images, WellFormed}
 use Rattle.ec_volume.specs.declared.image.Image.{Image}
 use Rattle.ec_volume.specs.declared.image.Image.TheVariants.{Gone, File, Dir}
 use Rattle.ec_formed.proofs.Change.{Change}

@@ -12,11 +12,11 @@ use Rattle.ec_volume.specs.declared.image.Image.TheVariants.{Gone, File, Dir}
 use Rattle.ec_volume.specs.declared.image.Kind.{Kind}
 use Rattle.ec_volume.specs.declared.update.Update.TheVariants.{Shift}
 use Rattle.ec_laws.proofs.Late.{same_number}
-use Rattle.ec_laws.proofs.Objects.{holds, is-true}
+use Rattle.ec_laws.proofs.Objects.{holds}
 use Rattle.ec_laws.proofs.Removed.{left, right}
 use Rattle.ec_formed.proofs.Apart.{apart, member-first, member-next, not-both, distinct-rest, victim-member, gives-is, gives-dir, yields-is, yields-dir}
 use Rattle.ec_formed.proofs.Change.{Change, IsLive, New, Stay}
-use Rattle.ec_formed.proofs.Edited.{Edit, edited}
+use Rattle.ec_formed.proofs.Edited.{edited}
 use Rattle.ec_formed.proofs.Entries.{at, at-is, at-from, id-is, id-from, found-with, found-without, sorted-with, sorted-without, one_entry, entries-with, dir-with, gone-with, entries-bare}
 
 -- The image of an object, by whether it is the first directory (a), the second one (b), the object that moves (c), another operand (m) and the victim (e).
