@@ -1,2 +1,4 @@
 pub mod Change
 pub mod Walked
+pub mod Ways
+pub mod Moving
