@@ -1,17 +1,20 @@
--- The directories above the one that a walk reached, each with the name that leads on from it.
-use Rattle.std.proofs.Common.{◌≡◌, refl, sym, ap, subst, ◌∙◌, inl, inr, arith, ℕ, T, Bool, true, false, not, ◌==◌, ◌&&◌, ◌||◌, cond, List, [], ◌∷◌, ◌++◌, eqb-true, Option, Some, None}
-use Rattle.std.specs.Prelude.{length}
-use Rattle.std.proofs.lemmas.Bool.{cases_Bool, and_parts, or_parts, or_cases, true≢false}
+-- The directories above the one that takes a renamed object, where a walk from the root reached it.
+use Rattle.std.proofs.Common.{◌≡◌, refl, sym, ap, subst, ◌∙◌, inl, inr, arith, ℕ, zero, suc, T, Bool, true, false, not, ◌==◌, ◌&&◌, ◌||◌, cond, List, [], ◌∷◌, ◌++◌, Option, Some, None}
+use Rattle.std.specs.Prelude.{length, nat_le}
+use Rattle.std.proofs.lemmas.Bool.{cases_Bool, eqb-true, and_parts, or_parts, true≢false}
 use Rattle.std.proofs.lemmas.Bool.Decides.{nat_tests}
 use Rattle.std.proofs.lemmas.List.Folds.{list_any-append}
-use Rattle.ec_volume.specs.Entries.{entry}
-use Rattle.ec_volume.specs.Image.{is_gone, is_dir, is_id, gives, entries_of}
-use Rattle.ec_volume.specs.Update.{Above, ids_of, member, distinct, first_of, leads}
-use Rattle.ec_volume.specs.Volume.{Images, Names}
+use Rattle.ec_volume.specs.Entries.{Entries, entry}
+use Rattle.ec_volume.specs.Image.{is_dir, is_id, is_bare, is_kind, gives, entries_of}
+use Rattle.ec_volume.specs.Update.{Above, root, ids_of, member, distinct, first_of, leads, is_way}
+use Rattle.ec_volume.specs.Volume.{Images, Names, WellFormed}
+use Rattle.ec_volume.specs.declared.image.Kind.{Kind}
+use Rattle.ec_volume.specs.declared.image.Kind.TheVariants as kind
+use Rattle.ec_volume.specs.declared.image.Image.{Image}
 use Rattle.ec_plain.specs.Walk.{Path}
-use Rattle.ec_plain.specs.Plain.{with_names}
+use Rattle.ec_plain.specs.Plain.{with_names, above}
 use Rattle.ec_laws.proofs.Objects.{holds, is-true}
-use Rattle.ec_formed.proofs.Walked.{Walked}
+use Rattle.ec_formed.proofs.Walked.{Walked, walked-length, walked-first, walked-split, walked-leads, walked-dirs, read_once, home}
 
 pub same : (n : ℕ) → (n == n) ≡ true
 same n = grind arith
@@ -23,72 +26,83 @@ both false b p q = p
 pub gives-named : (v : Images) (o : ℕ) (n : List ℕ) (p : ℕ) → T (is_dir (v o)) → Names v o n p → T (gives n p (v o))
 gives-named v o n p dir named = both (is_dir (v o)) (is_id p (entry (entries_of (v o)) n)) dir (subst (λ x. T (is_id p x)) (sym named) (holds (same p)))
 
--- Their ids are what the walk read, without the last one.
-pub ids-walked : (v : Images) (o : ℕ) (ns : Path) (os : List ℕ) (q : ℕ) → Walked v o ns os q → ids_of (with_names os ns) ++ q ∷ [] ≡ os
-ids-walked v o [] os q (read, last, live) = ap (λ xs. ids_of (with_names xs []) ++ q ∷ []) read ∙ ap (λ x. x ∷ []) last ∙ sym read
-ids-walked v o (n ∷ ns) os q (dir, p, ps, named, read, rest) =
-    ap (λ xs. ids_of (with_names xs (n ∷ ns)) ++ q ∷ []) read ∙ ap (λ xs. o ∷ xs) (ids-walked v p ns ps q rest) ∙ sym read
-
-pub first-walked : (v : Images) (o : ℕ) (ns : Path) (os : List ℕ) (q : ℕ) → Walked v o ns os q → first_of (with_names os ns) q ≡ o
-first-walked v o [] os q (read, last, live) = ap (λ xs. first_of (with_names xs []) q) read ∙ last
-first-walked v o (n ∷ ns) os q (dir, p, ps, named, read, rest) = ap (λ xs. first_of (with_names xs (n ∷ ns)) q) read
-
-pub length-walked : (v : Images) (o : ℕ) (ns : Path) (os : List ℕ) (q : ℕ) → Walked v o ns os q → length (with_names os ns) ≡ length ns
-length-walked v o [] os q (read, last, live) = ap (λ xs. length (with_names xs [])) read
-length-walked v o (n ∷ ns) os q (dir, p, ps, named, read, rest) =
-    let more = length-walked v p ns ps q rest in
-    ap (λ xs. length (with_names xs (n ∷ ns))) read ∙ omega (arith, more)
-
--- each one has an entry
-pub named-walked : (v : Images) (o : ℕ) (ns : Path) (os : List ℕ) (q : ℕ) → Walked v o ns os q → (x : ℕ) → member x (ids_of (with_names os ns)) ≡ true → (n : List ℕ) × (p : ℕ) × Names v x n p
-named-walked v o [] os q (read, last, live) x h = absurd (true≢false (sym (ap (λ xs. member x (ids_of (with_names xs []))) (sym read) ∙ h)))
-named-walked v o (n ∷ ns) os q (dir, p, ps, named, read, rest) x h =
-    elim (or_cases (x == o) (member x (ids_of (with_names ps ns))) (ap (λ xs. member x (ids_of (with_names xs (n ∷ ns)))) (sym read) ∙ h)) [
-      | inl e ↦ (n, p, subst (λ y. Names v y n p) (sym (eqb-true x o e)) named)
-      | inr e ↦ named-walked v p ns ps q rest x e
-    ]
-
--- and each one's name leads to the next
-leads-one : (v : Images) (o p f : ℕ) (n : List ℕ) (x : ℕ) → T (is_dir (v o)) → Names v o n p → f ≡ p → T (not (x == o) || gives n f (v x))
-leads-one v o p f n x dir named e = elim (cases_Bool (x == o)) [
-  | inl t ↦ subst (λ b. T (not b || gives n f (v x))) (sym t) (subst (λ y. T (gives n f (v y))) (sym (eqb-true x o t)) (subst (λ y. T (gives n y (v o))) (sym e) (gives-named v o n p dir named)))
-  | inr t ↦ subst (λ b. T (not b || gives n f (v x))) (sym t) tt
-]
-
-pub leads-walked : (v : Images) (o : ℕ) (ns : Path) (os : List ℕ) (q : ℕ) → Walked v o ns os q → (x : ℕ) → T (leads (with_names os ns) q x (v x))
-leads-walked v o [] os q (read, last, live) x = subst (λ xs. T (leads (with_names xs []) q x (v x))) (sym read) tt
-leads-walked v o (n ∷ ns) os q (dir, p, ps, named, read, rest) x =
-    subst (λ xs. T (leads (with_names xs (n ∷ ns)) q x (v x))) (sym read)
-    (both (not (x == o) || gives n (first_of (with_names ps ns) q) (v x)) (leads (with_names ps ns) q x (v x))
-    (leads-one v o p (first_of (with_names ps ns) q) n x dir named (first-walked v p ns ps q rest)) (leads-walked v p ns ps q rest x))
+-- a bare image has no entry
+pub bare-unnamed : (k : Kind) (i : Image) (n : List ℕ) (p : ℕ) → T (is_bare k i) → entry (entries_of i) n ≡ Some p → ⊥
+bare-unnamed k i n p bare named = none (entries_of i) (and_parts (is_kind k i) (length (entries_of i) == 0) (is-true (is_bare k i) bare)).1 named
+  where
+    none : (es : Entries) → (length es == 0) ≡ true → entry es n ≡ Some p → ⊥
+    none [] h named = cc
+    none (e ∷ es) h named = absurd (longer (length es) h)
+      where
+        longer : (l : ℕ) → (suc l == 0) ≡ true → ⊥
+        longer l h = grind arith
 
 -- Lists without their last id.
 
-pub member-append : (o : ℕ) (xs ys : List ℕ) → member o (xs ++ ys) ≡ (member o xs || member o ys)
-member-append o xs ys = list_any-append (λ p. o == p) xs ys
-
-pub member-front : (o q : ℕ) (xs : List ℕ) → member o (xs ++ q ∷ []) ≡ false → (member o xs ≡ false) × ((o == q) ≡ false)
+member-front : (o q : ℕ) (xs : List ℕ) → member o (xs ++ q ∷ []) ≡ false → (member o xs ≡ false) × ((o == q) ≡ false)
 member-front o q xs h =
-    let parts = or_parts (member o xs) ((o == q) || false) (sym (member-append o xs (q ∷ [])) ∙ h) in
+    let parts = or_parts (member o xs) ((o == q) || false) (sym (list_any-append (λ p. o == p) xs (q ∷ [])) ∙ h) in
     (parts.0, (or_parts (o == q) false parts.1).0)
 
-pub distinct-front : (xs : List ℕ) (q : ℕ) → distinct (xs ++ q ∷ []) ≡ true → (distinct xs ≡ true) × (member q xs ≡ false)
+distinct-front : (xs : List ℕ) (q : ℕ) → distinct (xs ++ q ∷ []) ≡ true → (distinct xs ≡ true) × (member q xs ≡ false)
 distinct-front [] q h = (refl, refl)
 distinct-front (x ∷ xs) q h =
     let parts = and_parts (not (member x (xs ++ q ∷ []))) (distinct (xs ++ q ∷ [])) h in
     let rest = distinct-front xs q parts.1 in
     let away = member-front x q xs (lacks (member x (xs ++ q ∷ [])) parts.0) in
-    (started (member x xs) (distinct xs) away.0 rest.0, ahead (q == x) (member q xs) (turned q x away.1) rest.1)
+    (λ i. not (away.0 i) && rest.0 i, λ i. turned q x away.1 i || rest.1 i)
   where
     lacks : (b : Bool) → not b ≡ true → b ≡ false
     lacks true e = sym e
     lacks false e = refl
 
-    started : (a b : Bool) → a ≡ false → b ≡ true → (not a && b) ≡ true
-    started a b e f = λ t. not (e t) && f t
-
-    ahead : (a b : Bool) → a ≡ false → b ≡ false → (a || b) ≡ false
-    ahead a b e f = λ t. e t || f t
-
     turned : (m n : ℕ) → (n == m) ≡ false → (m == n) ≡ false
     turned m n e = grind (arith, nat_tests)
+
+module _ (v : Images) (f : WellFormed v) (ns : Path) (ps : List ℕ) (e : ℕ) (w : Walked v root ns ps e) where
+  apart : (distinct (ids_of (with_names ps ns)) ≡ true) × (member e (ids_of (with_names ps ns)) ≡ false)
+  apart = distinct-front (ids_of (with_names ps ns)) e (ap distinct (sym (walked-split v root ns ps e w)) ∙ is-true (distinct ps) (read_once v f ns ps e w))
+
+  pub above-apart : (k : Kind) → distinct (ids_of (above k ps ns)) ≡ true
+  above-apart kind.File = refl
+  above-apart kind.Dir = apart.0
+
+  pub above-end : (k : Kind) → member e (ids_of (above k ps ns)) ≡ false
+  above-end kind.File = refl
+  above-end kind.Dir = apart.1
+
+  pub above-lacks : (k : Kind) (o : ℕ) → (k ≡ kind.Dir → member o ps ≡ false) → member o (ids_of (above k ps ns)) ≡ false
+  above-lacks kind.File o h = refl
+  above-lacks kind.Dir o h = (member-front o e (ids_of (with_names ps ns)) (ap (member o) (sym (walked-split v root ns ps e w)) ∙ h refl)).0
+
+  pub above-bare : (k : Kind) (t : ℕ) → T (is_bare k (v t)) → member t (ids_of (above k ps ns)) ≡ false
+  above-bare kind.File t bare = refl
+  above-bare kind.Dir t bare = elim (cases_Bool (member t (ids_of (with_names ps ns)))) [
+    | inl m ↦ let (dir, n, p, named) = walked-dirs v root ns ps e w t (holds m) in absurd (bare-unnamed kind.Dir (v t) n p bare named)
+    | inr m ↦ m
+  ]
+
+  pub above-leads : (k : Kind) (x : ℕ) → T (leads (above k ps ns) e x (v x))
+  above-leads kind.File x = tt
+  above-leads kind.Dir x = walked-leads v root ns ps e w x
+
+  way-dir : (b : Bool) → (e == root) ≡ b → nat_le (length ns) 15 ≡ true
+      → (cond b (length (with_names ps ns) == 0) (nat_le 1 (length (with_names ps ns)) && nat_le (length (with_names ps ns)) 15 && (first_of (with_names ps ns) e == root))) ≡ true
+  way-dir true at short = ap (λ l. l == 0) (walked-length v root ns ps e w ∙ ap length (home v f ns ps (subst (λ x. Walked v root ns ps x) (eqb-true e root at) w)))
+  way-dir false at short =
+      let long = walked-length v root ns ps e w in
+      let first : (first_of (with_names ps ns) e == root) ≡ true = ap (λ x. x == root) (walked-first v root ns ps e w) ∙ same root in
+      let one = ap (λ l. nat_le 1 l) long ∙ some ns w in
+      let most = ap (λ l. nat_le l 15) long ∙ short in
+      λ i. one i && most i && first i
+    where
+      some : (ns : Path) → Walked v root ns ps e → nat_le 1 (length ns) ≡ true
+      some [] w = absurd (true≢false (sym (same root) ∙ ap (λ x. x == root) (sym w.1) ∙ at))
+      some (n ∷ ns) w = more (length ns)
+        where
+          more : (l : ℕ) → nat_le 1 (suc l) ≡ true
+          more l = grind arith
+
+  pub above-way : (k : Kind) → nat_le (length ns) 15 ≡ true → is_way k e (above k ps ns) ≡ true
+  above-way kind.File short = refl
+  above-way kind.Dir short = way-dir (e == root) refl short
