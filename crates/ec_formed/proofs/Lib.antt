@@ -4,3 +4,4 @@ pub mod Ways
 pub mod Moving
 pub mod Makes
 pub mod Lasts
+pub mod Renamed
