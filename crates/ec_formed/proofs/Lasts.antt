@@ -1,7 +1,7 @@
 -- A path is its parent's path and its last name.
-use Rattle.std.proofs.Common.{◌≡◌, refl, sym, ap, subst, ◌∙◌, arith, ℕ, suc, T, Bool, true, false, ◌&&◌, ◌-◌, ◌+◌, ◌≤◌, List, [], ◌∷◌, ◌++◌, length, take}
+use Rattle.std.proofs.Common.{◌≡◌, refl, sym, ap, subst, ◌∙◌, arith, ℕ, suc, T, true, ◌&&◌, ◌-◌, ◌+◌, List, [], ◌∷◌, ◌++◌, length, take}
 use Rattle.std.specs.Prelude.{nat_le}
-use Rattle.std.specs.Ordering.{nat_cmp, is_eq}
+use Rattle.std.specs.Ordering.{is_eq}
 use Rattle.std.specs.Cmp.{tied_itself}
 use Rattle.std.specs.Cmp.Lexicographic.{nat_list_cmp_total}
 use Rattle.std.specs.FinMap.{nat_cmp-IsAntisymmetric, slice_cmp-IsAntisymmetric}
@@ -11,7 +11,7 @@ use Rattle.std.specs.declared.cmp.Ordering.TheVariants.{Less, Equal, Greater}
 use Rattle.ec_volume.specs.Entries.{by_bytes, same_name}
 use Rattle.ec_plain.specs.Walk.{Path, parent_of, last_of, same_path}
 use Rattle.ec_plain.specs.Bounds.{is_short}
-use Rattle.ec_laws.proofs.Objects.{holds, is-true}
+use Rattle.ec_laws.proofs.Objects.{is-true}
 
 equal : (r : Ordering) → T (is_eq r) → r ≡ Equal
 equal Less h = absurd h

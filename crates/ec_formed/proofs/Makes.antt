@@ -1,11 +1,11 @@
 -- What holds of the update of each outcome that a call can come to.
-use Rattle.std.proofs.Common.{◌≡◌, refl, sym, subst, ℕ, Bool, true, false, cond, List, [], ◌∷◌, ◌++◌, ◌-◌, Option, Some, None}
+use Rattle.std.proofs.Common.{◌≡◌, refl, subst, ℕ, Bool, true, false, cond, List, [], ◌∷◌, ◌++◌, ◌-◌, Option, Some, None}
 use Rattle.std.specs.Prelude.{length}
 use Rattle.ec_volume.specs.Entries.{Entries, entry}
 use Rattle.ec_volume.specs.Image.{is_gone, is_dir, entries_of}
 use Rattle.ec_volume.specs.Volume.{Images, Names}
 use Rattle.ec_volume.specs.declared.update.Update.{Update}
-use Rattle.ec_plain.specs.Walk.{Path, Reached, At, Not, Walk, walk, parent_of, last_of}
+use Rattle.ec_plain.specs.Walk.{Path, Reached, At, Not, walk, parent_of, last_of}
 use Rattle.ec_plain.specs.Plain.{answers, refuses, issues, on_reached, on_parent, on_entry}
 use Rattle.ec_plain.specs.declared.call.Reply.{Reply}
 use Rattle.ec_plain.specs.declared.call.Refusal.{Refusal}

@@ -1,19 +1,18 @@
 -- A rename's update is sound and fits: what it takes.
-use Rattle.std.proofs.Common.{◌≡◌, refl, sym, ap, subst, ◌∙◌, inl, inr, arith, ℕ, T, Bool, true, false, not, ◌==◌, ◌&&◌, ◌||◌, cond, List, [], ◌∷◌, ◌++◌, eqb-true, Option, Some, None}
+use Rattle.std.proofs.Common.{◌≡◌, refl, sym, subst, ◌∙◌, inl, inr, ℕ, T, Bool, true, false, not, ◌==◌, ◌&&◌, ◌||◌, cond, List, [], ◌∷◌, ◌++◌, eqb-true, Option, Some, None}
 use Rattle.std.specs.Bool.{⊤}
-use Rattle.std.specs.Prelude.{length}
 use Rattle.std.specs.List.{filter, list_any}
 use Rattle.std.proofs.lemmas.Bool.{cases_Bool, or_cases, true≢false}
 use Rattle.ec_volume.specs.Entries.{same_name}
-use Rattle.ec_volume.specs.Image.{is_gone, is_dir, is_id, is_kind, is_bare, gives, yields, entries_of}
-use Rattle.ec_volume.specs.Update.{Above, ids_of, listed, operands, has_operand, member, distinct, fits, effect, leads, has_room, is_way, is_within, is_sound}
+use Rattle.ec_volume.specs.Image.{is_dir, is_id, is_kind, is_bare, gives, yields}
+use Rattle.ec_volume.specs.Update.{Above, ids_of, listed, operands, has_operand, member, distinct, fits, leads, has_room, is_way, is_within, is_sound}
 use Rattle.ec_volume.specs.Volume.{Images, Names, Fits}
 use Rattle.ec_volume.specs.declared.image.Kind.{Kind}
 use Rattle.ec_volume.specs.declared.update.Update.{Update}
 use Rattle.ec_volume.specs.declared.update.Update.TheVariants.{Move, Shift}
 use Rattle.ec_volume.proofs.Distinct.{distinct_apart}
-use Rattle.ec_laws.proofs.Objects.{holds, is-true}
-use Rattle.ec_formed.proofs.Ways.{same, both, gives-named}
+use Rattle.ec_laws.proofs.Objects.{holds}
+use Rattle.ec_formed.proofs.Ways.{both, gives-named}
 
 -- what holds of the victim, if there is one
 abbrev pub OnVictim : Option ℕ → (ℕ → Type 0) → Type 0

@@ -1,11 +1,10 @@
 -- The update of a rename is sound and fits, on a well-formed volume.
-use Rattle.std.proofs.Common.{◌≡◌, refl, sym, ap, subst, ◌∙◌, inl, inr, arith, ◌⊎◌, ℕ, T, Bool, true, false, not, ◌==◌, ◌&&◌, ◌||◌, ◌-◌, cond, List, [], ◌∷◌, ◌++◌, Option, Some, None}
-use Rattle.std.specs.Bool.{⊤}
+use Rattle.std.proofs.Common.{◌≡◌, refl, sym, ap, subst, ◌∙◌, inl, inr, arith, ◌⊎◌, ℕ, T, Bool, true, false, not, ◌==◌, ◌&&◌, ◌-◌, cond, List, [], ◌∷◌, ◌++◌, Option, Some, None}
 use Rattle.std.specs.Prelude.{length, nat_le, nat_lt, is_none}
 use Rattle.std.proofs.lemmas.Bool.{cases_Bool, eqb-true, true≢false}
-use Rattle.ec_volume.specs.Entries.{Entries, entry, same_name}
-use Rattle.ec_volume.specs.Image.{is_gone, is_dir, is_id, is_kind, is_bare, gives, yields, entries_of}
-use Rattle.ec_volume.specs.Update.{Above, ids_of, root, member, has_room, is_sound}
+use Rattle.ec_volume.specs.Entries.{entry, same_name}
+use Rattle.ec_volume.specs.Image.{is_gone, is_dir, is_kind, is_bare, yields, entries_of}
+use Rattle.ec_volume.specs.Update.{ids_of, root, member, has_room, is_sound}
 use Rattle.ec_volume.specs.Volume.{Images, Names, Fits, WellFormed}
 use Rattle.ec_volume.specs.declared.image.Kind.{Kind}
 use Rattle.ec_volume.specs.declared.image.Kind.TheVariants as kind
