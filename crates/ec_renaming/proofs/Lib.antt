@@ -1,3 +1,6 @@
 pub mod Images
 pub mod Needs
 pub mod Shapes
+pub mod Walks
+pub mod Renames
+pub mod Calls
