@@ -16,7 +16,7 @@ use Rattle.ec_history.specs.declared.entry.Entry.TheVariants as entry
 use Rattle.ec_renaming.specs.Renaming.{IsRenaming, AreRenamed, update_by, op_by}
 use Rattle.ec_renaming.proofs.Images.{operand-by}
 use Rattle.ec_renaming.proofs.Shapes.{after-by}
-use Rattle.ec_renaming.proofs.Calls.{reached_by, path-by}
+use Rattle.ec_renaming.proofs.Walks.{reached_by, path-by}
 use Rattle.ec_renaming.proofs.Needs.{needs-at}
 use Rattle.ec_renaming.proofs.Mapped.{filter-map}
 use Rattle.ec_renaming.proofs.Kept.{updates-by, kept-at, issues-at}

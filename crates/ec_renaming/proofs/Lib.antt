@@ -1,6 +1,8 @@
 pub mod Images
 pub mod Needs
 pub mod Shapes
+pub mod Walks
+pub mod Renames
 pub mod Calls
 pub mod Mapped
 pub mod Kept
