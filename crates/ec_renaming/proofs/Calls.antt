@@ -1,5 +1,5 @@
 -- A call on a volume with renamed ids comes to the same.
-use Rattle.std.proofs.Common.{◌≡◌, refl, sym, ap, ap₂, ◌∙◌, ◌+◌, ℕ, true, false, not, cond, List, [], ◌∷◌, ◌++◌, map, length}
+use Rattle.std.proofs.Common.{◌≡◌, refl, sym, ap, ◌∙◌, ◌+◌, ℕ, true, false, not, cond, List, [], ◌∷◌, ◌++◌, map, length}
 use Rattle.std.specs.Prelude.{is_some, nat_lt, nat_le, take, drop}
 use Rattle.ec_volume.specs.Entries.{Entries, entry}
 use Rattle.ec_volume.specs.Image.{entries_of, bytes_of, is_dir}
@@ -45,7 +45,7 @@ module _ (r : ℕ → ℕ) (ren : IsRenaming r) where
   stat-by (Dir m s w es) = λ x. reply.Stat kind.Dir m s w (length-by r ren es x)
 
   module _ (v w : Images) (same : IsRenamed r v w) where
-    -- the directory's test at the renamed object, and its bytes
+    -- what the renamed object shows
     dir-of : (o : ℕ) → is_dir (w (r o)) ≡ is_dir (v o)
     dir-of = dir-at r ren v w same
 
