@@ -1,12 +1,11 @@
 -- A base with renamed ids agrees with the base on all that the rules read.
-use Rattle.std.proofs.Common.{◌≡◌, refl, sym, ap, ap₂, subst, ◌∙◌, ◌&&◌, ◌||◌, ℕ, T, Bool, not, List, [], ◌∷◌, map, Option, Some, None}
+use Rattle.std.proofs.Common.{◌≡◌, refl, sym, ap, ap₂, subst, ◌∙◌, ◌&&◌, ◌||◌, ℕ, Bool, not, List, [], ◌∷◌, map, Option, Some, None}
 use Rattle.std.specs.Prelude.{is_some}
 use Rattle.std.specs.List.{filter, list_any, list_all}
 use Rattle.ec_volume.specs.Update.{operands, member}
 use Rattle.ec_volume.specs.Volume.{Fits, HaveOneShape, after}
 use Rattle.ec_volume.specs.declared.update.Update.{Update}
 use Rattle.ec_volume.specs.declared.update.Update.TheVariants.{Make, Drop, Move, Put, Len, Mode, Stamp, Order, Shift, Owner}
-use Rattle.ec_plain.specs.declared.call.Call.{Call}
 use Rattle.ec_plain.specs.declared.call.Outcome.{Outcome}
 use Rattle.ec_order.specs.Order.{before}
 use Rattle.ec_history.specs.History.{Base, History, Op, updates, of_start, is_one_of, outcome, kept, without, touched}

@@ -1,11 +1,11 @@
 -- Bases that agree on all that the rules read: what is legal over one is legal over the other.
-use Rattle.std.proofs.Common.{◌≡◌, sym, subst, ◌∙◌, ◌&&◌, ℕ, T, Bool, List, [], ◌∷◌, ◌++◌, Option, Some, None}
+use Rattle.std.proofs.Common.{◌≡◌, sym, subst, ◌∙◌, ℕ, T, List, [], ◌∷◌, ◌++◌, Option}
 use Rattle.std.specs.Prelude.{is_some}
 use Rattle.std.specs.List.{filter, list_any, list_all}
 use Rattle.ec_volume.specs.Volume.{Images, Fits, HaveOneShape, after}
 use Rattle.ec_plain.specs.declared.call.Call.{Call}
 use Rattle.ec_plain.specs.declared.call.Outcome.{Outcome}
-use Rattle.ec_history.specs.History.{Base, History, Op, updates, of_start, is_one_of, outcome, kept, without, Throughout, Each, Covers, due}
+use Rattle.ec_history.specs.History.{Base, History, updates, of_start, is_one_of, outcome, kept, without, Throughout, Each, Covers, due}
 use Rattle.ec_history.specs.Legal.{is_make, IsFull, IsReply, IsReported, leaves, is_closed, IsLawful, IsLegalNext, IsLegal}
 use Rattle.ec_history.specs.Lines.{IsCovered, AreCovered, durable_ops, IsStored}
 use Rattle.ec_history.specs.Placing.{place}

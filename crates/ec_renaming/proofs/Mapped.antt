@@ -1,5 +1,5 @@
 -- Tests of lists whose members are mapped.
-use Rattle.std.proofs.Common.{◌≡◌, refl, ap, ap₂, ◌∙◌, Bool, true, false, not, ◌&&◌, ◌||◌, cond, List, [], ◌∷◌, map}
+use Rattle.std.proofs.Common.{◌≡◌, refl, ap₂, ◌∙◌, Bool, true, false, ◌&&◌, ◌||◌, cond, List, [], ◌∷◌, map}
 use Rattle.std.specs.List.{filter, list_any, list_all}
 
 module _ {A B : Type 0} (f : A → B) where

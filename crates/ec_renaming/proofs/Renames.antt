@@ -99,7 +99,7 @@ module _ (r : ℕ → ℕ) (ren : IsRenaming r) where
 
       reaches-by : (os ps : List ℕ) (e : ℕ)
           → cond (not (is_dir (w (r e)))) (refuses (no.NotDir (length q - 1)) (map r os ++ map r ps))
-              (cond (loops w (r o) (map r ps)) (refuses no.Loop (map r os ++ map r ps)) (move_into w p q (r d) (r o) (r e) (entries_of (w (r e))) (map r ps) (map r os ++ map r ps)))
+          (cond (loops w (r o) (map r ps)) (refuses no.Loop (map r os ++ map r ps)) (move_into w p q (r d) (r o) (r e) (entries_of (w (r e))) (map r ps) (map r os ++ map r ps)))
           ≡ outcome_by r (cond (not (is_dir (v e))) (refuses (no.NotDir (length q - 1)) (os ++ ps)) (cond (loops v o ps) (refuses no.Loop (os ++ ps)) (move_into v p q d o e (entries_of (v e)) ps (os ++ ps))))
       reaches-by os ps e =
           (λ x. cond (not (dir-at r ren v w same e x)) (refuses (no.NotDir (length q - 1)) (sym (map-both r ren os ps) x))
