@@ -1,5 +1,5 @@
 -- Volumes, updates, outcomes and histories with their ids renamed.
-use Rattle.std.specs.Prelude.{◌≡◌, ◌==◌, ℕ, List, [], ◌∷◌, map, Option, None, Some}
+use Rattle.std.specs.Prelude.{◌≡◌, ◌==◌, ℕ, [], ◌∷◌, map, Option, None, Some}
 use Rattle.ec_volume.specs.Entries.{Entries}
 use Rattle.ec_volume.specs.Update.{Above, root}
 use Rattle.ec_volume.specs.Volume.{Images}

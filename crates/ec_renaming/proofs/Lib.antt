@@ -1,0 +1,12 @@
+pub mod Images
+pub mod Needs
+pub mod Shapes
+pub mod Walks
+pub mod Renames
+pub mod Calls
+pub mod Mapped
+pub mod Kept
+pub mod Owing
+pub mod Covering
+pub mod Alike
+pub mod Agreeing
