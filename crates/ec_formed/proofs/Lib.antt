@@ -1,2 +1,3 @@
 pub mod Change
 pub mod Walked
+pub mod Called
