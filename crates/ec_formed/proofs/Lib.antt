@@ -1,3 +1,4 @@
 pub mod Change
 pub mod Walked
 pub mod Called
+pub mod Planned
