@@ -1,4 +1,9 @@
 pub mod Change
 pub mod Walked
+pub mod Ways
+pub mod Moving
+pub mod Makes
+pub mod Lasts
+pub mod Renamed
 pub mod Called
 pub mod Planned
