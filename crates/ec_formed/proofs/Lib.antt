@@ -15,3 +15,5 @@ pub mod Moving
 pub mod Makes
 pub mod Lasts
 pub mod Renamed
+pub mod Called
+pub mod Planned
