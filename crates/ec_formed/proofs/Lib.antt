@@ -1,2 +1,4 @@
 pub mod Change
 pub mod Walked
+pub mod Led
+pub mod Reached
