@@ -2,3 +2,4 @@ pub mod Change
 pub mod Walked
 pub mod Led
 pub mod Reached
+pub mod Formatted
