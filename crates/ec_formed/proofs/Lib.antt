@@ -3,3 +3,4 @@ pub mod Walked
 pub mod Led
 pub mod Reached
 pub mod Formatted
+pub mod Makes
