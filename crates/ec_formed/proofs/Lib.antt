@@ -4,3 +4,4 @@ pub mod Led
 pub mod Reached
 pub mod Formatted
 pub mod Makes
+pub mod Keeping
