@@ -27,7 +27,7 @@ use Rattle.ec_laws.proofs.Places.{places-within, places-distinct}
 use Rattle.ec_laws.proofs.Touching.{or_l, or_r}
 use Rattle.ec_laws.proofs.Left.{loss-fits}
 use Rattle.ec_formed.specs.Bases.{IsBase, AreAtLines, LeaveWellFormed, is_bounded_entry}
-use Rattle.ec_formed.proofs.Makes.{makes, gone-stays, plain-makes}
+use Rattle.ec_formed.proofs.Fresh.{makes, gone-stays, plain-makes}
 
 -- Lists.
 

@@ -3,5 +3,5 @@ pub mod Walked
 pub mod Led
 pub mod Reached
 pub mod Formatted
-pub mod Makes
+pub mod Fresh
 pub mod Keeping
