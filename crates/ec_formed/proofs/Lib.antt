@@ -5,3 +5,13 @@ pub mod Reached
 pub mod Formatted
 pub mod Fresh
 pub mod Keeping
+pub mod Entries
+pub mod Apart
+pub mod Edited
+pub mod Same
+pub mod Made
+pub mod Dropped
+pub mod Moved
+pub mod Shifted
+pub mod Changed
+pub mod Kept

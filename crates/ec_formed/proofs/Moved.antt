@@ -1,0 +1,135 @@
+-- A Move that is sound and fits.
+use Rattle.std.proofs.Common.{◌≡◌, refl, sym, ap, subst, ◌∙◌, inl, inr, ℕ, T, Bool, true, false, not, ◌==◌, ◌&&◌, ◌||◌, cond, List, [], ◌∷◌, Option, Some, None}
+use Rattle.std.proofs.lemmas.Bool.{cases_Bool, eqb-true, eqb-false, true≢false}
+use Rattle.std.specs.FinMap.{is_sorted}
+use Rattle.ec_volume.specs.Entries.{Entries, by_bytes, same_name, entry, with_entry, without_entry}
+use Rattle.ec_volume.specs.Image.{is_gone, is_dir, is_kind, is_bare, gives, yields, entries_of, with_entries}
+use Rattle.ec_volume.specs.Update.{root, distinct, member, listed, is_sound, is_within}
+use Rattle.ec_volume.specs.Volume.{Images, Names, after, Fits, WellFormed}
+use Rattle.ec_volume.specs.declared.image.Image.{Image}
+use Rattle.ec_volume.specs.declared.image.Image.TheVariants.{Gone, File, Dir}
+use Rattle.ec_volume.specs.declared.image.Kind.{Kind}
+use Rattle.ec_volume.specs.declared.update.Update.TheVariants.{Move}
+use Rattle.ec_laws.proofs.Late.{same_number}
+use Rattle.ec_laws.proofs.Removed.{left, right}
+use Rattle.ec_formed.proofs.Apart.{apart, member-next, not-both, distinct-rest, victim-listed, listed-victim, gives-is, yields-is}
+use Rattle.ec_formed.proofs.Change.{Change, IsLive, New, Stay}
+use Rattle.ec_formed.proofs.Edited.{edited}
+use Rattle.ec_formed.proofs.Entries.{at, at-is, at-from, found-with, found-without, sorted-with, sorted-without, one_entry, dir-with, gone-with, entries-bare}
+
+-- The image of an object, by whether it is the directory, the object that moves and the victim.
+module _ (dir : ℕ) (from to : List ℕ) (obj : ℕ) (k : Kind) (victim : Option ℕ) where
+  abbrev moves : Entries → Entries
+  moves es = with_entry (without_entry es from) to obj
+
+  abbrev image : Bool → Bool → Bool → Image → Image
+  image a b c i = cond (a || (b || c)) (cond a (with_entries moves i) (cond b i Gone)) i
+
+  abbrev does_fit : Bool → Bool → Bool → Image → Bool
+  does_fit a b c i = (not (a || (b || c)) || cond a (gives from obj i && yields to victim i) (cond b (is_kind k i) (is_bare k i))) && true
+
+  found : (a b c : Bool) (i : Image) → T (does_fit a b c i) → (n : List ℕ)
+      → entry (entries_of (image a b c i)) n ≡ cond (a && same_name n to) (Some obj) (cond (a && same_name n from) None (entry (entries_of i) n))
+  found true b c Gone h n = absurd h
+  found true b c (File m s w bs) h n = absurd h
+  found true b c (Dir m s w es) h n = found-with (without_entry es from) to obj n ∙ ap (λ x. cond (same_name n to) (Some obj) x) (found-without es from n)
+  found false true c i h n = refl
+  found false false true i h n = ap (λ es. entry es n) (sym (entries-bare k i (left (is_bare k i) true h)))
+  found false false false i h n = refl
+
+  sorted : (a b c : Bool) (i : Image) → T (is_sorted by_bytes (entries_of i)) → T (is_sorted by_bytes (entries_of (image a b c i)))
+  sorted true b c Gone t = t
+  sorted true b c (File m s w bs) t = t
+  sorted true b c (Dir m s w es) t = sorted-with (without_entry es from) to obj (sorted-without es from t)
+  sorted false true c i t = t
+  sorted false false true i t = tt
+  sorted false false false i t = t
+
+  gone-same : (a b c : Bool) (i : Image) → c ≡ false → is_gone (image a b c i) ≡ is_gone i
+  gone-same true b c i e = gone-with moves i
+  gone-same false true c i e = refl
+  gone-same false false true i e = absurd (true≢false e)
+  gone-same false false false i e = refl
+
+  dir-same : (a b c : Bool) (i : Image) → c ≡ false → is_dir (image a b c i) ≡ is_dir i
+  dir-same true b c i e = dir-with moves i
+  dir-same false true c i e = refl
+  dir-same false false true i e = absurd (true≢false e)
+  dir-same false false false i e = refl
+
+  goes : (a b c : Bool) (i : Image) → a ≡ false → b ≡ false → c ≡ true → T (is_gone (image a b c i))
+  goes true b c i x y z = absurd (true≢false x)
+  goes false true c i x y z = absurd (true≢false y)
+  goes false false true i x y z = tt
+  goes false false false i x y z = absurd (true≢false (sym z))
+
+  both_fit : (a b c : Bool) (i : Image) → T (does_fit a b c i) → a ≡ true → T (gives from obj i && yields to victim i)
+  both_fit true b c i h e = left (gives from obj i && yields to victim i) true h
+  both_fit false b c i h e = absurd (true≢false (sym e))
+
+  module _ (v : Images) (f : WellFormed v) (sound : T (is_sound (Move dir from to obj k victim))) (fits : Fits v (Move dir from to obj k victim ∷ [])) where
+    abbrev w : Images
+    w = after v (Move dir from to obj k victim ∷ [])
+
+    apart-all : T (distinct (dir ∷ obj ∷ listed victim))
+    apart-all = left (distinct (dir ∷ obj ∷ listed victim)) (is_within (Move dir from to obj k victim)) sound
+
+    at-dir : T (gives from obj (v dir) && yields to victim (v dir))
+    at-dir = both_fit (dir == dir) (dir == obj) (member dir (listed victim)) (v dir) (fits dir) (same_number dir)
+
+    named : Names v dir from obj
+    named = gives-is from obj (v dir) (left (gives from obj (v dir)) (yields to victim (v dir)) at-dir)
+
+    named-to : entry (entries_of (v dir)) to ≡ victim
+    named-to = yields-is to victim (v dir) (right (gives from obj (v dir)) (yields to victim (v dir)) at-dir)
+
+    root-not : root ≡ obj → ⊥
+    root-not e = f.root_unnamed dir from (subst (λ x. Names v dir from x) (sym e) named)
+
+    not-victim : (o : ℕ) → (victim ≡ Some o → ⊥) → member o (listed victim) ≡ false
+    not-victim o h = elim (cases_Bool (member o (listed victim))) [ inl e ↦ absurd (h (listed-victim o victim e)) | inr e ↦ e ]
+
+    victim-gone : (o : ℕ) → victim ≡ Some o → T (is_gone (w o))
+    victim-gone o e =
+        let m : member o (listed victim) ≡ true = victim-listed o victim e in
+        goes (o == dir) (o == obj) (member o (listed victim)) (v o)
+            (apart dir o (obj ∷ listed victim) apart-all (member-next o obj (listed victim) m))
+            (apart obj o (listed victim) (distinct-rest dir (obj ∷ listed victim) apart-all) m) m
+
+    obj-stays : victim ≡ Some obj → ⊥
+    obj-stays e = true≢false (sym (same_number obj) ∙ apart obj obj (listed victim) (distinct-rest dir (obj ∷ listed victim) apart-all) (victim-listed obj victim e))
+
+    alive : (o : ℕ) → (victim ≡ Some o → ⊥) → is_gone (w o) ≡ is_gone (v o)
+    alive o h = gone-same (o == dir) (o == obj) (member o (listed victim)) (v o) (not-victim o h)
+
+    pub move-changed : Change v w (New (Move dir from to obj k victim)) (Stay (Move dir from to obj k victim))
+    move-changed = edited v w (New (Move dir from to obj k victim)) (Stay (Move dir from to obj k victim)) obj (at dir to) (at dir from)
+        (record {
+          maps = λ d. sorted (d == dir) (d == obj) (member d (listed victim)) (v d) (f.maps d);
+          root_is_dir =
+              subst T (sym (dir-same (root == dir) (root == obj) (member root (listed victim)) (v root) (not-victim root (λ e. f.root_unnamed dir to (named-to ∙ e))))) f.root_is_dir;
+          found = λ d n. found (d == dir) (d == obj) (member d (listed victim)) (v d) (fits d) n;
+          new = λ d n e. let p = at-is dir to d n e in (p.0, p.1, refl);
+          new_is = λ d n o h. (at-from dir to d n h.0 h.1, h.2);
+          one = λ d e m n o r x y. (x.0 ∙ sym y.0, x.1 ∙ sym y.1);
+          kept = λ d n o t c h. (
+            λ e. let p = f.once obj d dir n from (subst (λ x. Names v d n x) e h) named in true≢false (sym (at-from dir from d n p.0 p.1) ∙ c),
+            λ e. let p = f.once o d dir n to h (named-to ∙ e) in true≢false (sym (at-from dir to d n p.0 p.1) ∙ t),
+          );
+          put_out = λ d n o t h s.
+              let p = at-is dir to d n t in
+              s.1 (sym named-to ∙ subst (λ m. Names v dir m o) p.1 (subst (λ x. Names v x n o) p.0 h));
+          cut_out = λ d n o c h s.
+              let p = at-is dir from d n c in
+              s.0 (one_entry o obj (sym (subst (λ m. Names v dir m o) p.1 (subst (λ x. Names v x n o) p.0 h)) ∙ named));
+          away = λ d n o x s. s.0 x.2;
+          no_root = λ d n x. root-not x.2;
+          new_live = λ d n o x. subst (λ y. IsLive (w y)) (sym x.2) (subst (λ b. T (not b)) (sym (alive obj obj-stays)) (f.live obj dir from named));
+          live_up = λ o l s. subst (λ b. T (not b)) (sym (alive o s.1)) l;
+          live_down = λ o l. elim (cases_Bool (o == obj)) [
+            | inl e ↦ inl (dir, to, (refl, refl, eqb-true o obj e))
+            | inr e ↦
+                let stays : victim ≡ Some o → ⊥ = λ g. not-both (is_gone (w o)) (victim-gone o g) l in
+                inr (subst (λ b. T (not b)) (alive o stays) l, (eqb-false o obj e, stays))
+          ];
+        })

@@ -1,0 +1,8 @@
+use Rattle.ec_formed.proofs.Kept.{kept-formed, kept-held}
+use Rattle.ec_formed.proofs.updates.fitting_updates_keep_volumes_well_formed.Goals as goal
+
+pub returns-clause-formed : goal.returns-clause-formed
+returns-clause-formed c = kept-formed
+
+pub returns-clause-held : goal.returns-clause-held
+returns-clause-held c = kept-held
