@@ -15,3 +15,10 @@ pub mod Moved
 pub mod Shifted
 pub mod Changed
 pub mod Kept
+pub mod Ways
+pub mod Moving
+pub mod Makes
+pub mod Lasts
+pub mod Renamed
+pub mod Called
+pub mod Planned
