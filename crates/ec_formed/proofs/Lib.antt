@@ -22,3 +22,4 @@ pub mod Lasts
 pub mod Renamed
 pub mod Called
 pub mod Planned
+pub mod Laws
