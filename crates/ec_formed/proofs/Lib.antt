@@ -23,3 +23,4 @@ pub mod Renamed
 pub mod Called
 pub mod Planned
 pub mod Laws
+pub mod Bases
