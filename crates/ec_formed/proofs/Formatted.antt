@@ -1,13 +1,12 @@
 -- The formatted volume.
-use Rattle.std.proofs.Common.{◌≡◌, refl, sym, ap, subst, inl, inr, ℕ, T, Bool, true, false, not, ◌==◌, ◌||◌, cond, List, [], eqb, eqb→eq, Some, None}
+use Rattle.std.proofs.Common.{◌≡◌, refl, sym, subst, inl, inr, ℕ, T, Bool, true, false, ◌==◌, ◌||◌, cond, List, [], eqb→eq}
 use Rattle.std.proofs.lemmas.Bool.{cases_Bool}
 use Rattle.std.specs.FinMap.{is_sorted}
-use Rattle.ec_volume.specs.Entries.{by_bytes, entry}
+use Rattle.ec_volume.specs.Entries.{by_bytes}
 use Rattle.ec_volume.specs.Image.{is_gone, entries_of}
 use Rattle.ec_volume.specs.Held.{is_held}
 use Rattle.ec_volume.specs.Update.{root}
 use Rattle.ec_volume.specs.Volume.{formatted, Names, WellFormed, AllReached}
-use Rattle.ec_volume.specs.declared.image.Image.{Image}
 use Rattle.ec_volume.specs.declared.image.Image.TheVariants.{Gone, Dir}
 use Rattle.ec_laws.proofs.Objects.{holds}
 use Rattle.ec_formed.proofs.Change.{IsLive}

@@ -1,11 +1,10 @@
 -- A call makes no object but the fresh one, and what is gone stays so until it is made.
-use Rattle.std.proofs.Common.{◌≡◌, refl, sym, ap, subst, ◌∙◌, inl, inr, ℕ, T, Bool, true, false, not, ◌==◌, ◌&&◌, ◌||◌, cond, List, [], ◌∷◌, ◌++◌, eqb, eqb→eq, Option, Some, None}
-use Rattle.std.specs.Prelude.{length, ◌+◌, ◌-◌, nat_le, nat_lt, is_some, take, drop}
-use Rattle.std.proofs.lemmas.Bool.{cases_Bool}
+use Rattle.std.proofs.Common.{◌≡◌, refl, sym, ap, subst, ◌∙◌, ℕ, T, Bool, true, false, not, ◌==◌, ◌&&◌, ◌||◌, cond, List, [], ◌∷◌, ◌++◌, eqb, eqb→eq, Option, Some, None}
+use Rattle.std.specs.Prelude.{map, length, ◌+◌, ◌-◌, nat_le, nat_lt, is_some, take, drop}
 use Rattle.ec_volume.specs.Entries.{Entries, entry}
-use Rattle.ec_volume.specs.Image.{entries_of, bytes_of, is_gone, is_dir}
-use Rattle.ec_volume.specs.Update.{Above, member, has_operand, effect}
-use Rattle.ec_volume.specs.Volume.{Images, image_next, image_after}
+use Rattle.ec_volume.specs.Image.{entries_of, bytes_of, is_gone, is_dir, is_id, new_object}
+use Rattle.ec_volume.specs.Update.{Above, has_operand}
+use Rattle.ec_volume.specs.Volume.{Images, image_next}
 use Rattle.ec_volume.specs.declared.image.Image.{Image}
 use Rattle.ec_volume.specs.declared.image.Image.TheVariants.{Gone, File, Dir}
 use Rattle.ec_volume.specs.declared.image.Kind.{Kind}
@@ -49,7 +48,7 @@ cond-gone false i h = tt
 gone-next : (o : ℕ) (u : Update) → (makes u ≡ Some o → ⊥) → T (is_gone (image_next o Gone u))
 gone-next o (Make dir name obj k) n = go (eqb o dir) (eqb o obj) refl
   where
-    go : (a b : Bool) → eqb o obj ≡ b → T (is_gone (cond (a || (b || false)) (cond a Gone (Rattle.ec_volume.specs.Image.new_object k)) Gone))
+    go : (a b : Bool) → eqb o obj ≡ b → T (is_gone (cond (a || (b || false)) (cond a Gone (new_object k)) Gone))
     go true b e = tt
     go false true e = absurd (n (ap Some (sym (eqb→eq o obj (holds e)))))
     go false false e = tt
@@ -71,7 +70,7 @@ gone-next o (Len obj len) n = cond-gone (has_operand o (Len obj len)) Gone tt
 gone-next o (Mode obj mode) n = cond-gone (has_operand o (Mode obj mode)) Gone tt
 gone-next o (Stamp obj stamp) n = cond-gone (has_operand o (Stamp obj stamp)) Gone tt
 gone-next o (Order objs) n = cond-gone (has_operand o (Order objs)) Gone tt
-gone-next o (Shift dir from into to obj k victim up) n = go (has_operand o (Shift dir from into to obj k victim up)) (eqb o dir) (eqb o into) (Rattle.ec_volume.specs.Image.is_id o victim)
+gone-next o (Shift dir from into to obj k victim up) n = go (has_operand o (Shift dir from into to obj k victim up)) (eqb o dir) (eqb o into) (is_id o victim)
   where
     go : (a b d e : Bool) → T (is_gone (cond a (cond b Gone (cond d Gone (cond e Gone Gone))) Gone))
     go true true d e = tt
@@ -233,7 +232,7 @@ module _ (fresh : ℕ) where
     plain-makes (call.Touch p stamp) = by-walk (walk v p) (λ o os. issues (Stamp o stamp) os) (λ o os. by-issue (Stamp o stamp) os no-make)
     plain-makes (call.Stat p) = by-walk (walk v p) (λ o os. answers (stat_of (v o)) os) (λ o os. by-answer (stat_of (v o)) os)
     plain-makes (call.List p) = by-walk (walk v p) (list_in v p) (λ o os.
-        by-cond (is_dir (v o)) (answers (reply.Names (Rattle.std.specs.Prelude.map (λ e. e.0) (entries_of (v o)))) os) (refuses (no.NotDir (length p)) os) (by-answer (reply.Names (Rattle.std.specs.Prelude.map (λ e. e.0) (entries_of (v o)))) os) (by-refusal (no.NotDir (length p)) os))
+        by-cond (is_dir (v o)) (answers (reply.Names (map (λ e. e.0) (entries_of (v o)))) os) (refuses (no.NotDir (length p)) os) (by-answer (reply.Names (map (λ e. e.0) (entries_of (v o)))) os) (by-refusal (no.NotDir (length p)) os))
     plain-makes (call.Remove p) = by-drop kind.File p
     plain-makes (call.Rmdir p) = by-drop kind.Dir p
     plain-makes (call.Rename p q) = by-rename p q

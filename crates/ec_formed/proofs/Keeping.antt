@@ -1,10 +1,8 @@
 -- What is kept of a history is sound, fits and leaves a well-formed volume.
-use Rattle.std.proofs.Common.{◌≡◌, ◌≢◌, refl, sym, ap, subst, ◌∙◌, inl, inr, arith, ◌≤◌, ℕ, T, Bool, true, false, not, ◌==◌, ◌&&◌, ◌||◌, cond, map, List, [], ◌∷◌, ◌++◌, eqb, eqb→eq, length, Option, Some, None, append-nil, append_assoc}
-use Rattle.std.specs.Prelude.{⊤}
+use Rattle.std.proofs.Common.{◌≡◌, ◌≢◌, refl, sym, ap, subst, arith, ◌≤◌, ℕ, T, Bool, true, false, not, ◌||◌, cond, map, List, [], ◌∷◌, ◌++◌, eqb, length, Option, Some, None, append-nil, append_assoc}
 use Rattle.std.specs.List.{filter, list_all, list_any}
-use Rattle.std.proofs.lemmas.Bool.{cases_Bool}
 use Rattle.ec_volume.specs.Image.{is_gone}
-use Rattle.ec_volume.specs.Update.{operands, member, distinct, is_sound}
+use Rattle.ec_volume.specs.Update.{operands, has_operand, fits, member, distinct, is_sound}
 use Rattle.ec_volume.specs.Volume.{Images, after, image_after, image_next, Fits, WellFormed, AllReached}
 use Rattle.ec_volume.specs.declared.image.Image.{Image}
 use Rattle.ec_volume.specs.declared.update.Update.{Update}
@@ -20,11 +18,10 @@ use Rattle.ec_history.specs.declared.entry.Entry.TheVariants as entry
 use Rattle.ec_history.specs.declared.shown.Shown.{Shown}
 use Rattle.ec_laws.specs.Needs.{holds_needed}
 use Rattle.ec_laws.proofs.More.{kept-step}
-use Rattle.ec_laws.proofs.Objects.{holds, fits-next, is-true}
-use Rattle.ec_laws.proofs.Removed.{both, left, right, off, removal}
+use Rattle.ec_laws.proofs.Objects.{holds, fits-next}
+use Rattle.ec_laws.proofs.Removed.{both, left, right, removal}
 use Rattle.ec_laws.proofs.Pulled.{pulled-fit_alone}
 use Rattle.ec_laws.proofs.Places.{places-within, places-distinct}
-use Rattle.ec_laws.proofs.Touching.{or_l, or_r}
 use Rattle.ec_laws.proofs.Left.{loss-fits}
 use Rattle.ec_formed.specs.Bases.{IsBase, AreAtLines, LeaveWellFormed, is_bounded_entry}
 use Rattle.ec_formed.proofs.Fresh.{makes, gone-stays, plain-makes}
@@ -120,13 +117,12 @@ module _ (formed : (v : Images) (us : List Update) → WellFormed v → T (list_
       gone-after (base.fresh e.0) (base.volume (base.fresh e.0)) ks (is.gone e.0 l)
       (each-map (Stands (e ∷ h)) (λ k. makes k.update ≡ Some (base.fresh e.0) → ⊥) (λ k x m. not-first k.place e.0 (places h) x.0 (is.apart k.place e.0 (sym (x.1 (base.fresh e.0) m)))) ks s)
 
-  Both : History → List Op → Type 0
+  abbrev Both : History → List Op → Type 0
   Both h ks = LeaveWellFormed base ks × Each (Stands h) ks
 
   -- one more call
   call-next : (h : History) (ks : List Op) (p c b l g : ℕ) (cl : Call) (a : Answer) (op : Option ℕ) → LeaveWellFormed base ks → Each (Stands h) ks
       → T (is_gone (after base.volume (updates ks) (base.fresh p))) → T (not (member p (places h))) → T (is_bounded cl) → Both h (ks ++ issued_by base ks (p, entry.Call c b l g cl a op))
-  unfolding Both
   call-next h ks p c b l g cl a None w s gone apart bounded = subst (λ js. LeaveWellFormed base js × Each (Stands h) js) (sym (append-nil ks)) (w, s)
   call-next h ks p c b l g cl a (Some n) w s gone apart bounded = go ((outcome base ks p cl).update) refl
     where
@@ -137,16 +133,15 @@ module _ (formed : (v : Images) (us : List Update) → WellFormed v → T (list_
       go (Some u) q =
           let k : Op = record { clerk = c; boot = b; number = n; place = p; update = u } in
           let one : Fits (after base.volume (updates ks)) (u ∷ []) = fitting (after base.volume (updates ks)) cl (base.fresh p) u w.formed gone q in
-          let fits : Fits base.volume (updates (ks ++ k ∷ [])) =
-              subst (Fits base.volume) (sym (updates-last ks k)) (fits-next base.volume (updates ks) u w.fits (λ o. left (not (Rattle.ec_volume.specs.Update.has_operand o u) || Rattle.ec_volume.specs.Update.fits u o (after base.volume (updates ks) o)) _ (one o))) in
+          let behind : Fits base.volume (updates (ks ++ k ∷ [])) =
+              subst (Fits base.volume) (sym (updates-last ks k)) (fits-next base.volume (updates ks) u w.fits (λ o. left (not (has_operand o u) || fits u o (after base.volume (updates ks) o)) _ (one o))) in
           (
-            leave (ks ++ k ∷ []) (all-last ks k w.sound (sound (after base.volume (updates ks)) cl (base.fresh p) u w.formed gone bounded q)) fits,
+            leave (ks ++ k ∷ []) (all-last ks k w.sound (sound (after base.volume (updates ks)) cl (base.fresh p) u w.formed gone bounded q)) behind,
             each-last (Stands h) ks k s (apart, λ o m. plain-makes (base.fresh p) (after base.volume (updates ks)) cl u q o m),
           )
 
   next : (most : ℕ) (past : History) (e : ℕ × Entry) (h : History) → LeaveWellFormed base (kept base past) → Each (Stands (e ∷ h)) (kept base past) → 1 ≤ e.0 → T (not (member e.0 (places h))) → T (is_bounded_entry e.1) → IsLegalNext base most past e
       → Both h (kept_next base (kept base past) e)
-  unfolding Both
   next most past (p, entry.Call c b l g cl a op) h w s one apart bounded legal =
       call-next h (kept base past) p c b l g cl a op w (stands-next (p, entry.Call c b l g cl a op) h (kept base past) s) (fresh-gone (p, entry.Call c b l g cl a op) h (kept base past) s one) apart bounded
   next most past (p, entry.Loss c b ns) h w s one apart bounded legal = (
@@ -156,7 +151,6 @@ module _ (formed : (v : Images) (us : List Update) → WellFormed v → T (list_
 
   from : (most : ℕ) (past h : History) → LeaveWellFormed base (kept base past) → Each (Stands h) (kept base past) → Each (λ p. 1 ≤ p) (places h) → T (distinct (places h)) → T (list_all (λ e. is_bounded_entry e.1) h)
       → Throughout (IsLegalNext base most) past h → Throughout (λ past e. LeaveWellFormed base (kept base (past ++ e ∷ []))) past h
-  unfolding Both
   from most past [] w s one apart bounded legal = tt
   from most past (e ∷ h) w s one apart bounded legal =
       let behind = next most past e h w s one.0 (left (not (member e.0 (places h))) _ apart) (left (is_bounded_entry e.1) _ bounded) legal.0 in

@@ -1,9 +1,9 @@
 -- Objects that names lead to from the root, and changes that leave them so.
-use Rattle.std.proofs.Common.{◌≡◌, refl, sym, ap, subst, ◌∙◌, inl, inr, ◌⊎◌, ℕ, T, Bool, true, false, not, cond, List, [], ◌∷◌, ◌++◌, Option, Some, None}
+use Rattle.std.proofs.Common.{◌≡◌, refl, sym, ap, subst, ◌∙◌, inl, inr, ◌⊎◌, ℕ, Bool, true, false, cond, List, [], ◌∷◌, ◌++◌, Option, Some, None}
 use Rattle.ec_volume.specs.Entries.{entry}
 use Rattle.ec_volume.specs.Image.{is_gone, entries_of}
 use Rattle.ec_volume.specs.Update.{root}
-use Rattle.ec_volume.specs.Volume.{Images, Names, WellFormed, AllReached, reach}
+use Rattle.ec_volume.specs.Volume.{Images, Names, AllReached, reach}
 use Rattle.ec_volume.specs.declared.image.Image.{Image}
 use Rattle.ec_volume.specs.declared.image.Image.TheVariants.{Gone, File, Dir}
 use Rattle.ec_formed.proofs.Change.{IsLive, Change}

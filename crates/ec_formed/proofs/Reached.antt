@@ -1,24 +1,24 @@
 -- Updates that are sound and fit leave each live object reached.
 use Rattle.std.proofs.Common.{◌≡◌, ◌≢◌, refl, sym, ap, subst, ◌∙◌, inl, inr, ◌⊎◌, arith, ℕ, T, Bool, true, false, not, ◌==◌, ◌&&◌, ◌||◌, cond, List, [], ◌∷◌, ◌++◌, eqb, eqb→eq, length, Option, Some, None}
 use Rattle.std.specs.Bool.{⊤}
-use Rattle.std.specs.List.{filter, list_all, list_any}
-use Rattle.std.specs.Prelude.{nat_le, nat_lt}
+use Rattle.std.specs.List.{filter, list_all}
+use Rattle.std.specs.Prelude.{nat_le, nat_lt, suc}
 use Rattle.std.proofs.lemmas.Bool.{cases_Bool}
 use Rattle.ec_volume.specs.Entries.{Entries, entry}
-use Rattle.ec_volume.specs.Image.{is_gone, is_dir, is_file, is_kind, is_id, is_bare, entries_of, gives, lacks, yields}
-use Rattle.ec_volume.specs.Update.{root, operands, has_operand, member, listed, ids_of, Above, first_of, leads, has_room, distinct, is_way, is_within, is_sound, fits}
-use Rattle.ec_volume.specs.Volume.{Images, Names, WellFormed, AllReached, Fits, after, fits_in_turn, image_next}
+use Rattle.ec_volume.specs.Image.{is_gone, is_dir, is_kind, is_id, is_bare, entries_of, gives, lacks, yields}
+use Rattle.ec_volume.specs.Update.{root, operands, has_operand, member, listed, ids_of, Above, first_of, leads, has_room, distinct, is_way, is_sound, fits}
+use Rattle.ec_volume.specs.Volume.{Images, Names, WellFormed, AllReached, Fits, after}
 use Rattle.ec_volume.specs.declared.image.Image.{Image}
 use Rattle.ec_volume.specs.declared.image.Image.TheVariants.{Gone, File, Dir}
 use Rattle.ec_volume.specs.declared.image.Kind.{Kind}
 use Rattle.ec_volume.specs.declared.image.Kind.TheVariants as kind
 use Rattle.ec_volume.specs.declared.update.Update.{Update}
 use Rattle.ec_volume.specs.declared.update.Update.TheVariants.{Make, Drop, Move, Put, Len, Mode, Stamp, Order, Shift, Owner}
-use Rattle.ec_laws.proofs.Objects.{holds, is-true, fits-append}
+use Rattle.ec_laws.proofs.Objects.{holds, is-true}
 use Rattle.ec_laws.proofs.Removed.{both, left, right, off}
 use Rattle.ec_laws.proofs.Touching.{or_l, or_r}
 use Rattle.ec_formed.proofs.Change.{IsLive, Change, New, Stay, change_formed}
-use Rattle.ec_formed.proofs.Led.{IsLed, Led, has-entry, no-entry, none_some, same_some, dir-lives, led-on, led-all, all-led}
+use Rattle.ec_formed.proofs.Led.{IsLed, no-entry, led-on, led-all, all-led}
 
 self : (n : ℕ) → eqb n n ≡ true
 self n = grind arith
@@ -56,7 +56,7 @@ bare-empty k i h = none (entries_of i) (right (is_kind k i) _ h)
     none [] e = refl
     none (x ∷ es) e = absurd (no (length es) e)
       where
-        no : (n : ℕ) → T (eqb (Rattle.std.specs.Prelude.suc n) 0) → ⊥
+        no : (n : ℕ) → T (eqb (suc n) 0) → ⊥
         no n h = grind arith
 
 gone-empty : (i : Image) → T (is_gone i) → entries_of i ≡ []
@@ -122,33 +122,36 @@ module _ (v : Images) (f : WellFormed v) (a : AllReached v) where
       (λ e m o new. absurd new)
 
   -- Make
-  module _ (dir obj : ℕ) (name : List ℕ) (k : Kind) (w : Images) (s : T (is_sound (Make dir name obj k))) (fit : Fits v (Make dir name obj k ∷ []))
-      (c : Change v w (New (Make dir name obj k)) (Stay (Make dir name obj k))) where
-    make-apart : dir ≢ obj
-    make-apart = first-apart dir (obj ∷ []) obj (left (distinct (dir ∷ obj ∷ [])) _ s) (member-here obj [])
+  module _ (dir obj : ℕ) (name : List ℕ) (k : Kind) (w : Images) where
+    abbrev make : Update
+    make = Make dir name obj k
 
-    make-dir : T (is_dir (v dir))
-    make-dir =
-        let here : T (cond (dir == dir) (lacks name (v dir) && nat_lt (length (entries_of (v dir))) 128) (is_gone (v dir))) = fits-at v (Make dir name obj k) fit dir (member-here dir (obj ∷ [])) in
-        left (is_dir (v dir)) _ (left (lacks name (v dir)) _ (subst (λ b. T (cond b (lacks name (v dir) && nat_lt (length (entries_of (v dir))) 128) (is_gone (v dir)))) (self dir) here))
+    module _ (s : T (is_sound make)) (fit : Fits v (make ∷ [])) (c : Change v w (New make) (Stay make)) where
+      make-apart : dir ≢ obj
+      make-apart = first-apart dir (obj ∷ []) obj (left (distinct (dir ∷ obj ∷ [])) _ s) (member-here obj [])
 
-    make-gone : T (is_gone (v obj))
-    make-gone =
-        let here : T (cond (obj == dir) (lacks name (v obj) && nat_lt (length (entries_of (v obj))) 128) (is_gone (v obj))) =
-            fits-at v (Make dir name obj k) fit obj (or_r (eqb obj dir) _ (member-here obj [])) in
-        subst (λ b. T (cond b (lacks name (v obj) && nat_lt (length (entries_of (v obj))) 128) (is_gone (v obj)))) (other dir obj make-apart) here
+      make-dir : T (is_dir (v dir))
+      make-dir =
+          let here : T (cond (dir == dir) (lacks name (v dir) && nat_lt (length (entries_of (v dir))) 128) (is_gone (v dir))) = fits-at v make fit dir (member-here dir (obj ∷ [])) in
+          left (is_dir (v dir)) _ (left (lacks name (v dir)) _ (subst (λ b. T (cond b (lacks name (v dir) && nat_lt (length (entries_of (v dir))) 128) (is_gone (v dir)))) (self dir) here))
 
-    make-keeps : (d : ℕ) (n : List ℕ) (o : ℕ) → Names v d n o → ((e : ℕ) × (m : List ℕ) × New (Make dir name obj k) e m d) ⊎ Stay (Make dir name obj k) d
-    make-keeps d n o h = inr (λ e. no-entry (v obj) n o (gone-empty (v obj) make-gone) (subst (λ x. Names v x n o) e h))
+      make-gone : T (is_gone (v obj))
+      make-gone =
+          let here : T (cond (obj == dir) (lacks name (v obj) && nat_lt (length (entries_of (v obj))) 128) (is_gone (v obj))) =
+              fits-at v make fit obj (or_r (eqb obj dir) _ (member-here obj [])) in
+          subst (λ b. T (cond b (lacks name (v obj) && nat_lt (length (entries_of (v obj))) 128) (is_gone (v obj)))) (other dir obj make-apart) here
 
-    make-but : (o : ℕ) → o ≢ obj → IsLive (v o) → IsLive (w o) → IsLed w o
-    make-but = led-but w (New (Make dir name obj k)) (Stay (Make dir name obj k)) c make-keeps obj (λ e m o x. x.2) (gone-empty (v obj) make-gone)
+      make-keeps : (d : ℕ) (n : List ℕ) (o : ℕ) → Names v d n o → ((e : ℕ) × (m : List ℕ) × New make e m d) ⊎ Stay make d
+      make-keeps d n o h = inr (λ e. no-entry (v obj) n o (gone-empty (v obj) make-gone) (subst (λ x. Names v x n o) e h))
 
-    make-reached : AllReached w
-    make-reached =
-        led-all v w (New (Make dir name obj k)) (Stay (Make dir name obj k)) c make-keeps
-        (λ o l old. make-but o (λ e. not-both (is_gone (v obj)) make-gone (subst (λ x. IsLive (v x)) e old)) old l)
-        (λ e m o new. inr (subst (IsLed w) (sym new.0) (make-but dir make-apart (dir-live (v dir) make-dir) (c.live_up dir (dir-live (v dir) make-dir) make-apart))))
+      make-but : (o : ℕ) → o ≢ obj → IsLive (v o) → IsLive (w o) → IsLed w o
+      make-but = led-but w (New make) (Stay make) c make-keeps obj (λ e m o x. x.2) (gone-empty (v obj) make-gone)
+
+      make-reached : AllReached w
+      make-reached =
+          led-all v w (New make) (Stay make) c make-keeps
+          (λ o l old. make-but o (λ e. not-both (is_gone (v obj)) make-gone (subst (λ x. IsLive (v x)) e old)) old l)
+          (λ e m o new. inr (subst (IsLed w) (sym new.0) (make-but dir make-apart (dir-live (v dir) make-dir) (c.live_up dir (dir-live (v dir) make-dir) make-apart))))
 
   -- Drop
   drop-reached : (dir obj : ℕ) (name : List ℕ) (k : Kind) (w : Images) → T (is_sound (Drop dir name obj k)) → Fits v (Drop dir name obj k ∷ [])
@@ -160,184 +163,189 @@ module _ (v : Images) (f : WellFormed v) (a : AllReached v) where
       none-new w (Stay (Drop dir name obj k)) c (λ d n o h e. no-entry (v obj) n o (bare-empty k (v obj) bare) (subst (λ x. Names v x n o) e h))
 
   -- Move
-  module _ (dir obj : ℕ) (from to : List ℕ) (k : Kind) (victim : Option ℕ) (w : Images) (s : T (is_sound (Move dir from to obj k victim))) (fit : Fits v (Move dir from to obj k victim ∷ []))
-      (c : Change v w (New (Move dir from to obj k victim)) (Stay (Move dir from to obj k victim))) where
-    move-named : Names v dir from obj
-    move-named =
-        let here : T (cond (dir == dir) (gives from obj (v dir) && yields to victim (v dir)) (cond (dir == obj) (is_kind k (v dir)) (is_bare k (v dir)))) = fits-at v (Move dir from to obj k victim) fit dir (member-here dir (obj ∷ listed victim)) in
-        gives-entry from obj (v dir) (left (gives from obj (v dir)) _ (subst (λ b. T (cond b (gives from obj (v dir) && yields to victim (v dir)) (cond (dir == obj) (is_kind k (v dir)) (is_bare k (v dir))))) (self dir) here))
+  module _ (dir obj : ℕ) (from to : List ℕ) (k : Kind) (victim : Option ℕ) (w : Images) where
+    abbrev move : Update
+    move = Move dir from to obj k victim
 
-    move-bare : (o : ℕ) → victim ≡ Some o → T (is_bare k (v o))
-    move-bare o e =
-        let all : T (distinct (dir ∷ obj ∷ o ∷ [])) = subst (λ x. T (distinct (dir ∷ obj ∷ listed x))) e (left (distinct (dir ∷ obj ∷ listed victim)) _ s) in
-        let m : T (member o (operands (Move dir from to obj k victim))) = subst (λ x. T (member o (dir ∷ obj ∷ listed x))) (sym e) (or_r (eqb o dir) _ (or_r (eqb o obj) _ (member-here o []))) in
-        let here : T (cond (o == dir) (gives from obj (v o) && yields to victim (v o)) (cond (o == obj) (is_kind k (v o)) (is_bare k (v o)))) = fits-at v (Move dir from to obj k victim) fit o m in
-        let next : T (cond (o == obj) (is_kind k (v o)) (is_bare k (v o))) =
-            subst (λ b. T (cond b (gives from obj (v o) && yields to victim (v o)) (cond (o == obj) (is_kind k (v o)) (is_bare k (v o))))) (other dir o (first-apart dir (obj ∷ o ∷ []) o all (or_r (eqb o obj) _ (member-here o [])))) here in
-        subst (λ b. T (cond b (is_kind k (v o)) (is_bare k (v o)))) (other obj o (first-apart obj (o ∷ []) o (rest-apart dir (obj ∷ o ∷ []) all) (member-here o []))) next
+    module _ (s : T (is_sound move)) (fit : Fits v (move ∷ [])) (c : Change v w (New move) (Stay move)) where
+      move-named : Names v dir from obj
+      move-named =
+          let here : T (cond (dir == dir) (gives from obj (v dir) && yields to victim (v dir)) (cond (dir == obj) (is_kind k (v dir)) (is_bare k (v dir)))) = fits-at v move fit dir (member-here dir (obj ∷ listed victim)) in
+          gives-entry from obj (v dir) (left (gives from obj (v dir)) _ (subst (λ b. T (cond b (gives from obj (v dir) && yields to victim (v dir)) (cond (dir == obj) (is_kind k (v dir)) (is_bare k (v dir))))) (self dir) here))
 
-    move-keeps : (d : ℕ) (n : List ℕ) (o : ℕ) → Names v d n o → ((e : ℕ) × (m : List ℕ) × New (Move dir from to obj k victim) e m d) ⊎ Stay (Move dir from to obj k victim) d
-    move-keeps d n o h = elim (cases_Bool (eqb d obj)) [
-      | inl e ↦ inl (dir, to, (refl, refl, eqb→eq d obj (holds e)))
-      | inr e ↦ inr (differ d obj e, λ q. no-entry (v d) n o (bare-empty k (v d) (move-bare d q)) h)
-    ]
+      move-bare : (o : ℕ) → victim ≡ Some o → T (is_bare k (v o))
+      move-bare o e =
+          let all : T (distinct (dir ∷ obj ∷ o ∷ [])) = subst (λ x. T (distinct (dir ∷ obj ∷ listed x))) e (left (distinct (dir ∷ obj ∷ listed victim)) _ s) in
+          let m : T (member o (operands move)) = subst (λ x. T (member o (dir ∷ obj ∷ listed x))) (sym e) (or_r (eqb o dir) _ (or_r (eqb o obj) _ (member-here o []))) in
+          let here : T (cond (o == dir) (gives from obj (v o) && yields to victim (v o)) (cond (o == obj) (is_kind k (v o)) (is_bare k (v o)))) = fits-at v move fit o m in
+          let next : T (cond (o == obj) (is_kind k (v o)) (is_bare k (v o))) =
+              subst (λ b. T (cond b (gives from obj (v o) && yields to victim (v o)) (cond (o == obj) (is_kind k (v o)) (is_bare k (v o))))) (other dir o (first-apart dir (obj ∷ o ∷ []) o all (or_r (eqb o obj) _ (member-here o [])))) here in
+          subst (λ b. T (cond b (is_kind k (v o)) (is_bare k (v o)))) (other obj o (first-apart obj (o ∷ []) o (rest-apart dir (obj ∷ o ∷ []) all) (member-here o []))) next
 
-    move-reached : AllReached w
-    move-reached =
-        led-all v w (New (Move dir from to obj k victim)) (Stay (Move dir from to obj k victim)) c move-keeps
-        (λ o l old. led-with w (New (Move dir from to obj k victim)) (Stay (Move dir from to obj k victim)) c move-keeps obj (λ e m o x. x.2)
-        (λ d e n m x h new before. subst (IsLed w) ((f.once obj d dir n from (subst (λ y. Names v d n y) new.2 h) move-named).0 ∙ sym new.0) before) o old l)
-        (λ e m o new. inl (subst (λ y. IsLive (v y)) (sym new.2) (f.live obj dir from move-named)))
+      move-keeps : (d : ℕ) (n : List ℕ) (o : ℕ) → Names v d n o → ((e : ℕ) × (m : List ℕ) × New move e m d) ⊎ Stay move d
+      move-keeps d n o h = elim (cases_Bool (eqb d obj)) [
+        | inl e ↦ inl (dir, to, (refl, refl, eqb→eq d obj (holds e)))
+        | inr e ↦ inr (differ d obj e, λ q. no-entry (v d) n o (bare-empty k (v d) (move-bare d q)) h)
+      ]
+
+      move-reached : AllReached w
+      move-reached =
+          led-all v w (New move) (Stay move) c move-keeps
+          (λ o l old. led-with w (New move) (Stay move) c move-keeps obj (λ e m o x. x.2)
+          (λ d e n m x h new before. subst (IsLed w) ((f.once obj d dir n from (subst (λ y. Names v d n y) new.2 h) move-named).0 ∙ sym new.0) before) o old l)
+          (λ e m o new. inl (subst (λ y. IsLive (v y)) (sym new.2) (f.live obj dir from move-named)))
 
   -- Shift
-  module _ (dir : ℕ) (from : List ℕ) (into : ℕ) (to : List ℕ) (obj : ℕ) (k : Kind) (victim : Option ℕ) (up : Above) (w : Images)
-      (s : T (is_sound (Shift dir from into to obj k victim up))) (fit : Fits v (Shift dir from into to obj k victim up ∷ []))
-      (c : Change v w (New (Shift dir from into to obj k victim up)) (Stay (Shift dir from into to obj k victim up))) where
-    abbrev others : List ℕ
-    others = filter (λ o. not (o == dir)) (ids_of up)
+  module _ (dir : ℕ) (from : List ℕ) (into : ℕ) (to : List ℕ) (obj : ℕ) (k : Kind) (victim : Option ℕ) (up : Above) (w : Images) where
+    abbrev shift : Update
+    shift = Shift dir from into to obj k victim up
 
-    abbrev Rest : ℕ → Bool
-    Rest o = cond (o == dir) (gives from obj (v o)) (cond (o == into) (yields to victim (v o) && has_room victim (v o)) (cond (o == obj) (is_kind k (v o)) (not (is_id o victim) || is_bare k (v o))))
+    module _ (s : T (is_sound shift)) (fit : Fits v (shift ∷ [])) (c : Change v w (New shift) (Stay shift)) where
+      abbrev others : List ℕ
+      others = filter (λ o. not (o == dir)) (ids_of up)
 
-    shift-distinct : T (distinct (dir ∷ into ∷ obj ∷ (listed victim ++ others)))
-    shift-distinct = left (distinct (dir ∷ into ∷ obj ∷ (listed victim ++ others))) _ s
+      abbrev Rest : ℕ → Bool
+      Rest o = cond (o == dir) (gives from obj (v o)) (cond (o == into) (yields to victim (v o) && has_room victim (v o)) (cond (o == obj) (is_kind k (v o)) (not (is_id o victim) || is_bare k (v o))))
 
-    shift-behind : T (distinct (into ∷ obj ∷ (listed victim ++ others)))
-    shift-behind = rest-apart dir (into ∷ obj ∷ (listed victim ++ others)) shift-distinct
+      shift-distinct : T (distinct (dir ∷ into ∷ obj ∷ (listed victim ++ others)))
+      shift-distinct = left (distinct (dir ∷ into ∷ obj ∷ (listed victim ++ others))) _ s
 
-    shift-last : T (distinct (obj ∷ (listed victim ++ others)))
-    shift-last = rest-apart into (obj ∷ (listed victim ++ others)) shift-behind
+      shift-behind : T (distinct (into ∷ obj ∷ (listed victim ++ others)))
+      shift-behind = rest-apart dir (into ∷ obj ∷ (listed victim ++ others)) shift-distinct
 
-    shift-fits : (o : ℕ) → T (member o (dir ∷ into ∷ obj ∷ (listed victim ++ others))) → T (leads up into o (v o) && Rest o)
-    shift-fits o m = fits-at v (Shift dir from into to obj k victim up) fit o m
+      shift-last : T (distinct (obj ∷ (listed victim ++ others)))
+      shift-last = rest-apart into (obj ∷ (listed victim ++ others)) shift-behind
 
-    shift-named : Names v dir from obj
-    shift-named =
-        let here : T (Rest dir) = right (leads up into dir (v dir)) _ (shift-fits dir (member-here dir (into ∷ obj ∷ (listed victim ++ others)))) in
-        gives-entry from obj (v dir) (subst (λ b. T (cond b (gives from obj (v dir)) (cond (dir == into) (yields to victim (v dir) && has_room victim (v dir)) (cond (dir == obj) (is_kind k (v dir)) (not (is_id dir victim) || is_bare k (v dir)))))) (self dir) here)
+      shift-fits : (o : ℕ) → T (member o (dir ∷ into ∷ obj ∷ (listed victim ++ others))) → T (leads up into o (v o) && Rest o)
+      shift-fits o m = fits-at v shift fit o m
 
-    -- behind the first one
-    shift-next : (o : ℕ) → dir ≢ o → T (Rest o) → T (cond (o == into) (yields to victim (v o) && has_room victim (v o)) (cond (o == obj) (is_kind k (v o)) (not (is_id o victim) || is_bare k (v o))))
-    shift-next o n h = subst (λ b. T (cond b (gives from obj (v o)) (cond (o == into) (yields to victim (v o) && has_room victim (v o)) (cond (o == obj) (is_kind k (v o)) (not (is_id o victim) || is_bare k (v o)))))) (other dir o n) h
+      shift-named : Names v dir from obj
+      shift-named =
+          let here : T (Rest dir) = right (leads up into dir (v dir)) _ (shift-fits dir (member-here dir (into ∷ obj ∷ (listed victim ++ others)))) in
+          gives-entry from obj (v dir) (subst (λ b. T (cond b (gives from obj (v dir)) (cond (dir == into) (yields to victim (v dir) && has_room victim (v dir)) (cond (dir == obj) (is_kind k (v dir)) (not (is_id dir victim) || is_bare k (v dir)))))) (self dir) here)
 
-    -- behind the second one
-    shift-third : (o : ℕ) → into ≢ o → T (cond (o == into) (yields to victim (v o) && has_room victim (v o)) (cond (o == obj) (is_kind k (v o)) (not (is_id o victim) || is_bare k (v o)))) → T (cond (o == obj) (is_kind k (v o)) (not (is_id o victim) || is_bare k (v o)))
-    shift-third o n h = subst (λ b. T (cond b (yields to victim (v o) && has_room victim (v o)) (cond (o == obj) (is_kind k (v o)) (not (is_id o victim) || is_bare k (v o))))) (other into o n) h
+      -- behind the first one
+      shift-next : (o : ℕ) → dir ≢ o → T (Rest o) → T (cond (o == into) (yields to victim (v o) && has_room victim (v o)) (cond (o == obj) (is_kind k (v o)) (not (is_id o victim) || is_bare k (v o))))
+      shift-next o n h = subst (λ b. T (cond b (gives from obj (v o)) (cond (o == into) (yields to victim (v o) && has_room victim (v o)) (cond (o == obj) (is_kind k (v o)) (not (is_id o victim) || is_bare k (v o)))))) (other dir o n) h
 
-    in-into : T (member into (into ∷ obj ∷ (listed victim ++ others)))
-    in-into = member-here into (obj ∷ (listed victim ++ others))
+      -- behind the second one
+      shift-third : (o : ℕ) → into ≢ o → T (cond (o == into) (yields to victim (v o) && has_room victim (v o)) (cond (o == obj) (is_kind k (v o)) (not (is_id o victim) || is_bare k (v o)))) → T (cond (o == obj) (is_kind k (v o)) (not (is_id o victim) || is_bare k (v o)))
+      shift-third o n h = subst (λ b. T (cond b (yields to victim (v o) && has_room victim (v o)) (cond (o == obj) (is_kind k (v o)) (not (is_id o victim) || is_bare k (v o))))) (other into o n) h
 
-    in-obj : T (member obj (into ∷ obj ∷ (listed victim ++ others)))
-    in-obj = or_r (eqb obj into) _ (member-here obj (listed victim ++ others))
+      in-into : T (member into (into ∷ obj ∷ (listed victim ++ others)))
+      in-into = member-here into (obj ∷ (listed victim ++ others))
 
-    in-victim : (o : ℕ) → victim ≡ Some o → T (member o (listed victim ++ others))
-    in-victim o e = subst (λ x. T (member o (listed x ++ others))) (sym e) (member-here o others)
+      in-obj : T (member obj (into ∷ obj ∷ (listed victim ++ others)))
+      in-obj = or_r (eqb obj into) _ (member-here obj (listed victim ++ others))
 
-    in-tail : (o : ℕ) → T (member o (listed victim ++ others)) → T (member o (into ∷ obj ∷ (listed victim ++ others)))
-    in-tail o m = or_r (eqb o into) _ (or_r (eqb o obj) _ m)
+      in-victim : (o : ℕ) → victim ≡ Some o → T (member o (listed victim ++ others))
+      in-victim o e = subst (λ x. T (member o (listed x ++ others))) (sym e) (member-here o others)
 
-    into-apart : into ≢ obj
-    into-apart = first-apart into (obj ∷ (listed victim ++ others)) obj shift-behind (member-here obj (listed victim ++ others))
+      in-tail : (o : ℕ) → T (member o (listed victim ++ others)) → T (member o (into ∷ obj ∷ (listed victim ++ others)))
+      in-tail o m = or_r (eqb o into) _ (or_r (eqb o obj) _ m)
 
-    shift-kind : T (is_kind k (v obj))
-    shift-kind =
-        let here : T (Rest obj) = right (leads up into obj (v obj)) _ (shift-fits obj (or_r (eqb obj dir) _ in-obj)) in
-        let third = shift-third obj into-apart (shift-next obj (first-apart dir (into ∷ obj ∷ (listed victim ++ others)) obj shift-distinct in-obj) here) in
-        subst (λ b. T (cond b (is_kind k (v obj)) (not (is_id obj victim) || is_bare k (v obj)))) (self obj) third
+      into-apart : into ≢ obj
+      into-apart = first-apart into (obj ∷ (listed victim ++ others)) obj shift-behind (member-here obj (listed victim ++ others))
 
-    shift-bare : (o : ℕ) → victim ≡ Some o → T (is_bare k (v o))
-    shift-bare o e =
-        let m : T (member o (into ∷ obj ∷ (listed victim ++ others))) = in-tail o (in-victim o e) in
-        let here : T (Rest o) = right (leads up into o (v o)) _ (shift-fits o (or_r (eqb o dir) _ m)) in
-        let third = shift-third o (first-apart into (obj ∷ (listed victim ++ others)) o shift-behind (or_r (eqb o obj) _ (in-victim o e))) (shift-next o (first-apart dir (into ∷ obj ∷ (listed victim ++ others)) o shift-distinct m) here) in
-        let last : T (not (is_id o victim) || is_bare k (v o)) = subst (λ b. T (cond b (is_kind k (v o)) (not (is_id o victim) || is_bare k (v o)))) (other obj o (first-apart obj (listed victim ++ others) o shift-last (in-victim o e))) third in
-        subst (λ b. T (not b || is_bare k (v o))) (ap (is_id o) e ∙ self o) last
+      shift-kind : T (is_kind k (v obj))
+      shift-kind =
+          let here : T (Rest obj) = right (leads up into obj (v obj)) _ (shift-fits obj (or_r (eqb obj dir) _ in-obj)) in
+          let third = shift-third obj into-apart (shift-next obj (first-apart dir (into ∷ obj ∷ (listed victim ++ others)) obj shift-distinct in-obj) here) in
+          subst (λ b. T (cond b (is_kind k (v obj)) (not (is_id obj victim) || is_bare k (v obj)))) (self obj) third
 
-    shift-stays : (o : ℕ) → o ≢ obj → T (member o (dir ∷ into ∷ others)) → Stay (Shift dir from into to obj k victim up) o
-    shift-stays o n m = (n, λ e. clash e (eqb o dir) (eqb o into) refl refl m)
-      where
-        clash : victim ≡ Some o → (p q : Bool) → eqb o dir ≡ p → eqb o into ≡ q → T (p || (q || member o others)) → ⊥
-        clash e true q g h t = first-apart dir (into ∷ obj ∷ (listed victim ++ others)) o shift-distinct (in-tail o (in-victim o e)) (sym (eqb→eq o dir (holds g)))
-        clash e false true g h t = first-apart into (obj ∷ (listed victim ++ others)) o shift-behind (or_r (eqb o obj) _ (in-victim o e)) (sym (eqb→eq o into (holds h)))
-        clash e false false g h t =
-            let all : T (distinct (o ∷ others)) = subst (λ x. T (distinct (listed x ++ others))) e (rest-apart obj (listed victim ++ others) shift-last) in
-            first-apart o others o all t refl
+      shift-bare : (o : ℕ) → victim ≡ Some o → T (is_bare k (v o))
+      shift-bare o e =
+          let m : T (member o (into ∷ obj ∷ (listed victim ++ others))) = in-tail o (in-victim o e) in
+          let here : T (Rest o) = right (leads up into o (v o)) _ (shift-fits o (or_r (eqb o dir) _ m)) in
+          let third = shift-third o (first-apart into (obj ∷ (listed victim ++ others)) o shift-behind (or_r (eqb o obj) _ (in-victim o e))) (shift-next o (first-apart dir (into ∷ obj ∷ (listed victim ++ others)) o shift-distinct m) here) in
+          let last : T (not (is_id o victim) || is_bare k (v o)) = subst (λ b. T (cond b (is_kind k (v o)) (not (is_id o victim) || is_bare k (v o)))) (other obj o (first-apart obj (listed victim ++ others) o shift-last (in-victim o e))) third in
+          subst (λ b. T (not b || is_bare k (v o))) (ap (is_id o) e ∙ self o) last
 
-    into-stays : Stay (Shift dir from into to obj k victim up) into
-    into-stays = shift-stays into into-apart (or_r (eqb into dir) _ (member-here into others))
+      shift-stays : (o : ℕ) → o ≢ obj → T (member o (dir ∷ into ∷ others)) → Stay shift o
+      shift-stays o n m = (n, λ e. clash e (eqb o dir) (eqb o into) refl refl m)
+        where
+          clash : victim ≡ Some o → (p q : Bool) → eqb o dir ≡ p → eqb o into ≡ q → T (p || (q || member o others)) → ⊥
+          clash e true q g h t = first-apart dir (into ∷ obj ∷ (listed victim ++ others)) o shift-distinct (in-tail o (in-victim o e)) (sym (eqb→eq o dir (holds g)))
+          clash e false true g h t = first-apart into (obj ∷ (listed victim ++ others)) o shift-behind (or_r (eqb o obj) _ (in-victim o e)) (sym (eqb→eq o into (holds h)))
+          clash e false false g h t =
+              let all : T (distinct (o ∷ others)) = subst (λ x. T (distinct (listed x ++ others))) e (rest-apart obj (listed victim ++ others) shift-last) in
+              first-apart o others o all t refl
 
-    up-listed : (o : ℕ) → T (member o (ids_of up)) → T (member o (dir ∷ into ∷ others))
-    up-listed o m = elim (cases_Bool (eqb o dir)) [
-      | inl e ↦ or_l (eqb o dir) _ (holds e)
-      | inr e ↦ or_r (eqb o dir) _ (or_r (eqb o into) _ (in-filter (λ x. not (x == dir)) o (ids_of up) (subst (λ b. T (not b)) (sym e) tt) m))
-    ]
+      into-stays : Stay shift into
+      into-stays = shift-stays into into-apart (or_r (eqb into dir) _ (member-here into others))
 
-    up-operand : (o : ℕ) → T (member o (ids_of up)) → T (member o (dir ∷ into ∷ obj ∷ (listed victim ++ others)))
-    up-operand o m = elim (cases_Bool (eqb o dir)) [
-      | inl e ↦ or_l (eqb o dir) _ (holds e)
-      | inr e ↦ or_r (eqb o dir) _ (in-tail o (in-back o (listed victim) others (in-filter (λ x. not (x == dir)) o (ids_of up) (subst (λ b. T (not b)) (sym e) tt) m)))
-    ]
+      up-listed : (o : ℕ) → T (member o (ids_of up)) → T (member o (dir ∷ into ∷ others))
+      up-listed o m = elim (cases_Bool (eqb o dir)) [
+        | inl e ↦ or_l (eqb o dir) _ (holds e)
+        | inr e ↦ or_r (eqb o dir) _ (or_r (eqb o into) _ (in-filter (λ x. not (x == dir)) o (ids_of up) (subst (λ b. T (not b)) (sym e) tt) m))
+      ]
 
-    up-apart : (o : ℕ) → T (member o (ids_of up)) → o ≢ obj
-    up-apart o m q = elim (cases_Bool (eqb o dir)) [
-      | inl e ↦ first-apart dir (into ∷ obj ∷ (listed victim ++ others)) obj shift-distinct in-obj (sym (eqb→eq o dir (holds e)) ∙ q)
-      | inr e ↦ first-apart obj (listed victim ++ others) o shift-last (in-back o (listed victim) others (in-filter (λ x. not (x == dir)) o (ids_of up) (subst (λ b. T (not b)) (sym e) tt) m)) (sym q)
-    ]
+      up-operand : (o : ℕ) → T (member o (ids_of up)) → T (member o (dir ∷ into ∷ obj ∷ (listed victim ++ others)))
+      up-operand o m = elim (cases_Bool (eqb o dir)) [
+        | inl e ↦ or_l (eqb o dir) _ (holds e)
+        | inr e ↦ or_r (eqb o dir) _ (in-tail o (in-back o (listed victim) others (in-filter (λ x. not (x == dir)) o (ids_of up) (subst (λ b. T (not b)) (sym e) tt) m)))
+      ]
 
-    shift-keeps : (d : ℕ) (n : List ℕ) (o : ℕ) → Names v d n o → ((e : ℕ) × (m : List ℕ) × New (Shift dir from into to obj k victim up) e m d) ⊎ Stay (Shift dir from into to obj k victim up) d
-    shift-keeps d n o h = elim (cases_Bool (eqb d obj)) [
-      | inl e ↦ inl (into, to, (refl, refl, eqb→eq d obj (holds e)))
-      | inr e ↦ inr (differ d obj e, λ q. no-entry (v d) n o (bare-empty k (v d) (shift-bare d q)) h)
-    ]
+      up-apart : (o : ℕ) → T (member o (ids_of up)) → o ≢ obj
+      up-apart o m q = elim (cases_Bool (eqb o dir)) [
+        | inl e ↦ first-apart dir (into ∷ obj ∷ (listed victim ++ others)) obj shift-distinct in-obj (sym (eqb→eq o dir (holds e)) ∙ q)
+        | inr e ↦ first-apart obj (listed victim ++ others) o shift-last (in-back o (listed victim) others (in-filter (λ x. not (x == dir)) o (ids_of up) (subst (λ b. T (not b)) (sym e) tt) m)) (sym q)
+      ]
 
-    -- along directories that lead to another one
-    along : (us : Above) → ((x : ℕ) → T (member x (ids_of us)) → T (leads us into x (v x))) → ((x : ℕ) → T (member x (ids_of us)) → Stay (Shift dir from into to obj k victim up) x) → IsLed w (first_of us into) → IsLed w into
-    along [] lead stay h = h
-    along (e ∷ es) lead stay h =
-        let here : T (not (e.0 == e.0) || gives e.1 (first_of es into) (v e.0)) = left (not (e.0 == e.0) || gives e.1 (first_of es into) (v e.0)) _ (lead e.0 (member-here e.0 (ids_of es))) in
-        let named : Names v e.0 e.1 (first_of es into) = gives-entry e.1 (first_of es into) (v e.0) (subst (λ b. T (not b || gives e.1 (first_of es into) (v e.0))) (self e.0) here) in
-        along es (λ x m. right (not (x == e.0) || gives e.1 (first_of es into) (v x)) _ (lead x (or_r (eqb x e.0) _ m))) (λ x m. stay x (or_r (eqb x e.0) _ m))
-        ((e.0, e.1) ∷ h.0, (c.stays e.0 e.1 (first_of es into) named (first es (λ x m. stay x (or_r (eqb x e.0) _ m))), h.1))
-      where
-        first : (us : Above) → ((x : ℕ) → T (member x (ids_of us)) → Stay (Shift dir from into to obj k victim up) x) → Stay (Shift dir from into to obj k victim up) (first_of us into)
-        first [] g = into-stays
-        first (y ∷ ys) g = g y.0 (member-here y.0 (ids_of ys))
+      shift-keeps : (d : ℕ) (n : List ℕ) (o : ℕ) → Names v d n o → ((e : ℕ) × (m : List ℕ) × New shift e m d) ⊎ Stay shift d
+      shift-keeps d n o h = elim (cases_Bool (eqb d obj)) [
+        | inl e ↦ inl (into, to, (refl, refl, eqb→eq d obj (holds e)))
+        | inr e ↦ inr (differ d obj e, λ q. no-entry (v d) n o (bare-empty k (v d) (shift-bare d q)) h)
+      ]
 
-    into-dir : T (is_dir (v into))
-    into-dir =
-        let here : T (Rest into) = right (leads up into into (v into)) _ (shift-fits into (or_r (eqb into dir) _ in-into)) in
-        let next = shift-next into (first-apart dir (into ∷ obj ∷ (listed victim ++ others)) into shift-distinct in-into) here in
-        let both' : T (yields to victim (v into) && has_room victim (v into)) =
-            subst (λ b. T (cond b (yields to victim (v into) && has_room victim (v into)) (cond (into == obj) (is_kind k (v into)) (not (is_id into victim) || is_bare k (v into))))) (self into) next in
-        yields-dir victim (left (yields to victim (v into)) _ both')
-      where
-        yields-dir : (x : Option ℕ) → T (yields to x (v into)) → T (is_dir (v into))
-        yields-dir None h = left (is_dir (v into)) _ h
-        yields-dir (Some o) h = left (is_dir (v into)) _ h
+      -- along directories that lead to another one
+      along : (us : Above) → ((x : ℕ) → T (member x (ids_of us)) → T (leads us into x (v x))) → ((x : ℕ) → T (member x (ids_of us)) → Stay shift x) → IsLed w (first_of us into) → IsLed w into
+      along [] lead stay h = h
+      along (e ∷ es) lead stay h =
+          let here : T (not (e.0 == e.0) || gives e.1 (first_of es into) (v e.0)) = left (not (e.0 == e.0) || gives e.1 (first_of es into) (v e.0)) _ (lead e.0 (member-here e.0 (ids_of es))) in
+          let named : Names v e.0 e.1 (first_of es into) = gives-entry e.1 (first_of es into) (v e.0) (subst (λ b. T (not b || gives e.1 (first_of es into) (v e.0))) (self e.0) here) in
+          along es (λ x m. right (not (x == e.0) || gives e.1 (first_of es into) (v x)) _ (lead x (or_r (eqb x e.0) _ m))) (λ x m. stay x (or_r (eqb x e.0) _ m))
+          ((e.0, e.1) ∷ h.0, (c.stays e.0 e.1 (first_of es into) named (first es (λ x m. stay x (or_r (eqb x e.0) _ m))), h.1))
+        where
+          first : (us : Above) → ((x : ℕ) → T (member x (ids_of us)) → Stay shift x) → Stay shift (first_of us into)
+          first [] g = into-stays
+          first (y ∷ ys) g = g y.0 (member-here y.0 (ids_of ys))
 
-    into-led : IsLed w into
-    into-led = by_kind k refl (right (distinct (ids_of up)) _ (right (distinct (dir ∷ into ∷ obj ∷ (listed victim ++ others))) _ s))
-      where
-        by_kind : (j : Kind) → k ≡ j → T (is_way j into up) → IsLed w into
-        by_kind kind.File q h =
-            let empty : entries_of (v obj) ≡ [] = file-empty (v obj) (subst (λ j. T (is_kind j (v obj))) q shift-kind) in
-            let old : IsLive (v into) = dir-live (v into) into-dir in
-            led-but w (New (Shift dir from into to obj k victim up)) (Stay (Shift dir from into to obj k victim up)) c shift-keeps obj (λ e m o x. x.2) empty into into-apart old (c.live_up into old into-stays)
-        by_kind kind.Dir q h = elim (cases_Bool (into == root)) [
-          | inl e ↦ ([], eqb→eq into root (holds e))
-          | inr e ↦
-              let way : T ((nat_le 1 (length up) && nat_le (length up) 15) && (first_of up into == root)) =
-                  subst (λ b. T (cond b (length up == 0) ((nat_le 1 (length up) && nat_le (length up) 15) && (first_of up into == root)))) e h in
-              along up (λ x m. left (leads up into x (v x)) _ (shift-fits x (up-operand x m))) (λ x m. shift-stays x (up-apart x m) (up-listed x m))
-              ([], eqb→eq (first_of up into) root (right (nat_le 1 (length up) && nat_le (length up) 15) _ way))
-        ]
+      into-dir : T (is_dir (v into))
+      into-dir =
+          let here : T (Rest into) = right (leads up into into (v into)) _ (shift-fits into (or_r (eqb into dir) _ in-into)) in
+          let next = shift-next into (first-apart dir (into ∷ obj ∷ (listed victim ++ others)) into shift-distinct in-into) here in
+          let both' : T (yields to victim (v into) && has_room victim (v into)) =
+              subst (λ b. T (cond b (yields to victim (v into) && has_room victim (v into)) (cond (into == obj) (is_kind k (v into)) (not (is_id into victim) || is_bare k (v into))))) (self into) next in
+          yields-dir victim (left (yields to victim (v into)) _ both')
+        where
+          yields-dir : (x : Option ℕ) → T (yields to x (v into)) → T (is_dir (v into))
+          yields-dir None h = left (is_dir (v into)) _ h
+          yields-dir (Some o) h = left (is_dir (v into)) _ h
 
-    shift-reached : AllReached w
-    shift-reached =
-        led-all v w (New (Shift dir from into to obj k victim up)) (Stay (Shift dir from into to obj k victim up)) c shift-keeps
-        (λ o l old. led-with w (New (Shift dir from into to obj k victim up)) (Stay (Shift dir from into to obj k victim up)) c shift-keeps obj (λ e m o x. x.2)
-        (λ d e n m x h new before. subst (IsLed w) (sym new.0) into-led) o old l)
-        (λ e m o new. inl (subst (λ y. IsLive (v y)) (sym new.2) (f.live obj dir from shift-named)))
+      into-led : IsLed w into
+      into-led = by_kind k refl (right (distinct (ids_of up)) _ (right (distinct (dir ∷ into ∷ obj ∷ (listed victim ++ others))) _ s))
+        where
+          by_kind : (j : Kind) → k ≡ j → T (is_way j into up) → IsLed w into
+          by_kind kind.File q h =
+              let empty : entries_of (v obj) ≡ [] = file-empty (v obj) (subst (λ j. T (is_kind j (v obj))) q shift-kind) in
+              let old : IsLive (v into) = dir-live (v into) into-dir in
+              led-but w (New shift) (Stay shift) c shift-keeps obj (λ e m o x. x.2) empty into into-apart old (c.live_up into old into-stays)
+          by_kind kind.Dir q h = elim (cases_Bool (into == root)) [
+            | inl e ↦ ([], eqb→eq into root (holds e))
+            | inr e ↦
+                let way : T ((nat_le 1 (length up) && nat_le (length up) 15) && (first_of up into == root)) =
+                    subst (λ b. T (cond b (length up == 0) ((nat_le 1 (length up) && nat_le (length up) 15) && (first_of up into == root)))) e h in
+                along up (λ x m. left (leads up into x (v x)) _ (shift-fits x (up-operand x m))) (λ x m. shift-stays x (up-apart x m) (up-listed x m))
+                ([], eqb→eq (first_of up into) root (right (nat_le 1 (length up) && nat_le (length up) 15) _ way))
+          ]
+
+      shift-reached : AllReached w
+      shift-reached =
+          led-all v w (New shift) (Stay shift) c shift-keeps
+          (λ o l old. led-with w (New shift) (Stay shift) c shift-keeps obj (λ e m o x. x.2)
+          (λ d e n m x h new before. subst (IsLed w) (sym new.0) into-led) o old l)
+          (λ e m o new. inl (subst (λ y. IsLive (v y)) (sym new.2) (f.live obj dir from shift-named)))
 
   one_reached : (u : Update) (w : Images) → T (is_sound u) → Fits v (u ∷ []) → Change v w (New u) (Stay u) → AllReached w
   one_reached (Make dir name obj k) w s fit c = make-reached dir obj name k w s fit c
