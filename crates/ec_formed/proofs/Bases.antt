@@ -1,11 +1,10 @@
 -- The formatted volume and one with two files are bases.
-use Rattle.std.proofs.Common.{◌≡◌, refl, sym, ap, subst, arith, ◌+◌, ◌≤◌, ℕ, T, Bool, true, false, ◌==◌, ◌||◌, cond, List, [], ◌∷◌, eqb}
+use Rattle.std.proofs.Common.{◌≡◌, refl, sym, subst, arith, ◌+◌, ◌≤◌, ℕ, T, Bool, true, false, ◌||◌, cond, List, [], ◌∷◌, eqb}
 use Rattle.std.specs.List.{list_all}
 use Rattle.ec_volume.specs.Image.{is_gone, with_entries, new_object}
 use Rattle.ec_volume.specs.Entries.{with_entry}
 use Rattle.ec_volume.specs.Update.{is_sound}
-use Rattle.ec_volume.specs.Volume.{Images, formatted, after, Fits, WellFormed, AllReached}
-use Rattle.ec_volume.specs.declared.image.Image.{Image}
+use Rattle.ec_volume.specs.Volume.{formatted, after, Fits, WellFormed, AllReached}
 use Rattle.ec_volume.specs.declared.image.Image.TheVariants.{Gone, File, Dir}
 use Rattle.ec_volume.specs.declared.image.Kind.TheVariants as kind
 use Rattle.ec_volume.specs.declared.update.Update.{Update}

@@ -1,6 +1,4 @@
-use Rattle.std.proofs.Common.{arith, T}
-use Rattle.std.specs.List.{list_all}
-use Rattle.ec_volume.specs.Update.{is_sound}
+use Rattle.std.proofs.Common.{arith}
 use Rattle.ec_volume.specs.Volume.{formatted, Fits}
 use Rattle.ec_history.specs.Legal.{IsLegal}
 use Rattle.ec_laws.proofs.Objects.{fits-tried}
