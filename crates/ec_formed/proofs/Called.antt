@@ -1,38 +1,28 @@
--- Updates of calls that fit and are sound: what a walk, a parent and an entry hand over, and calls that make, drop or change one object.
-use Rattle.std.proofs.Common.{◌≡◌, refl, sym, subst, inl, inr, arith, ◌+◌, ◌-◌, ◌⊎◌, ℕ, T, Bool, true, false, not, ◌==◌, ◌&&◌, ◌||◌, cond, List, [], ◌∷◌, ◌++◌, Option, Some, None}
+-- Updates that fit and are sound; those of calls that make or drop an object are.
+use Rattle.std.proofs.Common.{◌≡◌, sym, subst, inl, inr, arith, ◌⊎◌, ℕ, T, Bool, true, false, not, ◌==◌, ◌&&◌, ◌||◌, cond, List, [], ◌∷◌, ◌++◌, Option, Some, None}
 use Rattle.std.specs.Prelude.{length, nat_le, nat_lt, is_some, is_none}
 use Rattle.std.proofs.lemmas.Bool.{cases_Bool, eqb-true}
-use Rattle.ec_volume.specs.Entries.{Entries, entry}
-use Rattle.ec_volume.specs.Image.{entries_of, bytes_of, is_gone, is_dir, is_file, is_id, is_bare, lacks, gives}
-use Rattle.ec_volume.specs.Update.{root, operands, has_operand, member, distinct, fits, is_sound}
+use Rattle.ec_volume.specs.Entries.{entry}
+use Rattle.ec_volume.specs.Image.{entries_of, is_gone, is_dir, is_bare, lacks, gives}
+use Rattle.ec_volume.specs.Update.{root, has_operand, member, distinct, fits, is_sound}
 use Rattle.ec_volume.specs.Volume.{Images, Names, Fits, WellFormed}
 use Rattle.ec_volume.specs.declared.image.Image.{Image}
 use Rattle.ec_volume.specs.declared.image.Image.TheVariants.{Gone, File, Dir}
 use Rattle.ec_volume.specs.declared.image.Kind.{Kind}
 use Rattle.ec_volume.specs.declared.image.Kind.TheVariants as kind
 use Rattle.ec_volume.specs.declared.update.Update.{Update}
-use Rattle.ec_volume.specs.declared.update.Update.TheVariants.{Make, Drop, Put, Len}
-use Rattle.ec_plain.specs.Walk.{Path, Reached, At, Not, Walk, walk, parent_of, last_of}
-use Rattle.ec_plain.specs.Plain.{answers, refuses, issues, on_reached, on_parent, on_entry, make_in, drop_in, write_in, len_in}
-use Rattle.ec_plain.specs.declared.call.Reply.{Reply}
-use Rattle.ec_plain.specs.declared.call.Reply.TheVariants as reply
+use Rattle.ec_volume.specs.declared.update.Update.TheVariants.{Make, Drop}
+use Rattle.ec_plain.specs.Walk.{Path, walk, last_of}
+use Rattle.ec_plain.specs.Plain.{refuses, issues, on_reached, make_in, drop_in}
 use Rattle.ec_plain.specs.declared.call.Refusal.{Refusal}
 use Rattle.ec_plain.specs.declared.call.Refusal.TheVariants as no
 use Rattle.ec_plain.specs.declared.call.Outcome.{Outcome}
-use Rattle.ec_formed.proofs.Walked.{Walked, walked, walked-live, no_own_entry}
-
-pub both : (a b : Bool) → T a → T b → T (a && b)
-both true b x y = y
-both false b x y = absurd x
-
-pub on : {b : Bool} → b ≡ true → T b
-on e = subst T (sym e) tt
-
-pub off : {b : Bool} → b ≡ false → T b → ⊥
-off e t = subst T e t
-
-pub self : (n : ℕ) → (n == n) ≡ true
-self n = grind arith
+use Rattle.ec_laws.proofs.Objects.{holds}
+use Rattle.ec_laws.proofs.Removed.{both, off}
+use Rattle.ec_formed.proofs.Walked.{self, Walked, walked, no_own_entry}
+use Rattle.ec_formed.proofs.Ways.{gives-named}
+use Rattle.ec_formed.proofs.Makes.{Makes, cond-makes, refuses-makes, issues-makes, reached-makes}
+use Rattle.ec_formed.proofs.Moving.{fits-one}
 
 -- the update fits, and is sound where B holds
 pub record IsFine (v : Images) (B : Type 0) (u : Update) : Type 0 where
@@ -41,61 +31,22 @@ pub record IsFine (v : Images) (B : Type 0) (u : Update) : Type 0 where
 
 -- so is the update of the outcome, if any
 abbrev pub IsGood : Images → Type 0 → Outcome → Type 0
-IsGood v B out = (u : Update) → out.update ≡ Some u → IsFine v B u
+IsGood v B out = Makes (IsFine v B) out
 
 pub weaker : (v : Images) (A B : Type 0) (out : Outcome) → (B → A) → IsGood v A out → IsGood v B out
 weaker v A B out h good u e = let fine = good u e in record { sound = λ b. fine.sound (h b); fitting = fine.fitting }
 
-pub fits_at : (v : Images) (u : Update) → ((o : ℕ) → T (has_operand o u) → T (fits u o (v o))) → Fits v (u ∷ [])
-fits_at v u h o = both (not (has_operand o u) || fits u o (v o)) true (go (has_operand o u) (h o)) tt
-  where
-    go : (b : Bool) → (T b → T (fits u o (v o))) → T (not b || fits u o (v o))
-    go true f = f tt
-    go false f = tt
-
 module _ (v : Images) (B : Type 0) where
-  pub no_update : (r : Reply) (os : List ℕ) → IsGood v B (answers r os)
-  no_update r os u e = absurd (apart e)
-    where
-      apart : ◌≡◌ {A = Option Update} None (Some u) → ⊥
-      apart e = cc
-
-  pub with_update : (w : Update) (os : List ℕ) → IsFine v B w → IsGood v B (issues w os)
-  with_update w os f u e = subst (IsFine v B) (same e) f
-    where
-      same : Some w ≡ Some u → w ≡ u
-      same e = cc
-
-  pub good_cond : (b : Bool) (x y : Outcome) → (b ≡ true → IsGood v B x) → (b ≡ false → IsGood v B y) → IsGood v B (cond b x y)
-  good_cond true x y p q = p refl
-  good_cond false x y p q = q refl
-
   -- a refusal first
   pub unless : (b : Bool) (r : Refusal) (os : List ℕ) (y : Outcome) → (b ≡ false → IsGood v B y) → IsGood v B (cond b (refuses r os) y)
-  unless b r os y h = good_cond b (refuses r os) y (λ _. no_update (reply.Refused r) os) h
+  unless b r os y h = cond-makes (IsFine v B) b (refuses r os) y (λ _. refuses-makes (IsFine v B) r os) h
 
+  -- what a call is given by its walk
   pub on_walk : (p : Path) (f : ℕ → List ℕ → Outcome) → ((o : ℕ) (os : List ℕ) → Walked v root p os o → IsGood v B (f o os)) → IsGood v B (on_reached (walk v p) f)
-  on_walk p f h = go ((walk v p).to) (λ q e. walked v 0 root p q e)
-    where
-      go : (t : Reached) → ((q : ℕ) → t ≡ At q → Walked v root p ((walk v p).read) q) → IsGood v B (elim t [ At o ↦ f o (walk v p).read | Not x ↦ refuses x (walk v p).read ])
-      go (At o) w = h o (walk v p).read (w o refl)
-      go (Not x) w = no_update (reply.Refused x) (walk v p).read
+  on_walk p f h = reached-makes (IsFine v B) v p f (λ o at. h o (walk v p).read (walked v 0 root p o at))
 
-  pub at_parent : (p : Path) (f : ℕ → Entries → List ℕ → Outcome) → ((d : ℕ) (os : List ℕ) → Walked v root (parent_of p) os d → T (is_dir (v d)) → IsGood v B (f d (entries_of (v d)) os)) → IsGood v B (on_parent v p f)
-  at_parent p f h = on_walk (parent_of p) (λ d os. cond (is_dir (v d)) (f d (entries_of (v d)) os) (refuses (no.NotDir (length p - 1)) os))
-      (λ d os w. good_cond (is_dir (v d)) (f d (entries_of (v d)) os) (refuses (no.NotDir (length p - 1)) os) (λ e. h d os w (on e)) (λ e. no_update (reply.Refused (no.NotDir (length p - 1))) os))
-
-  abbrev found : Path → (ℕ → Entries → ℕ → List ℕ → Outcome) → ℕ → Entries → List ℕ → Option ℕ → Outcome
-  found p f d es os None = refuses (no.NotFound (length p)) os
-  found p f d es os (Some o) = cond (is_gone (v o)) (refuses (no.NotFound (length p)) (os ++ o ∷ [])) (f d es o (os ++ o ∷ []))
-
-  pub at_entry : (p : Path) (f : ℕ → Entries → ℕ → List ℕ → Outcome)
-      → ((d o : ℕ) (os : List ℕ) → Walked v root (parent_of p) os d → T (is_dir (v d)) → Names v d (last_of p) o → is_gone (v o) ≡ false → IsGood v B (f d (entries_of (v d)) o (os ++ o ∷ []))) → IsGood v B (on_entry v p f)
-  at_entry p f h = at_parent p (λ d es os. found p f d es os (entry es (last_of p))) (λ d os w dir. go d os w dir (entry (entries_of (v d)) (last_of p)) refl)
-    where
-      go : (d : ℕ) (os : List ℕ) → Walked v root (parent_of p) os d → T (is_dir (v d)) → (x : Option ℕ) → entry (entries_of (v d)) (last_of p) ≡ x → IsGood v B (found p f d (entries_of (v d)) os x)
-      go d os w dir None g = no_update (reply.Refused (no.NotFound (length p))) os
-      go d os w dir (Some o) g = unless (is_gone (v o)) (no.NotFound (length p)) (os ++ o ∷ []) (f d (entries_of (v d)) o (os ++ o ∷ [])) (λ l. h d o os w dir g l)
+pub fits_at : (v : Images) (u : Update) → ((o : ℕ) → T (has_operand o u) → T (fits u o (v o))) → Fits v (u ∷ [])
+fits_at v u h = fits-one v u (λ o e. h o (holds e))
 
 -- at the one operand
 pub one : (P : ℕ → Type 0) (d : ℕ) → P d → (o : ℕ) → T (member o (d ∷ [])) → P o
@@ -150,12 +101,9 @@ module _ (v : Images) (B : Type 0) where
   make_good k n fresh d os gone dir =
       unless v B (is_some (entry (entries_of (v d)) n)) no.Exists os (cond (nat_le 128 (length (entries_of (v d)))) (refuses no.DirFull os) (issues (Make d n fresh k) (os ++ fresh ∷ [])))
       (λ absent. unless v B (nat_le 128 (length (entries_of (v d)))) no.DirFull os (issues (Make d n fresh k) (os ++ fresh ∷ []))
-      (λ room. with_update v B (Make d n fresh k) (os ++ fresh ∷ []) (make_fine k n fresh d gone dir absent room)))
+      (λ room. issues-makes (IsFine v B) (Make d n fresh k) (os ++ fresh ∷ []) (make_fine k n fresh d gone dir absent room)))
 
 -- Removals.
-
-given : (o : ℕ) (y : Option ℕ) → y ≡ Some o → T (is_id o y)
-given o y g = subst (λ z. T (is_id o z)) (sym g) (on (self o))
 
 file_bare : (i : Image) → is_dir i ≡ false → is_gone i ≡ false → T (is_bare kind.File i)
 file_bare Gone a b = absurd (off b tt)
@@ -176,14 +124,14 @@ module _ (v : Images) (f : WellFormed v) (B : Type 0) (p : Path) (d o : ℕ) (ns
       record {
         sound = λ b. both (distinct (d ∷ o ∷ [])) true (apart d o (λ e. no_own_entry v f ns ds d way (last_of p) (subst (λ x. Names v d (last_of p) x) (sym e) name))) tt;
         fitting = fits_at v (Drop d (last_of p) o k) (two (λ x. T (fits (Drop d (last_of p) o k) x (v x))) d o
-            (subst (λ b. T (cond b (gives (last_of p) o (v d)) (is_bare k (v d)))) (sym (self d)) (both (is_dir (v d)) (is_id o (entry (entries_of (v d)) (last_of p))) dir (given o (entry (entries_of (v d)) (last_of p)) name)))
+            (subst (λ b. T (cond b (gives (last_of p) o (v d)) (is_bare k (v d)))) (sym (self d)) (gives-named v d (last_of p) o dir name))
             (λ a. subst (λ b. T (cond b (gives (last_of p) o (v o)) (is_bare k (v o)))) (sym a) bare));
       }
 
   pub drop_good : (k : Kind) → IsGood v B (drop_in v k p d (entries_of (v d)) o os)
   drop_good kind.File =
-      unless v B (is_dir (v o)) no.IsDir os (issues (Drop d (last_of p) o kind.File) os) (λ a. with_update v B (Drop d (last_of p) o kind.File) os (drop_fine kind.File (file_bare (v o) a live)))
+      unless v B (is_dir (v o)) no.IsDir os (issues (Drop d (last_of p) o kind.File) os) (λ a. issues-makes (IsFine v B) (Drop d (last_of p) o kind.File) os (drop_fine kind.File (file_bare (v o) a live)))
   drop_good kind.Dir =
       unless v B (not (is_dir (v o))) (no.NotDir (length p)) os (cond (nat_lt 0 (length (entries_of (v o)))) (refuses no.NotEmpty os) (issues (Drop d (last_of p) o kind.Dir) os))
       (λ a. unless v B (nat_lt 0 (length (entries_of (v o)))) no.NotEmpty os (issues (Drop d (last_of p) o kind.Dir) os)
-      (λ b. with_update v B (Drop d (last_of p) o kind.Dir) os (drop_fine kind.Dir (dir_bare (v o) a b))))
+      (λ b. issues-makes (IsFine v B) (Drop d (last_of p) o kind.Dir) os (drop_fine kind.Dir (dir_bare (v o) a b))))

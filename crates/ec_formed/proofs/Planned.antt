@@ -1,11 +1,12 @@
 -- The update of a call fits, and is sound where the call is within its bounds.
-use Rattle.std.proofs.Common.{◌≡◌, refl, sym, ap, subst, ◌∙◌, inl, inr, arith, ◌⊎◌, ◌+◌, ◌≤◌, ℕ, T, Bool, true, false, not, ◌==◌, ◌&&◌, ◌||◌, cond, List, [], ◌∷◌, ◌++◌, Some}
+use Rattle.std.proofs.Common.{◌≡◌, refl, sym, ap, subst, inl, inr, arith, ◌⊎◌, ◌+◌, ◌≤◌, ℕ, T, Bool, true, false, not, ◌==◌, ◌&&◌, ◌||◌, cond, List, [], ◌∷◌, ◌++◌, Some}
 use Rattle.std.specs.Prelude.{length, nat_le, nat_lt, map, take, drop}
 use Rattle.std.specs.List.{list_all}
 use Rattle.std.proofs.lemmas.Bool.{cases_Bool}
 use Rattle.std.proofs.lemmas.Bool.Decides.{nat_tests}
+use Rattle.std.proofs.lemmas.List.{length_push}
 use Rattle.ec_volume.specs.Image.{bytes_of, entries_of, is_gone, is_dir, is_file}
-use Rattle.ec_volume.specs.Update.{root, has_operand, member, distinct, fits, is_sound}
+use Rattle.ec_volume.specs.Update.{root, member, distinct, fits, is_sound}
 use Rattle.ec_volume.specs.Volume.{Images, Fits, WellFormed}
 use Rattle.ec_volume.specs.declared.image.Image.{Image}
 use Rattle.ec_volume.specs.declared.image.Image.TheVariants.{Gone, File, Dir}
@@ -13,26 +14,18 @@ use Rattle.ec_volume.specs.declared.image.Kind.{Kind}
 use Rattle.ec_volume.specs.declared.image.Kind.TheVariants as kind
 use Rattle.ec_volume.specs.declared.update.Update.{Update}
 use Rattle.ec_volume.specs.declared.update.Update.TheVariants.{Put, Len, Mode, Stamp, Order, Owner}
-use Rattle.ec_plain.specs.Walk.{Path, Reached, At, Not, Walk, walk, parent_of, last_of}
+use Rattle.ec_plain.specs.Walk.{Path, Reached, At, Not, walk, parent_of, last_of}
 use Rattle.ec_plain.specs.Plain.{answers, refuses, issues, on_reached, make_in, drop_in, write_in, len_in, read_in, list_in, stat_of, once_more, plain, plain_make, plain_drop, plain_rename, plain_forder}
 use Rattle.ec_plain.specs.Bounds.{is_short, is_bounded}
 use Rattle.ec_plain.specs.declared.call.Call.{Call}
 use Rattle.ec_plain.specs.declared.call.Call.TheVariants as call
-use Rattle.ec_plain.specs.declared.call.Reply.{Reply}
 use Rattle.ec_plain.specs.declared.call.Reply.TheVariants as reply
-use Rattle.ec_plain.specs.declared.call.Refusal.{Refusal}
 use Rattle.ec_plain.specs.declared.call.Refusal.TheVariants as no
-use Rattle.ec_plain.specs.declared.call.Outcome.{Outcome}
+use Rattle.ec_laws.proofs.Objects.{holds}
+use Rattle.ec_laws.proofs.Removed.{both, left, right, off}
 use Rattle.ec_formed.proofs.Walked.{Walked, walked, walked-live}
-use Rattle.ec_formed.proofs.Called.{IsFine, IsGood, both, on, off, self, weaker, fits_at, no_update, with_update, good_cond, unless, on_walk, at_parent, at_entry, one, make_good, drop_good}
-
-left : (a b : Bool) → T (a && b) → T a
-left true b t = tt
-left false b t = absurd t
-
-right : (a b : Bool) → T (a && b) → T b
-right true b t = t
-right false b t = absurd t
+use Rattle.ec_formed.proofs.Called.{IsFine, IsGood, weaker, fits_at, unless, on_walk, one, make_good, drop_good}
+use Rattle.ec_formed.proofs.Makes.{answers-makes, refuses-makes, issues-makes, cond-makes, parent-makes, entry-makes}
 
 behind : (a b c : Bool) → T (a && b && c) → T (b && c)
 behind true b c t = t
@@ -65,31 +58,31 @@ module _ (v : Images) where
   write_good at bytes o os live =
       unless v (T (nat_le 1 (length bytes) && nat_le (length bytes) 4096)) (is_dir (v o)) no.IsDir os (cond (nat_lt 65536 (at + length bytes)) (refuses no.TooLong os) (issues (Put o at bytes (nat_le (at + length bytes) (length (bytes_of (v o))))) os))
       (λ a. unless v (T (nat_le 1 (length bytes) && nat_le (length bytes) 4096)) (nat_lt 65536 (at + length bytes)) no.TooLong os (issues (Put o at bytes (nat_le (at + length bytes) (length (bytes_of (v o))))) os)
-      (λ b. with_update v (T (nat_le 1 (length bytes) && nat_le (length bytes) 4096)) (Put o at bytes (nat_le (at + length bytes) (length (bytes_of (v o))))) os (put_fine at bytes o (a_file (v o) a live) b)))
+      (λ b. issues-makes (IsFine v (T (nat_le 1 (length bytes) && nat_le (length bytes) 4096))) (Put o at bytes (nat_le (at + length bytes) (length (bytes_of (v o))))) os (put_fine at bytes o (a_file (v o) a live) b)))
 
   len_good : (B : Type 0) (len o : ℕ) (os : List ℕ) → T (not (is_gone (v o))) → IsGood v B (len_in v len o os)
   len_good B len o os live =
       unless v B (is_dir (v o)) no.IsDir os (cond (nat_lt 65536 len) (refuses no.TooLong os) (issues (Len o len) os))
       (λ a. unless v B (nat_lt 65536 len) no.TooLong os (issues (Len o len) os)
-      (λ b. with_update v B (Len o len) os (record {
+      (λ b. issues-makes (IsFine v B) (Len o len) os (record {
         sound = λ _. within len b;
         fitting = fits_at v (Len o len) (one (λ x. T (fits (Len o len) x (v x))) o (a_file (v o) a live));
       })))
 
   mode_good : (mode o : ℕ) (os : List ℕ) → T (not (is_gone (v o))) → IsGood v (T (nat_le mode 4095)) (issues (Mode o mode) os)
-  mode_good mode o os live = with_update v (T (nat_le mode 4095)) (Mode o mode) os (record {
+  mode_good mode o os live = issues-makes (IsFine v (T (nat_le mode 4095))) (Mode o mode) os (record {
     sound = λ b. b;
     fitting = fits_at v (Mode o mode) (one (λ x. T (fits (Mode o mode) x (v x))) o live);
   })
 
   stamp_good : (B : Type 0) (stamp o : ℕ) (os : List ℕ) → T (not (is_gone (v o))) → IsGood v B (issues (Stamp o stamp) os)
-  stamp_good B stamp o os live = with_update v B (Stamp o stamp) os (record {
+  stamp_good B stamp o os live = issues-makes (IsFine v B) (Stamp o stamp) os (record {
     sound = λ b. tt;
     fitting = fits_at v (Stamp o stamp) (one (λ x. T (fits (Stamp o stamp) x (v x))) o live);
   })
 
   owner_good : (B : Type 0) (owner o : ℕ) (os : List ℕ) → T (not (is_gone (v o))) → IsGood v B (issues (Owner o owner) os)
-  owner_good B owner o os live = with_update v B (Owner o owner) os (record {
+  owner_good B owner o os live = issues-makes (IsFine v B) (Owner o owner) os (record {
     sound = λ b. tt;
     fitting = fits_at v (Owner o owner) (one (λ x. T (fits (Owner o owner) x (v x))) o live);
   })
@@ -115,7 +108,7 @@ record AreThere (v : Images) (objs : List ℕ) : Type 0 where
 
 member-either : (p o : ℕ) (os : List ℕ) → T (member p (os ++ o ∷ [])) → T (member p os) ⊎ T (p == o)
 member-either p o os m = elim (cases_Bool (p == o)) [
-  | inl e ↦ inr (on e)
+  | inl e ↦ inr (holds e)
   | inr e ↦ inl (subst T (member-snoc p o os e) m)
 ]
 
@@ -136,10 +129,6 @@ once_there v o objs live there = go (cases_Bool (member o objs))
       live = λ p m. elim (member-either p o objs m) [ inl k ↦ there.live p k | inr k ↦ same p k ];
     })
 
-length-snoc : (o : ℕ) (os : List ℕ) → length (os ++ o ∷ []) ≡ length os + 1
-length-snoc o [] = refl
-length-snoc o (p ∷ os) = let more = length-snoc o os in omega (arith, more)
-
 once_count : (o : ℕ) (objs : List ℕ) → (1 ≤ length (once_more o objs)) × (length (once_more o objs) ≤ length objs + 1)
 once_count o objs = go (cases_Bool (member o objs))
   where
@@ -150,7 +139,7 @@ once_count o objs = go (cases_Bool (member o objs))
     go : (member o objs ≡ true) ⊎ (member o objs ≡ false) → (1 ≤ length (cond (member o objs) objs (objs ++ o ∷ []))) × (length (cond (member o objs) objs (objs ++ o ∷ [])) ≤ length objs + 1)
     go (inl e) = subst (λ b. (1 ≤ length (cond b objs (objs ++ o ∷ []))) × (length (cond b objs (objs ++ o ∷ [])) ≤ length objs + 1)) (sym e) (some objs e, omega arith)
     go (inr e) =
-        let more = length-snoc o objs in
+        let more = length_push objs o in
         subst (λ b. (1 ≤ length (cond b objs (objs ++ o ∷ []))) × (length (cond b objs (objs ++ o ∷ [])) ≤ length objs + 1)) (sym e) (omega (arith, more), omega (arith, more))
 
 -- 1 to 8 objects and paths
@@ -167,7 +156,7 @@ few_paths m b h = (grind arith, grind arith)
 
 module _ (v : Images) where
   order_good : (objs os : List ℕ) → AreThere v objs → IsGood v (AreFew objs []) (issues (Order objs) os)
-  order_good objs os there = with_update v (AreFew objs []) (Order objs) os (record {
+  order_good objs os there = issues-makes (IsFine v (AreFew objs [])) (Order objs) os (record {
     sound = λ b. both (distinct objs) (nat_le 1 (length objs) && nat_le (length objs) 8) there.apart (both (nat_le 1 (length objs)) (nat_le (length objs) 8) (least (length objs) b.0) (most (length objs) b.1));
     fitting = fits_at v (Order objs) there.live;
   })
@@ -185,28 +174,31 @@ module _ (v : Images) where
       go : ((o : ℕ) → T (not (is_gone (v o))) → IsGood v (AreFew (once_more o objs) ps) (plain_forder v ps (once_more o objs) (os ++ (walk v p).read))) → (t : Reached) → ((q : ℕ) → t ≡ At q → T (not (is_gone (v q))))
           → IsGood v (AreFew objs (p ∷ ps)) (elim t [ At o ↦ plain_forder v ps (once_more o objs) (os ++ (walk v p).read) | Not r ↦ refuses r (os ++ (walk v p).read) ])
       go later (At o) live = weaker v (AreFew (once_more o objs) ps) (AreFew objs (p ∷ ps)) (plain_forder v ps (once_more o objs) (os ++ (walk v p).read)) (once_few o objs p ps) (later o (live o refl))
-      go later (Not r) live = no_update v (AreFew objs (p ∷ ps)) (reply.Refused r) (os ++ (walk v p).read)
+      go later (Not r) live = refuses-makes (IsFine v (AreFew objs (p ∷ ps))) r (os ++ (walk v p).read)
 
 -- Each call.
 
 module _ (v : Images) (f : WellFormed v) where
   make_call : (B : Type 0) (k : Kind) (p : Path) (fresh : ℕ) → T (is_gone (v fresh)) → IsGood v B (plain_make v k p fresh)
-  make_call B k [] fresh gone = no_update v B (reply.Refused no.Root) []
-  make_call B k (n ∷ ns) fresh gone = at_parent v B (n ∷ ns) (make_in k (last_of (n ∷ ns)) fresh) (λ d os w dir. make_good v B k (last_of (n ∷ ns)) fresh d os gone dir)
+  make_call B k [] fresh gone = refuses-makes (IsFine v B) no.Root []
+  make_call B k (n ∷ ns) fresh gone =
+      parent-makes (IsFine v B) v (n ∷ ns) (make_in k (last_of (n ∷ ns)) fresh) (λ d at dir. make_good v B k (last_of (n ∷ ns)) fresh d (walk v (parent_of (n ∷ ns))).read gone (holds dir))
 
   drop_call : (B : Type 0) (k : Kind) (p : Path) → IsGood v B (plain_drop v k p)
-  drop_call B k [] = no_update v B (reply.Refused no.Root) []
-  drop_call B k (n ∷ ns) = at_entry v B (n ∷ ns) (drop_in v k (n ∷ ns)) (λ d o os w dir name live. drop_good v f B (n ∷ ns) d o (parent_of (n ∷ ns)) os (os ++ o ∷ []) w dir name live k)
+  drop_call B k [] = refuses-makes (IsFine v B) no.Root []
+  drop_call B k (n ∷ ns) =
+      let above = parent_of (n ∷ ns) in
+      entry-makes (IsFine v B) v (n ∷ ns) (drop_in v k (n ∷ ns)) (λ d o os at dir name live. drop_good v f B (n ∷ ns) d o above (walk v above).read os (walked v 0 root above d at) (holds dir) name live k)
 
   live_at : (p : Path) (o : ℕ) (os : List ℕ) → Walked v root p os o → T (not (is_gone (v o)))
   live_at p o os w = walked-live v root p os o w
 
   read_good : (B : Type 0) (at count o : ℕ) (os : List ℕ) → IsGood v B (read_in v at count o os)
-  read_good B at count o os = unless v B (is_dir (v o)) no.IsDir os (answers (reply.Data (take count (drop at (bytes_of (v o))))) os) (λ a. no_update v B (reply.Data (take count (drop at (bytes_of (v o))))) os)
+  read_good B at count o os = unless v B (is_dir (v o)) no.IsDir os (answers (reply.Data (take count (drop at (bytes_of (v o))))) os) (λ a. answers-makes (IsFine v B) (reply.Data (take count (drop at (bytes_of (v o))))) os)
 
   list_good : (B : Type 0) (p : Path) (o : ℕ) (os : List ℕ) → IsGood v B (list_in v p o os)
-  list_good B p o os = good_cond v B (is_dir (v o)) (answers (reply.Names (map (λ e. e.0) (entries_of (v o)))) os) (refuses (no.NotDir (length p)) os)
-      (λ a. no_update v B (reply.Names (map (λ e. e.0) (entries_of (v o)))) os) (λ a. no_update v B (reply.Refused (no.NotDir (length p))) os)
+  list_good B p o os = cond-makes (IsFine v B) (is_dir (v o)) (answers (reply.Names (map (λ e. e.0) (entries_of (v o)))) os) (refuses (no.NotDir (length p)) os)
+      (λ a. answers-makes (IsFine v B) (reply.Names (map (λ e. e.0) (entries_of (v o)))) os) (λ a. refuses-makes (IsFine v B) (no.NotDir (length p)) os)
 
   -- where renames are known to fit and to be sound
   module _ (renames : (p q : Path) (u : Update) → (plain_rename v p q).update ≡ Some u → (T (is_short q) → T (is_sound u)) × Fits v (u ∷ [])) where
@@ -225,13 +217,13 @@ module _ (v : Images) (f : WellFormed v) where
         weaker v (T (nat_le mode 4095)) (T (is_short p && nat_le mode 4095)) (on_reached (walk v p) (λ o os. issues (Mode o mode) os)) (right (is_short p) (nat_le mode 4095))
         (on_walk v (T (nat_le mode 4095)) p (λ o os. issues (Mode o mode) os) (λ o os w. mode_good v mode o os (live_at p o os w)))
     call-fine (call.Touch p stamp) fresh gone = on_walk v (T (is_short p)) p (λ o os. issues (Stamp o stamp) os) (λ o os w. stamp_good v (T (is_short p)) stamp o os (live_at p o os w))
-    call-fine (call.Stat p) fresh gone = on_walk v (T (is_short p)) p (λ o os. answers (stat_of (v o)) os) (λ o os w. no_update v (T (is_short p)) (stat_of (v o)) os)
+    call-fine (call.Stat p) fresh gone = on_walk v (T (is_short p)) p (λ o os. answers (stat_of (v o)) os) (λ o os w. answers-makes (IsFine v (T (is_short p))) (stat_of (v o)) os)
     call-fine (call.List p) fresh gone = on_walk v (T (is_short p)) p (list_in v p) (λ o os w. list_good (T (is_short p)) p o os)
     call-fine (call.Remove p) fresh gone = drop_call (T (is_short p)) kind.File p
     call-fine (call.Rmdir p) fresh gone = drop_call (T (is_short p)) kind.Dir p
     call-fine (call.Rename p q) fresh gone = rename_call p q
-    call-fine (call.Fsync p) fresh gone = on_walk v (T (is_short p)) p (λ o os. answers reply.Ok os) (λ o os w. no_update v (T (is_short p)) reply.Ok os)
+    call-fine (call.Fsync p) fresh gone = on_walk v (T (is_short p)) p (λ o os. answers reply.Ok os) (λ o os w. answers-makes (IsFine v (T (is_short p))) reply.Ok os)
     call-fine (call.Forder ps) fresh gone =
         weaker v (AreFew [] ps) (T (nat_le 1 (length ps) && nat_le (length ps) 8 && list_all is_short ps)) (plain_forder v ps [] []) (few_paths (length ps) (list_all is_short ps)) (forder_good v ps [] [] (record { apart = tt; live = λ o m. absurd m }))
-    call-fine call.Sync fresh gone = no_update v (T true) reply.Ok []
+    call-fine call.Sync fresh gone = answers-makes (IsFine v (T true)) reply.Ok []
     call-fine (call.Chown p owner) fresh gone = on_walk v (T (is_short p)) p (λ o os. issues (Owner o owner) os) (λ o os w. owner_good v (T (is_short p)) owner o os (live_at p o os w))

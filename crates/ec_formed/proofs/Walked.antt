@@ -1,5 +1,5 @@
 -- Walks that reach an object, in a well-formed volume.
-use Rattle.std.proofs.Common.{◌≡◌, refl, sym, ap, ap₂, subst, ◌∙◌, inl, inr, arith, ◌⊎◌, ◌+◌, ◌<◌, ℕ, T, Bool, true, false, not, ◌==◌, ◌&&◌, ◌||◌, cond, List, [], ◌∷◌, ◌++◌, Option, Some, None, append-nil}
+use Rattle.std.proofs.Common.{◌≡◌, refl, sym, ap, ap₂, subst, ◌∙◌, inl, inr, arith, ◌⊎◌, ◌+◌, ◌<◌, ℕ, T, Bool, true, false, not, ◌==◌, ◌||◌, cond, List, [], ◌∷◌, ◌++◌, Option, Some, None, append-nil}
 use Rattle.std.specs.Prelude.{length}
 use Rattle.std.proofs.lemmas.Bool.{cases_Bool, eqb-true}
 use Rattle.ec_volume.specs.Entries.{Entries, entry}
@@ -12,6 +12,9 @@ use Rattle.ec_plain.specs.Walk.{Path, Walk, At, Not, stop, walk_from}
 use Rattle.ec_plain.specs.Plain.{with_names}
 use Rattle.ec_plain.specs.declared.call.Refusal.{Refusal}
 use Rattle.ec_plain.specs.declared.call.Refusal.TheVariants as no
+use Rattle.ec_laws.proofs.Objects.{holds}
+use Rattle.ec_laws.proofs.Removed.{both, left, right}
+use Rattle.ec_laws.proofs.Touching.{or_r}
 
 -- the names lead from the object o to q, by way of these objects, o first and q last
 abbrev pub Walked : Images → ℕ → Path → List ℕ → ℕ → Type 0
@@ -62,30 +65,11 @@ module _ (v : Images) where
       let (dir, p, name, rest) = onward i n ns q (λ p. walked (i + 1) p ns q) (v o) h in
       (dir, p, (at_image i n ns (v o)).read, name, refl, rest)
 
-on : {b : Bool} → b ≡ true → T b
-on e = subst T (sym e) tt
-
-both : (a b : Bool) → T a → T b → T (a && b)
-both true b x y = y
-both false b x y = absurd x
-
-first : (a b : Bool) → T (a && b) → T a
-first true b t = tt
-first false b t = absurd t
-
-second : (a b : Bool) → T (a && b) → T b
-second true b t = t
-second false b t = absurd t
-
 clash : (b : Bool) → T (not b) → T b → ⊥
 clash true a t = absurd a
 clash false a t = absurd t
 
-more : (a b : Bool) → T b → T (a || b)
-more true b t = tt
-more false b t = t
-
-self : (n : ℕ) → (n == n) ≡ true
+pub self : (n : ℕ) → (n == n) ≡ true
 self n = grind arith
 
 module _ (v : Images) where
@@ -101,7 +85,7 @@ module _ (v : Images) where
 
   pub walked-last : (o : ℕ) (ns : Path) (os : List ℕ) (q : ℕ) → Walked v o ns os q → T (member q os)
   walked-last o [] os q (e, same, live) = subst (λ xs. T (member q xs)) (sym e) (subst (λ b. T (b || false)) (sym (subst (λ x. (x == o) ≡ true) (sym same) (self o))) tt)
-  walked-last o (n ∷ ns) os q (dir, p, ps, name, e, rest) = subst (λ xs. T (member q xs)) (sym e) (more (q == o) (member q ps) (walked-last p ns ps q rest))
+  walked-last o (n ∷ ns) os q (dir, p, ps, name, e, rest) = subst (λ xs. T (member q xs)) (sym e) (or_r (q == o) (member q ps) (walked-last p ns ps q rest))
 
   pub walked-starts : (o : ℕ) (ns : Path) (os : List ℕ) (q : ℕ) → Walked v o ns os q → T (not (is_gone (v o)))
   walked-starts o [] os q (e, same, live) = live
@@ -137,7 +121,7 @@ module _ (v : Images) where
       (both (not (x == o) || gives n (first_of (with_names ps ns) q) (v x)) (leads (with_names ps ns) q x (v x)) (here (cases_Bool (x == o))) (walked-leads p ns ps q rest x))
     where
       given : (y : Option ℕ) → y ≡ Some p → T (is_id p y)
-      given y g = subst (λ z. T (is_id p z)) (sym g) (on (self p))
+      given y g = subst (λ z. T (is_id p z)) (sym g) (holds (self p))
 
       at_first : T (gives n (first_of (with_names ps ns) q) (v o))
       at_first = subst (λ y. T (gives n y (v o))) (sym (walked-first p ns ps q rest)) (both (is_dir (v o)) (is_id p (entry (entries_of (v o)) n)) dir (given (entry (entries_of (v o)) n) name))
@@ -195,8 +179,8 @@ module _ (x : ℕ) (xs ys : List ℕ) (apart : T (distinct (x ∷ ys))) (none : 
   none_first = none x (subst (λ b. T (b || member x ys)) (sym (self x)) tt)
 
   none_behind : (z : ℕ) → T (member z ys) → ((z == x) ≡ true) ⊎ ((z == x) ≡ false) → T (not (member z (x ∷ xs)))
-  none_behind z m (inl s) = absurd (clash (member x ys) (first (not (member x ys)) (distinct ys) apart) (subst (λ y. T (member y ys)) (eqb-true z x s) m))
-  none_behind z m (inr s) = subst (λ b. T (not (b || member z xs))) (sym s) (none z (more (z == x) (member z ys) m))
+  none_behind z m (inl s) = absurd (clash (member x ys) (left (not (member x ys)) (distinct ys) apart) (subst (λ y. T (member y ys)) (eqb-true z x s) m))
+  none_behind z m (inr s) = subst (λ b. T (not (b || member z xs))) (sym s) (none z (or_r (z == x) (member z ys) m))
 
 forward : (xs ys : List ℕ) → T (distinct (onto xs ys)) → T (distinct xs) × T (distinct ys) × ((z : ℕ) → T (member z ys) → T (not (member z xs)))
 unfolding onto
@@ -205,7 +189,7 @@ forward (x ∷ xs) ys h =
     let (later, apart, none) = forward xs (x ∷ ys) h in
     (
       both (not (member x xs)) (distinct xs) (none_first x xs ys apart none) later,
-      second (not (member x ys)) (distinct ys) apart,
+      right (not (member x ys)) (distinct ys) apart,
       λ z m. none_behind x xs ys apart none z m (cases_Bool (z == x)),
     )
 
@@ -246,7 +230,7 @@ module _ (v : Images) (f : WellFormed v) where
   not_back ns os q way = here (cases_Bool (member q os))
     where
       here : (member q os ≡ true) ⊎ (member q os ≡ false) → T (not (member q os))
-      here (inl s) = absurd (never_back ns os q way (on s))
+      here (inl s) = absurd (never_back ns os q way (holds s))
       here (inr s) = subst (λ b. T (not b)) (sym s) tt
 
   came_apart : (ns : Path) (os : List ℕ) (q : ℕ) → Came v root ns os q → T (distinct (q ∷ os))

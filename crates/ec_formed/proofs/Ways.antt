@@ -14,17 +14,11 @@ use Rattle.ec_volume.specs.declared.image.Image.{Image}
 use Rattle.ec_plain.specs.Walk.{Path}
 use Rattle.ec_plain.specs.Plain.{with_names, above}
 use Rattle.ec_laws.proofs.Objects.{holds, is-true}
-use Rattle.ec_formed.proofs.Walked.{Walked, walked-length, walked-first, walked-split, walked-leads, walked-dirs, read_once, home}
-
-pub same : (n : ℕ) → (n == n) ≡ true
-same n = grind arith
-
-pub both : (a b : Bool) → T a → T b → T (a && b)
-both true b p q = q
-both false b p q = p
+use Rattle.ec_laws.proofs.Removed.{both}
+use Rattle.ec_formed.proofs.Walked.{self, Walked, walked-length, walked-first, walked-split, walked-leads, walked-dirs, read_once, home}
 
 pub gives-named : (v : Images) (o : ℕ) (n : List ℕ) (p : ℕ) → T (is_dir (v o)) → Names v o n p → T (gives n p (v o))
-gives-named v o n p dir named = both (is_dir (v o)) (is_id p (entry (entries_of (v o)) n)) dir (subst (λ x. T (is_id p x)) (sym named) (holds (same p)))
+gives-named v o n p dir named = both (is_dir (v o)) (is_id p (entry (entries_of (v o)) n)) dir (subst (λ x. T (is_id p x)) (sym named) (holds (self p)))
 
 -- a bare image has no entry
 pub bare-unnamed : (k : Kind) (i : Image) (n : List ℕ) (p : ℕ) → T (is_bare k i) → entry (entries_of i) n ≡ Some p → ⊥
@@ -91,13 +85,13 @@ module _ (v : Images) (f : WellFormed v) (ns : Path) (ps : List ℕ) (e : ℕ) (
   way-dir true at short = ap (λ l. l == 0) (walked-length v root ns ps e w ∙ ap length (home v f ns ps (subst (λ x. Walked v root ns ps x) (eqb-true e root at) w)))
   way-dir false at short =
       let long = walked-length v root ns ps e w in
-      let first : (first_of (with_names ps ns) e == root) ≡ true = ap (λ x. x == root) (walked-first v root ns ps e w) ∙ same root in
+      let first : (first_of (with_names ps ns) e == root) ≡ true = ap (λ x. x == root) (walked-first v root ns ps e w) ∙ self root in
       let one = ap (λ l. nat_le 1 l) long ∙ some ns w in
       let most = ap (λ l. nat_le l 15) long ∙ short in
       λ i. one i && most i && first i
     where
       some : (ns : Path) → Walked v root ns ps e → nat_le 1 (length ns) ≡ true
-      some [] w = absurd (true≢false (sym (same root) ∙ ap (λ x. x == root) (sym w.1) ∙ at))
+      some [] w = absurd (true≢false (sym (self root) ∙ ap (λ x. x == root) (sym w.1) ∙ at))
       some (n ∷ ns) w = more (length ns)
         where
           more : (l : ℕ) → nat_le 1 (suc l) ≡ true
