@@ -1,5 +1,5 @@
 -- A call makes no object but the fresh one, and what is gone stays so until it is made.
-use Rattle.std.proofs.Common.{◌≡◌, refl, sym, ap, subst, ◌∙◌, ℕ, T, Bool, true, false, not, ◌==◌, ◌&&◌, ◌||◌, cond, List, [], ◌∷◌, ◌++◌, eqb, eqb→eq, Option, Some, None}
+use Rattle.std.proofs.Common.{◌≡◌, refl, sym, ap, subst, ℕ, T, Bool, true, false, not, ◌==◌, ◌&&◌, ◌||◌, cond, List, [], ◌∷◌, ◌++◌, eqb, eqb→eq, Option, Some, None}
 use Rattle.std.specs.Prelude.{map, length, ◌+◌, ◌-◌, nat_le, nat_lt, is_some, take, drop}
 use Rattle.ec_volume.specs.Entries.{Entries, entry}
 use Rattle.ec_volume.specs.Image.{entries_of, bytes_of, is_gone, is_dir, is_id, new_object}
@@ -11,8 +11,8 @@ use Rattle.ec_volume.specs.declared.image.Kind.{Kind}
 use Rattle.ec_volume.specs.declared.image.Kind.TheVariants as kind
 use Rattle.ec_volume.specs.declared.update.Update.{Update}
 use Rattle.ec_volume.specs.declared.update.Update.TheVariants.{Make, Drop, Move, Put, Len, Mode, Stamp, Order, Shift, Owner}
-use Rattle.ec_plain.specs.Walk.{Path, Reached, At, Not, Walk, walk, parent_of, last_of, same_path}
-use Rattle.ec_plain.specs.Plain.{on_reached, on_parent, on_entry, answers, refuses, issues, plain, plain_make, plain_drop, plain_rename, plain_forder, once_more, blocked, kind_of, make_in, drop_in, above, renames, move_into, loops, rename_in, write_in, len_in, read_in, list_in, stat_of}
+use Rattle.ec_plain.specs.Walk.{Path, Reached, At, Not, walk, parent_of, last_of, same_path}
+use Rattle.ec_plain.specs.Plain.{on_reached, answers, refuses, issues, plain, plain_make, plain_drop, plain_rename, plain_forder, once_more, blocked, kind_of, make_in, drop_in, above, renames, move_into, loops, rename_in, write_in, len_in, read_in, list_in, stat_of}
 use Rattle.ec_plain.specs.declared.call.Call.{Call}
 use Rattle.ec_plain.specs.declared.call.Call.TheVariants as call
 use Rattle.ec_plain.specs.declared.call.Reply.{Reply}
@@ -21,6 +21,7 @@ use Rattle.ec_plain.specs.declared.call.Refusal.{Refusal}
 use Rattle.ec_plain.specs.declared.call.Refusal.TheVariants as no
 use Rattle.ec_plain.specs.declared.call.Outcome.{Outcome}
 use Rattle.ec_laws.proofs.Objects.{holds}
+use Rattle.ec_formed.proofs.Makes.{Makes, answers-makes, refuses-makes, issues-makes, cond-makes, reached-makes, parent-makes, entry-makes}
 
 -- the object that an update makes
 abbrev pub makes : Update → Option ℕ
@@ -85,65 +86,43 @@ gone-stays o i u h n = subst (λ j. T (is_gone (image_next o j u))) (sym (gone-o
 
 -- The update of a call.
 module _ (fresh : ℕ) where
-  abbrev pub OnlyFresh : Outcome → Type 0
-  OnlyFresh out = (u : Update) → out.update ≡ Some u → (o : ℕ) → makes u ≡ Some o → o ≡ fresh
+  abbrev pub IsFresh : Update → Type 0
+  IsFresh u = (o : ℕ) → makes u ≡ Some o → o ≡ fresh
 
-  by-answer : (r : Reply) (os : List ℕ) → OnlyFresh (answers r os)
-  by-answer r os u e = absurd (none e)
-    where
-      none : ◌≡◌ {A = Option Update} None (Some u) → ⊥
-      none e = cc
+  abbrev pub OnlyFresh : Outcome → Type 0
+  OnlyFresh out = Makes IsFresh out
 
   by-refusal : (r : Refusal) (os : List ℕ) → OnlyFresh (refuses r os)
-  by-refusal r os = by-answer (reply.Refused r) os
+  by-refusal r os = refuses-makes IsFresh r os
 
-  by-issue : (w : Update) (os : List ℕ) → ((o : ℕ) → makes w ≡ Some o → o ≡ fresh) → OnlyFresh (issues w os)
-  by-issue w os f u e o h = f o (ap makes (same e) ∙ h)
-    where
-      same : Some w ≡ Some u → w ≡ u
-      same e = cc
+  by-answer : (r : Reply) (os : List ℕ) → OnlyFresh (answers r os)
+  by-answer r os = answers-makes IsFresh r os
+
+  by-issue : (w : Update) (os : List ℕ) → IsFresh w → OnlyFresh (issues w os)
+  by-issue w os h = issues-makes IsFresh w os h
 
   no-make : (o : ℕ) → ◌≡◌ {A = Option ℕ} None (Some o) → o ≡ fresh
   no-make o e = cc
 
   by-cond : (b : Bool) (x y : Outcome) → OnlyFresh x → OnlyFresh y → OnlyFresh (cond b x y)
-  by-cond true x y p q = p
-  by-cond false x y p q = q
-
-  by-walk : (w : Walk) (f : ℕ → List ℕ → Outcome) → ((o : ℕ) (os : List ℕ) → OnlyFresh (f o os)) → OnlyFresh (on_reached w f)
-  by-walk w f h = go w.to
-    where
-      go : (r : Reached) → OnlyFresh (elim r [ At o ↦ f o w.read | Not x ↦ refuses x w.read ])
-      go (At o) = h o w.read
-      go (Not x) = by-refusal x w.read
+  by-cond b x y p q = cond-makes IsFresh b x y (λ e. p) (λ e. q)
 
   module _ (v : Images) where
-    by-parent : (p : Path) (f : ℕ → Entries → List ℕ → Outcome) → ((d : ℕ) (es : Entries) (os : List ℕ) → OnlyFresh (f d es os)) → OnlyFresh (on_parent v p f)
-    by-parent p f h =
-        by-walk (walk v (parent_of p)) (λ d os. cond (is_dir (v d)) (f d (entries_of (v d)) os) (refuses (no.NotDir (length p - 1)) os))
-        (λ d os. by-cond (is_dir (v d)) (f d (entries_of (v d)) os) (refuses (no.NotDir (length p - 1)) os) (h d (entries_of (v d)) os) (by-refusal (no.NotDir (length p - 1)) os))
+    by-walk : (p : Path) (f : ℕ → List ℕ → Outcome) → ((o : ℕ) (os : List ℕ) → OnlyFresh (f o os)) → OnlyFresh (on_reached (walk v p) f)
+    by-walk p f h = reached-makes IsFresh v p f (λ o at. h o (walk v p).read)
 
-    abbrev below : (p : Path) (f : ℕ → Entries → ℕ → List ℕ → Outcome) → ℕ → Entries → List ℕ → Option ℕ → Outcome
-    below p f d es os None = refuses (no.NotFound (length p)) os
-    below p f d es os (Some o) = cond (is_gone (v o)) (refuses (no.NotFound (length p)) (os ++ o ∷ [])) (f d es o (os ++ o ∷ []))
-
-    by-entry : (p : Path) (f : ℕ → Entries → ℕ → List ℕ → Outcome) → ((d : ℕ) (es : Entries) (o : ℕ) (os : List ℕ) → OnlyFresh (f d es o os)) → OnlyFresh (on_entry v p f)
-    by-entry p f h = by-parent p (λ d es os. below p f d es os (entry es (last_of p))) (λ d es os. go d es os (entry es (last_of p)))
+    made_in : (k : Kind) (n : List ℕ) (d : ℕ) (es : Entries) (os : List ℕ) → OnlyFresh (make_in k n fresh d es os)
+    made_in k n d es os =
+        by-cond (is_some (entry es n)) (refuses no.Exists os) (cond (nat_le 128 (length es)) (refuses no.DirFull os) (issues (Make d n fresh k) (os ++ fresh ∷ []))) (by-refusal no.Exists os)
+        (by-cond (nat_le 128 (length es)) (refuses no.DirFull os) (issues (Make d n fresh k) (os ++ fresh ∷ [])) (by-refusal no.DirFull os)
+        (by-issue (Make d n fresh k) (os ++ fresh ∷ []) (λ o e. sym (same fresh o e))))
       where
-        go : (d : ℕ) (es : Entries) (os : List ℕ) (x : Option ℕ) → OnlyFresh (below p f d es os x)
-        go d es os None = by-refusal (no.NotFound (length p)) os
-        go d es os (Some o) =
-            by-cond (is_gone (v o)) (refuses (no.NotFound (length p)) (os ++ o ∷ [])) (f d es o (os ++ o ∷ [])) (by-refusal (no.NotFound (length p)) (os ++ o ∷ [])) (h d es o (os ++ o ∷ []))
+        same : (a b : ℕ) → Some a ≡ Some b → a ≡ b
+        same a b e = cc
 
     by-make : (k : Kind) (p : Path) → OnlyFresh (plain_make v k p fresh)
     by-make k [] = by-refusal no.Root []
-    by-make k (n ∷ ns) = by-parent (n ∷ ns) (make_in k (last_of (n ∷ ns)) fresh) (λ d es os.
-        by-cond (is_some (entry es (last_of (n ∷ ns)))) (refuses no.Exists os) (cond (nat_le 128 (length es)) (refuses no.DirFull os) (issues (Make d (last_of (n ∷ ns)) fresh k) (os ++ fresh ∷ []))) (by-refusal no.Exists os)
-        (by-cond (nat_le 128 (length es)) (refuses no.DirFull os) (issues (Make d (last_of (n ∷ ns)) fresh k) (os ++ fresh ∷ [])) (by-refusal no.DirFull os)
-        (by-issue (Make d (last_of (n ∷ ns)) fresh k) (os ++ fresh ∷ []) (λ o e. sym (made fresh o e)))))
-      where
-        made : (a b : ℕ) → Some a ≡ Some b → a ≡ b
-        made a b e = cc
+    by-make k (n ∷ ns) = parent-makes IsFresh v (n ∷ ns) (make_in k (last_of (n ∷ ns)) fresh) (λ d at dir. made_in k (last_of (n ∷ ns)) d (entries_of (v d)) (walk v (parent_of (n ∷ ns))).read)
 
     by-drop-in : (k : Kind) (p : Path) (d : ℕ) (es : Entries) (o : ℕ) (os : List ℕ) → OnlyFresh (drop_in v k p d es o os)
     by-drop-in kind.File p d es o os =
@@ -154,7 +133,7 @@ module _ (fresh : ℕ) where
 
     by-drop : (k : Kind) (p : Path) → OnlyFresh (plain_drop v k p)
     by-drop k [] = by-refusal no.Root []
-    by-drop k (n ∷ ns) = by-entry (n ∷ ns) (drop_in v k (n ∷ ns)) (by-drop-in k (n ∷ ns))
+    by-drop k (n ∷ ns) = entry-makes IsFresh v (n ∷ ns) (drop_in v k (n ∷ ns)) (λ d o os at dir named live. by-drop-in k (n ∷ ns) d (entries_of (v d)) o os)
 
     by-renames : (d : ℕ) (from : List ℕ) (e : ℕ) (to : List ℕ) (o : ℕ) (k : Kind) (victim : Option ℕ) (up : Above) (os : List ℕ) → OnlyFresh (renames d from e to o k victim up os)
     by-renames d from e to o k victim up os =
@@ -200,7 +179,7 @@ module _ (fresh : ℕ) where
     by-rename : (p q : Path) → OnlyFresh (plain_rename v p q)
     by-rename [] q = by-refusal no.Root []
     by-rename (a ∷ as') [] = by-refusal no.Root []
-    by-rename (a ∷ as') (b ∷ bs) = by-entry (a ∷ as') (rename_in v (a ∷ as') (b ∷ bs)) (by-rename-in (a ∷ as') (b ∷ bs))
+    by-rename (a ∷ as') (b ∷ bs) = entry-makes IsFresh v (a ∷ as') (rename_in v (a ∷ as') (b ∷ bs)) (λ d o os at dir named live. by-rename-in (a ∷ as') (b ∷ bs) d (entries_of (v d)) o os)
 
     by-forder : (ps : List Path) (objs os : List ℕ) → OnlyFresh (plain_forder v ps objs os)
     by-forder [] objs os = by-issue (Order objs) os no-make
@@ -224,19 +203,19 @@ module _ (fresh : ℕ) where
     pub plain-makes : (cl : Call) → OnlyFresh (plain v cl fresh)
     plain-makes (call.Mkdir p) = by-make kind.Dir p
     plain-makes (call.Create p) = by-make kind.File p
-    plain-makes (call.Write p at bytes) = by-walk (walk v p) (write_in v at bytes) (by-write at bytes)
-    plain-makes (call.SetLen p len) = by-walk (walk v p) (len_in v len) (by-len len)
-    plain-makes (call.Read p at count) = by-walk (walk v p) (read_in v at count) (λ o os.
+    plain-makes (call.Write p at bytes) = by-walk p (write_in v at bytes) (by-write at bytes)
+    plain-makes (call.SetLen p len) = by-walk p (len_in v len) (by-len len)
+    plain-makes (call.Read p at count) = by-walk p (read_in v at count) (λ o os.
         by-cond (is_dir (v o)) (refuses no.IsDir os) (answers (reply.Data (take count (drop at (bytes_of (v o))))) os) (by-refusal no.IsDir os) (by-answer (reply.Data (take count (drop at (bytes_of (v o))))) os))
-    plain-makes (call.Chmod p mode) = by-walk (walk v p) (λ o os. issues (Mode o mode) os) (λ o os. by-issue (Mode o mode) os no-make)
-    plain-makes (call.Touch p stamp) = by-walk (walk v p) (λ o os. issues (Stamp o stamp) os) (λ o os. by-issue (Stamp o stamp) os no-make)
-    plain-makes (call.Stat p) = by-walk (walk v p) (λ o os. answers (stat_of (v o)) os) (λ o os. by-answer (stat_of (v o)) os)
-    plain-makes (call.List p) = by-walk (walk v p) (list_in v p) (λ o os.
+    plain-makes (call.Chmod p mode) = by-walk p (λ o os. issues (Mode o mode) os) (λ o os. by-issue (Mode o mode) os no-make)
+    plain-makes (call.Touch p stamp) = by-walk p (λ o os. issues (Stamp o stamp) os) (λ o os. by-issue (Stamp o stamp) os no-make)
+    plain-makes (call.Stat p) = by-walk p (λ o os. answers (stat_of (v o)) os) (λ o os. by-answer (stat_of (v o)) os)
+    plain-makes (call.List p) = by-walk p (list_in v p) (λ o os.
         by-cond (is_dir (v o)) (answers (reply.Names (map (λ e. e.0) (entries_of (v o)))) os) (refuses (no.NotDir (length p)) os) (by-answer (reply.Names (map (λ e. e.0) (entries_of (v o)))) os) (by-refusal (no.NotDir (length p)) os))
     plain-makes (call.Remove p) = by-drop kind.File p
     plain-makes (call.Rmdir p) = by-drop kind.Dir p
     plain-makes (call.Rename p q) = by-rename p q
-    plain-makes (call.Fsync p) = by-walk (walk v p) (λ o os. answers reply.Ok os) (λ o os. by-answer reply.Ok os)
+    plain-makes (call.Fsync p) = by-walk p (λ o os. answers reply.Ok os) (λ o os. by-answer reply.Ok os)
     plain-makes (call.Forder ps) = by-forder ps [] []
     plain-makes call.Sync = by-answer reply.Ok []
-    plain-makes (call.Chown p owner) = by-walk (walk v p) (λ o os. issues (Owner o owner) os) (λ o os. by-issue (Owner o owner) os no-make)
+    plain-makes (call.Chown p owner) = by-walk p (λ o os. issues (Owner o owner) os) (λ o os. by-issue (Owner o owner) os no-make)
