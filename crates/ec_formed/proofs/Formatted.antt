@@ -10,7 +10,7 @@ use Rattle.ec_volume.specs.Volume.{formatted, Names, WellFormed, AllReached}
 use Rattle.ec_volume.specs.declared.image.Image.TheVariants.{Gone, Dir}
 use Rattle.ec_laws.proofs.Objects.{holds}
 use Rattle.ec_formed.proofs.Change.{IsLive}
-use Rattle.ec_formed.proofs.Led.{no-entry, led-reached}
+use Rattle.ec_formed.proofs.Led.{empty-unnamed, led-reached}
 
 no-entries : (d : ℕ) → entries_of (formatted d) ≡ []
 no-entries d = go (d == root)
@@ -20,7 +20,7 @@ no-entries d = go (d == root)
     go false = refl
 
 nothing-named : (d : ℕ) (n : List ℕ) (o : ℕ) → Names formatted d n o → ⊥
-nothing-named d n o h = no-entry (formatted d) n o (no-entries d) h
+nothing-named d n o h = empty-unnamed (formatted d) n o (no-entries d) h
 
 live-root : (o : ℕ) → IsLive (formatted o) → o ≡ root
 live-root o l = elim (cases_Bool (o == root)) [

@@ -6,6 +6,7 @@ use Rattle.ec_volume.specs.Update.{root}
 use Rattle.ec_volume.specs.Volume.{Images, Names, AllReached, reach}
 use Rattle.ec_volume.specs.declared.image.Image.{Image}
 use Rattle.ec_volume.specs.declared.image.Image.TheVariants.{Gone, File, Dir}
+use Rattle.ec_formed.proofs.Entries.{no_entry, one_entry}
 use Rattle.ec_formed.proofs.Change.{IsLive, Change}
 
 -- Directories and names that lead on from them, the last one first.
@@ -20,15 +21,6 @@ Led v (e ∷ es) o = Names v e.0 e.1 o × Led v es e.0
 abbrev pub IsLed : Images → ℕ → Type 0
 IsLed v o = (es : Steps) × Led v es o
 
-pub none_some : {A : Type 0} {B : Type 0} (x : A) → None ≡ Some x → B
-none_some x e = absurd (apart e)
-  where
-    apart : None ≡ Some x → ⊥
-    apart e = cc
-
-pub same_some : {A : Type 0} (x y : A) → Some x ≡ Some y → x ≡ y
-same_some x y e = cc
-
 live-gone : (i : Image) → IsLive i → is_gone i ≡ false
 live-gone Gone h = absurd h
 live-gone (File m s w bs) h = refl
@@ -36,13 +28,13 @@ live-gone (Dir m s w es) h = refl
 
 -- what has an entry is live
 pub has-entry : (i : Image) (n : List ℕ) (o : ℕ) → entry (entries_of i) n ≡ Some o → IsLive i
-has-entry Gone n o h = none_some o h
-has-entry (File m s w bs) n o h = none_some o h
+has-entry Gone n o h = no_entry o h
+has-entry (File m s w bs) n o h = no_entry o h
 has-entry (Dir m s w es) n o h = tt
 
 -- what no names lead from has no entry
-pub no-entry : (i : Image) (n : List ℕ) (o : ℕ) → entries_of i ≡ [] → entry (entries_of i) n ≡ Some o → ⊥
-no-entry i n o e h = none_some o (sym (ap (λ es. entry es n) e) ∙ h)
+pub empty-unnamed : (i : Image) (n : List ℕ) (o : ℕ) → entries_of i ≡ [] → entry (entries_of i) n ≡ Some o → ⊥
+empty-unnamed i n o e h = no_entry o (sym (ap (λ es. entry es n) e) ∙ h)
 
 module _ (v : Images) where
   -- the last name of a path
@@ -55,11 +47,11 @@ module _ (v : Images) where
   reach-append r d o n [] h l = go (is_gone (v r))
     where
       go : (b : Bool) → cond b None (Some r) ≡ Some d → reach v r (n ∷ []) ≡ Some o
-      go true e = none_some d e
-      go false e = subst (λ x. reach v x (n ∷ []) ≡ Some o) (sym (same_some r d e)) (reach-one d o n h l)
+      go true e = no_entry d e
+      go false e = subst (λ x. reach v x (n ∷ []) ≡ Some o) (sym (one_entry r d e)) (reach-one d o n h l)
   reach-append r d o n (m ∷ ms) h l =
       elim (entry (entries_of (v r)) m) as (λ x. elim x [ None ↦ None | Some p ↦ reach v p ms ] ≡ Some d → elim x [ None ↦ None | Some p ↦ reach v p (ms ++ n ∷ []) ] ≡ Some o) [
-        | None ↦ λ e. none_some d e
+        | None ↦ λ e. no_entry d e
         | Some p ↦ λ e. reach-append p d o n ms h l e
       ]
 
@@ -73,12 +65,12 @@ module _ (v : Images) where
   reached-led [] r o es h = go (is_gone (v r))
     where
       go : (b : Bool) → cond b None (Some r) ≡ Some o → IsLed v o
-      go true e = none_some o e
-      go false e = (es, subst (Led v es) (same_some r o e) h)
+      go true e = no_entry o e
+      go false e = (es, subst (Led v es) (one_entry r o e) h)
   reached-led (n ∷ ns) r o es h = go (entry (entries_of (v r)) n) refl (λ p k e. reached-led ns p o ((r, n) ∷ es) k e)
     where
       go : (x : Option ℕ) → entry (entries_of (v r)) n ≡ x → ((p : ℕ) → Led v ((r, n) ∷ es) p → reach v p ns ≡ Some o → IsLed v o) → elim x [ None ↦ None | Some p ↦ reach v p ns ] ≡ Some o → IsLed v o
-      go None q rest e = none_some o e
+      go None q rest e = no_entry o e
       go (Some p) q rest e = rest p (q, h) e
 
   pub all-led : AllReached v → (o : ℕ) → IsLive (v o) → IsLed v o

@@ -1,10 +1,9 @@
 -- Updates that are sound and fit leave each live object reached.
-use Rattle.std.proofs.Common.{◌≡◌, ◌≢◌, refl, sym, ap, subst, ◌∙◌, inl, inr, ◌⊎◌, arith, ℕ, T, Bool, true, false, not, ◌==◌, ◌&&◌, ◌||◌, cond, List, [], ◌∷◌, ◌++◌, eqb, eqb→eq, length, Option, Some, None}
+use Rattle.std.proofs.Common.{◌≡◌, ◌≢◌, refl, sym, ap, subst, ◌∙◌, inl, inr, ◌⊎◌, arith, ℕ, T, Bool, true, false, not, ◌==◌, ◌&&◌, ◌||◌, cond, List, [], ◌∷◌, ◌++◌, eqb, eqb→eq, length, Option, Some}
 use Rattle.std.specs.Bool.{⊤}
 use Rattle.std.specs.List.{filter, list_all}
-use Rattle.std.specs.Prelude.{nat_le, nat_lt, suc}
+use Rattle.std.specs.Prelude.{nat_le, nat_lt}
 use Rattle.std.proofs.lemmas.Bool.{cases_Bool}
-use Rattle.ec_volume.specs.Entries.{Entries, entry}
 use Rattle.ec_volume.specs.Image.{is_gone, is_dir, is_kind, is_id, is_bare, entries_of, gives, lacks, yields}
 use Rattle.ec_volume.specs.Update.{root, operands, has_operand, member, listed, ids_of, Above, first_of, leads, has_room, distinct, is_way, is_sound, fits}
 use Rattle.ec_volume.specs.Volume.{Images, Names, WellFormed, AllReached, Fits, after}
@@ -18,7 +17,9 @@ use Rattle.ec_laws.proofs.Objects.{holds, is-true}
 use Rattle.ec_laws.proofs.Removed.{both, left, right, off}
 use Rattle.ec_laws.proofs.Touching.{or_l, or_r}
 use Rattle.ec_formed.proofs.Change.{IsLive, Change, New, Stay, change_formed}
-use Rattle.ec_formed.proofs.Led.{IsLed, no-entry, led-on, led-all, all-led}
+use Rattle.ec_formed.proofs.Entries.{entries-gone, entries-bare, dir-live}
+use Rattle.ec_formed.proofs.Apart.{not-both, distinct-rest, gives-is, yields-dir}
+use Rattle.ec_formed.proofs.Led.{IsLed, empty-unnamed, led-on, led-all, all-led}
 
 self : (n : ℕ) → eqb n n ≡ true
 self n = grind arith
@@ -28,10 +29,6 @@ differ a b e q = off e (subst (λ x. T (eqb a x)) q (holds (self a)))
 
 other : (a b : ℕ) → a ≢ b → eqb b a ≡ false
 other a b n = elim (cases_Bool (eqb b a)) [ inl e ↦ absurd (n (sym (eqb→eq b a (holds e)))) | inr e ↦ e ]
-
-not-both : (b : Bool) → T b → T (not b) → ⊥
-not-both true p q = q
-not-both false p q = p
 
 member-here : (o : ℕ) (os : List ℕ) → T (member o (o ∷ os))
 member-here o os = or_l (eqb o o) _ (holds (self o))
@@ -46,40 +43,10 @@ fits-at v u f o m =
 first-apart : (a : ℕ) (os : List ℕ) (b : ℕ) → T (distinct (a ∷ os)) → T (member b os) → a ≢ b
 first-apart a os b d m e = not-both (member a os) (subst (λ x. T (member x os)) (sym e) m) (left (not (member a os)) _ d)
 
-rest-apart : (a : ℕ) (os : List ℕ) → T (distinct (a ∷ os)) → T (distinct os)
-rest-apart a os d = right (not (member a os)) _ d
-
-bare-empty : (k : Kind) (i : Image) → T (is_bare k i) → entries_of i ≡ []
-bare-empty k i h = none (entries_of i) (right (is_kind k i) _ h)
-  where
-    none : (es : Entries) → T (length es == 0) → es ≡ []
-    none [] e = refl
-    none (x ∷ es) e = absurd (no (length es) e)
-      where
-        no : (n : ℕ) → T (eqb (suc n) 0) → ⊥
-        no n h = grind arith
-
-gone-empty : (i : Image) → T (is_gone i) → entries_of i ≡ []
-gone-empty Gone h = refl
-gone-empty (File m s w bs) h = absurd h
-gone-empty (Dir m s w es) h = absurd h
-
 file-empty : (i : Image) → T (is_kind kind.File i) → entries_of i ≡ []
 file-empty Gone h = absurd h
 file-empty (File m s w bs) h = refl
 file-empty (Dir m s w es) h = absurd h
-
-gives-entry : (n : List ℕ) (o : ℕ) (i : Image) → T (gives n o i) → entry (entries_of i) n ≡ Some o
-gives-entry n o i h = go (entry (entries_of i) n) (right (is_dir i) _ h)
-  where
-    go : (x : Option ℕ) → T (is_id o x) → x ≡ Some o
-    go None t = absurd t
-    go (Some p) t = ap Some (sym (eqb→eq o p t))
-
-dir-live : (i : Image) → T (is_dir i) → IsLive i
-dir-live Gone h = absurd h
-dir-live (File m s w bs) h = absurd h
-dir-live (Dir m s w es) h = tt
 
 in-back : (o : ℕ) (xs ys : List ℕ) → T (member o ys) → T (member o (xs ++ ys))
 in-back o [] ys h = h
@@ -104,7 +71,7 @@ module _ (v : Images) (f : WellFormed v) (a : AllReached v) where
     led-but : entries_of (v obj) ≡ [] → (o : ℕ) → o ≢ obj → IsLive (v o) → IsLive (w o) → IsLed w o
     led-but empty o ne old l =
         let at = all-led v a o old in
-        led-on v w New' Stay' c keeps (λ x. x ≢ obj) (λ d n x h p e. no-entry (v obj) n x empty (subst (λ y. Names v y n x) e h))
+        led-on v w New' Stay' c keeps (λ x. x ≢ obj) (λ d n x h p e. empty-unnamed (v obj) n x empty (subst (λ y. Names v y n x) e h))
         (λ d e n m x p h new before. absurd (p (only e m x new))) at.0 o ne at.1 l
 
     -- where the new name leads on from a directory that is led to, each one is
@@ -142,10 +109,10 @@ module _ (v : Images) (f : WellFormed v) (a : AllReached v) where
           subst (λ b. T (cond b (lacks name (v obj) && nat_lt (length (entries_of (v obj))) 128) (is_gone (v obj)))) (other dir obj make-apart) here
 
       make-keeps : (d : ℕ) (n : List ℕ) (o : ℕ) → Names v d n o → ((e : ℕ) × (m : List ℕ) × New make e m d) ⊎ Stay make d
-      make-keeps d n o h = inr (λ e. no-entry (v obj) n o (gone-empty (v obj) make-gone) (subst (λ x. Names v x n o) e h))
+      make-keeps d n o h = inr (λ e. empty-unnamed (v obj) n o (entries-gone (v obj) make-gone) (subst (λ x. Names v x n o) e h))
 
       make-but : (o : ℕ) → o ≢ obj → IsLive (v o) → IsLive (w o) → IsLed w o
-      make-but = led-but w (New make) (Stay make) c make-keeps obj (λ e m o x. x.2) (gone-empty (v obj) make-gone)
+      make-but = led-but w (New make) (Stay make) c make-keeps obj (λ e m o x. x.2) (entries-gone (v obj) make-gone)
 
       make-reached : AllReached w
       make-reached =
@@ -160,7 +127,7 @@ module _ (v : Images) (f : WellFormed v) (a : AllReached v) where
       let apart : dir ≢ obj = first-apart dir (obj ∷ []) obj (left (distinct (dir ∷ obj ∷ [])) _ s) (member-here obj []) in
       let here : T (cond (obj == dir) (gives name obj (v obj)) (is_bare k (v obj))) = fits-at v (Drop dir name obj k) fit obj (or_r (eqb obj dir) _ (member-here obj [])) in
       let bare : T (is_bare k (v obj)) = subst (λ b. T (cond b (gives name obj (v obj)) (is_bare k (v obj)))) (other dir obj apart) here in
-      none-new w (Stay (Drop dir name obj k)) c (λ d n o h e. no-entry (v obj) n o (bare-empty k (v obj) bare) (subst (λ x. Names v x n o) e h))
+      none-new w (Stay (Drop dir name obj k)) c (λ d n o h e. empty-unnamed (v obj) n o (entries-bare k (v obj) bare) (subst (λ x. Names v x n o) e h))
 
   -- Move
   module _ (dir obj : ℕ) (from to : List ℕ) (k : Kind) (victim : Option ℕ) (w : Images) where
@@ -171,7 +138,7 @@ module _ (v : Images) (f : WellFormed v) (a : AllReached v) where
       move-named : Names v dir from obj
       move-named =
           let here : T (cond (dir == dir) (gives from obj (v dir) && yields to victim (v dir)) (cond (dir == obj) (is_kind k (v dir)) (is_bare k (v dir)))) = fits-at v move fit dir (member-here dir (obj ∷ listed victim)) in
-          gives-entry from obj (v dir) (left (gives from obj (v dir)) _ (subst (λ b. T (cond b (gives from obj (v dir) && yields to victim (v dir)) (cond (dir == obj) (is_kind k (v dir)) (is_bare k (v dir))))) (self dir) here))
+          gives-is from obj (v dir) (left (gives from obj (v dir)) _ (subst (λ b. T (cond b (gives from obj (v dir) && yields to victim (v dir)) (cond (dir == obj) (is_kind k (v dir)) (is_bare k (v dir))))) (self dir) here))
 
       move-bare : (o : ℕ) → victim ≡ Some o → T (is_bare k (v o))
       move-bare o e =
@@ -180,12 +147,12 @@ module _ (v : Images) (f : WellFormed v) (a : AllReached v) where
           let here : T (cond (o == dir) (gives from obj (v o) && yields to victim (v o)) (cond (o == obj) (is_kind k (v o)) (is_bare k (v o)))) = fits-at v move fit o m in
           let next : T (cond (o == obj) (is_kind k (v o)) (is_bare k (v o))) =
               subst (λ b. T (cond b (gives from obj (v o) && yields to victim (v o)) (cond (o == obj) (is_kind k (v o)) (is_bare k (v o))))) (other dir o (first-apart dir (obj ∷ o ∷ []) o all (or_r (eqb o obj) _ (member-here o [])))) here in
-          subst (λ b. T (cond b (is_kind k (v o)) (is_bare k (v o)))) (other obj o (first-apart obj (o ∷ []) o (rest-apart dir (obj ∷ o ∷ []) all) (member-here o []))) next
+          subst (λ b. T (cond b (is_kind k (v o)) (is_bare k (v o)))) (other obj o (first-apart obj (o ∷ []) o (distinct-rest dir (obj ∷ o ∷ []) all) (member-here o []))) next
 
       move-keeps : (d : ℕ) (n : List ℕ) (o : ℕ) → Names v d n o → ((e : ℕ) × (m : List ℕ) × New move e m d) ⊎ Stay move d
       move-keeps d n o h = elim (cases_Bool (eqb d obj)) [
         | inl e ↦ inl (dir, to, (refl, refl, eqb→eq d obj (holds e)))
-        | inr e ↦ inr (differ d obj e, λ q. no-entry (v d) n o (bare-empty k (v d) (move-bare d q)) h)
+        | inr e ↦ inr (differ d obj e, λ q. empty-unnamed (v d) n o (entries-bare k (v d) (move-bare d q)) h)
       ]
 
       move-reached : AllReached w
@@ -211,10 +178,10 @@ module _ (v : Images) (f : WellFormed v) (a : AllReached v) where
       shift-distinct = left (distinct (dir ∷ into ∷ obj ∷ (listed victim ++ others))) _ s
 
       shift-behind : T (distinct (into ∷ obj ∷ (listed victim ++ others)))
-      shift-behind = rest-apart dir (into ∷ obj ∷ (listed victim ++ others)) shift-distinct
+      shift-behind = distinct-rest dir (into ∷ obj ∷ (listed victim ++ others)) shift-distinct
 
       shift-last : T (distinct (obj ∷ (listed victim ++ others)))
-      shift-last = rest-apart into (obj ∷ (listed victim ++ others)) shift-behind
+      shift-last = distinct-rest into (obj ∷ (listed victim ++ others)) shift-behind
 
       shift-fits : (o : ℕ) → T (member o (dir ∷ into ∷ obj ∷ (listed victim ++ others))) → T (leads up into o (v o) && Rest o)
       shift-fits o m = fits-at v shift fit o m
@@ -222,7 +189,7 @@ module _ (v : Images) (f : WellFormed v) (a : AllReached v) where
       shift-named : Names v dir from obj
       shift-named =
           let here : T (Rest dir) = right (leads up into dir (v dir)) _ (shift-fits dir (member-here dir (into ∷ obj ∷ (listed victim ++ others)))) in
-          gives-entry from obj (v dir) (subst (λ b. T (cond b (gives from obj (v dir)) (cond (dir == into) (yields to victim (v dir) && has_room victim (v dir)) (cond (dir == obj) (is_kind k (v dir)) (not (is_id dir victim) || is_bare k (v dir)))))) (self dir) here)
+          gives-is from obj (v dir) (subst (λ b. T (cond b (gives from obj (v dir)) (cond (dir == into) (yields to victim (v dir) && has_room victim (v dir)) (cond (dir == obj) (is_kind k (v dir)) (not (is_id dir victim) || is_bare k (v dir)))))) (self dir) here)
 
       -- behind the first one
       shift-next : (o : ℕ) → dir ≢ o → T (Rest o) → T (cond (o == into) (yields to victim (v o) && has_room victim (v o)) (cond (o == obj) (is_kind k (v o)) (not (is_id o victim) || is_bare k (v o))))
@@ -268,7 +235,7 @@ module _ (v : Images) (f : WellFormed v) (a : AllReached v) where
           clash e true q g h t = first-apart dir (into ∷ obj ∷ (listed victim ++ others)) o shift-distinct (in-tail o (in-victim o e)) (sym (eqb→eq o dir (holds g)))
           clash e false true g h t = first-apart into (obj ∷ (listed victim ++ others)) o shift-behind (or_r (eqb o obj) _ (in-victim o e)) (sym (eqb→eq o into (holds h)))
           clash e false false g h t =
-              let all : T (distinct (o ∷ others)) = subst (λ x. T (distinct (listed x ++ others))) e (rest-apart obj (listed victim ++ others) shift-last) in
+              let all : T (distinct (o ∷ others)) = subst (λ x. T (distinct (listed x ++ others))) e (distinct-rest obj (listed victim ++ others) shift-last) in
               first-apart o others o all t refl
 
       into-stays : Stay shift into
@@ -295,7 +262,7 @@ module _ (v : Images) (f : WellFormed v) (a : AllReached v) where
       shift-keeps : (d : ℕ) (n : List ℕ) (o : ℕ) → Names v d n o → ((e : ℕ) × (m : List ℕ) × New shift e m d) ⊎ Stay shift d
       shift-keeps d n o h = elim (cases_Bool (eqb d obj)) [
         | inl e ↦ inl (into, to, (refl, refl, eqb→eq d obj (holds e)))
-        | inr e ↦ inr (differ d obj e, λ q. no-entry (v d) n o (bare-empty k (v d) (shift-bare d q)) h)
+        | inr e ↦ inr (differ d obj e, λ q. empty-unnamed (v d) n o (entries-bare k (v d) (shift-bare d q)) h)
       ]
 
       -- along directories that lead to another one
@@ -303,7 +270,7 @@ module _ (v : Images) (f : WellFormed v) (a : AllReached v) where
       along [] lead stay h = h
       along (e ∷ es) lead stay h =
           let here : T (not (e.0 == e.0) || gives e.1 (first_of es into) (v e.0)) = left (not (e.0 == e.0) || gives e.1 (first_of es into) (v e.0)) _ (lead e.0 (member-here e.0 (ids_of es))) in
-          let named : Names v e.0 e.1 (first_of es into) = gives-entry e.1 (first_of es into) (v e.0) (subst (λ b. T (not b || gives e.1 (first_of es into) (v e.0))) (self e.0) here) in
+          let named : Names v e.0 e.1 (first_of es into) = gives-is e.1 (first_of es into) (v e.0) (subst (λ b. T (not b || gives e.1 (first_of es into) (v e.0))) (self e.0) here) in
           along es (λ x m. right (not (x == e.0) || gives e.1 (first_of es into) (v x)) _ (lead x (or_r (eqb x e.0) _ m))) (λ x m. stay x (or_r (eqb x e.0) _ m))
           ((e.0, e.1) ∷ h.0, (c.stays e.0 e.1 (first_of es into) named (first es (λ x m. stay x (or_r (eqb x e.0) _ m))), h.1))
         where
@@ -317,11 +284,7 @@ module _ (v : Images) (f : WellFormed v) (a : AllReached v) where
           let next = shift-next into (first-apart dir (into ∷ obj ∷ (listed victim ++ others)) into shift-distinct in-into) here in
           let both' : T (yields to victim (v into) && has_room victim (v into)) =
               subst (λ b. T (cond b (yields to victim (v into) && has_room victim (v into)) (cond (into == obj) (is_kind k (v into)) (not (is_id into victim) || is_bare k (v into))))) (self into) next in
-          yields-dir victim (left (yields to victim (v into)) _ both')
-        where
-          yields-dir : (x : Option ℕ) → T (yields to x (v into)) → T (is_dir (v into))
-          yields-dir None h = left (is_dir (v into)) _ h
-          yields-dir (Some o) h = left (is_dir (v into)) _ h
+          yields-dir to victim (v into) (left (yields to victim (v into)) _ both')
 
       into-led : IsLed w into
       into-led = by_kind k refl (right (distinct (ids_of up)) _ (right (distinct (dir ∷ into ∷ obj ∷ (listed victim ++ others))) _ s))
