@@ -3,10 +3,12 @@
 #![tactic(auto)]
 
 mod calls;
+mod example;
 mod histories;
 mod updates;
 
 pub use calls::calls_make_fitting_updates;
+pub use example::premises_can_be_met;
 pub use histories::{
     closed_sets_leave_well_formed_volumes, untouched_losses_leave_well_formed_volumes,
     what_is_kept_is_well_formed,
