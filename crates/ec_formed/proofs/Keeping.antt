@@ -134,8 +134,7 @@ module _ (formed : (v : Images) (us : List Update) → WellFormed v → T (list_
           let k : Op = record { clerk = c; boot = b; number = n; place = p; update = u } in
           let one : Fits (after base.volume (updates ks)) (u ∷ []) = fitting (after base.volume (updates ks)) cl (base.fresh p) u w.formed gone q in
           let behind : Fits base.volume (updates (ks ++ k ∷ [])) =
-              subst (Fits base.volume) (sym (updates-last ks k)) (fits-next base.volume (updates ks) u w.fits (λ o. left (not (has_operand o u) || fits u o (after base.volume (updates ks) o)) _ (one o))) in
-          (
+          subst (Fits base.volume) (sym (updates-last ks k)) (fits-next base.volume (updates ks) u w.fits (λ o. left (not (has_operand o u) || fits u o (after base.volume (updates ks) o)) _ (one o))) in (
             leave (ks ++ k ∷ []) (all-last ks k w.sound (sound (after base.volume (updates ks)) cl (base.fresh p) u w.formed gone bounded q)) behind,
             each-last (Stands h) ks k s (apart, λ o m. plain-makes (base.fresh p) (after base.volume (updates ks)) cl u q o m),
           )

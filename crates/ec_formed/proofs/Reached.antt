@@ -105,7 +105,7 @@ module _ (v : Images) (f : WellFormed v) (a : AllReached v) where
       make-gone : T (is_gone (v obj))
       make-gone =
           let here : T (cond (obj == dir) (lacks name (v obj) && nat_lt (length (entries_of (v obj))) 128) (is_gone (v obj))) =
-              fits-at v make fit obj (or_r (eqb obj dir) _ (member-here obj [])) in
+          fits-at v make fit obj (or_r (eqb obj dir) _ (member-here obj [])) in
           subst (λ b. T (cond b (lacks name (v obj) && nat_lt (length (entries_of (v obj))) 128) (is_gone (v obj)))) (other dir obj make-apart) here
 
       make-keeps : (d : ℕ) (n : List ℕ) (o : ℕ) → Names v d n o → ((e : ℕ) × (m : List ℕ) × New make e m d) ⊎ Stay make d
@@ -146,7 +146,7 @@ module _ (v : Images) (f : WellFormed v) (a : AllReached v) where
           let m : T (member o (operands move)) = subst (λ x. T (member o (dir ∷ obj ∷ listed x))) (sym e) (or_r (eqb o dir) _ (or_r (eqb o obj) _ (member-here o []))) in
           let here : T (cond (o == dir) (gives from obj (v o) && yields to victim (v o)) (cond (o == obj) (is_kind k (v o)) (is_bare k (v o)))) = fits-at v move fit o m in
           let next : T (cond (o == obj) (is_kind k (v o)) (is_bare k (v o))) =
-              subst (λ b. T (cond b (gives from obj (v o) && yields to victim (v o)) (cond (o == obj) (is_kind k (v o)) (is_bare k (v o))))) (other dir o (first-apart dir (obj ∷ o ∷ []) o all (or_r (eqb o obj) _ (member-here o [])))) here in
+          subst (λ b. T (cond b (gives from obj (v o) && yields to victim (v o)) (cond (o == obj) (is_kind k (v o)) (is_bare k (v o))))) (other dir o (first-apart dir (obj ∷ o ∷ []) o all (or_r (eqb o obj) _ (member-here o [])))) here in
           subst (λ b. T (cond b (is_kind k (v o)) (is_bare k (v o)))) (other obj o (first-apart obj (o ∷ []) o (distinct-rest dir (obj ∷ o ∷ []) all) (member-here o []))) next
 
       move-keeps : (d : ℕ) (n : List ℕ) (o : ℕ) → Names v d n o → ((e : ℕ) × (m : List ℕ) × New move e m d) ⊎ Stay move d
@@ -283,7 +283,7 @@ module _ (v : Images) (f : WellFormed v) (a : AllReached v) where
           let here : T (Rest into) = right (leads up into into (v into)) _ (shift-fits into (or_r (eqb into dir) _ in-into)) in
           let next = shift-next into (first-apart dir (into ∷ obj ∷ (listed victim ++ others)) into shift-distinct in-into) here in
           let both' : T (yields to victim (v into) && has_room victim (v into)) =
-              subst (λ b. T (cond b (yields to victim (v into) && has_room victim (v into)) (cond (into == obj) (is_kind k (v into)) (not (is_id into victim) || is_bare k (v into))))) (self into) next in
+          subst (λ b. T (cond b (yields to victim (v into) && has_room victim (v into)) (cond (into == obj) (is_kind k (v into)) (not (is_id into victim) || is_bare k (v into))))) (self into) next in
           yields-dir to victim (v into) (left (yields to victim (v into)) _ both')
 
       into-led : IsLed w into
@@ -298,7 +298,7 @@ module _ (v : Images) (f : WellFormed v) (a : AllReached v) where
             | inl e ↦ ([], eqb→eq into root (holds e))
             | inr e ↦
                 let way : T ((nat_le 1 (length up) && nat_le (length up) 15) && (first_of up into == root)) =
-                    subst (λ b. T (cond b (length up == 0) ((nat_le 1 (length up) && nat_le (length up) 15) && (first_of up into == root)))) e h in
+                subst (λ b. T (cond b (length up == 0) ((nat_le 1 (length up) && nat_le (length up) 15) && (first_of up into == root)))) e h in
                 along up (λ x m. left (leads up into x (v x)) _ (shift-fits x (up-operand x m))) (λ x m. shift-stays x (up-apart x m) (up-listed x m))
                 ([], eqb→eq (first_of up into) root (right (nat_le 1 (length up) && nat_le (length up) 15) _ way))
           ]
