@@ -10,10 +10,11 @@ ghost use Rattle.ec_volume.specs.declared.update.Update.TheVariants.{Make};
 ghost use Rattle.ec_plain.specs.Plain.{plain};
 ghost use Rattle.ec_plain.specs.Bounds.{is_bounded};
 ghost use Rattle.ec_plain.specs.declared.call.Call.TheVariants as call;
-ghost use Rattle.ec_history.specs.History.{kept};
-ghost use Rattle.ec_history.specs.Legal.{IsLegal, from_formatted};
+ghost use Rattle.ec_history.specs.History.{is_one_of, kept};
+ghost use Rattle.ec_history.specs.Legal.{IsLegal, is_closed, from_formatted};
 ghost use Rattle.ec_history.specs.Placing.{place};
 ghost use Rattle.ec_laws.specs.Example.{two_files, writes, lines};
+ghost use Rattle.ec_laws.specs.Needs.{holds_needed};
 ghost use Rattle.ec_formed.specs.Bases.{IsBase, AreAtLines, LeaveWellFormed, is_bounded_entry};
 ghost use Rattle.ec_formed.specs.Example.{a, b, g, building, built, nesting, changes};
 
@@ -32,5 +33,6 @@ pub fn premises_can_be_met()
     ensures bases { IsBase from_formatted × IsBase two_files }
     ensures lines { AreAtLines writes × T (list_all (λ e. is_bounded_entry e.1) (place lines)) }
     ensures legal { IsLegal two_files 1024 writes × IsLegal two_files 1024 (place lines) }
+    ensures sets { T (holds_needed (λ k. k.update) (is_one_of 0 1 (1 ∷ [])) (kept two_files writes)) × T (is_closed (is_one_of 0 1 (1 ∷ [])) (kept two_files writes)) }
     ensures kept { LeaveWellFormed two_files (kept two_files writes) }
 {}

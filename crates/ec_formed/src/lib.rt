@@ -7,7 +7,7 @@ mod example;
 mod histories;
 mod updates;
 
-pub use calls::calls_make_fitting_updates;
+pub use calls::{calls_make_fitting_updates, calls_make_the_fresh_object_alone};
 pub use example::premises_can_be_met;
 pub use histories::{
     closed_sets_leave_well_formed_volumes, untouched_losses_leave_well_formed_volumes,
