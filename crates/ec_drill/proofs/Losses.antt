@@ -22,7 +22,7 @@ use Rattle.ec_drill.specs.OneClerk.{is_running, open_of, start_of, IsOwn, IsTran
 use Rattle.ec_drill.specs.declared.one_clerk.State.TheVariants as state
 use Rattle.ec_drill.specs.declared.one_clerk.OneClerk.{OneClerk}
 use Rattle.ec_drill.specs.Laws.{Laws}
-use Rattle.ec_drill.proofs.Small.{covers_nothing, on}
+use Rattle.ec_drill.proofs.Small.{covers_nothing, on, and_both}
 use Rattle.ec_drill.proofs.Steps.{each_line-push, each-push, throughout-push, throughout-all, length-push, watch_as, watched}
 
 -- all of these operations are the start's
@@ -36,10 +36,6 @@ or_right false b h = h
 or_left : (a b : Bool) → T a → T (a || b)
 or_left true b h = tt
 or_left false b h = absurd h
-
-and_both : (a b : Bool) → T a → T b → T (a && b)
-and_both true b x y = y
-and_both false b x y = absurd x
 
 self : (n : ℕ) → eqb n n ≡ true
 self n = grind arith
