@@ -1,5 +1,5 @@
 -- An answer of the one clerk.
-use Rattle.std.proofs.Common.{◌≡◌, refl, sym, subst, inl, inr, arith, ◌∙◌, ap, ◌+◌, ◌<◌, ◌≤◌, ◌⊎◌, ℕ, T, Bool, true, false, not, ◌&&◌, ◌||◌, cond, List, [], ◌∷◌, ◌++◌, eqb, Option, Some, None}
+use Rattle.std.proofs.Common.{◌≡◌, refl, sym, subst, arith, ◌∙◌, ap, ◌+◌, ◌<◌, ◌≤◌, ℕ, T, Bool, true, false, not, ◌&&◌, ◌||◌, cond, List, [], ◌∷◌, ◌++◌, eqb, Option, Some, None}
 use Rattle.std.proofs.Common.{append-nil, length-append}
 use Rattle.std.specs.Prelude.{length, is_some}
 use Rattle.std.specs.List.{filter}
@@ -266,7 +266,7 @@ module _ (laws : Laws) (m m' : OneClerk) (n : ℕ) (ss : List Shown) (t : IsTran
       let all : ks ++ issued_by from_formatted ks (here r (Some (m.ops + 1))) ≡ ks ++ op ∷ [] = ap (λ l. ks ++ l) one in
       answered_step r (Some (m.ops + 1)) (record {
         reply = reply;
-            issued = ap is_some (sym some);
+        issued = ap is_some (sym some);
         number = sym (ap (λ k. k + 1) t.counted);
         state_is = st;
         places_are = places;

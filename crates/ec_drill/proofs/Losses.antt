@@ -1,5 +1,5 @@
 -- The loss of all operations of a crashed start.
-use Rattle.std.proofs.Common.{◌≡◌, refl, sym, subst, arith, ◌∙◌, ap, ◌+◌, ◌<◌, ◌≤◌, ℕ, T, Bool, true, false, not, ◌&&◌, ◌||◌, cond, List, [], ◌∷◌, ◌++◌, eqb}
+use Rattle.std.proofs.Common.{◌≡◌, refl, sym, subst, arith, ◌∙◌, ap, ◌+◌, ◌<◌, ◌≤◌, ℕ, T, Bool, true, false, not, ◌||◌, cond, List, [], ◌∷◌, ◌++◌, eqb}
 use Rattle.std.specs.Prelude.{length, is_some}
 use Rattle.std.specs.List.{filter, list_any, list_all}
 use Rattle.std.proofs.lemmas.List.Elements.{filter-append}

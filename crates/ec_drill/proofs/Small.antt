@@ -107,10 +107,7 @@ module _ (v : Images) where
   ]
 
   reached_seen : (p : Path) (f : ℕ → List ℕ → Outcome) → ((o : ℕ) (os : List ℕ) → IsSeen (f o os)) → IsSeen (on_reached (walk v p) f)
-  reached_seen p f h = go (walk v p) (walk_met 0 root p)
-    where
-      go : (w : Walk) → IsMet w → IsSeen (on_reached w f)
-      go w = elim w.to as (λ t. IsMet (record { to = t; read = w.read }) → IsSeen (on_reached (record { to = t; read = w.read }) f)) [ At o ↦ λ _. h o w.read | Not r ↦ λ s. s ]
+  reached_seen p f h = elim (walk v p).to as (λ t. IsMet (stop t) → IsSeen (on_reached (record { to = t; read = (walk v p).read }) f)) [ At o ↦ λ _. h o (walk v p).read | Not r ↦ λ s. s ] (walk_met 0 root p)
 
   small_seen : (cl : Call) (fresh : ℕ) → IsSmallCall cl → IsSeen (plain v cl fresh)
   small_seen (call.Create []) fresh small = let none : ⊥ = omega (arith, small) in absurd none
