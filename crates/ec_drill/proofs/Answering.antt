@@ -32,7 +32,7 @@ use Rattle.ec_drill.specs.declared.one_clerk.State.{State}
 use Rattle.ec_drill.specs.declared.one_clerk.State.TheVariants as state
 use Rattle.ec_drill.specs.declared.one_clerk.OneClerk.{OneClerk}
 use Rattle.ec_drill.specs.Laws.{Laws}
-use Rattle.ec_drill.proofs.Small.{covers_nothing, on, small_bounded, own_bounded, small_shows}
+use Rattle.ec_drill.proofs.Small.{self, on, or_right, covers_nothing, small_bounded, own_bounded, small_shows}
 use Rattle.ec_drill.proofs.Steps.{each_line-push, each-push, throughout-push, length-push, numbers-push, updates-push, image_after-push, numbers_to-next, watch_as, watched}
 
 -- The start of an answer.
@@ -50,17 +50,7 @@ answered_as state.Crashed starts ns crashed op e = absurd (subst T e tt)
 may_as : (st : State) (starts : ℕ) (ns : List ℕ) (crashed : Bool) → is_crashed st ≡ false → T (may_show (begun (watch_as st starts ns crashed)))
 may_as state.New starts ns crashed e = tt
 may_as state.Running starts ns crashed e = on (self starts)
-  where
-    self : (n : ℕ) → eqb n n ≡ true
-    self n = grind arith
 may_as state.Crashed starts ns crashed e = absurd (subst T e tt)
-
-self : (n : ℕ) → eqb n n ≡ true
-self n = grind arith
-
-or_right : (a b : Bool) → T b → T (a || b)
-or_right true b h = tt
-or_right false b h = h
 
 -- Lines of other numbers agree with a new one and don't answer it.
 

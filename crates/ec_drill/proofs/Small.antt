@@ -1,16 +1,15 @@
 -- The calls of this stage: they are within their bounds, they cover nothing, and their replies show a session.
-use Rattle.std.proofs.Common.{◌≡◌, refl, sym, subst, arith, ◌∙◌, ◌+◌, ◌-◌, ◌≤◌, ℕ, T, Bool, true, false, ◌&&◌, cond, List, [], ◌∷◌, None, Some}
-use Rattle.std.specs.Prelude.{length, nat_le, nat_lt, is_some, take, drop, ⊤}
+use Rattle.std.proofs.Common.{◌≡◌, refl, sym, subst, arith, ◌∙◌, ◌+◌, ◌-◌, ◌≤◌, ℕ, T, Bool, true, false, ◌&&◌, ◌||◌, cond, List, [], ◌∷◌, eqb, None, Some}
+use Rattle.std.specs.Prelude.{length, nat_le, nat_lt, is_some, ⊤}
 use Rattle.std.specs.List.{list_all}
 use Rattle.ec_volume.specs.Entries.{entry as entry_of}
-use Rattle.ec_volume.specs.Image.{entries_of, bytes_of, is_gone, is_dir}
+use Rattle.ec_volume.specs.Image.{entries_of, is_gone, is_dir}
 use Rattle.ec_volume.specs.Update.{root}
 use Rattle.ec_volume.specs.Volume.{Images}
 use Rattle.ec_volume.specs.declared.image.Image.TheVariants.{Gone, File, Dir}
 use Rattle.ec_volume.specs.declared.image.Kind.TheVariants as kind
-use Rattle.ec_volume.specs.declared.update.Update.{Update}
 use Rattle.ec_plain.specs.Walk.{Path, At, Not, Walk, walk, walk_from, stop, parent_of, last_of}
-use Rattle.ec_plain.specs.Plain.{plain, refuses, issues, answers, on_reached, make_in, write_in, read_in}
+use Rattle.ec_plain.specs.Plain.{plain, refuses, on_reached, make_in, write_in, read_in}
 use Rattle.ec_plain.specs.Bounds.{is_bounded}
 use Rattle.ec_plain.specs.declared.call.Call.{Call}
 use Rattle.ec_plain.specs.declared.call.Call.TheVariants as call
@@ -29,12 +28,21 @@ use Rattle.ec_script.specs.Grammar.{IsSmallCall}
 use Rattle.ec_formed.specs.Bases.{is_bounded_entry}
 use Rattle.ec_drill.specs.OneClerk.{IsOwn}
 
+-- Tests.
+
+pub self : (n : ℕ) → eqb n n ≡ true
+self n = grind arith
+
 pub on : {b : Bool} → b ≡ true → T b
 on e = subst T (sym e) tt
 
 pub and_both : (a b : Bool) → T a → T b → T (a && b)
 and_both true b x y = y
 and_both false b x y = absurd x
+
+pub or_right : (a b : Bool) → T b → T (a || b)
+or_right true b h = tt
+or_right false b h = h
 
 -- Nothing is covered.
 
@@ -82,16 +90,10 @@ shown_alike _ r small = absurd small
 abbrev IsSeen : Outcome → Type 0
 IsSeen out = is_seen out.reply ≡ true
 
--- A test that refuses first, and two of them before an update.
-
-one_test : (b : Bool) (r : Refusal) (s : Reply) (os : List ℕ) → is_seen (reply.Refused r) ≡ true → is_seen s ≡ true → IsSeen (cond b (refuses r os) (answers s os))
-one_test true r s os x y = x
-one_test false r s os x y = y
-
-two_tests : (a b : Bool) (r s : Refusal) (u : Update) (os ps : List ℕ) → is_seen (reply.Refused r) ≡ true → is_seen (reply.Refused s) ≡ true → IsSeen (cond a (refuses r os) (cond b (refuses s os) (issues u ps)))
-two_tests true b r s u os ps x y = x
-two_tests false true r s u os ps x y = y
-two_tests false false r s u os ps x y = refl
+-- a refusal first
+unless : (b : Bool) (r : Refusal) (os : List ℕ) (out : Outcome) → is_seen (reply.Refused r) ≡ true → IsSeen out → IsSeen (cond b (refuses r os) out)
+unless true r os out x y = x
+unless false r os out x y = y
 
 -- the walk's refusal, if any, isn't that one
 abbrev IsMet : Walk → Type 0
@@ -114,11 +116,11 @@ module _ (v : Images) where
   small_seen (call.Create (n ∷ ns)) fresh small =
       reached_seen (parent_of (n ∷ ns)) (λ d os. cond (is_dir (v d)) (make_in kind.File (last_of (n ∷ ns)) fresh d (entries_of (v d)) os) (refuses (no.NotDir (length (n ∷ ns) - 1)) os))
       (λ d os. elim (is_dir (v d)) as (λ b. IsSeen (cond b (make_in kind.File (last_of (n ∷ ns)) fresh d (entries_of (v d)) os) (refuses (no.NotDir (length (n ∷ ns) - 1)) os))) [
-        | true ↦ two_tests (is_some (entry_of (entries_of (v d)) (last_of (n ∷ ns)))) (nat_le 128 (length (entries_of (v d)))) no.Exists no.DirFull _ os _ refl refl
+        | true ↦ unless (is_some (entry_of (entries_of (v d)) (last_of (n ∷ ns)))) no.Exists os _ refl (unless (nat_le 128 (length (entries_of (v d)))) no.DirFull os _ refl refl)
         | false ↦ refl
       ])
-  small_seen (call.Write p at bytes) fresh small = reached_seen p (write_in v at bytes) (λ o os. two_tests (is_dir (v o)) (nat_lt 65536 (at + length bytes)) no.IsDir no.TooLong _ os _ refl refl)
-  small_seen (call.Read p at count) fresh small = reached_seen p (read_in v at count) (λ o os. one_test (is_dir (v o)) no.IsDir (reply.Data (take count (drop at (bytes_of (v o))))) os refl refl)
+  small_seen (call.Write p at bytes) fresh small = reached_seen p (write_in v at bytes) (λ o os. unless (is_dir (v o)) no.IsDir os _ refl (unless (nat_lt 65536 (at + length bytes)) no.TooLong os _ refl refl))
+  small_seen (call.Read p at count) fresh small = reached_seen p (read_in v at count) (λ o os. unless (is_dir (v o)) no.IsDir os _ refl refl)
   small_seen _ fresh small = absurd small
 
   pub small_shows : (cl : Call) (fresh : ℕ) → IsSmallCall cl → shows cl (answer.Reply (plain v cl fresh).reply) ≡ true
