@@ -1,5 +1,5 @@
 -- Rows in a map of rows.
-use Rattle.std.proofs.Common.{◌≡◌, ◌+◌, ◌<◌, sym, ap, ◌∙◌, ℕ, List, ◌∷◌, drop, length, get_or, drop-cons, add-one, Option, None, Some, Bool, true, false, cond, not, ◌&&◌, filter, refl}
+use Rattle.std.proofs.Common.{◌≡◌, ◌+◌, ◌<◌, sym, ap, ◌∙◌, ℕ, List, ◌∷◌, drop, length, get_or, drop-cons, add-one, Option, None, Some, cond, not, ◌&&◌, filter, arith}
 use Rattle.std.specs.Prelude.{◌==◌, OnSome}
 use Rattle.std.specs.Ordering.{nat_cmp}
 use Rattle.std.specs.Cmp.{nat_cmp_total, eq_by_cmp_equiv}
@@ -7,7 +7,6 @@ use Rattle.std.specs.FinMap.{find, put}
 use Rattle.std.specs.FinMap.Entries.{find-put}
 use Rattle.ec_base.specs.SortedLaws.{put-put}
 use Rattle.ec_base.specs.declared.ids.Hold.{Hold}
-use Rattle.ec_base.specs.declared.ids.Hold.TheVariants.{Free, Read, Write}
 use Rattle.ec_tokens.specs.declared.token.Token.{Token}
 use Rattle.ec_tokens.specs.Holds.{clash}
 use Rattle.ec_tokens.specs.Tokens.{Row, Tokens, Holder, holders, held_by, mode, first, first_conflict, is_conflict}
@@ -28,18 +27,8 @@ module _ (ts : Tokens) (i : ℕ) (r : ℕ × Row) (within : i < length ts) (is :
       more = holders (drop (i + 1) ts) x
 
       go : (o : Option Token) → first (filter (is_conflict s h) (held_by r.0 o more)) ≡ cond (not (r.0 == s) && clash (mode o) h) (Some r.0) (first (filter (is_conflict s h) more))
-      go None = by_none (r.0 == s) h
-        where
-          by_none : (b : Bool) (g : Hold) → first (filter (is_conflict s h) more) ≡ cond (not b && clash Free g) (Some r.0) (first (filter (is_conflict s h) more))
-          by_none true g = refl
-          by_none false Free = refl
-          by_none false Read = refl
-          by_none false Write = refl
-      go (Some k) = by (not (r.0 == s) && clash k.hold h)
-        where
-          by : (b : Bool) → first (cond b ((r.0, k.hold, k.number) ∷ filter (is_conflict s h) more) (filter (is_conflict s h) more)) ≡ cond b (Some r.0) (first (filter (is_conflict s h) more))
-          by true = refl
-          by false = refl
+      go None = grind arith
+      go (Some k) = grind arith
 
 -- A row that was taken out, and another one that is put in its place.
 pub given : (s : ℕ) (empty r : Row) (old middle new : Tokens) (was : Option Row) → middle ≡ put nat_cmp s empty old → was ≡ find nat_cmp s middle → OnSome was (new ≡ put nat_cmp s r middle) → new ≡ put nat_cmp s r old

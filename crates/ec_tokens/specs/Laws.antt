@@ -15,7 +15,7 @@ use Rattle.ec_base.specs.Sorted.{without}
 use Rattle.ec_base.specs.SortedLaws.{first as front, second as rest, find-without}
 use Rattle.ec_tokens.specs.declared.token.Token.{Token}
 use Rattle.ec_tokens.specs.Holds.{is_free, is_below, clash}
-use Rattle.ec_tokens.specs.Tokens.{Row, Tokens, Holder, held_by, is_conflict, row, row_of, token, mode, IsSound, holders, first, first_conflict, is_clear, granted, fits_back, lowered, lowered_in, claimed_in, claimed, clash_at, first_clash}
+use Rattle.ec_tokens.specs.Tokens.{Row, Tokens, Holder, held_by, is_conflict, row, row_of, token, mode, IsSound, holders, first, first_conflict, is_clear, granted, fits_back, lowered, claimed_in, claimed, clash_at, first_clash}
 
 -- Maps by number.
 
@@ -147,37 +147,33 @@ module _ (ts : Tokens) (s : ℕ) (sound : IsSound ts) where
   fit_row : AllFit ts s (row ts s)
   fit_row x k found = (sound.held s x k found, λ t other. ap (λ o. clash (mode o) (mode (token ts t x))) (sym found) ∙ sound.apart s t x (λ e. eqb-false t s other (sym e)))
 
-  -- The session has this row, and all others theirs.
-  sound_changed : (r : Row) (new : Tokens) → AllFit ts s r → T (is_sorted nat_cmp new) → ((u x : ℕ) → token new u x ≡ cond (u == s) (find nat_cmp x r) (token ts u x)) → IsSound new
-  sound_changed r new fit rising shows = record { apart = λ u v x differ. (λ i. clash (mode (shows u x i)) (mode (shows v x i))) ∙ go u v x differ (u == s) (v == s) refl refl; held = λ u x k found. own u x k (u == s) refl (sym (shows u x) ∙ found); rising = rising }
+  -- The session has this row or none, and all others theirs.
+  sound_changed : (own : Option Row) (new : Tokens) → AllFit ts s (row_of own) → T (is_sorted nat_cmp new) → ((u : ℕ) → find nat_cmp u new ≡ cond (u == s) own (find nat_cmp u ts)) → IsSound new
+  sound_changed own new fit rising found = record { apart = λ u v x differ. (λ i. clash (mode (shows u x i)) (mode (shows v x i))) ∙ apart u v x differ (u == s) (v == s) refl refl; held = λ u x k is. held u x k (u == s) refl (sym (shows u x) ∙ is); rising = rising }
     where
-      apart : (x : ℕ) (o : Option Token) → find nat_cmp x r ≡ o → (t : ℕ) → (t == s) ≡ false → clash (mode o) (mode (token ts t x)) ≡ false
-      apart x None e t other = clash_free _
-      apart x (Some k) e t other = (fit x k e).1 t other
+      shows : (u x : ℕ) → token new u x ≡ find nat_cmp x (row_of (cond (u == s) own (find nat_cmp u ts)))
+      shows u x = ap (λ o. find nat_cmp x (row_of o)) (found u)
 
-      go : (u v x : ℕ) → u ≢ v → (a b : Bool) → (u == s) ≡ a → (v == s) ≡ b → clash (mode (cond a (find nat_cmp x r) (token ts u x))) (mode (cond b (find nat_cmp x r) (token ts v x))) ≡ false
-      go u v x differ true true p q = absurd (differ (eqb-true u s p ∙ sym (eqb-true v s q)))
-      go u v x differ true false p q = apart x _ refl v q
-      go u v x differ false true p q = clash-sym _ _ ∙ apart x _ refl u p
-      go u v x differ false false p q = sound.apart u v x differ
+      from_others : (x : ℕ) (o : Option Token) → find nat_cmp x (row_of own) ≡ o → (t : ℕ) → (t == s) ≡ false → clash (mode o) (mode (token ts t x)) ≡ false
+      from_others x None e t other = clash_free _
+      from_others x (Some k) e t other = (fit x k e).1 t other
 
-      own : (u x : ℕ) (k : Token) (b : Bool) → (u == s) ≡ b → cond b (find nat_cmp x r) (token ts u x) ≡ Some k → is_free k.hold ≡ false
-      own u x k true p found = (fit x k found).0
-      own u x k false p found = sound.held u x k found
+      apart : (u v x : ℕ) → u ≢ v → (a b : Bool) → (u == s) ≡ a → (v == s) ≡ b
+          → clash (mode (find nat_cmp x (row_of (cond a own (find nat_cmp u ts))))) (mode (find nat_cmp x (row_of (cond b own (find nat_cmp v ts))))) ≡ false
+      apart u v x differ true true p q = absurd (differ (eqb-true u s p ∙ sym (eqb-true v s q)))
+      apart u v x differ true false p q = from_others x _ refl v q
+      apart u v x differ false true p q = clash-sym _ _ ∙ from_others x _ refl u p
+      apart u v x differ false false p q = sound.apart u v x differ
+
+      held : (u x : ℕ) (k : Token) (b : Bool) → (u == s) ≡ b → find nat_cmp x (row_of (cond b own (find nat_cmp u ts))) ≡ Some k → is_free k.hold ≡ false
+      held u x k true p is = (fit x k is).0
+      held u x k false p is = sound.held u x k is
 
   sound_put : (r : Row) → AllFit ts s r → IsSound (put nat_cmp s r ts)
-  sound_put r fit = sound_changed r _ fit (is_sorted-put nat_cmp nat_cmp_total s r ts sound.rising) (λ u x. ap (λ o. find nat_cmp x (row_of o)) (found-put u s r ts) ∙ go x (u == s) (find nat_cmp u ts))
-    where
-      go : (x : ℕ) (b : Bool) (o : Option Row) → find nat_cmp x (row_of (cond b (Some r) o)) ≡ cond b (find nat_cmp x r) (find nat_cmp x (row_of o))
-      go x true o = refl
-      go x false o = refl
+  sound_put r fit = sound_changed (Some r) _ fit (is_sorted-put nat_cmp nat_cmp_total s r ts sound.rising) (λ u. found-put u s r ts)
 
   pub sound_without : IsSound (without nat_cmp s ts)
-  sound_without = sound_changed [] _ (λ x k found. absurd (grind arith)) (is_sorted-where_key nat_cmp _ ts sound.rising) (λ u x. ap (λ o. find nat_cmp x (row_of o)) (found-without u s ts) ∙ go x (u == s) (find nat_cmp u ts))
-    where
-      go : (x : ℕ) (b : Bool) (o : Option Row) → find nat_cmp x (row_of (cond b None o)) ≡ cond b None (find nat_cmp x (row_of o))
-      go x true o = refl
-      go x false o = refl
+  sound_without = sound_changed None _ (λ x k found. absurd (grind arith)) (is_sorted-where_key nat_cmp _ ts sound.rising) (λ u. found-without u s ts)
 
   fit_put : (r : Row) (x : ℕ) (k : Token) → AllFit ts s r → Fits ts s x k → AllFit ts s (put nat_cmp x k r)
   fit_put r x k fit new y t found = go (y == x) refl (sym (found-put y x k r) ∙ found)

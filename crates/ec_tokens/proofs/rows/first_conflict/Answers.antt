@@ -1,5 +1,4 @@
-use Rattle.std.proofs.Common.{◌≡◌, ◌+◌, ap, sym, ◌∙◌, cond, drop, Some, arith, rules}
-use Rattle.ec_tokens.specs.Tokens.{first_conflict}
+use Rattle.std.proofs.Common.{arith}
 use Rattle.ec_tokens.proofs.RowLemmas.{conflict_left}
 use Rattle.ec_tokens.proofs.rows.first_conflict.Goals as goal
 use Rattle.ec_tokens.proofs.rows.first_conflict.Goals.{else-ne-via-then-ne+else-clash, else-ne-via-else-ne}

@@ -1,4 +1,4 @@
-use Rattle.std.proofs.Common.{◌≡◌, ◌∷◌, ◌++◌, ◌+◌, drop, ap, sym, ◌∙◌, append_assoc, None, Some, []}
+use Rattle.std.proofs.Common.{◌∷◌, ◌++◌, ◌+◌, drop, ap, sym, ◌∙◌, append_assoc, None, Some, []}
 use Rattle.ec_tokens.specs.Tokens.{Holder, holders}
 use Rattle.ec_tokens.proofs.RowLemmas.{holders_left}
 use Rattle.ec_tokens.proofs.rows.holders.Goals as goal
