@@ -32,38 +32,14 @@ module _ {X : Type 0} (j k : ℕ) where
 -- Modes.
 
 pub clash-sym : (a b : Hold) → clash a b ≡ clash b a
-clash-sym Free Free = refl
-clash-sym Free Read = refl
-clash-sym Free Write = refl
-clash-sym Read Free = refl
-clash-sym Read Read = refl
-clash-sym Read Write = refl
-clash-sym Write Free = refl
-clash-sym Write Read = refl
-clash-sym Write Write = refl
+clash-sym a b = grind arith
 
 -- A mode that isn't above another conflicts with nothing that the other doesn't.
 pub clash_lower : (a to b : Hold) → is_below a to ≡ false → clash a b ≡ false → clash to b ≡ false
-clash_lower a Free Free l c = refl
-clash_lower a Free Read l c = refl
-clash_lower a Free Write l c = refl
-clash_lower a Read Free l c = refl
-clash_lower a Read Read l c = refl
-clash_lower Free Read Write l c = absurd (grind arith)
-clash_lower Read Read Write l c = c
-clash_lower Write Read Write l c = c
-clash_lower a Write Free l c = refl
-clash_lower Free Write Read l c = absurd (grind arith)
-clash_lower Read Write Read l c = absurd (grind arith)
-clash_lower Write Write Read l c = c
-clash_lower Free Write Write l c = absurd (grind arith)
-clash_lower Read Write Write l c = absurd (grind arith)
-clash_lower Write Write Write l c = c
+clash_lower a to b l c = grind arith
 
 clash_free : (h : Hold) → clash Free h ≡ false
-clash_free Free = refl
-clash_free Read = refl
-clash_free Write = refl
+clash_free h = grind arith
 
 -- Who holds tokens.
 
@@ -226,6 +202,4 @@ pub sound_none : IsSound []
 sound_none = record { apart = λ s t x differ. refl; held = λ s x t found. absurd (grind arith); rising = tt }
 
 pub not_free : (h : Hold) → h ≢ Free → is_free h ≡ false
-not_free Free differ = absurd (differ refl)
-not_free Read differ = refl
-not_free Write differ = refl
+not_free h differ = grind arith
