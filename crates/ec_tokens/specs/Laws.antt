@@ -10,7 +10,7 @@ use Rattle.std.proofs.lemmas.List.Elements.{Contains-append_right}
 use Rattle.std.proofs.lemmas.Bool.{eqb-true, eqb-false, and_parts, not-true}
 use Rattle.std.specs.List.{list_all}
 use Rattle.ec_base.specs.declared.ids.Hold.{Hold}
-use Rattle.ec_base.specs.declared.ids.Hold.TheVariants.{Free, Read, Write}
+use Rattle.ec_base.specs.declared.ids.Hold.TheVariants.{Free}
 use Rattle.ec_base.specs.Sorted.{without}
 use Rattle.ec_base.specs.SortedLaws.{first as front, second as rest, find-without}
 use Rattle.ec_tokens.specs.declared.token.Token.{Token}
