@@ -1,12 +1,15 @@
 -- An answer of the one clerk.
-use Rattle.std.proofs.Common.{◌≡◌, refl, sym, subst, inl, inr, arith, ◌∙◌, ap, ◌+◌, ◌<◌, ◌≤◌, ◌⊎◌, ℕ, T, Bool, true, false, not, ◌&&◌, ◌||◌, cond, List, [], ◌∷◌, ◌++◌, eqb, Option, Some, None}
+use Rattle.std.proofs.Common.{◌≡◌, refl, sym, subst, arith, ◌∙◌, ap, ◌+◌, ◌<◌, ◌≤◌, ℕ, T, Bool, true, false, not, ◌&&◌, ◌||◌, cond, List, [], ◌∷◌, ◌++◌, eqb, Option, Some, None}
 use Rattle.std.proofs.Common.{append-nil, length-append}
 use Rattle.std.specs.Prelude.{length, is_some}
 use Rattle.std.specs.List.{filter}
 use Rattle.std.specs.Bool.{OnTrue}
 use Rattle.std.proofs.lemmas.List.Elements.{filter-append}
-use Rattle.ec_volume.specs.Update.{operands, member, has_operand, fits, first_unfit, effect, listed}
-use Rattle.ec_volume.specs.Volume.{Images, images, after, image_next}
+use Rattle.ec_volume.specs.Image.{is_gone}
+use Rattle.ec_volume.specs.Update.{operands, member, has_operand, fits, first_unfit, listed}
+use Rattle.ec_volume.specs.Volume.{Images, images, after, image_next, WellFormed}
+use Rattle.ec_volume.specs.declared.image.Image.{Image}
+use Rattle.ec_volume.specs.declared.image.Image.TheVariants.{Gone, File, Dir}
 use Rattle.ec_volume.specs.declared.update.Update.{Update}
 use Rattle.ec_plain.specs.Plain.{plain}
 use Rattle.ec_plain.specs.declared.call.Call.{Call}
@@ -29,7 +32,7 @@ use Rattle.ec_drill.specs.declared.one_clerk.State.{State}
 use Rattle.ec_drill.specs.declared.one_clerk.State.TheVariants as state
 use Rattle.ec_drill.specs.declared.one_clerk.OneClerk.{OneClerk}
 use Rattle.ec_drill.specs.Laws.{Laws}
-use Rattle.ec_drill.proofs.Small.{covers_nothing, IsFine, IsGood, small_good, decide, on, small_shows, not_root}
+use Rattle.ec_drill.proofs.Small.{self, on, or_right, covers_nothing, small_bounded, own_bounded, small_shows}
 use Rattle.ec_drill.proofs.Steps.{each_line-push, each-push, throughout-push, length-push, numbers-push, updates-push, image_after-push, numbers_to-next, watch_as, watched}
 
 -- The start of an answer.
@@ -47,17 +50,7 @@ answered_as state.Crashed starts ns crashed op e = absurd (subst T e tt)
 may_as : (st : State) (starts : ℕ) (ns : List ℕ) (crashed : Bool) → is_crashed st ≡ false → T (may_show (begun (watch_as st starts ns crashed)))
 may_as state.New starts ns crashed e = tt
 may_as state.Running starts ns crashed e = on (self starts)
-  where
-    self : (n : ℕ) → eqb n n ≡ true
-    self n = grind arith
 may_as state.Crashed starts ns crashed e = absurd (subst T e tt)
-
-self : (n : ℕ) → eqb n n ≡ true
-self n = grind arith
-
-or_right : (a b : Bool) → T b → T (a || b)
-or_right true b h = tt
-or_right false b h = h
 
 -- Lines of other numbers agree with a new one and don't answer it.
 
@@ -103,16 +96,10 @@ cond_nil : (b : Bool) → ◌≡◌ {A = Owed} (cond b [] []) []
 cond_nil true = refl
 cond_nil false = refl
 
--- the update changes nothing above its operands
-untouched_above : (m m' : OneClerk) (u : Update) (fresh : ℕ) → IsFine (images m.volume) fresh u → ((o : ℕ) → images m'.volume o ≡ after (images m.volume) (u ∷ []) o) → (o : ℕ) → fresh < o → images m'.volume o ≡ images m.volume o
-untouched_above m m' u fresh fine volume o lt = volume o ∙ go (decide (has_operand o u))
-  where
-    beyond : T (member o (operands u)) → ⊥
-    beyond h = let le : o ≤ fresh = fine.within o h in omega (arith, le, lt)
-
-    go : (has_operand o u ≡ true) ⊎ (has_operand o u ≡ false) → image_next o (images m.volume o) u ≡ images m.volume o
-    go (inl e) = absurd (beyond (on e))
-    go (inr e) = ap (λ b. cond b (effect u o (images m.volume o)) (images m.volume o)) e
+is_gone-Gone : (i : Image) → T (is_gone i) → i ≡ Gone
+is_gone-Gone Gone g = refl
+is_gone-Gone (File m s w bs) g = absurd g
+is_gone-Gone (Dir m s w es) g = absurd g
 
 -- the operation of an entry whose call has this update
 abbrev pub issued_of : ℕ → ℕ → ℕ → ℕ → Option Update → List Op
@@ -164,10 +151,10 @@ module _ (laws : Laws) (m m' : OneClerk) (n : ℕ) (ss : List Shown) (t : IsTran
   placed_here : (r : Reply) (op : Option ℕ) → place (ss ++ line r op ∷ []) ≡ place ss ++ here r op ∷ []
   placed_here r op = laws.answer_placed ss (n + 1) 0 cl (answer.Reply r) op t.untold ∙ ap (λ b. place ss ++ (length ss + 1, entry.Call 0 b (n + 1) (last_place 0 b unwatched 1 0 (before_line (n + 1) ss)) cl (answer.Reply r) op) ∷ []) begins
 
-  watch_here : (r : Reply) (op : Option ℕ) → T (not_root r) → watch 0 (ss ++ line r op ∷ []) ≡ watch_as state.Running boot (numbers_to m.ops ++ listed op) (watch 0 ss).crashed
-  watch_here r op seen =
+  watch_here : (r : Reply) (op : Option ℕ) → r ≡ out.reply → watch 0 (ss ++ line r op ∷ []) ≡ watch_as state.Running boot (numbers_to m.ops ++ listed op) (watch 0 ss).crashed
+  watch_here r op reply =
       laws.watch_next_is 0 ss (line r op)
-      ∙ ap (λ b. answered (begun (watch 0 ss)) b op) (small_shows cl r small seen)
+      ∙ ap (λ b. answered (begun (watch 0 ss)) b op) (ap (λ x. shows cl (answer.Reply x)) reply ∙ small_shows (images m.volume) cl (m.places + 2) small)
       ∙ ap (λ w. answered (begun w) true op) (watched m n ss t)
       ∙ answered_as m.state (watch 0 ss).starts (numbers_to m.ops) (watch 0 ss).crashed op runs
 
@@ -182,14 +169,13 @@ module _ (laws : Laws) (m m' : OneClerk) (n : ℕ) (ss : List Shown) (t : IsTran
   -- what all answers have in common
   record Common (r : Reply) (op : Option ℕ) : Type 0 where
     pub reply : r ≡ out.reply
-    pub seen : T (not_root r)
     pub issued : is_some op ≡ is_some out.update
     pub number : IsNext 0 boot (place ss) op
     pub state_is : m'.state ≡ state.Running
     pub places_are : m'.places ≡ m.places + 1
     pub undurable_are : numbers_to m.ops ++ listed op ≡ numbers_to m'.ops
     pub volume_is : images m'.volume ≡ after from_formatted.volume (updates (kept from_formatted (place ss) ++ issued_by from_formatted (kept from_formatted (place ss)) (here r op)))
-    pub above_are : (o : ℕ) → length ss + 2 < o → images m'.volume o ≡ images m.volume o
+    pub unused_are : (o : ℕ) → length ss + 2 < o → images m'.volume o ≡ Gone
     pub numbers_are : numbers (kept from_formatted (place ss) ++ issued_by from_formatted (kept from_formatted (place ss)) (here r op)) ≡ numbers_to m'.ops
     pub ops_are : Each (λ k. T (of_start 0 boot k)) (kept from_formatted (place ss) ++ issued_by from_formatted (kept from_formatted (place ss)) (here r op))
     pub count_is : m.ops + length (filter (is_op_of 0 boot) (here r op ∷ [])) ≡ m'.ops
@@ -199,7 +185,7 @@ module _ (laws : Laws) (m m' : OneClerk) (n : ℕ) (ss : List Shown) (t : IsTran
       let s : Shown = line r op in
       let e : ℕ × Entry = here r op in
       let p : place (ss ++ s ∷ []) ≡ place ss ++ e ∷ [] = placed_here r op in
-      let w : watch 0 (ss ++ s ∷ []) ≡ watch_as state.Running boot (numbers_to m.ops ++ listed op) (watch 0 ss).crashed = watch_here r op c.seen in
+      let w : watch 0 (ss ++ s ∷ []) ≡ watch_as state.Running boot (numbers_to m.ops ++ listed op) (watch 0 ss).crashed = watch_here r op c.reply in
       let own : IsOwn e = (refl, small) in
       let keeps : kept from_formatted (place (ss ++ s ∷ [])) ≡ kept from_formatted (place ss) ++ issued_by from_formatted (kept from_formatted (place ss)) e = ap (kept from_formatted) p ∙ laws.kept_next_is from_formatted (place ss) e in
       let next : start_of m'.state (watch 0 (ss ++ s ∷ [])).starts ≡ boot = ap (λ st. start_of st (watch 0 (ss ++ s ∷ [])).starts) c.state_is ∙ ap (λ x. x.starts) w in
@@ -215,7 +201,7 @@ module _ (laws : Laws) (m m' : OneClerk) (n : ℕ) (ss : List Shown) (t : IsTran
         undurable = ap (λ x. x.undurable) w ∙ c.undurable_are;
         untold = ap (λ x. x.untold) w;
         volume = c.volume_is ∙ ap (λ ks. after from_formatted.volume (updates ks)) (sym keeps);
-        unused = λ o lt. let k : length (ss ++ s ∷ []) ≡ length ss + 1 = length-push ss s in c.above_are o (omega (arith, k, lt)) ∙ t.unused o (omega (arith, k, lt));
+        unused = λ o lt. let k : length (ss ++ s ∷ []) ≡ length ss + 1 = length-push ss s in c.unused_are o (omega (arith, k, lt));
         numbered = ap numbers keeps ∙ c.numbers_are;
         of_one = subst (λ b. Each (λ k. T (of_start 0 b k)) (kept from_formatted (place (ss ++ s ∷ [])))) (sym next) (subst (Each (λ k. T (of_start 0 boot k))) (sym keeps) c.ops_are);
         counted = ap (λ b. length (filter (is_op_of 0 b) (place (ss ++ s ∷ [])))) next ∙ count boot ∙ ap (λ k. k + length (filter (is_op_of 0 boot) (e ∷ []))) t.counted ∙ c.count_is;
@@ -239,17 +225,16 @@ module _ (laws : Laws) (m m' : OneClerk) (n : ℕ) (ss : List Shown) (t : IsTran
       clears d qs e = ap (λ q. owed_next from_formatted 0 d (kept from_formatted (place ss)) q (here r op)) e ∙ cond_nil (eqb d boot)
 
   -- a call without an update
-  pub answered_without : (r : Reply) → r ≡ out.reply → T (not_root r) → out.update ≡ None → m'.volume ≡ m.volume → m'.ops ≡ m.ops → m'.state ≡ state.Running → m'.places ≡ m.places + 1 → IsTranscript m' (n + 1) (ss ++ line r None ∷ [])
-  answered_without r reply seen none volume ops st places = answered_step r None (record {
+  pub answered_without : (r : Reply) → r ≡ out.reply → out.update ≡ None → m'.volume ≡ m.volume → m'.ops ≡ m.ops → m'.state ≡ state.Running → m'.places ≡ m.places + 1 → IsTranscript m' (n + 1) (ss ++ line r None ∷ [])
+  answered_without r reply none volume ops st places = answered_step r None (record {
     reply = reply;
-    seen = seen;
     issued = ap is_some (sym none);
     number = tt;
     state_is = st;
     places_are = places;
     undurable_are = append-nil (numbers_to m.ops) ∙ ap numbers_to (sym ops);
     volume_is = ap images volume ∙ t.volume ∙ ap (λ ks. after from_formatted.volume (updates ks)) (sym (append-nil (kept from_formatted (place ss))));
-    above_are = λ o lt. ap (λ v. images v o) volume;
+    unused_are = λ o lt. ap (λ v. images v o) volume ∙ t.unused o (omega (arith, lt));
     numbers_are = ap numbers (append-nil (kept from_formatted (place ss))) ∙ t.numbered ∙ ap numbers_to (sym ops);
     ops_are = subst (Each (λ k. T (of_start 0 boot k))) (sym (append-nil (kept from_formatted (place ss)))) t.of_one;
     count_is = ap (λ b. m.ops + length (cond b (here r None ∷ []) [])) (and_false (eqb boot boot)) ∙ same m.ops ∙ sym ops;
@@ -263,22 +248,21 @@ module _ (laws : Laws) (m m' : OneClerk) (n : ℕ) (ss : List Shown) (t : IsTran
       same k = omega arith
 
   -- a call with an update, which gets the next number
-  pub answered_with : (r : Reply) (u : Update) → r ≡ out.reply → T (not_root r) → out.update ≡ Some u → IsFine (images m.volume) (m.places + 2) u → ((o : ℕ) → images m'.volume o ≡ after (images m.volume) (u ∷ []) o) → m'.ops ≡ m.ops + 1 → m'.state ≡ state.Running → m'.places ≡ m.places + 1 → IsTranscript m' (n + 1) (ss ++ line r (Some (m.ops + 1)) ∷ [])
-  answered_with r u reply seen some fine volume ops st places =
+  pub answered_with : (r : Reply) (u : Update) → r ≡ out.reply → out.update ≡ Some u → ((o : ℕ) → images m'.volume o ≡ after (images m.volume) (u ∷ []) o) → m'.ops ≡ m.ops + 1 → m'.state ≡ state.Running → m'.places ≡ m.places + 1 → IsTranscript m' (n + 1) (ss ++ line r (Some (m.ops + 1)) ∷ [])
+  answered_with r u reply some volume ops st places =
       let op : Op = record { clerk = 0; boot = boot; number = m.ops + 1; place = at; update = u } in
       let ks : List Op = kept from_formatted (place ss) in
       let one : issued_by from_formatted ks (here r (Some (m.ops + 1))) ≡ op ∷ [] = ap (λ x. issued_of 0 boot (m.ops + 1) at x) (ap (λ o. o.update) same_outcome ∙ some) in
       let all : ks ++ issued_by from_formatted ks (here r (Some (m.ops + 1))) ≡ ks ++ op ∷ [] = ap (λ l. ks ++ l) one in
       answered_step r (Some (m.ops + 1)) (record {
         reply = reply;
-        seen = seen;
         issued = ap is_some (sym some);
         number = sym (ap (λ k. k + 1) t.counted);
         state_is = st;
         places_are = places;
         undurable_are = sym (numbers_to-next m.ops) ∙ ap numbers_to (sym ops);
         volume_is = (λ i o. volume o i) ∙ (λ i o. image_next o (t.volume i o) u) ∙ sym (λ i o. image_after-push o (from_formatted.volume o) (updates ks) u i) ∙ ap (after from_formatted.volume) (sym (updates-push ks op)) ∙ ap (λ l. after from_formatted.volume (updates l)) (sym all);
-        above_are = λ o lt. untouched_above m m' u (m.places + 2) fine volume o (omega (arith, lt, t.places));
+        unused_are = λ o lt. volume o ∙ is_gone-Gone _ (laws.others_gone (images m.volume) cl (m.places + 2) u some o (λ e. omega (arith, e, lt, t.places)) (subst (λ i. T (is_gone i)) (sym (t.unused o (omega (arith, lt)))) tt));
         numbers_are = ap numbers all ∙ numbers-push ks op ∙ ap (λ l. l ++ (m.ops + 1) ∷ []) t.numbered ∙ sym (numbers_to-next m.ops) ∙ ap numbers_to (sym ops);
         ops_are = subst (Each (λ k. T (of_start 0 boot k))) (sym all) (each-push (λ k. T (of_start 0 boot k)) ks op t.of_one (on (self boot)));
         count_is = ap (λ b. m.ops + length (cond (b && true) (here r (Some (m.ops + 1)) ∷ []) [])) (self boot) ∙ sym ops;
@@ -293,30 +277,32 @@ first_none u v (o ∷ os) all = elim (fits u o (v o)) as (λ b. T b → cond b (
     here : (b : Bool) → b ≡ true → T (b || member o os)
     here b e = subst (λ x. T (x || member o os)) (sym e) tt
 
-pub call_good : (m : OneClerk) (n : ℕ) (ss : List Shown) → IsTranscript m n ss → (cl : Call) → IsSmallCall cl → IsGood (images m.volume) (m.places + 2) (plain (images m.volume) cl (m.places + 2))
-call_good m n ss t cl small = small_good (images m.volume) (m.places + 2) (λ o lt. t.unused o (above (length ss) m.places o t.places lt)) cl small (t.unused (m.places + 2) (next (length ss) m.places t.places))
+pub call_fits : (laws : Laws) (m : OneClerk) (n : ℕ) (ss : List Shown) → IsTranscript m n ss → (cl : Call) → IsSmallCall cl → Fitting (plain (images m.volume) cl (m.places + 2)).update (images m.volume)
+call_fits laws m n ss t cl small = go (plain (images m.volume) cl (m.places + 2)).update refl
   where
-    above : (k p o : ℕ) → p ≡ k → p + 2 < o → k + 1 < o
-    above k p o e lt = omega (arith, e, lt)
+    formed : WellFormed (images m.volume)
+    formed = subst WellFormed (sym t.volume) (laws.kept_formed from_formatted most ss laws.is_base (own_bounded (place ss) t.own) t.legal).formed
 
-    next : (k p : ℕ) → p ≡ k → k + 1 < p + 2
-    next k p e = omega (arith, e)
+    gone : T (is_gone (images m.volume (m.places + 2)))
+    gone = subst (λ i. T (is_gone i)) (sym (t.unused (m.places + 2) (omega (arith, t.places)))) tt
 
-pub call_fits : (v : Images) (fresh : ℕ) (out : Outcome) → IsGood v fresh out → Fitting out.update v
-call_fits v fresh out good = go out.update refl
-  where
-    go : (u : Option Update) → out.update ≡ u → Fitting u v
+    fitting : (a b : Bool) → T ((not a || b) && true) → T a → T b
+    fitting true true f h = tt
+    fitting true false f h = f
+    fitting false b f h = absurd h
+
+    go : (u : Option Update) → (plain (images m.volume) cl (m.places + 2)).update ≡ u → Fitting u (images m.volume)
     go None e = tt
-    go (Some u) e = let fine : IsFine v fresh u = good.fine u e in (fine.sound, first_none u v (operands u) fine.fitting)
+    go (Some u) e = (
+      laws.call_sound (images m.volume) cl (m.places + 2) u formed gone (small_bounded cl small) e,
+      first_none u (images m.volume) (operands u) (λ o. fitting (has_operand o u) (fits u o (images m.volume o)) (laws.call_fits (images m.volume) cl (m.places + 2) u formed gone e o)),
+    )
 
 -- An answer, with or without an update.
 pub answered_any : (laws : Laws) (m mid m' : OneClerk) (n : ℕ) (ss : List Shown) (t : IsTranscript m n ss) (cl : Call) (small : IsSmallCall cl) → is_crashed m.state ≡ false → (o : Outcome) → o ≡ plain (images m.volume) cl (m.places + 2) → (op : Option ℕ) → Takes o.update op m mid
     → m'.volume ≡ mid.volume → m'.ops ≡ mid.ops → m'.state ≡ state.Running → m'.places ≡ m.places + 1 → IsTranscript m' (n + 1) (ss ++ Answered (n + 1) 0 cl (answer.Reply o.reply) op ∷ [])
 answered_any laws m mid m' n ss t cl small calm o is op takes volume ops st places = go o.update refl takes
   where
-    good : IsGood (images m.volume) (m.places + 2) o
-    good = subst (IsGood (images m.volume) (m.places + 2)) (sym is) (call_good m n ss t cl small)
-
     go : (u : Option Update) → o.update ≡ u → Takes u op m mid → IsTranscript m' (n + 1) (ss ++ Answered (n + 1) 0 cl (answer.Reply o.reply) op ∷ [])
-    go None e k = subst (λ x. IsTranscript m' (n + 1) (ss ++ Answered (n + 1) 0 cl (answer.Reply o.reply) x ∷ [])) (sym k.0) (answered_without laws m m' n ss t cl small calm o.reply (ap (λ x. x.reply) is) good.seen (sym (ap (λ x. x.update) is) ∙ e) (volume ∙ k.1) (ops ∙ k.2) st places)
-    go (Some u) e k = subst (λ x. IsTranscript m' (n + 1) (ss ++ Answered (n + 1) 0 cl (answer.Reply o.reply) x ∷ [])) (sym k.0) (answered_with laws m m' n ss t cl small calm o.reply u (ap (λ x. x.reply) is) good.seen (sym (ap (λ x. x.update) is) ∙ e) (good.fine u e) (λ x. ap (λ v. images v x) volume ∙ k.1 x) (ops ∙ k.2) st places)
+    go None e k = subst (λ x. IsTranscript m' (n + 1) (ss ++ Answered (n + 1) 0 cl (answer.Reply o.reply) x ∷ [])) (sym k.0) (answered_without laws m m' n ss t cl small calm o.reply (ap (λ x. x.reply) is) (sym (ap (λ x. x.update) is) ∙ e) (volume ∙ k.1) (ops ∙ k.2) st places)
+    go (Some u) e k = subst (λ x. IsTranscript m' (n + 1) (ss ++ Answered (n + 1) 0 cl (answer.Reply o.reply) x ∷ [])) (sym k.0) (answered_with laws m m' n ss t cl small calm o.reply u (ap (λ x. x.reply) is) (sym (ap (λ x. x.update) is) ∙ e) (λ x. ap (λ v. images v x) volume ∙ k.1 x) (ops ∙ k.2) st places)

@@ -1,5 +1,5 @@
 -- The loss of all operations of a crashed start.
-use Rattle.std.proofs.Common.{◌≡◌, refl, sym, subst, arith, ◌∙◌, ap, ◌+◌, ◌<◌, ◌≤◌, ℕ, T, Bool, true, false, not, ◌&&◌, ◌||◌, cond, List, [], ◌∷◌, ◌++◌, eqb}
+use Rattle.std.proofs.Common.{◌≡◌, refl, sym, subst, arith, ◌∙◌, ap, ◌+◌, ◌<◌, ◌≤◌, ℕ, T, Bool, true, false, not, ◌||◌, cond, List, [], ◌∷◌, ◌++◌, eqb}
 use Rattle.std.specs.Prelude.{length, is_some}
 use Rattle.std.specs.List.{filter, list_any, list_all}
 use Rattle.std.proofs.lemmas.List.Elements.{filter-append}
@@ -22,27 +22,16 @@ use Rattle.ec_drill.specs.OneClerk.{is_running, open_of, start_of, IsOwn, IsTran
 use Rattle.ec_drill.specs.declared.one_clerk.State.TheVariants as state
 use Rattle.ec_drill.specs.declared.one_clerk.OneClerk.{OneClerk}
 use Rattle.ec_drill.specs.Laws.{Laws}
-use Rattle.ec_drill.proofs.Small.{covers_nothing, on}
+use Rattle.ec_drill.proofs.Small.{self, on, and_both, or_right, covers_nothing}
 use Rattle.ec_drill.proofs.Steps.{each_line-push, each-push, throughout-push, throughout-all, length-push, watch_as, watched}
 
 -- all of these operations are the start's
 abbrev AllOf : ℕ → List Op → Type 0
 AllOf b ks = Each (λ k. T (of_start 0 b k)) ks
 
-or_right : (a b : Bool) → T b → T (a || b)
-or_right true b h = tt
-or_right false b h = h
-
 or_left : (a b : Bool) → T a → T (a || b)
 or_left true b h = tt
 or_left false b h = absurd h
-
-and_both : (a b : Bool) → T a → T b → T (a && b)
-and_both true b x y = y
-and_both false b x y = absurd x
-
-self : (n : ℕ) → eqb n n ≡ true
-self n = grind arith
 
 -- each of them is one of those with these numbers, wherever their own numbers are among these
 one_of_all : (b : ℕ) (ns : List ℕ) (k : Op) → T (of_start 0 b k) → T (member k.number ns) → T (is_one_of 0 b ns k)

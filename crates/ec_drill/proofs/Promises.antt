@@ -2,6 +2,7 @@
 use Rattle.std.proofs.Common.{◌≡◌, ◌≢◌, refl, sym, subst, inl, inr, arith, ◌∙◌, ap, ◌+◌, ◌≤◌, ◌⊎◌, ℕ, zero, suc, true, false, List, [], ◌∷◌, ◌++◌, eqb, eqb→eq, Option, Some, None, append-nil, append_assoc}
 use Rattle.std.specs.Prelude.{length, take, slice_get, nat_le}
 use Rattle.std.specs.List.{filter}
+use Rattle.std.proofs.lemmas.Bool.{cases_Bool}
 use Rattle.std.proofs.lemmas.List.{take-append-le}
 use Rattle.std.proofs.Math.Seq.{take-length}
 use Rattle.ec_history.specs.Legal.{IsLegal, from_formatted}
@@ -12,7 +13,7 @@ use Rattle.ec_history.specs.declared.shown.Shown.TheVariants.{Waits, Answered, D
 use Rattle.ec_script.specs.declared.line.Line.{Line}
 use Rattle.ec_drill.specs.Promise.{Lines, Pieces, joined, InScript, IsPiece, ArePieces, ends, may_end, Promise}
 use Rattle.ec_drill.specs.Run.{most}
-use Rattle.ec_drill.proofs.Small.{decide, on}
+use Rattle.ec_drill.proofs.Small.{on}
 use Rattle.ec_drill.proofs.Steps.{length-push}
 use Rattle.ec_drill.proofs.Texts.{joined-push}
 
@@ -84,7 +85,7 @@ longer_promise lines l pieces front p same f =
       own_calls = subst (EachLine (InScript (lines ++ l ∷ []))) (sym e) (each_line-append _ (joined pieces) front (each_in_longer lines (l ∷ []) (joined pieces) p.own_calls) f.own_calls);
       counted = count;
       numbered = are_pieces-push 1 [] pieces front p.numbered f.numbered;
-      losses = λ c k le. bound c k (decide (nat_le k (length pieces))) le;
+      losses = λ c k le. bound c k (cases_Bool (nat_le k (length pieces))) le;
       fsync = subst (AreCovered from_formatted) (sym e) f.covered;
     }
   where
@@ -108,7 +109,7 @@ longer_promise lines l pieces front p same f =
         zero_is c e h = grind arith
 
     new : (c k : ℕ) → k ≡ length pieces + 1 → length (filter (ends c) (joined (take k (pieces ++ front ∷ [])))) ≤ length (filter (may_end c) (take k (lines ++ l ∷ [])))
-    new c k is = subst (λ ps. length (filter (ends c) (joined ps)) ≤ length (filter (may_end c) (take k (lines ++ l ∷ [])))) (sym (all_pieces k is)) (subst (λ ls. length (filter (ends c) (joined (pieces ++ front ∷ []))) ≤ length (filter (may_end c) ls)) (sym (all_lines k is)) (subst (λ ss. length (filter (ends c) ss) ≤ length (filter (may_end c) (lines ++ l ∷ []))) (sym (joined-push pieces front)) (whole c (decide (eqb c 0)))))
+    new c k is = subst (λ ps. length (filter (ends c) (joined ps)) ≤ length (filter (may_end c) (take k (lines ++ l ∷ [])))) (sym (all_pieces k is)) (subst (λ ls. length (filter (ends c) (joined (pieces ++ front ∷ []))) ≤ length (filter (may_end c) ls)) (sym (all_lines k is)) (subst (λ ss. length (filter (ends c) ss) ≤ length (filter (may_end c) (lines ++ l ∷ []))) (sym (joined-push pieces front)) (whole c (cases_Bool (eqb c 0)))))
       where
         all_pieces : (k : ℕ) → k ≡ length pieces + 1 → take k (pieces ++ front ∷ []) ≡ pieces ++ front ∷ []
         all_pieces k is = ap (λ n. take n (pieces ++ front ∷ [])) (is ∙ sym longer) ∙ take-length (pieces ++ front ∷ [])

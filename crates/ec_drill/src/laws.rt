@@ -1,12 +1,16 @@
 // The laws that the one clerk's steps use.
 ghost use Rattle.ec_drill.specs.Laws.{Laws};
 
+use ec_formed::{
+    calls_make_fitting_updates, calls_make_the_fresh_object_alone, formatted_is_a_base,
+    what_is_kept_is_well_formed,
+};
 use ec_laws::{
     each_line_is_placed, lines_above_cover, longer_history, longer_history_is_legal,
     longer_transcript, longer_transcript_is_placeable,
 };
 
-/// The laws of longer histories and transcripts.
+/// The laws of longer histories and transcripts, and of volumes that stay well formed.
 pub(crate) fn laws()
     ensures { Laws }
 {
@@ -16,4 +20,8 @@ pub(crate) fn laws()
     longer_transcript();
     each_line_is_placed();
     lines_above_cover();
+    formatted_is_a_base();
+    what_is_kept_is_well_formed();
+    calls_make_fitting_updates();
+    calls_make_the_fresh_object_alone();
 }

@@ -21,7 +21,8 @@ const MOST_LINES: usize = 65_536;
 /// Runs the script that the source gives, and writes its transcript to the sink. The source is
 /// read to its end first.
 pub fn drill<S: Source, K: Sink>(alloc: Global, source: &mut S, sink: &mut K) -> Status
-    ensures { Drilled result (record { left = S.left source.old; left_after = S.left source.new; reads = S.faults source.old; reads_after = S.faults source.new; held = K.held sink.old; held_after = K.held sink.new; writes = K.faults sink.old; writes_after = K.faults sink.new }) }
+    ensures later { (S.faults source.old ≤ S.faults source.new) × (K.faults sink.old ≤ K.faults sink.new) }
+    ensures drilled { Drilled result (record { left = S.left source.old; left_after = S.left source.new; reads = S.faults source.old; reads_after = S.faults source.new; held = K.held sink.old; held_after = K.held sink.new; writes = K.faults sink.old; writes_after = K.faults sink.new }) }
 {
     let script = match read_whole(alloc, source, MOST_BYTES) {
         Ok(script) => script,
@@ -48,7 +49,8 @@ pub fn drill<S: Source, K: Sink>(alloc: Global, source: &mut S, sink: &mut K) ->
 
 // Writes the last line, at a script that has too much.
 fn refuse<K: Sink>(alloc: Global, sink: &mut K, name: LimitName, number: u64) -> Status
-    ensures { LimitTold result (shown_text (shown.Limit name number)) (K.held sink.old) (K.held sink.new) (K.faults sink.old) (K.faults sink.new) }
+    ensures later { K.faults sink.old ≤ K.faults sink.new }
+    ensures told { LimitTold result (shown_text (shown.Limit name number)) (K.held sink.old) (K.held sink.new) (K.faults sink.old) (K.faults sink.new) }
 {
     let Ok(text) = print(alloc, &Shown::Limit(name, number)) else {
         return Status::NoMemory;

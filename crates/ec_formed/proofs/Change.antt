@@ -8,7 +8,7 @@ use Rattle.ec_volume.specs.Update.{root}
 use Rattle.ec_volume.specs.Volume.{Images, Names, WellFormed}
 use Rattle.ec_volume.specs.declared.image.Image.{Image}
 use Rattle.ec_volume.specs.declared.update.Update.{Update}
-use Rattle.ec_volume.specs.declared.update.Update.TheVariants.{Make, Drop, Move, Put, Len, Mode, Stamp, Order, Shift, Owner}
+use Rattle.ec_volume.specs.declared.update.Update.TheVariants.{Make, Drop, Move, Shift}
 
 abbrev pub IsLive : Image → Type 0
 IsLive i = T (not (is_gone i))

@@ -29,8 +29,8 @@ pub kept-formed : (v : Images) (us : List Update) → WellFormed v → T (list_a
 kept-formed v [] f s t = f
 kept-formed v (u ∷ us) f s t =
     kept-formed (after v (u ∷ [])) us
-        (change_formed v (after v (u ∷ [])) (New u) (Stay u) (changed v u f (left (is_sound u) (list_all is_sound us) s) (first-fits v u us t)) f)
-        (right (is_sound u) (list_all is_sound us) s) (rest-fits v u us t)
+    (change_formed v (after v (u ∷ [])) (New u) (Stay u) (changed v u f (left (is_sound u) (list_all is_sound us) s) (first-fits v u us t)) f)
+    (right (is_sound u) (list_all is_sound us) s) (rest-fits v u us t)
 
 -- An update within its bounds leaves an image Gone, or within the limits.
 abbrev pub IsWithin : Image → Type 0
@@ -78,7 +78,7 @@ pub kept-within : (us : List Update) (o : ℕ) (i : Image) → T (list_all is_so
 kept-within [] o i s t h = h
 kept-within (u ∷ us) o i s t h =
     kept-within us o (image_next o i u) (right (is_sound u) (list_all is_sound us) s) (right (not (has_operand o u) || fits u o i) (fits_in_turn o (image_next o i u) us) t)
-        (next (has_operand o u) (left (not (has_operand o u) || fits u o i) (fits_in_turn o (image_next o i u) us) t))
+    (next (has_operand o u) (left (not (has_operand o u) || fits u o i) (fits_in_turn o (image_next o i u) us) t))
   where
     next : (b : Bool) → T (not b || fits u o i) → IsWithin (cond b (effect u o i) i)
     next true x = within-effect u o i (left (is_sound u) (list_all is_sound us) s) x h

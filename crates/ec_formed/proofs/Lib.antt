@@ -1,5 +1,10 @@
 pub mod Change
 pub mod Walked
+pub mod Led
+pub mod Reached
+pub mod Formatted
+pub mod Fresh
+pub mod Keeping
 pub mod Entries
 pub mod Apart
 pub mod Edited
@@ -17,3 +22,5 @@ pub mod Lasts
 pub mod Renamed
 pub mod Called
 pub mod Planned
+pub mod Laws
+pub mod Bases

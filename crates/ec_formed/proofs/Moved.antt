@@ -93,8 +93,8 @@ module _ (dir : ℕ) (from to : List ℕ) (obj : ℕ) (k : Kind) (victim : Optio
     victim-gone o e =
         let m : member o (listed victim) ≡ true = victim-listed o victim e in
         goes (o == dir) (o == obj) (member o (listed victim)) (v o)
-            (apart dir o (obj ∷ listed victim) apart-all (member-next o obj (listed victim) m))
-            (apart obj o (listed victim) (distinct-rest dir (obj ∷ listed victim) apart-all) m) m
+        (apart dir o (obj ∷ listed victim) apart-all (member-next o obj (listed victim) m))
+        (apart obj o (listed victim) (distinct-rest dir (obj ∷ listed victim) apart-all) m) m
 
     obj-stays : victim ≡ Some obj → ⊥
     obj-stays e = true≢false (sym (same_number obj) ∙ apart obj obj (listed victim) (distinct-rest dir (obj ∷ listed victim) apart-all) (victim-listed obj victim e))

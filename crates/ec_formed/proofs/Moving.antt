@@ -38,7 +38,6 @@ id-victim P x (Some t) h m = subst P (sym (eqb-true x t m)) h
 
 module _ (v : Images) (d : ℕ) (from : List ℕ) (o : ℕ) (to : List ℕ) (k : Kind) (victim : Option ℕ)
     (dir : T (is_dir (v d))) (named : Names v d from o) (is_of_kind : T (is_kind k (v o))) (bare : OnVictim victim (λ t. T (is_bare k (v t)))) where
-
   -- Within one directory.
 
   abbrev dir_at : ℕ → Bool → Bool → Bool

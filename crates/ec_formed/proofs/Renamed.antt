@@ -96,8 +96,8 @@ module _ (v : Images) (f : WellFormed v) (p q : Path) (meet : parent_of p ≡ pa
 
   e_o : (e == o) ≡ false
   e_o = unequal e o (λ s.
-    let is_one = is-true (is_dir (v o)) (subst (λ x. T (is_dir (v x))) s into) in
-    true≢false (sym (is-true (member e ps) (walked-last v root (parent_of q) ps e to_root)) ∙ ap (λ x. member x ps) s ∙ ap (λ b. b && member o ps) (sym is_one) ∙ straight))
+      let is_one = is-true (is_dir (v o)) (subst (λ x. T (is_dir (v x))) s into) in
+      true≢false (sym (is-true (member e ps) (walked-last v root (parent_of q) ps e to_root)) ∙ ap (λ x. member x ps) s ∙ ap (λ b. b && member o ps) (sym is_one) ∙ straight))
 
   o_up : member o (ids_of (above (kind_of (v o)) ps (parent_of q))) ≡ false
   o_up = above-lacks v f (parent_of q) ps e to_root (kind_of (v o)) o (λ s. ap (λ b. b && member o ps) (sym (kind-dir (v o) s)) ∙ straight)
@@ -110,8 +110,7 @@ module _ (v : Images) (f : WellFormed v) (p q : Path) (meet : parent_of p ≡ pa
 
   moved : (victim : Option ℕ) → T (yields (last_of q) victim (v e)) → OnVictim victim Goes → (d == e) ≡ true → Fine v q (Move d (last_of p) (last_of q) o (kind_of (v o)) victim)
   moved victim yield goes s =
-      let one : d ≡ e = eqb-true d e s in
-      (
+      let one : d ≡ e = eqb-true d e s in (
         λ short. move-sound d (last_of p) (last_of q) o (kind_of (v o)) victim d_o (on-victim Goes (λ t. ((d == t) ≡ false) × ((o == t) ≡ false)) victim (λ t g. (d_t t g, o_t t g)) goes) (other one (cases_Bool (same_name (last_of p) (last_of q)))),
         move-fits v d (last_of p) o (last_of q) (kind_of (v o)) victim dir named (kind-is (v o) live) (bare-goes victim goes) (subst (λ x. T (yields (last_of q) victim (v x))) (sym one) yield),
       )
@@ -122,16 +121,15 @@ module _ (v : Images) (f : WellFormed v) (p q : Path) (meet : parent_of p ≡ pa
 
   shifted : (victim : Option ℕ) → T (yields (last_of q) victim (v e)) → T (has_room victim (v e)) → OnVictim victim Goes → (d == e) ≡ false
       → Fine v q (Shift d (last_of p) e (last_of q) o (kind_of (v o)) victim (above (kind_of (v o)) ps (parent_of q)))
-  shifted victim yield room goes s =
-      (
-        λ short. shift-sound d (last_of p) e (last_of q) o (kind_of (v o)) victim (above (kind_of (v o)) ps (parent_of q)) s d_o e_o
-            (on-victim Goes (λ t. ((d == t) ≡ false) × ((e == t) ≡ false) × ((o == t) ≡ false)) victim (λ t g. (d_t t g, e_t t g, o_t t g)) goes)
-            (above-apart v f (parent_of q) ps e to_root (kind_of (v o))) (above-end v f (parent_of q) ps e to_root (kind_of (v o))) o_up
-            (on-victim Goes (λ t. member t (ids_of (above (kind_of (v o)) ps (parent_of q))) ≡ false) victim (λ t g. above-bare v f (parent_of q) ps e to_root (kind_of (v o)) t g.1) goes)
-            (above-way v f (parent_of q) ps e to_root (kind_of (v o)) (shorter short)),
-        shift-fits v d (last_of p) o (last_of q) (kind_of (v o)) victim dir named (kind-is (v o) live) (bare-goes victim goes) e (above (kind_of (v o)) ps (parent_of q)) yield room
-            (above-leads v f (parent_of q) ps e to_root (kind_of (v o))),
-      )
+  shifted victim yield room goes s = (
+    λ short. shift-sound d (last_of p) e (last_of q) o (kind_of (v o)) victim (above (kind_of (v o)) ps (parent_of q)) s d_o e_o
+        (on-victim Goes (λ t. ((d == t) ≡ false) × ((e == t) ≡ false) × ((o == t) ≡ false)) victim (λ t g. (d_t t g, e_t t g, o_t t g)) goes)
+        (above-apart v f (parent_of q) ps e to_root (kind_of (v o))) (above-end v f (parent_of q) ps e to_root (kind_of (v o))) o_up
+        (on-victim Goes (λ t. member t (ids_of (above (kind_of (v o)) ps (parent_of q))) ≡ false) victim (λ t g. above-bare v f (parent_of q) ps e to_root (kind_of (v o)) t g.1) goes)
+        (above-way v f (parent_of q) ps e to_root (kind_of (v o)) (shorter short)),
+    shift-fits v d (last_of p) o (last_of q) (kind_of (v o)) victim dir named (kind-is (v o) live) (bare-goes victim goes) e (above (kind_of (v o)) ps (parent_of q)) yield room
+        (above-leads v f (parent_of q) ps e to_root (kind_of (v o))),
+  )
 
   renamed : (victim : Option ℕ) (rs : List ℕ) → T (yields (last_of q) victim (v e)) → ((d == e) ≡ false → T (has_room victim (v e))) → OnVictim victim Goes
       → Makes (Fine v q) (renames d (last_of p) e (last_of q) o (kind_of (v o)) victim (above (kind_of (v o)) ps (parent_of q)) rs)

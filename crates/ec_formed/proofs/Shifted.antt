@@ -137,12 +137,12 @@ module _ (dir : ℕ) (from : List ℕ) (into : ℕ) (to : List ℕ) (obj : ℕ) 
     named : Names v dir from obj
     named =
         gives-is from obj (v dir)
-            (first_fits (dir == dir) (dir == into) (dir == obj) (member dir others) (is_id dir victim) (leads up into dir (v dir)) (v dir) (fits dir) (same_number dir))
+        (first_fits (dir == dir) (dir == into) (dir == obj) (member dir others) (is_id dir victim) (leads up into dir (v dir)) (v dir) (fits dir) (same_number dir))
 
     named-to : entry (entries_of (v into)) to ≡ victim
     named-to =
         yields-is to victim (v into)
-            (second_fits (into == dir) (into == into) (into == obj) (member into others) (is_id into victim) (leads up into into (v into)) (v into) (fits into) into-not-dir (same_number into))
+        (second_fits (into == dir) (into == into) (into == obj) (member into others) (is_id into victim) (leads up into into (v into)) (v into) (fits into) into-not-dir (same_number into))
 
     root-not : root ≡ obj → ⊥
     root-not e = f.root_unnamed dir from (subst (λ x. Names v dir from x) (sym e) named)
@@ -154,8 +154,8 @@ module _ (dir : ℕ) (from : List ℕ) (into : ℕ) (to : List ℕ) (obj : ℕ) 
     victim-gone o e =
         let m : member o others ≡ true = victim-other o e in
         goes (o == dir) (o == into) (o == obj) (member o others) (is_id o victim) (v o)
-            (apart dir o (into ∷ obj ∷ others) apart-all (member-next o into (obj ∷ others) (member-next o obj others m)))
-            (apart into o (obj ∷ others) apart-into (member-next o obj others m)) m (id-from o victim e)
+        (apart dir o (into ∷ obj ∷ others) apart-all (member-next o into (obj ∷ others) (member-next o obj others m)))
+        (apart into o (obj ∷ others) apart-into (member-next o obj others m)) m (id-from o victim e)
 
     obj-stays : victim ≡ Some obj → ⊥
     obj-stays e = true≢false (sym (same_number obj) ∙ victim-not-obj obj (id-from obj victim e))
@@ -169,8 +169,8 @@ module _ (dir : ℕ) (from : List ℕ) (into : ℕ) (to : List ℕ) (obj : ℕ) 
           maps = λ d. sorted (d == dir) (d == into) (d == obj) (member d others) (is_id d victim) (v d) (f.maps d);
           root_is_dir =
               subst T
-                  (sym (dir-same (root == dir) (root == into) (root == obj) (member root others) (is_id root victim) (v root) (not-victim root (λ e. f.root_unnamed into to (named-to ∙ e)))))
-                  f.root_is_dir;
+              (sym (dir-same (root == dir) (root == into) (root == obj) (member root others) (is_id root victim) (v root) (not-victim root (λ e. f.root_unnamed into to (named-to ∙ e)))))
+              f.root_is_dir;
           found = λ d n. found (d == dir) (d == into) (d == obj) (member d others) (is_id d victim) (leads up into d (v d)) (v d) (dir-not-into d) (victim-not-obj d) (fits d) n;
           new = λ d n e. let p = at-is into to d n e in (p.0, p.1, refl);
           new_is = λ d n o h. (at-from into to d n h.0 h.1, h.2);

@@ -186,8 +186,7 @@ forward : (xs ys : List ℕ) → T (distinct (onto xs ys)) → T (distinct xs) �
 unfolding onto
 forward [] ys h = (tt, h, λ z m. tt)
 forward (x ∷ xs) ys h =
-    let (later, apart, none) = forward xs (x ∷ ys) h in
-    (
+    let (later, apart, none) = forward xs (x ∷ ys) h in (
       both (not (member x xs)) (distinct xs) (none_first x xs ys apart none) later,
       right (not (member x ys)) (distinct ys) apart,
       λ z m. none_behind x xs ys apart none z m (cases_Bool (z == x)),

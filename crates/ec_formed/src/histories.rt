@@ -3,11 +3,16 @@ ghost use Rattle.std.specs.Prelude.{◌≡◌, ℕ, T, Bool, false, not, List, [
 ghost use Rattle.std.specs.List.{filter, list_all, list_any};
 ghost use Rattle.ec_volume.specs.Update.{operands, member};
 ghost use Rattle.ec_history.specs.History.{Base, History, Op, Throughout, of_start, is_one_of, is_entry_of, kept, without, touched};
-ghost use Rattle.ec_history.specs.Legal.{IsLegal, is_closed};
+ghost use Rattle.ec_history.specs.Legal.{IsLegal, is_closed, from_formatted};
 ghost use Rattle.ec_history.specs.Placing.{place};
 ghost use Rattle.ec_history.specs.declared.shown.Shown.{Shown};
 ghost use Rattle.ec_laws.specs.Needs.{holds_needed};
 ghost use Rattle.ec_formed.specs.Bases.{IsBase, AreAtLines, LeaveWellFormed, is_bounded_entry};
+
+/// The formatted volume is a base.
+pub fn formatted_is_a_base()
+    ensures { IsBase from_formatted }
+{}
 
 /// What a legal history keeps, behind each entry and as a whole, is sound, fits and leaves a
 /// well-formed volume with each object reached; so the entries of a transcript's lines do.

@@ -1,19 +1,15 @@
 -- Lists of ids: one taken out, and sixteen put in.
-use Rattle.std.proofs.Common.{◌≡◌, ◌==◌, ◌+◌, ◌-◌, ◌<◌, ◌≤◌, ◌^◌, inl, inr, ℕ, zero, suc, Bool, true, false, not, ◌||◌, if◌then◌else◌, nat_lt, cond, List, [], ◌∷◌, ◌++◌, length, take, drop, refl, sym, ◌∙◌, ap, subst, append-nil, arith}
-use Rattle.std.specs.List.{prefix_len, remove}
-use Rattle.std.proofs.lemmas.Bool.{cases_Bool, cases_eq, eq-eqb, lt-ltb, ne_eqb}
+use Rattle.std.proofs.Common.{◌≡◌, ◌==◌, ◌+◌, ◌-◌, ◌<◌, ◌≤◌, ◌^◌, inl, inr, ℕ, zero, suc, Bool, true, false, ◌||◌, if◌then◌else◌, nat_lt, cond, List, [], ◌∷◌, ◌++◌, length, get_or, take, drop, refl, sym, ◌∙◌, ap, subst, append-nil, arith}
+use Rattle.std.specs.Prelude.{◌≢◌, Result, Ok, Err, MatchResult}
+use Rattle.std.specs.Ordering.{nat_cmp}
+use Rattle.std.specs.List.{prefix_len, remove, AllPairs}
+use Rattle.std.specs.List.Sorted.{IsStrictlyIncreasing, IsBinarySearchResult}
+use Rattle.std.proofs.lemmas.Bool.{cases_Bool, cases_eq, eq-eqb, lt-ltb, ltb-true, ltb-false, ne_eqb}
 use Rattle.std.proofs.lemmas.List.{take_rest}
+use Rattle.std.proofs.lemmas.List.Kept.{AllPairs-from_increasing}
+use Rattle.std.proofs.lemmas.List.Sorted.{searched}
 use Rattle.ec_sessions.specs.Slots.{is_in, without, run, sixteen, with_ids, AreIds}
 use Rattle.ec_sessions.specs.Windows.{times}
-
-abbrev pub before : ℕ → List ℕ → ℕ
-before id ids = prefix_len (λ other. not (other == id)) ids
-
-at_hit : (id other : ℕ) (ids : List ℕ) → (other == id) ≡ true → before id (other ∷ ids) ≡ 0
-at_hit id other ids h = ap (λ b. cond (not b) (1 + before id ids) 0) h
-
-at_miss : (id other : ℕ) (ids : List ℕ) → (other == id) ≡ false → before id (other ∷ ids) ≡ 1 + before id ids
-at_miss id other ids h = ap (λ b. cond (not b) (1 + before id ids) 0) h
 
 without-hit : (id other : ℕ) (ids : List ℕ) → (other == id) ≡ true → without id (other ∷ ids) ≡ ids
 without-hit id other ids h = ap (λ b. if b then ids else other ∷ without id ids) h
@@ -22,33 +18,34 @@ without-miss : (id other : ℕ) (ids : List ℕ) → (other == id) ≡ false →
 without-miss id other ids h = ap (λ b. if b then ids else other ∷ without id ids) h
 
 -- an id that is there is taken out at its place
-pub out_found : (id n : ℕ) (ids : List ℕ) → n ≡ before id ids → n < length ids → (true ≡ is_in id ids) × (remove ids n ≡ without id ids)
-out_found id n [] e l = absurd (omega arith)
-out_found id zero (other ∷ ids) e l =
-    elim (cases_Bool (other == id)) [
-      | inl h ↦ (sym (ap (λ b. b || is_in id ids) h), sym (without-hit id other ids h))
-      | inr h ↦ absurd (omega (arith, at_miss id other ids h))
-    ]
-out_found id (suc n) (other ∷ ids) e l =
-    elim (cases_Bool (other == id)) [
-      | inl h ↦ absurd (omega (arith, at_hit id other ids h))
-      | inr h ↦
-          let rest : n ≡ before id ids = omega (arith, at_miss id other ids h) in
-          let out = out_found id n ids rest (omega arith) in
-          (out.0 ∙ sym (ap (λ b. b || is_in id ids) h), ap (λ x. other ∷ x) out.1 ∙ sym (without-miss id other ids h))
-    ]
+out_found : (id at : ℕ) (ids : List ℕ) → AllPairs (λ x y. x < y) ids → at < length ids → get_or ids at 0 ≡ id → remove ids at ≡ without id ids
+out_found id at [] rising l e = absurd (omega arith)
+out_found id zero (other ∷ ids) rising l e = sym (without-hit id other ids (eq-eqb other id e))
+out_found id (suc at) (other ∷ ids) rising l e =
+    let miss : (other == id) ≡ false = ne_eqb other id (λ same. absurd (omega (arith, rising 0 (suc at) 0 (omega arith) l))) in
+    ap (λ x. other ∷ x) (out_found id at ids (λ i j d before within. rising (suc i) (suc j) d (omega arith) (omega arith)) (omega arith) e) ∙ sym (without-miss id other ids miss)
 
 -- and else nothing is taken out
-pub out_none : (id : ℕ) (ids : List ℕ) → length ids ≤ before id ids → (false ≡ is_in id ids) × (ids ≡ without id ids)
-out_none id [] l = (refl, refl)
-out_none id (other ∷ ids) l =
-    elim (cases_Bool (other == id)) [
-      | inl h ↦ absurd (omega (arith, at_hit id other ids h))
-      | inr h ↦
-          let rest : length ids ≤ before id ids = omega (arith, at_miss id other ids h) in
-          let out = out_none id ids rest in
-          (out.0 ∙ sym (ap (λ b. b || is_in id ids) h), ap (λ x. other ∷ x) out.1 ∙ sym (without-miss id other ids h))
-    ]
+out_none : (id : ℕ) (ids : List ℕ) → ((k : ℕ) → k < length ids → get_or ids k 0 ≢ id) → (false ≡ is_in id ids) × (ids ≡ without id ids)
+out_none id [] other = (refl, refl)
+out_none id (first ∷ ids) other =
+    let miss : (first == id) ≡ false = ne_eqb first id (other 0 (omega arith)) in
+    let out = out_none id ids (λ k l. other (suc k) (omega arith)) in
+    (out.0 ∙ sym (ap (λ b. b || is_in id ids) miss), ap (λ x. first ∷ x) out.1 ∙ sym (without-miss id first ids miss))
+
+rises : (ids : List ℕ) → IsStrictlyIncreasing ids → (i j : ℕ) → i ≤ j → j < length ids → get_or ids i 0 ≤ get_or ids j 0
+rises ids increasing i j l within =
+    elim (cases_eq i j) [ inl e ↦ omega (arith, ap (λ k. get_or ids k 0) e) | inr d ↦ omega (arith, AllPairs-from_increasing ids increasing i j 0 (omega arith) within) ]
+
+-- what a binary search answers tells what is taken out
+pub taken_out : (id : ℕ) (ids seen : List ℕ) (r : Result ℕ ℕ) → seen ≡ ids → IsStrictlyIncreasing ids → IsBinarySearchResult (λ y. nat_cmp y id) seen r
+    → MatchResult r (λ at. remove ids at ≡ without id ids) (λ at. (false ≡ is_in id ids) × (ids ≡ without id ids))
+taken_out id ids seen (Ok at) is increasing found =
+    let at_id = searched ids id (Ok at) (subst (λ l. IsBinarySearchResult (λ y. nat_cmp y id) l (Ok at)) is found) (rises ids increasing) in
+    out_found id at ids (AllPairs-from_increasing ids increasing) at_id.0 at_id.1
+taken_out id ids seen (Err at) is increasing found =
+    let apart = searched ids id (Err at) (subst (λ l. IsBinarySearchResult (λ y. nat_cmp y id) l (Err at)) is found) (rises ids increasing) in
+    out_none id ids (λ k within same. elim (cases_Bool (nat_lt k at)) [ inl h ↦ omega (arith, apart.1 k (ltb-true k at h)) | inr h ↦ omega (arith, apart.2 k (ltb-false k at h) within) ])
 
 -- the sixteen ids stand behind those below
 pub with_ids-split : (first n : ℕ) (ids : List ℕ) → n ≡ prefix_len (λ id. nat_lt id first) ids → (take n ids ++ sixteen first) ++ drop n ids ≡ with_ids first ids

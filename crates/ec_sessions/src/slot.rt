@@ -1,5 +1,6 @@
 // The last session of one clerk.
 ghost use Rattle.std.specs.Prelude.{◌≡◌, ◌==◌, ◌+◌, ◌<◌, ◌≤◌, ◌^◌, ℕ, List, [], ◌++◌, length, None, Some, IfOk, OnOk, OnErr};
+ghost use Rattle.std.specs.List.Sorted.{IsStrictlyIncreasing};
 ghost use Rattle.ec_sessions.specs.Windows.{mark_answer};
 ghost use Rattle.ec_sessions.specs.Slots.{is_older, is_greater, open_session, greeting, is_in, is_reserved, CanMark, CanReserve, batch_answer, AreIds, unspent_of, new_slot, ended, with_ids, granted, spent, batch_marked, open_count};
 
@@ -127,6 +128,7 @@ pub(crate) fn grant(alloc: Global, slot: &mut Option<Slot>, first: ObjId) -> Res
 }
 
 pub(crate) fn spend(alloc: Global, slot: &mut Option<Slot>, id: ObjId) -> bool
+    requires { IsStrictlyIncreasing (unspent_of slot.old) }
     ensures answer { result ≡ is_reserved slot.old id }
     ensures slot { slot.new ≡ spent id slot.old }
 {

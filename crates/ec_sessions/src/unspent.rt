@@ -1,6 +1,7 @@
 // Lists of unspent ids.
 ghost use Rattle.std.specs.Prelude.{◌≡◌, ◌==◌, ◌+◌, ◌<◌, ◌≤◌, ◌^◌, ℕ, List, [], ◌++◌, length, None, Some, IfOk, OnOk, OnErr, nat_lt, take, drop, filter, not};
 ghost use Rattle.std.specs.List.{prefix_len};
+ghost use Rattle.std.specs.List.Sorted.{IsStrictlyIncreasing};
 ghost use Rattle.ec_sessions.specs.Slots.{is_in, without, with_ids, run, sixteen};
 
 use ec_base::{List as Items, NoMemory, ObjId};
@@ -9,6 +10,7 @@ use std::mem;
 
 /// Takes an id out, and tells whether it was there. It takes no memory.
 pub(crate) fn spend_in(alloc: Global, ids: &mut Items<ObjId>, id: ObjId) -> bool
+    requires { IsStrictlyIncreasing ids.old }
     ensures answer { result ≡ is_in id ids.old }
     ensures rest { ids.new ≡ without id ids.old }
 {
@@ -19,23 +21,17 @@ pub(crate) fn spend_in(alloc: Global, ids: &mut Items<ObjId>, id: ObjId) -> bool
 }
 
 fn take_out(ids: &mut Vec<ObjId>, id: ObjId) -> bool
+    requires { IsStrictlyIncreasing ids.old.items }
     ensures answer { result ≡ is_in id ids.old.items }
     ensures rest { ids.new.items ≡ without id ids.old.items }
 {
-    let at = place_of(ids, id);
-    if at < ids.len() {
-        ids.remove(at);
-        true
-    } else {
-        false
+    match ids.binary_search(&id) {
+        Ok(at) => {
+            ids.remove(at);
+            true
+        }
+        Err(_) => false,
     }
-}
-
-// How many ids stand before this one.
-fn place_of(ids: &[ObjId], id: ObjId) -> usize
-    ensures { result ≡ prefix_len (λ other. not (other == id)) ids.now }
-{
-    ids.iter().take_while(|other| **other != id).count()
 }
 
 /// The ids with the sixteen from `first` at their place.

@@ -1,5 +1,4 @@
 pub mod Claims
 pub mod Holds
 pub mod Laws
-pub mod Table
 pub mod Tokens

@@ -1,31 +1,30 @@
--- The tokens that sessions hold: a table by session of tables by object.
-use Rattle.std.specs.Prelude.{◌≡◌, ◌≢◌, ◌==◌, ℕ, Bool, true, false, not, ◌&&◌, if◌then◌else◌, List, [], ◌∷◌, filter, is_none, nat_lt, Option, None, Some}
+-- The tokens that sessions hold: a map by session of maps by object, each as the list of its pairs with rising keys.
+use Rattle.std.specs.Prelude.{◌≡◌, ◌≢◌, ◌==◌, ℕ, Bool, true, false, not, ◌&&◌, if◌then◌else◌, T, List, [], ◌∷◌, filter, is_none, nat_lt, Option, None, Some}
 use Rattle.std.specs.List.{list_all}
-use Rattle.std.specs.List.Sorted.{IsStrictlySortedBy}
-use Rattle.std.specs.Map.{keys_of}
 use Rattle.std.specs.Ordering.{nat_cmp}
+use Rattle.std.specs.FinMap.{find, put, is_sorted}
+use Rattle.ec_base.specs.Sorted.{without}
 use Rattle.ec_base.specs.declared.ids.Hold.{Hold}
 use Rattle.ec_base.specs.declared.ids.Hold.TheVariants.{Free}
 use Rattle.ec_tokens.specs.declared.token.Token.{Token}
 use Rattle.ec_tokens.specs.Holds.{is_free, is_below, clash}
-use Rattle.ec_tokens.specs.Table.{Table, at, put, without}
 
 -- A session's tokens, by object.
 abbrev pub Row : Type 0
-Row = Table Token
+Row = List (ℕ × Token)
 
 abbrev pub Tokens : Type 0
-Tokens = Table Row
+Tokens = List (ℕ × Row)
 
 abbrev pub row_of : Option Row → Row
 row_of None = []
 row_of (Some r) = r
 
 abbrev pub row : Tokens → ℕ → Row
-row ts s = row_of (at s ts)
+row ts s = row_of (find nat_cmp s ts)
 
 abbrev pub token : Tokens → ℕ → ℕ → Option Token
-token ts s x = at x (row ts s)
+token ts s x = find nat_cmp x (row ts s)
 
 abbrev pub mode : Option Token → Hold
 mode None = Free
@@ -39,14 +38,10 @@ AllApart ts = (s t x : ℕ) → s ≢ t → clash (mode (token ts s x)) (mode (t
 abbrev pub NoneFree : Tokens → Type 0
 NoneFree ts = (s x : ℕ) (t : Token) → token ts s x ≡ Some t → is_free t.hold ≡ false
 
--- The sessions rise, each standing once.
-abbrev pub IsRising : Tokens → Type 0
-IsRising ts = IsStrictlySortedBy nat_cmp (keys_of ts)
-
 pub record IsSound (ts : Tokens) : Type 0 where
   pub apart : AllApart ts
   pub held : NoneFree ts
-  pub rising : IsRising ts
+  pub rising : T (is_sorted nat_cmp ts)
 
 -- Who holds a token on the object, in session order: the session, the mode and the number.
 abbrev pub Holder : Type 0
@@ -58,7 +53,7 @@ held_by s (Some t) more = (s, t.hold, t.number) ∷ more
 
 abbrev pub holders : Tokens → ℕ → List Holder
 holders [] x = []
-holders (r ∷ rs) x = held_by r.0 (at x r.1) (holders rs x)
+holders (r ∷ rs) x = held_by r.0 (find nat_cmp x r.1) (holders rs x)
 
 -- Those of other sessions that conflict with this mode.
 abbrev pub is_conflict : ℕ → Hold → Holder → Bool
@@ -79,7 +74,7 @@ is_clear ts s x h = is_none (first_conflict ts s x h)
 
 -- The session's token on the object is this one.
 abbrev pub granted : ℕ → ℕ → Hold → ℕ → Tokens → Tokens
-granted s x h n ts = put s (put x (record { hold = h; number = n }) (row ts s)) ts
+granted s x h n ts = put nat_cmp s (put nat_cmp x (record { hold = h; number = n }) (row ts s)) ts
 
 -- A token with this number, and not below the mode, can be given back to it.
 abbrev pub fits_back : Option Token → ℕ → Hold → Bool
@@ -87,19 +82,19 @@ fits_back None n to = false
 fits_back (Some t) n to = (t.number == n) && not (is_below t.hold to)
 
 abbrev pub lowered_in : ℕ → Hold → ℕ → Row → Row
-lowered_in x to n r = if is_free to then without x r else put x (record { hold = to; number = n }) r
+lowered_in x to n r = if is_free to then without nat_cmp x r else put nat_cmp x (record { hold = to; number = n }) r
 
 -- The session's token of this number on the object is lowered; to Free it's none.
 abbrev pub lowered : ℕ → ℕ → Hold → ℕ → Tokens → Tokens
-lowered s x to n ts = put s (lowered_in x to n (row ts s)) ts
+lowered s x to n ts = put nat_cmp s (lowered_in x to n (row ts s)) ts
 
 -- Each token of the list is recorded with number 0.
 abbrev pub claimed_in : List (ℕ × Hold) → Row → Row
 claimed_in [] r = r
-claimed_in (e ∷ es) r = claimed_in es (put e.0 (record { hold = e.1; number = 0 }) r)
+claimed_in (e ∷ es) r = claimed_in es (put nat_cmp e.0 (record { hold = e.1; number = 0 }) r)
 
 abbrev pub claimed : ℕ → List (ℕ × Hold) → Tokens → Tokens
-claimed s list ts = put s (claimed_in list (row ts s)) ts
+claimed s list ts = put nat_cmp s (claimed_in list (row ts s)) ts
 
 -- The first of the list that conflicts: the object, and the first session whose token conflicts.
 abbrev pub clash_at : ℕ → Option ℕ → Option (ℕ × ℕ) → Option (ℕ × ℕ)

@@ -3,14 +3,15 @@ ghost use Rattle.std.specs.Prelude.{◌≡◌, ◌≢◌, [], None, Some, IfOk, 
 ghost use Rattle.std.specs.Bool.{OnTrue, OnFalse};
 ghost use Rattle.std.specs.List.{filter};
 ghost use Rattle.std.specs.Option.{option_map};
+ghost use Rattle.std.specs.Ordering.{nat_cmp};
+ghost use Rattle.ec_base.specs.Sorted.{without};
 ghost use Rattle.ec_tokens.specs.Claims.{Shows};
-ghost use Rattle.ec_tokens.specs.Table as table;
 ghost use Rattle.ec_tokens.specs.Tokens as tokens;
 
 use crate::holds::clash;
-use crate::rows::Rows;
+use crate::rows::{self, Rows};
 use crate::token::Token;
-use ec_base::{Hold, NoMemory, ObjId, SessionNo};
+use ec_base::{Hold, NoMemory, ObjId, SessionNo, SortedMap};
 use std::alloc::Global;
 use std::marker::Model;
 use thiserror::Error;
@@ -40,10 +41,11 @@ impl From<NoMemory> for ClaimFault {
 /// Two tokens of different sessions on one object conflict where one is Write and the other isn't
 /// Free. No two of the tokens kept here conflict.
 ///
-/// They are kept by session, and then by object, in ordered maps: a look-up by object takes a search
+/// They are kept by session, and then by object, in sorted maps: a look-up by object takes a search
 /// in the row of each session, and a session is dropped, or claims, in one piece.
 #[derive(Drop)]
 pub struct Tokens {
+    alloc: Global,
     rows: Rows,
 }
 
@@ -65,7 +67,8 @@ impl Tokens {
         ensures { IfOk result (λ made. made ≡ []) }
     {
         Ok(Tokens {
-            rows: Rows::new(alloc),
+            alloc,
+            rows: SortedMap::new(alloc),
         })
     }
 
@@ -74,7 +77,7 @@ impl Tokens {
         ensures token { result ≡ option_map (λ t. (t.hold, t.number)) (tokens.token self.now s obj) }
         ensures sound { tokens.IsSound self.now }
     {
-        let token = self.rows.token(s, obj)?;
+        let token = rows::token(&self.rows, s, obj)?;
         Some((token.hold, token.number))
     }
 
@@ -83,7 +86,7 @@ impl Tokens {
         ensures holders { IfOk result (λ list. list.items ≡ tokens.holders self.now obj) }
         ensures sound { tokens.IsSound self.now }
     {
-        self.rows.holders(obj)
+        rows::holders(self.alloc, &self.rows, obj)
     }
 
     /// Those holders, other than the session, whose token would conflict with this mode.
@@ -96,7 +99,7 @@ impl Tokens {
         ensures conflicts { IfOk result (λ list. list.items ≡ tokens.conflicts self.now s obj hold) }
         ensures sound { tokens.IsSound self.now }
     {
-        let mut holders = self.rows.holders(obj)?;
+        let mut holders = rows::holders(self.alloc, &self.rows, obj)?;
         holders.retain(|holder| holder.0 != s && clash(holder.1, hold));
         Ok(holders)
     }
@@ -106,7 +109,7 @@ impl Tokens {
         ensures clear { result ≡ tokens.is_clear self.now s obj hold }
         ensures sound { tokens.IsSound self.now }
     {
-        self.rows.first_conflict(s, obj, hold).is_none()
+        rows::first_conflict(&self.rows, s, obj, hold).is_none()
     }
 
     /// Records a token, in the place of the session's token on the object.
@@ -123,7 +126,7 @@ impl Tokens {
         ensures err { OnErr result (self.new ≡ self.old) }
         ensures sound { tokens.IsSound self.new }
     {
-        self.rows.record(s, obj, Token { hold, number })
+        rows::record(self.alloc, &mut self.rows, s, obj, Token { hold, number })
     }
 
     /// Lowers the session's token on the object, or removes it at Free. False, with no change,
@@ -134,7 +137,7 @@ impl Tokens {
         ensures kept { OnFalse result (self.new ≡ self.old) }
         ensures sound { tokens.IsSound self.new }
     {
-        self.rows.give_back(s, obj, number, to)
+        rows::give_back(self.alloc, &mut self.rows, s, obj, number, to)
     }
 
     /// Records the tokens of the list, each with number 0, in the place of the session's tokens on
@@ -153,20 +156,20 @@ impl Tokens {
         ensures sound { tokens.IsSound self.new }
     {
         for (obj, hold) in list {
-            if let Some(other) = self.rows.first_conflict(s, *obj, *hold) {
+            if let Some(other) = rows::first_conflict(&self.rows, s, *obj, *hold) {
                 return Err(ClaimFault::Clash(*obj, other));
             }
         }
-        self.rows.claim(s, list)?;
+        rows::claim(self.alloc, &mut self.rows, s, list)?;
         Ok(())
     }
 
     /// Removes the tokens of the session. It takes no memory.
     pub fn drop_session(&mut self, s: SessionNo)
-        ensures dropped { self.new ≡ table.without s self.old }
+        ensures dropped { self.new ≡ without nat_cmp s self.old }
         ensures sound { tokens.IsSound self.new }
     {
-        self.rows.remove(s);
+        self.rows.remove(&s);
     }
 }
 

@@ -2,7 +2,7 @@
 //! script of calls and crashes, and prints what was answered and what was lost.
 #![tactic(auto)]
 
-ghost use Rattle.std.specs.Prelude.{◌≡◌, ◌≢◌, ◌↔◌, [], ◌∷◌, map, codes, MatchBool};
+ghost use Rattle.std.specs.Prelude.{◌≡◌, ◌≢◌, ◌↔◌, ◌≤◌, [], ◌∷◌, map, codes, MatchBool};
 ghost use Rattle.std.specs.String.{string_bytes};
 ghost use Rattle.ec_drill.specs.Drill.{code};
 ghost use Rattle.ec_drill.specs.declared.status.Status.{Status};
@@ -23,6 +23,7 @@ pub fn echo_main<R: AllocGlobal, S: Source, K: Sink>(
     boot: u64,
 ) -> u8
     ensures usage { (result ≡ 2) ↔ (map string_bytes words.now ≢ codes "drill" ∷ []) }
+    ensures later { (S.faults source.old ≤ S.faults source.new) × (K.faults sink.old ≤ K.faults sink.new) }
     ensures echoes { (status : Status) × (result ≡ code status) × Echoes status (record { left = S.left source.old; left_after = S.left source.new; reads = S.faults source.old; reads_after = S.faults source.new; held = K.held sink.old; held_after = K.held sink.new; writes = K.faults sink.old; writes_after = K.faults sink.new }) }
 {
     let _ = boot;

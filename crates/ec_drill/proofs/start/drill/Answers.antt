@@ -4,8 +4,8 @@ use Rattle.ec_script.specs.Lines.{lines_of}
 use Rattle.ec_drill.proofs.Limits.{limit_told}
 use Rattle.ec_drill.proofs.start.drill.Goals as goal
 
-pub returns-then-lines-gt-MOST_LINES : goal.returns-then-lines-gt-MOST_LINES
-returns-then-lines-gt-MOST_LINES g c =
+pub returns-then-lines-gt-MOST_LINES-clause-drilled : goal.returns-then-lines-gt-MOST_LINES-clause-drilled
+returns-then-lines-gt-MOST_LINES-clause-drilled g c =
     let read = c.in-Ok.ensures.ok in
     limit_told c.refuse-then-lines-gt-MOST_LINES.result _ limit.Lines c.count_lines-lines.result (
       c.in-Ok.script.items,
@@ -13,4 +13,4 @@ returns-then-lines-gt-MOST_LINES g c =
       c.count_lines-lines.ensures ∙ ap (λ b. length (lines_of b)) c.deref.ensures.value,
       c.if-lines-gt-MOST_LINES.true,
     )
-    c.refuse-then-lines-gt-MOST_LINES.ensures
+    c.refuse-then-lines-gt-MOST_LINES.ensures.told

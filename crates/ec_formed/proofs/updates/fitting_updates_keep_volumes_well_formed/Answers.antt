@@ -1,4 +1,5 @@
 use Rattle.ec_formed.proofs.Kept.{kept-formed, kept-held}
+use Rattle.ec_formed.proofs.Laws.{kept-reached}
 use Rattle.ec_formed.proofs.updates.fitting_updates_keep_volumes_well_formed.Goals as goal
 
 pub returns-clause-formed : goal.returns-clause-formed
@@ -6,3 +7,6 @@ returns-clause-formed c = kept-formed
 
 pub returns-clause-held : goal.returns-clause-held
 returns-clause-held c = kept-held
+
+pub returns-clause-reached : goal.returns-clause-reached
+returns-clause-reached c = kept-reached

@@ -1,23 +1,13 @@
-use Rattle.std.proofs.Common.{◌≡◌, ◌∙◌, ap, arith}
-use Rattle.ec_sessions.specs.IdLaws.{before, out_found, out_none}
+use Rattle.std.proofs.Common.{◌∙◌}
+use Rattle.std.specs.Prelude.{Ok, Err}
+use Rattle.ec_sessions.specs.IdLaws.{taken_out}
 use Rattle.ec_sessions.proofs.unspent.take_out.Goals as goal
 
-pub returns-then-at-len-clause-answer : goal.returns-then-at-len-clause-answer
-returns-then-at-len-clause-answer c =
-    let at : c.place_of-at.result ≡ before c.args.id c.args.ids.now.items = c.place_of-at.ensures ∙ ap (before c.args.id) c.deref.ensures.value in
-    (out_found c.args.id c.place_of-at.result c.args.ids.now.items at (omega arith)).0
+pub returns-in-Ok-clause-rest : goal.returns-in-Ok-clause-rest
+returns-in-Ok-clause-rest c = c.remove.ensures.items ∙ taken_out c.args.id c.args.ids.now.items c.deref.result.now (Ok c.in-Ok.at) c.deref.ensures.value c.requires c.in-Ok.ensures.position
 
-pub returns-then-at-len-clause-rest : goal.returns-then-at-len-clause-rest
-returns-then-at-len-clause-rest c =
-    let at : c.place_of-at.result ≡ before c.args.id c.args.ids.now.items = c.place_of-at.ensures ∙ ap (before c.args.id) c.deref.ensures.value in
-    c.remove.ensures.items ∙ (out_found c.args.id c.place_of-at.result c.args.ids.now.items at (omega arith)).1
+pub returns-in-Err-clause-answer : goal.returns-in-Err-clause-answer
+returns-in-Err-clause-answer c = (taken_out c.args.id c.args.ids.now.items c.deref.result.now (Err c.in-Err.field-0) c.deref.ensures.value c.requires c.in-Err.ensures.position).0
 
-pub returns-else-at-len-clause-answer : goal.returns-else-at-len-clause-answer
-returns-else-at-len-clause-answer c =
-    let at : c.place_of-at.result ≡ before c.args.id c.args.ids.now.items = c.place_of-at.ensures ∙ ap (before c.args.id) c.deref.ensures.value in
-    (out_none c.args.id c.args.ids.now.items (omega arith)).0
-
-pub returns-else-at-len-clause-rest : goal.returns-else-at-len-clause-rest
-returns-else-at-len-clause-rest c =
-    let at : c.place_of-at.result ≡ before c.args.id c.args.ids.now.items = c.place_of-at.ensures ∙ ap (before c.args.id) c.deref.ensures.value in
-    (out_none c.args.id c.args.ids.now.items (omega arith)).1
+pub returns-in-Err-clause-rest : goal.returns-in-Err-clause-rest
+returns-in-Err-clause-rest c = (taken_out c.args.id c.args.ids.now.items c.deref.result.now (Err c.in-Err.field-0) c.deref.ensures.value c.requires c.in-Err.ensures.position).1

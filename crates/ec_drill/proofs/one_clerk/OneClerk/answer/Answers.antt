@@ -7,14 +7,14 @@ use Rattle.ec_history.specs.declared.shown.Shown.TheVariants as shown
 use Rattle.ec_drill.specs.OneClerk.{IsTranscript, Fitting}
 use Rattle.ec_drill.specs.declared.one_clerk.OneClerk.{OneClerk}
 use Rattle.ec_drill.specs.declared.one_clerk.State.TheVariants as state
-use Rattle.ec_drill.proofs.Answering.{call_good, call_fits, answered_any}
+use Rattle.ec_drill.proofs.Answering.{call_fits, answered_any}
 use Rattle.ec_drill.proofs.one_clerk.OneClerk.answer.Goals as goal
 
 pub take-requires-clause-fitting : goal.take-requires-clause-fitting
 take-requires-clause-fitting c =
     let m : OneClerk = c.args.self.now in
     let is : c.in_ok-reply.field-0 ≡ plain (images m.volume) c.args.call (m.places + 2) = c.in_ok-reply.ensures ∙ ap (plain (images m.volume) c.args.call) c.in-Some.ensures.some in
-    subst (λ o. Fitting o.update (images m.volume)) (sym is) (call_fits (images m.volume) (m.places + 2) _ (call_good m c.requires.transcript.0 c.requires.transcript.1 c.requires.transcript.2 c.args.call c.requires.small))
+    subst (λ o. Fitting o.update (images m.volume)) (sym is) (call_fits c.laws.ensures m c.requires.transcript.0 c.requires.transcript.1 c.requires.transcript.2 c.args.call c.requires.small)
 
 pub returns-clause-ok : goal.returns-clause-ok
 returns-clause-ok c = λ n ss t is.

@@ -10,8 +10,8 @@ either (Err e) old new later ok err before after = subst IsSound (sym err) befor
 pub invariant_of-self : goal.invariant_of-self
 invariant_of-self c =
     let rows = c.self.inside.rows in
-    either c.record.result rows c.record.new.self _ c.record.ensures.ok c.record.ensures.err c.self.invariant
-    (sound_granted rows c.args.s c.args.obj c.args.hold c.args.number c.self.invariant (not_free c.args.hold c.requires.held) (ap (λ ts. is_clear ts c.args.s c.args.obj c.args.hold) c.self.view_is ∙ c.requires.clear))
+    either c.record.result rows c.record.new.rows _ c.record.ensures.ok c.record.ensures.err c.self.invariant
+    (sound_granted rows c.args.s c.self.invariant c.args.obj c.args.hold c.args.number (not_free c.args.hold c.requires.held) (ap (λ ts. is_clear ts c.args.s c.args.obj c.args.hold) c.self.view_is ∙ c.requires.clear))
 
 pub returns-clause-sound : goal.returns-clause-sound
 returns-clause-sound c = invariant_of-self c
