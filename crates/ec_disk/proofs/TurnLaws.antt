@@ -1,5 +1,5 @@
 -- What a turn does to the counts.
-use Rattle.std.proofs.Common.{◌≡◌, ℕ, ◌≤◌, refl, arith, Option, Some, None, Bool, true, false}
+use Rattle.std.proofs.Common.{◌≡◌, ℕ, ◌≤◌, refl, ap, ◌∙◌, arith, Option, Some, None, Bool, true, false}
 use Rattle.std.specs.Prelude.{IsSome}
 use Rattle.ec_disk.specs.Disk.{Counts, Counted, after_calls}
 use Rattle.ec_disk.specs.Turns.{turn_of, is_due, has_stopped, faults_after, stops_after}
@@ -10,27 +10,11 @@ use Rattle.ec_disk.specs.declared.turns.Turn.TheVariants as turn
 -- a call that fails or stops raises its count
 pub counted : (old new : Counts) (t : Turn) → new.faults ≡ faults_after t old.faults → new.stops ≡ stops_after t old.stops → old.faults ≤ new.faults → old.stops ≤ new.stops → (t ≡ turn.Stops → IsSome old.armed) → (IsSome new.armed → IsSome old.armed)
     → Counted old new (t ≡ turn.Fails) (t ≡ turn.Stops)
-counted old new turn.Goes faults stops more_faults more_stops armed rearmed = record {
+counted old new t faults stops more_faults more_stops armed rearmed = record {
   faults_later = more_faults;
   stops_later = more_stops;
-  failed = λ is. absurd (grind (arith, is));
-  stopped = λ is. absurd (grind (arith, is));
-  armed = armed;
-  not_rearmed = rearmed;
-}
-counted old new turn.Fails faults stops more_faults more_stops armed rearmed = record {
-  faults_later = more_faults;
-  stops_later = more_stops;
-  failed = λ is. omega (arith, faults);
-  stopped = λ is. absurd (grind (arith, is));
-  armed = armed;
-  not_rearmed = rearmed;
-}
-counted old new turn.Stops faults stops more_faults more_stops armed rearmed = record {
-  faults_later = more_faults;
-  stops_later = more_stops;
-  failed = λ is. absurd (grind (arith, is));
-  stopped = λ is. omega (arith, stops);
+  failed = λ is. omega (arith, faults ∙ ap (λ u. faults_after u old.faults) is);
+  stopped = λ is. omega (arith, stops ∙ ap (λ u. stops_after u old.stops) is);
   armed = armed;
   not_rearmed = rearmed;
 }

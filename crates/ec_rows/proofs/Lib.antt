@@ -1,4 +1,2 @@
-pub mod Closure
-pub mod Fits
 pub mod Tests
 pub mod LongRows

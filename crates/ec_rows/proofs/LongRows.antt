@@ -17,7 +17,7 @@ use Rattle.ec_history.specs.declared.shown.Shown.TheVariants.{Waits, Answered, D
 use Rattle.ec_history.specs.History.{Base, History, Throughout, kept, outcome, due}
 use Rattle.ec_history.specs.Legal.{IsLegal, IsLegalNext, is_op_of}
 use Rattle.ec_history.specs.Placing.{EachLine, Agrees, Unanswered, MayFollow, ArePlaceable, shows, may_show, begun, watch}
-use Rattle.ec_rows.proofs.Fits.{left, right}
+use Rattle.ec_laws.proofs.Removed.{left, right}
 use Rattle.ec_rows.proofs.Tests.{throughout}
 
 -- Calls of one path.

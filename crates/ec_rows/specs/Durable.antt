@@ -1,5 +1,5 @@
 -- Transcripts in which some operations become durable before others.
-use Rattle.std.specs.Prelude.{List, [], ◌∷◌, None, Some, codes}
+use Rattle.std.specs.Prelude.{◌++◌, List, [], ◌∷◌, None, Some, codes}
 use Rattle.ec_volume.specs.declared.image.Kind.TheVariants as kind
 use Rattle.ec_plain.specs.declared.call.Call.TheVariants as call
 use Rattle.ec_plain.specs.declared.call.Reply.TheVariants as reply
@@ -8,32 +8,17 @@ use Rattle.ec_history.specs.declared.entry.Answer.TheVariants as answer
 use Rattle.ec_history.specs.declared.shown.Shown.{Shown}
 use Rattle.ec_history.specs.declared.shown.Shown.TheVariants.{Waits, Answered, Durable, Ended, Crashed, Stopped, Started}
 use Rattle.ec_rows.specs.Clerks.{A, B}
+use Rattle.ec_rows.specs.Parts.{begun, awaited, crashed, counted_file, synced_directories, overwritten_file, fsynced_first}
 
 -- an fsync of one file, and the create of another one is lost
 abbrev pub fsynced_file : List Shown
-fsynced_file =
-    Waits 1 A (call.Create (codes "a" ∷ []))
-    ∷ Answered 1 A (call.Create (codes "a" ∷ [])) (answer.Reply reply.Ok) (Some 1)
-    ∷ Answered 2 A (call.Create (codes "b" ∷ [])) (answer.Reply reply.Ok) (Some 2)
-    ∷ Answered 3 A (call.Write (codes "a" ∷ []) 0 (codes "x")) (answer.Reply reply.Ok) (Some 3)
-    ∷ Waits 4 A (call.Fsync (codes "a" ∷ []))
-    ∷ Durable A (1 ∷ 3 ∷ [])
-    ∷ Answered 4 A (call.Fsync (codes "a" ∷ [])) (answer.Reply reply.Ok) None
-    ∷ Crashed A
-    ∷ Ended A (2 ∷ [])
-    ∷ []
+fsynced_file = fsynced_first ++ crashed (2 ∷ [])
 
 -- the same, and the next start sees it
 abbrev pub seen_by_next_start : List Shown
 seen_by_next_start =
-    Waits 1 A (call.Create (codes "a" ∷ []))
-    ∷ Answered 1 A (call.Create (codes "a" ∷ [])) (answer.Reply reply.Ok) (Some 1)
-    ∷ Answered 2 A (call.Create (codes "b" ∷ [])) (answer.Reply reply.Ok) (Some 2)
-    ∷ Answered 3 A (call.Write (codes "a" ∷ []) 0 (codes "x")) (answer.Reply reply.Ok) (Some 3)
-    ∷ Waits 4 A (call.Fsync (codes "a" ∷ []))
-    ∷ Durable A (1 ∷ 3 ∷ [])
-    ∷ Answered 4 A (call.Fsync (codes "a" ∷ [])) (answer.Reply reply.Ok) None
-    ∷ Crashed A
+    fsynced_first
+    ++ Crashed A
     ∷ Waits 6 A (call.Read (codes "b" ∷ []) 0 1)
     ∷ Ended A (2 ∷ [])
     ∷ Answered 6 A (call.Read (codes "b" ∷ []) 0 1) (answer.Reply (reply.Refused (no.NotFound 1))) None
@@ -42,9 +27,8 @@ seen_by_next_start =
 -- a read of another clerk makes the write durable, and the clerk then answers from what it holds
 abbrev pub recalled_write : List Shown
 recalled_write =
-    Waits 1 A (call.Create (codes "f" ∷ []))
-    ∷ Answered 1 A (call.Create (codes "f" ∷ [])) (answer.Reply reply.Ok) (Some 1)
-    ∷ Answered 2 A (call.Write (codes "f" ∷ []) 0 (codes "hi")) (answer.Reply reply.Ok) (Some 2)
+    begun (call.Create (codes "f" ∷ []))
+    ++ Answered 2 A (call.Write (codes "f" ∷ []) 0 (codes "hi")) (answer.Reply reply.Ok) (Some 2)
     ∷ Answered 3 A (call.Create (codes "g" ∷ [])) (answer.Reply reply.Ok) (Some 3)
     ∷ Waits 4 B (call.Read (codes "f" ∷ []) 0 9)
     ∷ Durable A (1 ∷ 3 ∷ [])
@@ -57,15 +41,8 @@ recalled_write =
 -- of two overwrites of one file the later one is kept
 abbrev pub disjoint_overwrites : List Shown
 disjoint_overwrites =
-    Waits 1 A (call.Create (codes "f" ∷ []))
-    ∷ Answered 1 A (call.Create (codes "f" ∷ [])) (answer.Reply reply.Ok) (Some 1)
-    ∷ Answered 2 A (call.Write (codes "f" ∷ []) 0 (codes "aabb")) (answer.Reply reply.Ok) (Some 2)
-    ∷ Waits 3 A call.Sync
-    ∷ Durable A (1 ∷ 2 ∷ [])
-    ∷ Answered 3 A call.Sync (answer.Reply reply.Ok) None
-    ∷ Answered 4 A (call.Write (codes "f" ∷ []) 0 (codes "cc")) (answer.Reply reply.Ok) (Some 3)
-    ∷ Answered 5 A (call.Write (codes "f" ∷ []) 2 (codes "dd")) (answer.Reply reply.Ok) (Some 4)
-    ∷ Durable A (4 ∷ [])
+    overwritten_file (codes "aabb") (codes "cc") 2 (codes "dd")
+    ++ Durable A (4 ∷ [])
     ∷ Crashed A
     ∷ Waits 8 A (call.Read (codes "f" ∷ []) 0 9)
     ∷ Ended A (3 ∷ [])
@@ -75,15 +52,8 @@ disjoint_overwrites =
 -- two overwrites of bytes that meet become durable together
 abbrev pub meeting_overwrites : List Shown
 meeting_overwrites =
-    Waits 1 A (call.Create (codes "f" ∷ []))
-    ∷ Answered 1 A (call.Create (codes "f" ∷ [])) (answer.Reply reply.Ok) (Some 1)
-    ∷ Answered 2 A (call.Write (codes "f" ∷ []) 0 (codes "aabb")) (answer.Reply reply.Ok) (Some 2)
-    ∷ Waits 3 A call.Sync
-    ∷ Durable A (1 ∷ 2 ∷ [])
-    ∷ Answered 3 A call.Sync (answer.Reply reply.Ok) None
-    ∷ Answered 4 A (call.Write (codes "f" ∷ []) 0 (codes "cc")) (answer.Reply reply.Ok) (Some 3)
-    ∷ Answered 5 A (call.Write (codes "f" ∷ []) 1 (codes "dd")) (answer.Reply reply.Ok) (Some 4)
-    ∷ Durable A (3 ∷ 4 ∷ [])
+    overwritten_file (codes "aabb") (codes "cc") 1 (codes "dd")
+    ++ Durable A (3 ∷ 4 ∷ [])
     ∷ Crashed A
     ∷ Waits 8 A (call.Read (codes "f" ∷ []) 0 9)
     ∷ Ended A []
@@ -93,14 +63,8 @@ meeting_overwrites =
 -- two moves of directories that rest on each other
 abbrev pub moved_directories : List Shown
 moved_directories =
-    Waits 1 A (call.Mkdir (codes "a" ∷ []))
-    ∷ Answered 1 A (call.Mkdir (codes "a" ∷ [])) (answer.Reply reply.Ok) (Some 1)
-    ∷ Answered 2 A (call.Mkdir (codes "b" ∷ [])) (answer.Reply reply.Ok) (Some 2)
-    ∷ Answered 3 A (call.Mkdir (codes "c" ∷ [])) (answer.Reply reply.Ok) (Some 3)
-    ∷ Waits 4 A call.Sync
-    ∷ Durable A (1 ∷ 2 ∷ 3 ∷ [])
-    ∷ Answered 4 A call.Sync (answer.Reply reply.Ok) None
-    ∷ Answered 5 A (call.Rename (codes "a" ∷ []) (codes "b" ∷ codes "a" ∷ [])) (answer.Reply reply.Ok) (Some 4)
+    synced_directories
+    ++ Answered 5 A (call.Rename (codes "a" ∷ []) (codes "b" ∷ codes "a" ∷ [])) (answer.Reply reply.Ok) (Some 4)
     ∷ Answered 6 A (call.Rename (codes "b" ∷ []) (codes "c" ∷ codes "b" ∷ [])) (answer.Reply reply.Ok) (Some 5)
     ∷ Durable A (4 ∷ 5 ∷ [])
     ∷ Crashed A
@@ -112,17 +76,14 @@ moved_directories =
 -- a read waits for a write of another clerk
 abbrev pub late_grant : List Shown
 late_grant =
-    Waits 1 B (call.Create (codes "f" ∷ []))
-    ∷ Answered 1 B (call.Create (codes "f" ∷ [])) (answer.Reply reply.Ok) (Some 1)
-    ∷ Waits 2 B call.Sync
+    awaited 1 B (call.Create (codes "f" ∷ [])) (answer.Reply reply.Ok) (Some 1)
+    ++ Waits 2 B call.Sync
     ∷ Durable B (1 ∷ [])
     ∷ Answered 2 B call.Sync (answer.Reply reply.Ok) None
-    ∷ Waits 3 A (call.Stat [])
-    ∷ Answered 3 A (call.Stat []) (answer.Reply (reply.Stat kind.Dir 493 0 0 1)) None
-    ∷ Waits 5 A (call.Read (codes "f" ∷ []) 0 1)
-    ∷ Waits 7 B (call.Write (codes "f" ∷ []) 0 (codes "x"))
-    ∷ Answered 7 B (call.Write (codes "f" ∷ []) 0 (codes "x")) (answer.Reply reply.Ok) (Some 2)
-    ∷ Waits 11 A (call.Read (codes "f" ∷ []) 0 1)
+    ∷ awaited 3 A (call.Stat []) (answer.Reply (reply.Stat kind.Dir 493 0 0 1)) None
+    ++ Waits 5 A (call.Read (codes "f" ∷ []) 0 1)
+    ∷ awaited 7 B (call.Write (codes "f" ∷ []) 0 (codes "x")) (answer.Reply reply.Ok) (Some 2)
+    ++ Waits 11 A (call.Read (codes "f" ∷ []) 0 1)
     ∷ Durable B (2 ∷ [])
     ∷ Answered 5 A (call.Read (codes "f" ∷ []) 0 1) (answer.Reply (reply.Data (codes "x"))) None
     ∷ Answered 11 A (call.Read (codes "f" ∷ []) 0 1) (answer.Reply (reply.Data (codes "x"))) None
@@ -131,18 +92,12 @@ late_grant =
 -- two clerks go on behind a restart
 abbrev pub claimed_tokens : List Shown
 claimed_tokens =
-    Waits 1 A (call.Create (codes "f" ∷ []))
-    ∷ Answered 1 A (call.Create (codes "f" ∷ [])) (answer.Reply reply.Ok) (Some 1)
-    ∷ Waits 2 B (call.Stat [])
-    ∷ Durable A (1 ∷ [])
-    ∷ Answered 2 B (call.Stat []) (answer.Reply (reply.Stat kind.Dir 493 0 0 1)) None
-    ∷ Stopped
+    counted_file (codes "f")
+    ++ Stopped
     ∷ Started
-    ∷ Waits 5 B (call.Read (codes "f" ∷ []) 0 1)
-    ∷ Answered 5 B (call.Read (codes "f" ∷ []) 0 1) (answer.Reply (reply.Data [])) None
-    ∷ Waits 6 A (call.Write (codes "f" ∷ []) 0 (codes "x"))
-    ∷ Answered 6 A (call.Write (codes "f" ∷ []) 0 (codes "x")) (answer.Reply reply.Ok) (Some 2)
-    ∷ Waits 9 B (call.Read (codes "f" ∷ []) 0 1)
+    ∷ awaited 5 B (call.Read (codes "f" ∷ []) 0 1) (answer.Reply (reply.Data [])) None
+    ++ awaited 6 A (call.Write (codes "f" ∷ []) 0 (codes "x")) (answer.Reply reply.Ok) (Some 2)
+    ++ Waits 9 B (call.Read (codes "f" ∷ []) 0 1)
     ∷ Durable A (2 ∷ [])
     ∷ Answered 9 B (call.Read (codes "f" ∷ []) 0 1) (answer.Reply (reply.Data (codes "x"))) None
     ∷ []

@@ -1,5 +1,5 @@
 -- Transcripts in which sessions end.
-use Rattle.std.specs.Prelude.{List, [], ◌∷◌, None, Some, codes}
+use Rattle.std.specs.Prelude.{◌++◌, List, [], ◌∷◌, None, Some, codes}
 use Rattle.ec_volume.specs.declared.image.Kind.TheVariants as kind
 use Rattle.ec_plain.specs.declared.call.Call.TheVariants as call
 use Rattle.ec_plain.specs.declared.call.Reply.TheVariants as reply
@@ -8,24 +8,18 @@ use Rattle.ec_history.specs.declared.entry.Answer.TheVariants as answer
 use Rattle.ec_history.specs.declared.shown.Shown.{Shown}
 use Rattle.ec_history.specs.declared.shown.Shown.TheVariants.{Waits, Answered, Durable, Ended, Unseen, Told, Crashed, Stopped, Started}
 use Rattle.ec_rows.specs.Clerks.{A, B}
+use Rattle.ec_rows.specs.Parts.{begun, awaited, flushed, synced_files, numbers_from, made_from}
+use Rattle.ec_rows.specs.WrongReplies.{stat_of_lost}
 
 -- a start sees that the create of the one before it is lost
 abbrev pub lost_create : List Shown
-lost_create =
-    Waits 1 A (call.Create (codes "f" ∷ []))
-    ∷ Answered 1 A (call.Create (codes "f" ∷ [])) (answer.Reply reply.Ok) (Some 1)
-    ∷ Crashed A
-    ∷ Waits 3 A (call.Stat (codes "f" ∷ []))
-    ∷ Ended A (1 ∷ [])
-    ∷ Answered 3 A (call.Stat (codes "f" ∷ [])) (answer.Reply (reply.Refused (no.NotFound 1))) None
-    ∷ []
+lost_create = stat_of_lost (reply.Refused (no.NotFound 1))
 
 -- a start sees that the create and the write of the one before it are lost
 abbrev pub lost_write : List Shown
 lost_write =
-    Waits 1 A (call.Create (codes "f" ∷ []))
-    ∷ Answered 1 A (call.Create (codes "f" ∷ [])) (answer.Reply reply.Ok) (Some 1)
-    ∷ Answered 2 A (call.Write (codes "f" ∷ []) 0 (codes "hi")) (answer.Reply reply.Ok) (Some 2)
+    begun (call.Create (codes "f" ∷ []))
+    ++ Answered 2 A (call.Write (codes "f" ∷ []) 0 (codes "hi")) (answer.Reply reply.Ok) (Some 2)
     ∷ Crashed A
     ∷ Waits 4 A (call.Read (codes "f" ∷ []) 0 9)
     ∷ Ended A (1 ∷ 2 ∷ [])
@@ -35,18 +29,14 @@ lost_write =
 -- a session ends while its clerk is cut off and answers
 abbrev pub late_read : List Shown
 late_read =
-    Waits 1 A (call.Create (codes "f" ∷ []))
-    ∷ Answered 1 A (call.Create (codes "f" ∷ [])) (answer.Reply reply.Ok) (Some 1)
-    ∷ Answered 2 A (call.Write (codes "f" ∷ []) 0 (codes "one")) (answer.Reply reply.Ok) (Some 2)
-    ∷ Waits 3 A call.Sync
-    ∷ Durable A (1 ∷ 2 ∷ [])
-    ∷ Answered 3 A call.Sync (answer.Reply reply.Ok) None
-    ∷ Answered 5 A (call.Write (codes "f" ∷ []) 0 (codes "two")) (answer.Reply reply.Ok) (Some 3)
+    begun (call.Create (codes "f" ∷ []))
+    ++ Answered 2 A (call.Write (codes "f" ∷ []) 0 (codes "one")) (answer.Reply reply.Ok) (Some 2)
+    ∷ flushed 3 call.Sync (1 ∷ 2 ∷ [])
+    ++ Answered 5 A (call.Write (codes "f" ∷ []) 0 (codes "two")) (answer.Reply reply.Ok) (Some 3)
     ∷ Answered 6 A (call.Touch (codes "f" ∷ []) 7) (answer.Reply reply.Ok) (Some 4)
     ∷ Ended A (3 ∷ 4 ∷ [])
-    ∷ Waits 8 B (call.Write (codes "f" ∷ []) 0 (codes "six"))
-    ∷ Answered 8 B (call.Write (codes "f" ∷ []) 0 (codes "six")) (answer.Reply reply.Ok) (Some 1)
-    ∷ Answered 9 A (call.Read (codes "f" ∷ []) 0 9) (answer.Reply (reply.Data (codes "two"))) None
+    ∷ awaited 8 B (call.Write (codes "f" ∷ []) 0 (codes "six")) (answer.Reply reply.Ok) (Some 1)
+    ++ Answered 9 A (call.Read (codes "f" ∷ []) 0 9) (answer.Reply (reply.Data (codes "two"))) None
     ∷ Told A (3 ∷ 4 ∷ [])
     ∷ Waits 11 A (call.Stat (codes "f" ∷ []))
     ∷ Durable B (1 ∷ [])
@@ -57,73 +47,53 @@ late_read =
 -- the session of a clerk that is cut off ends behind a restart
 abbrev pub ended_behind_restart : List Shown
 ended_behind_restart =
-    Waits 1 A (call.Create (codes "f" ∷ []))
-    ∷ Answered 1 A (call.Create (codes "f" ∷ [])) (answer.Reply reply.Ok) (Some 1)
-    ∷ Waits 2 A call.Sync
-    ∷ Durable A (1 ∷ [])
-    ∷ Answered 2 A call.Sync (answer.Reply reply.Ok) None
-    ∷ Waits 3 B (call.Write (codes "f" ∷ []) 0 (codes "x"))
-    ∷ Answered 3 B (call.Write (codes "f" ∷ []) 0 (codes "x")) (answer.Reply reply.Ok) (Some 1)
-    ∷ Stopped
+    begun (call.Create (codes "f" ∷ []))
+    ++ flushed 2 call.Sync (1 ∷ [])
+    ++ awaited 3 B (call.Write (codes "f" ∷ []) 0 (codes "x")) (answer.Reply reply.Ok) (Some 1)
+    ++ Stopped
     ∷ Started
     ∷ Waits 7 A (call.Stat (codes "f" ∷ []))
     ∷ Ended B (1 ∷ [])
     ∷ Answered 7 A (call.Stat (codes "f" ∷ [])) (answer.Reply (reply.Stat kind.File 420 0 0 0)) None
     ∷ Told B (1 ∷ [])
-    ∷ Waits 10 B (call.Stat (codes "f" ∷ []))
-    ∷ Answered 10 B (call.Stat (codes "f" ∷ [])) (answer.Lost (1 ∷ [])) None
-    ∷ []
+    ∷ awaited 10 B (call.Stat (codes "f" ∷ [])) (answer.Lost (1 ∷ [])) None
 
 -- a rename is lost, and reported on each of its operands
 abbrev pub lost_rename : List Shown
 lost_rename =
-    Waits 1 A (call.Create (codes "f" ∷ []))
-    ∷ Answered 1 A (call.Create (codes "f" ∷ [])) (answer.Reply reply.Ok) (Some 1)
-    ∷ Answered 2 A (call.Write (codes "f" ∷ []) 0 (codes "old")) (answer.Reply reply.Ok) (Some 2)
-    ∷ Answered 3 A (call.Create (codes "g" ∷ [])) (answer.Reply reply.Ok) (Some 3)
-    ∷ Answered 4 A (call.Write (codes "g" ∷ []) 0 (codes "new")) (answer.Reply reply.Ok) (Some 4)
-    ∷ Waits 5 A call.Sync
-    ∷ Durable A (1 ∷ 2 ∷ 3 ∷ 4 ∷ [])
-    ∷ Answered 5 A call.Sync (answer.Reply reply.Ok) None
-    ∷ Answered 6 A (call.Rename (codes "g" ∷ []) (codes "f" ∷ [])) (answer.Reply reply.Ok) (Some 5)
+    synced_files (codes "f") (codes "old") (codes "g") (codes "new")
+    ++ Answered 6 A (call.Rename (codes "g" ∷ []) (codes "f" ∷ [])) (answer.Reply reply.Ok) (Some 5)
     ∷ Ended A (5 ∷ [])
     ∷ Told A (5 ∷ [])
-    ∷ Waits 8 A (call.List [])
-    ∷ Answered 8 A (call.List []) (answer.Lost (5 ∷ [])) None
-    ∷ Waits 9 A (call.Read (codes "f" ∷ []) 0 9)
-    ∷ Answered 9 A (call.Read (codes "f" ∷ []) 0 9) (answer.Lost (5 ∷ [])) None
-    ∷ Answered 10 A (call.Read (codes "f" ∷ []) 0 9) (answer.Reply (reply.Data (codes "old"))) None
-    ∷ Waits 11 A (call.Read (codes "g" ∷ []) 0 9)
-    ∷ Answered 11 A (call.Read (codes "g" ∷ []) 0 9) (answer.Lost (5 ∷ [])) None
-    ∷ Answered 12 A (call.Read (codes "g" ∷ []) 0 9) (answer.Reply (reply.Data (codes "new"))) None
+    ∷ awaited 8 A (call.List []) (answer.Lost (5 ∷ [])) None
+    ++ awaited 9 A (call.Read (codes "f" ∷ []) 0 9) (answer.Lost (5 ∷ [])) None
+    ++ Answered 10 A (call.Read (codes "f" ∷ []) 0 9) (answer.Reply (reply.Data (codes "old"))) None
+    ∷ awaited 11 A (call.Read (codes "g" ∷ []) 0 9) (answer.Lost (5 ∷ [])) None
+    ++ Answered 12 A (call.Read (codes "g" ∷ []) 0 9) (answer.Reply (reply.Data (codes "new"))) None
     ∷ []
 
 -- a restart finds that a session ended
 abbrev pub found_at_restart : List Shown
 found_at_restart =
-    Waits 1 A (call.Create (codes "f" ∷ []))
-    ∷ Answered 1 A (call.Create (codes "f" ∷ [])) (answer.Reply reply.Ok) (Some 1)
-    ∷ Stopped
+    begun (call.Create (codes "f" ∷ []))
+    ++ Stopped
     ∷ Ended A (1 ∷ [])
     ∷ Started
     ∷ Told A (1 ∷ [])
-    ∷ Waits 5 A (call.Stat (codes "f" ∷ []))
-    ∷ Answered 5 A (call.Stat (codes "f" ∷ [])) (answer.Lost (1 ∷ [])) None
-    ∷ Answered 6 A (call.Stat (codes "f" ∷ [])) (answer.Reply (reply.Refused (no.NotFound 1))) None
+    ∷ awaited 5 A (call.Stat (codes "f" ∷ [])) (answer.Lost (1 ∷ [])) None
+    ++ Answered 6 A (call.Stat (codes "f" ∷ [])) (answer.Reply (reply.Refused (no.NotFound 1))) None
     ∷ []
 
 -- an answer of a second start, whose session has ended
 abbrev pub second_start : List Shown
 second_start =
-    Waits 1 A (call.Create (codes "f" ∷ []))
-    ∷ Answered 1 A (call.Create (codes "f" ∷ [])) (answer.Reply reply.Ok) (Some 1)
-    ∷ Crashed A
+    begun (call.Create (codes "f" ∷ []))
+    ++ Crashed A
     ∷ Waits 4 A (call.Stat [])
     ∷ Ended A (1 ∷ [])
     ∷ Ended A []
-    ∷ Waits 9 B (call.Create (codes "g" ∷ []))
-    ∷ Answered 9 B (call.Create (codes "g" ∷ [])) (answer.Reply reply.Ok) (Some 1)
-    ∷ Answered 4 A (call.Stat []) (answer.Reply (reply.Stat kind.Dir 493 0 0 0)) None
+    ∷ awaited 9 B (call.Create (codes "g" ∷ [])) (answer.Reply reply.Ok) (Some 1)
+    ++ Answered 4 A (call.Stat []) (answer.Reply (reply.Stat kind.Dir 493 0 0 0)) None
     ∷ []
 
 -- a session ends before the first answer
@@ -148,44 +118,20 @@ unseen_start =
 -- the ids reserved for one clerk leave none for another one
 abbrev pub reserved_ids : List Shown
 reserved_ids =
-    Waits 1 A (call.Create (codes "a" ∷ []))
-    ∷ Answered 1 A (call.Create (codes "a" ∷ [])) (answer.Reply reply.Ok) (Some 1)
-    ∷ Waits 2 B (call.Create (codes "b" ∷ []))
+    begun (call.Create (codes "a" ∷ []))
+    ++ Waits 2 B (call.Create (codes "b" ∷ []))
     ∷ Durable A (1 ∷ [])
     ∷ Answered 2 B (call.Create (codes "b" ∷ [])) (answer.NoRoom 2 15) None
-    ∷ Waits 3 B (call.Create (codes "c" ∷ []))
-    ∷ Answered 3 B (call.Create (codes "c" ∷ [])) (answer.NoRoom 2 15) None
-    ∷ Ended A []
+    ∷ awaited 3 B (call.Create (codes "c" ∷ [])) (answer.NoRoom 2 15) None
+    ++ Ended A []
     ∷ Told A []
-    ∷ Waits 5 B (call.Create (codes "d" ∷ []))
-    ∷ Answered 5 B (call.Create (codes "d" ∷ [])) (answer.Reply reply.Ok) (Some 1)
-    ∷ []
+    ∷ awaited 5 B (call.Create (codes "d" ∷ [])) (answer.Reply reply.Ok) (Some 1)
 
 -- the ids that one clerk used leave none for it
 abbrev pub used_ids : List Shown
 used_ids =
     Waits 1 A (call.Create (codes "f1" ∷ []))
-    ∷ Answered 1 A (call.Create (codes "f1" ∷ [])) (answer.Reply reply.Ok) (Some 1)
-    ∷ Answered 2 A (call.Create (codes "f2" ∷ [])) (answer.Reply reply.Ok) (Some 2)
-    ∷ Answered 3 A (call.Create (codes "f3" ∷ [])) (answer.Reply reply.Ok) (Some 3)
-    ∷ Answered 4 A (call.Create (codes "f4" ∷ [])) (answer.Reply reply.Ok) (Some 4)
-    ∷ Answered 5 A (call.Create (codes "f5" ∷ [])) (answer.Reply reply.Ok) (Some 5)
-    ∷ Answered 6 A (call.Create (codes "f6" ∷ [])) (answer.Reply reply.Ok) (Some 6)
-    ∷ Answered 7 A (call.Create (codes "f7" ∷ [])) (answer.Reply reply.Ok) (Some 7)
-    ∷ Answered 8 A (call.Create (codes "f8" ∷ [])) (answer.Reply reply.Ok) (Some 8)
-    ∷ Answered 9 A (call.Create (codes "f9" ∷ [])) (answer.Reply reply.Ok) (Some 9)
-    ∷ Answered 10 A (call.Create (codes "f10" ∷ [])) (answer.Reply reply.Ok) (Some 10)
-    ∷ Answered 11 A (call.Create (codes "f11" ∷ [])) (answer.Reply reply.Ok) (Some 11)
-    ∷ Answered 12 A (call.Create (codes "f12" ∷ [])) (answer.Reply reply.Ok) (Some 12)
-    ∷ Answered 13 A (call.Create (codes "f13" ∷ [])) (answer.Reply reply.Ok) (Some 13)
-    ∷ Answered 14 A (call.Create (codes "f14" ∷ [])) (answer.Reply reply.Ok) (Some 14)
-    ∷ Answered 15 A (call.Create (codes "f15" ∷ [])) (answer.Reply reply.Ok) (Some 15)
-    ∷ Answered 16 A (call.Create (codes "f16" ∷ [])) (answer.Reply reply.Ok) (Some 16)
-    ∷ Waits 17 A (call.Create (codes "f17" ∷ []))
-    ∷ Answered 17 A (call.Create (codes "f17" ∷ [])) (answer.NoRoom 1 16) None
-    ∷ Waits 18 A call.Sync
-    ∷ Durable A (1 ∷ 2 ∷ 3 ∷ 4 ∷ 5 ∷ 6 ∷ 7 ∷ 8 ∷ 9 ∷ 10 ∷ 11 ∷ 12 ∷ 13 ∷ 14 ∷ 15 ∷ 16 ∷ [])
-    ∷ Answered 18 A call.Sync (answer.Reply reply.Ok) None
-    ∷ Waits 19 A (call.Create (codes "f18" ∷ []))
-    ∷ Answered 19 A (call.Create (codes "f18" ∷ [])) (answer.NoRoom 17 0) None
-    ∷ []
+    ∷ made_from [] 16 1 1
+    ++ awaited 17 A (call.Create (codes "f17" ∷ [])) (answer.NoRoom 1 16) None
+    ++ flushed 18 call.Sync (numbers_from 16 1)
+    ++ awaited 19 A (call.Create (codes "f18" ∷ [])) (answer.NoRoom 17 0) None

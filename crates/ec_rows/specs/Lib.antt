@@ -1,4 +1,5 @@
 pub mod Clerks
+pub mod Parts
 pub mod Alone
 pub mod Durable
 pub mod Ended

@@ -9,13 +9,13 @@ use Rattle.ec_history.specs.declared.entry.Answer.TheVariants as answer
 use Rattle.ec_history.specs.declared.shown.Shown.{Shown}
 use Rattle.ec_history.specs.declared.shown.Shown.TheVariants.{Waits, Answered, Durable, Ended, Unseen, Told, Crashed}
 use Rattle.ec_rows.specs.Clerks.{A}
+use Rattle.ec_rows.specs.Parts.{begun, flushed}
 
 -- told, behind the loss of two operations
 abbrev pub two_lost_creates : List ℕ → List Shown
 two_lost_creates told =
-    Waits 1 A (call.Create (codes "f" ∷ []))
-    ∷ Answered 1 A (call.Create (codes "f" ∷ [])) (answer.Reply reply.Ok) (Some 1)
-    ∷ Answered 2 A (call.Create (codes "g" ∷ [])) (answer.Reply reply.Ok) (Some 2)
+    begun (call.Create (codes "f" ∷ []))
+    ++ Answered 2 A (call.Create (codes "g" ∷ [])) (answer.Reply reply.Ok) (Some 2)
     ∷ Ended A (1 ∷ 2 ∷ [])
     ∷ Told A told
     ∷ []
@@ -23,9 +23,8 @@ two_lost_creates told =
 -- told, behind a write of a clerk that did not know that its session had ended
 abbrev pub late_write : List ℕ → List Shown
 late_write told =
-    Waits 1 A (call.Create (codes "f" ∷ []))
-    ∷ Answered 1 A (call.Create (codes "f" ∷ [])) (answer.Reply reply.Ok) (Some 1)
-    ∷ Ended A (1 ∷ [])
+    begun (call.Create (codes "f" ∷ []))
+    ++ Ended A (1 ∷ [])
     ∷ Answered 2 A (call.Write (codes "f" ∷ []) 0 (codes "hi")) (answer.Reply reply.Ok) (Some 2)
     ∷ Told A told
     ∷ []
@@ -33,32 +32,27 @@ late_write told =
 -- a second answer
 abbrev pub answered_line : ℕ → List ℕ → List Shown
 answered_line number name =
-    Waits 1 A (call.Create (codes "f" ∷ []))
-    ∷ Answered 1 A (call.Create (codes "f" ∷ [])) (answer.Reply reply.Ok) (Some 1)
-    ∷ Waits 2 A (call.Create (codes "g" ∷ []))
+    begun (call.Create (codes "f" ∷ []))
+    ++ Waits 2 A (call.Create (codes "g" ∷ []))
     ∷ Answered number A (call.Create (name ∷ [])) (answer.Reply reply.Ok) (Some 2)
     ∷ []
 
 -- the first answer of a second start, behind these lines
 abbrev pub next_start : List Shown → List Shown
 next_start between =
-    Waits 1 A (call.Create (codes "f" ∷ []))
-    ∷ Answered 1 A (call.Create (codes "f" ∷ [])) (answer.Reply reply.Ok) (Some 1)
-    ∷ Waits 2 A (call.Fsync (codes "f" ∷ []))
-    ∷ Durable A (1 ∷ [])
-    ∷ Answered 2 A (call.Fsync (codes "f" ∷ [])) (answer.Reply reply.Ok) None
-    ∷ Crashed A
+    begun (call.Create (codes "f" ∷ []))
+    ++ flushed 2 (call.Fsync (codes "f" ∷ [])) (1 ∷ [])
+    ++ Crashed A
     ∷ Waits 4 A (call.Stat [])
-    ∷ (between
+    ∷ between
     ++ Answered 4 A (call.Stat []) (answer.Reply (reply.Stat kind.Dir 493 0 0 1)) None
-    ∷ [])
+    ∷ []
 
 -- the first answer of a second start, while the session of the first one is open
 abbrev pub second_start_begins : Call → Answer → List Shown
 second_start_begins next given =
-    Waits 1 A (call.Create (codes "f" ∷ []))
-    ∷ Answered 1 A (call.Create (codes "f" ∷ [])) (answer.Reply reply.Ok) (Some 1)
-    ∷ Crashed A
+    begun (call.Create (codes "f" ∷ []))
+    ++ Crashed A
     ∷ Answered 3 A next given None
     ∷ []
 
@@ -72,18 +66,16 @@ second_waits name =
 -- told, behind these lines
 abbrev pub told_behind : List Shown → List Shown
 told_behind between =
-    Waits 1 A (call.Create (codes "f" ∷ []))
-    ∷ Answered 1 A (call.Create (codes "f" ∷ [])) (answer.Reply reply.Ok) (Some 1)
-    ∷ (between
+    begun (call.Create (codes "f" ∷ []))
+    ++ between
     ++ Told A (1 ∷ [])
-    ∷ [])
+    ∷ []
 
 -- a second durable line
 abbrev pub two_durable_lines : List ℕ → List Shown
 two_durable_lines second =
-    Waits 1 A (call.Create (codes "f" ∷ []))
-    ∷ Answered 1 A (call.Create (codes "f" ∷ [])) (answer.Reply reply.Ok) (Some 1)
-    ∷ Answered 2 A (call.Create (codes "g" ∷ [])) (answer.Reply reply.Ok) (Some 2)
+    begun (call.Create (codes "f" ∷ []))
+    ++ Answered 2 A (call.Create (codes "g" ∷ [])) (answer.Reply reply.Ok) (Some 2)
     ∷ Durable A (1 ∷ [])
     ∷ Durable A second
     ∷ []
@@ -91,15 +83,14 @@ two_durable_lines second =
 -- a durable line of this clerk
 abbrev pub durable_of_none : ℕ → List Shown
 durable_of_none clerk =
-    Waits 1 A (call.Create (codes "f" ∷ []))
-    ∷ Answered 1 A (call.Create (codes "f" ∷ [])) (answer.Reply reply.Ok) (Some 1)
-    ∷ Durable clerk []
+    begun (call.Create (codes "f" ∷ []))
+    ++ Durable clerk []
     ∷ []
 
 -- an unseen session, behind an answer and these lines
 abbrev pub unseen_session : Call → List Shown → List Shown
 unseen_session next between =
     Answered 1 A next (answer.Reply reply.Ok) None
-    ∷ (between
+    ∷ between
     ++ Unseen A
-    ∷ [])
+    ∷ []

@@ -8,13 +8,18 @@ use Rattle.ec_script.specs.Pieces.{piece_len, onto}
 use Rattle.ec_script.specs.Words.{words_of, spaced_len, column_of}
 use Rattle.ec_script.specs.Lines.{lines_of}
 
-pub with_space : (bs : List ℕ) → piece_len 32 bs < length bs → words_of bs ≡ take (piece_len 32 bs) bs ∷ words_of (drop (suc (piece_len 32 bs)) bs)
-with_space [] lt = absurd (omega arith)
-with_space (b ∷ bs) lt =
-    elim (b == 32) as (λ t. (if t then 0 else suc (piece_len 32 bs)) < suc (length bs) → (if t then [] ∷ words_of bs else onto b (words_of bs)) ≡ take (if t then 0 else suc (piece_len 32 bs)) (b ∷ bs) ∷ words_of (drop (suc (if t then 0 else suc (piece_len 32 bs))) (b ∷ bs))) [
+-- a first piece, by the byte that ends it
+with_piece : (stop : ℕ) (f : List ℕ → List (List ℕ)) → ((b : ℕ) (bs : List ℕ) → f (b ∷ bs) ≡ (if b == stop then [] ∷ f bs else onto b (f bs))) → (bs : List ℕ) → piece_len stop bs < length bs → f bs ≡ take (piece_len stop bs) bs ∷ f (drop (suc (piece_len stop bs)) bs)
+with_piece stop f step [] lt = absurd (omega arith)
+with_piece stop f step (b ∷ bs) lt =
+    step b bs
+    ∙ elim (b == stop) as (λ t. (if t then 0 else suc (piece_len stop bs)) < suc (length bs) → (if t then [] ∷ f bs else onto b (f bs)) ≡ take (if t then 0 else suc (piece_len stop bs)) (b ∷ bs) ∷ f (drop (suc (if t then 0 else suc (piece_len stop bs))) (b ∷ bs))) [
       | true ↦ λ l. refl
-      | false ↦ λ l. ap (onto b) (with_space bs (omega arith))
+      | false ↦ λ l. ap (onto b) (with_piece stop f step bs (omega arith))
     ] lt
+
+pub with_space : (bs : List ℕ) → piece_len 32 bs < length bs → words_of bs ≡ take (piece_len 32 bs) bs ∷ words_of (drop (suc (piece_len 32 bs)) bs)
+with_space = with_piece 32 words_of (λ b bs. refl)
 
 pub without_space : (bs : List ℕ) → length bs ≤ piece_len 32 bs → words_of bs ≡ bs ∷ []
 without_space [] le = refl
@@ -25,12 +30,7 @@ without_space (b ∷ bs) le =
     ] le
 
 pub with_end : (bs : List ℕ) → piece_len 10 bs < length bs → lines_of bs ≡ take (piece_len 10 bs) bs ∷ lines_of (drop (suc (piece_len 10 bs)) bs)
-with_end [] lt = absurd (omega arith)
-with_end (b ∷ bs) lt =
-    elim (b == 10) as (λ t. (if t then 0 else suc (piece_len 10 bs)) < suc (length bs) → (if t then [] ∷ lines_of bs else onto b (lines_of bs)) ≡ take (if t then 0 else suc (piece_len 10 bs)) (b ∷ bs) ∷ lines_of (drop (suc (if t then 0 else suc (piece_len 10 bs))) (b ∷ bs))) [
-      | true ↦ λ l. refl
-      | false ↦ λ l. ap (onto b) (with_end bs (omega arith))
-    ] lt
+with_end = with_piece 10 lines_of (λ b bs. refl)
 
 pub without_end : (bs : List ℕ) → bs ≢ [] → length bs ≤ piece_len 10 bs → lines_of bs ≡ bs ∷ []
 without_end [] some le = absurd (some refl)

@@ -1,9 +1,11 @@
 -- How the first word that doesn't fit follows from what words have and lack.
-use Rattle.std.proofs.Common.{◌≡◌, ℕ, suc, ◌+◌, ◌<◌, List, [], ◌∷◌, ◌++◌, length, take, drop, drop-cons, get_or, refl, sym, subst, ap, ◌∙◌, arith, rules, true}
+use Rattle.std.proofs.Common.{◌≡◌, ℕ, suc, ◌+◌, ◌<◌, List, [], ◌∷◌, ◌++◌, length, take, drop, drop-cons, get_or, Result, MatchResult, refl, sym, subst, ap, ◌∙◌, arith, rules, true}
 use Rattle.std.specs.Prelude.{codes}
 use Rattle.std.specs.Str.{is_utf8}
 use Rattle.std.proofs.lemmas.Str.{IsUtf8-from_ascii, is_utf8-from_IsUtf8}
 use Rattle.std.proofs.lemmas.Fmt.{decimal_digit}
+use Rattle.std.proofs.lemmas.Result.{err_from_is_err_and}
+use Rattle.std.specs.Result.{IsErrAnd}
 use Rattle.ec_plain.specs.Walk.{Path}
 use Rattle.ec_plain.specs.declared.call.Call.{Call}
 use Rattle.ec_plain.specs.declared.call.Call.TheVariants as call
@@ -13,6 +15,10 @@ use Rattle.ec_script.specs.declared.value.WordFault.{WordFault}
 use Rattle.ec_script.specs.declared.value.WordFault.TheVariants as fault
 use Rattle.ec_script.specs.Grammar.{Word, ◌▸◌, End, IsClerkWord, IsPathWord, IsNumberWord, IsCountWord, IsTextWord, SpellsCall, Spells, Begins, FirstUnfit}
 use Rattle.ec_script.specs.Reading.{Has, Lacks, IsRefused}
+
+-- a `?` at this fault returns it
+pub at_fault : {X : Type 0} (G : List Word → X → Type 0) (k : ℕ) (ws : List Word) (r : Result X WordFault) (e : WordFault) → IsErrAnd r (λ y. y ≡ e) → IsRefused G k ws e → MatchResult r (G (drop k ws)) (IsRefused G k ws)
+at_fault G k ws r e is q = let p = err_from_is_err_and r is in rw (p.1, p.2) q
 
 unfit_none : {X : Type 0} (G : List Word → X → Type 0) → Begins G [] → ((x : X) → G [] x → ⊥) → FirstUnfit G [] 0
 unfit_none G b n = record { within = omega arith; begins = b; stops = λ lt. absurd (omega arith); none = n }

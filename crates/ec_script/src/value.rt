@@ -46,10 +46,7 @@ pub(crate) fn clerk_at(words: &[&[u8]], at: usize) -> Result<ClerkId, WordFault>
         (Has IsClerkWord at (texts words.now))
         (Lacks IsClerkWord at (texts words.now)) }
 {
-    match clerk_of(word_at(words, at)?) {
-        Some(clerk) => Ok(clerk),
-        None => Err(WordFault::Unfit(at)),
-    }
+    clerk_of(word_at(words, at)?).ok_or(WordFault::Unfit(at))
 }
 
 fn clerk_of(word: &[u8]) -> Option<ClerkId>
@@ -73,10 +70,7 @@ pub(crate) fn path_at(alloc: Global, words: &[&[u8]], at: usize) -> Result<Path,
         (Has IsPathWord at (texts words.now))
         (Lacks IsPathWord at (texts words.now)) }
 {
-    match path_of(alloc, word_at(words, at)?)? {
-        Some(path) => Ok(path),
-        None => Err(WordFault::Unfit(at)),
-    }
+    path_of(alloc, word_at(words, at)?)?.ok_or(WordFault::Unfit(at))
 }
 
 fn path_of(alloc: Global, word: &[u8]) -> Result<Option<Path>, NoMemory>
@@ -121,10 +115,7 @@ pub(crate) fn number_at(words: &[&[u8]], at: usize) -> Result<u32, WordFault>
         (Has IsNumberWord at (texts words.now))
         (Lacks IsNumberWord at (texts words.now)) }
 {
-    match number_of(word_at(words, at)?) {
-        Some(number) => Ok(number),
-        None => Err(WordFault::Unfit(at)),
-    }
+    number_of(word_at(words, at)?).ok_or(WordFault::Unfit(at))
 }
 
 /// A number of at most 4,096.
@@ -133,10 +124,7 @@ pub(crate) fn count_at(words: &[&[u8]], at: usize) -> Result<u32, WordFault>
         (Has IsCountWord at (texts words.now))
         (Lacks IsCountWord at (texts words.now)) }
 {
-    match count_of(word_at(words, at)?) {
-        Some(count) => Ok(count),
-        None => Err(WordFault::Unfit(at)),
-    }
+    count_of(word_at(words, at)?).ok_or(WordFault::Unfit(at))
 }
 
 fn count_of(word: &[u8]) -> Option<u32>
@@ -176,10 +164,7 @@ pub(crate) fn text_at(alloc: Global, words: &[&[u8]], at: usize) -> Result<ByteL
         (Has IsTextWord at (texts words.now))
         (Lacks IsTextWord at (texts words.now)) }
 {
-    match text_of(alloc, word_at(words, at)?)? {
-        Some(text) => Ok(text),
-        None => Err(WordFault::Unfit(at)),
-    }
+    text_of(alloc, word_at(words, at)?)?.ok_or(WordFault::Unfit(at))
 }
 
 fn text_of(alloc: Global, word: &[u8]) -> Result<Option<ByteList<u8>>, NoMemory>
