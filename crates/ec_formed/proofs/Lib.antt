@@ -11,6 +11,7 @@ pub mod Edited
 pub mod Same
 pub mod Made
 pub mod Dropped
+pub mod Carried
 pub mod Moved
 pub mod Shifted
 pub mod Changed

@@ -1,6 +1,6 @@
 -- A Move that is sound and fits.
-use Rattle.std.proofs.Common.{◌≡◌, refl, sym, ap, subst, ◌∙◌, inl, inr, ℕ, T, Bool, true, false, not, ◌==◌, ◌&&◌, ◌||◌, cond, List, [], ◌∷◌, Option, Some, None}
-use Rattle.std.proofs.lemmas.Bool.{cases_Bool, eqb-true, eqb-false, true≢false}
+use Rattle.std.proofs.Common.{◌≡◌, refl, sym, ap, ◌∙◌, inl, inr, ℕ, T, Bool, true, false, not, ◌==◌, ◌&&◌, ◌||◌, cond, List, [], ◌∷◌, Option, Some, None}
+use Rattle.std.proofs.lemmas.Bool.{cases_Bool, true≢false}
 use Rattle.std.specs.FinMap.{is_sorted}
 use Rattle.ec_volume.specs.Entries.{Entries, by_bytes, same_name, entry, with_entry, without_entry}
 use Rattle.ec_volume.specs.Image.{is_gone, is_dir, is_kind, is_bare, gives, yields, entries_of, with_entries}
@@ -12,10 +12,10 @@ use Rattle.ec_volume.specs.declared.image.Kind.{Kind}
 use Rattle.ec_volume.specs.declared.update.Update.TheVariants.{Move}
 use Rattle.ec_laws.proofs.Late.{same_number}
 use Rattle.ec_laws.proofs.Removed.{left, right}
-use Rattle.ec_formed.proofs.Apart.{apart, member-next, not-both, distinct-rest, victim-listed, listed-victim, gives-is, yields-is}
-use Rattle.ec_formed.proofs.Change.{Change, IsLive, New, Stay}
-use Rattle.ec_formed.proofs.Edited.{edited}
-use Rattle.ec_formed.proofs.Entries.{at, at-is, at-from, found-with, found-without, sorted-with, sorted-without, one_entry, dir-with, gone-with, entries-bare}
+use Rattle.ec_formed.proofs.Apart.{apart, member-next, distinct-rest, victim-listed, listed-victim, gives-is, yields-is}
+use Rattle.ec_formed.proofs.Carried.{carried}
+use Rattle.ec_formed.proofs.Change.{Change, New, Stay}
+use Rattle.ec_formed.proofs.Entries.{found-with, found-without, sorted-with, sorted-without, dir-with, gone-with, entries-bare}
 
 -- The image of an object, by whether it is the directory, the object that moves and the victim.
 module _ (dir : ℕ) (from to : List ℕ) (obj : ℕ) (k : Kind) (victim : Option ℕ) where
@@ -83,9 +83,6 @@ module _ (dir : ℕ) (from to : List ℕ) (obj : ℕ) (k : Kind) (victim : Optio
     named-to : entry (entries_of (v dir)) to ≡ victim
     named-to = yields-is to victim (v dir) (right (gives from obj (v dir)) (yields to victim (v dir)) at-dir)
 
-    root-not : root ≡ obj → ⊥
-    root-not e = f.root_unnamed dir from (subst (λ x. Names v dir from x) (sym e) named)
-
     not-victim : (o : ℕ) → (victim ≡ Some o → ⊥) → member o (listed victim) ≡ false
     not-victim o h = elim (cases_Bool (member o (listed victim))) [ inl e ↦ absurd (h (listed-victim o victim e)) | inr e ↦ e ]
 
@@ -103,33 +100,14 @@ module _ (dir : ℕ) (from to : List ℕ) (obj : ℕ) (k : Kind) (victim : Optio
     alive o h = gone-same (o == dir) (o == obj) (member o (listed victim)) (v o) (not-victim o h)
 
     pub move-changed : Change v w (New (Move dir from to obj k victim)) (Stay (Move dir from to obj k victim))
-    move-changed = edited v w (New (Move dir from to obj k victim)) (Stay (Move dir from to obj k victim)) obj (at dir to) (at dir from)
+    move-changed = carried v w dir from dir to obj victim f
         (record {
           maps = λ d. sorted (d == dir) (d == obj) (member d (listed victim)) (v d) (f.maps d);
-          root_is_dir =
-              subst T (sym (dir-same (root == dir) (root == obj) (member root (listed victim)) (v root) (not-victim root (λ e. f.root_unnamed dir to (named-to ∙ e))))) f.root_is_dir;
           found = λ d n. found (d == dir) (d == obj) (member d (listed victim)) (v d) (fits d) n;
-          new = λ d n e. let p = at-is dir to d n e in (p.0, p.1, refl);
-          new_is = λ d n o h. (at-from dir to d n h.0 h.1, h.2);
-          one = λ d e m n o r x y. (x.0 ∙ sym y.0, x.1 ∙ sym y.1);
-          kept = λ d n o t c h. (
-            λ e. let p = f.once obj d dir n from (subst (λ x. Names v d n x) e h) named in true≢false (sym (at-from dir from d n p.0 p.1) ∙ c),
-            λ e. let p = f.once o d dir n to h (named-to ∙ e) in true≢false (sym (at-from dir to d n p.0 p.1) ∙ t),
-          );
-          put_out = λ d n o t h s.
-              let p = at-is dir to d n t in
-              s.1 (sym named-to ∙ subst (λ m. Names v dir m o) p.1 (subst (λ x. Names v x n o) p.0 h));
-          cut_out = λ d n o c h s.
-              let p = at-is dir from d n c in
-              s.0 (one_entry o obj (sym (subst (λ m. Names v dir m o) p.1 (subst (λ x. Names v x n o) p.0 h)) ∙ named));
-          away = λ d n o x s. s.0 x.2;
-          no_root = λ d n x. root-not x.2;
-          new_live = λ d n o x. subst (λ y. IsLive (w y)) (sym x.2) (subst (λ b. T (not b)) (sym (alive obj obj-stays)) (f.live obj dir from named));
-          live_up = λ o l s. subst (λ b. T (not b)) (sym (alive o s.1)) l;
-          live_down = λ o l. elim (cases_Bool (o == obj)) [
-            | inl e ↦ inl (dir, to, (refl, refl, eqb-true o obj e))
-            | inr e ↦
-                let stays : victim ≡ Some o → ⊥ = λ g. not-both (is_gone (w o)) (victim-gone o g) l in
-                inr (subst (λ b. T (not b)) (alive o stays) l, (eqb-false o obj e, stays))
-          ];
+          named = named;
+          named_to = named-to;
+          same_root = λ h. dir-same (root == dir) (root == obj) (member root (listed victim)) (v root) (not-victim root h);
+          alive = alive;
+          victim_gone = victim-gone;
+          stays = obj-stays;
         })

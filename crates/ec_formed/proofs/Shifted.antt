@@ -1,6 +1,6 @@
 -- A Shift that is sound and fits.
 use Rattle.std.proofs.Common.{◌≡◌, refl, sym, ap, subst, ◌∙◌, inl, inr, ℕ, T, Bool, true, false, not, ◌==◌, ◌&&◌, ◌||◌, cond, List, [], ◌∷◌, ◌++◌, Option, Some, None}
-use Rattle.std.proofs.lemmas.Bool.{cases_Bool, eqb-true, eqb-false, true≢false}
+use Rattle.std.proofs.lemmas.Bool.{cases_Bool, eqb-true, true≢false}
 use Rattle.std.specs.List.{filter}
 use Rattle.std.specs.FinMap.{is_sorted}
 use Rattle.ec_volume.specs.Entries.{Entries, by_bytes, same_name, entry, with_entry, without_entry}
@@ -14,10 +14,10 @@ use Rattle.ec_volume.specs.declared.update.Update.TheVariants.{Shift}
 use Rattle.ec_laws.proofs.Late.{same_number}
 use Rattle.ec_laws.proofs.Objects.{holds}
 use Rattle.ec_laws.proofs.Removed.{left, right}
-use Rattle.ec_formed.proofs.Apart.{apart, member-first, member-next, not-both, distinct-rest, victim-member, gives-is, gives-dir, yields-is, yields-dir}
-use Rattle.ec_formed.proofs.Change.{Change, IsLive, New, Stay}
-use Rattle.ec_formed.proofs.Edited.{edited}
-use Rattle.ec_formed.proofs.Entries.{at, at-is, at-from, id-is, id-from, found-with, found-without, sorted-with, sorted-without, one_entry, entries-with, dir-with, gone-with, entries-bare}
+use Rattle.ec_formed.proofs.Apart.{apart, member-first, member-next, distinct-rest, victim-member, gives-is, gives-dir, yields-is, yields-dir}
+use Rattle.ec_formed.proofs.Carried.{carried}
+use Rattle.ec_formed.proofs.Change.{Change, New, Stay}
+use Rattle.ec_formed.proofs.Entries.{id-is, id-from, found-with, found-without, sorted-with, sorted-without, entries-with, dir-with, gone-with, entries-bare}
 
 -- The image of an object, by whether it is the first directory (a), the second one (b), the object that moves (c), another operand (m) and the victim (e).
 module _ (dir : ℕ) (from : List ℕ) (into : ℕ) (to : List ℕ) (obj : ℕ) (k : Kind) (victim : Option ℕ) where
@@ -144,9 +144,6 @@ module _ (dir : ℕ) (from : List ℕ) (into : ℕ) (to : List ℕ) (obj : ℕ) 
         yields-is to victim (v into)
         (second_fits (into == dir) (into == into) (into == obj) (member into others) (is_id into victim) (leads up into into (v into)) (v into) (fits into) into-not-dir (same_number into))
 
-    root-not : root ≡ obj → ⊥
-    root-not e = f.root_unnamed dir from (subst (λ x. Names v dir from x) (sym e) named)
-
     not-victim : (o : ℕ) → (victim ≡ Some o → ⊥) → is_id o victim ≡ false
     not-victim o h = elim (cases_Bool (is_id o victim)) [ inl e ↦ absurd (h (id-is o victim (holds e))) | inr e ↦ e ]
 
@@ -164,35 +161,14 @@ module _ (dir : ℕ) (from : List ℕ) (into : ℕ) (to : List ℕ) (obj : ℕ) 
     alive o h = gone-same (o == dir) (o == into) (o == obj) (member o others) (is_id o victim) (v o) (not-victim o h)
 
     pub shift-changed : Change v w (New (Shift dir from into to obj k victim up)) (Stay (Shift dir from into to obj k victim up))
-    shift-changed = edited v w (New (Shift dir from into to obj k victim up)) (Stay (Shift dir from into to obj k victim up)) obj (at into to) (at dir from)
+    shift-changed = carried v w dir from into to obj victim f
         (record {
           maps = λ d. sorted (d == dir) (d == into) (d == obj) (member d others) (is_id d victim) (v d) (f.maps d);
-          root_is_dir =
-              subst T
-              (sym (dir-same (root == dir) (root == into) (root == obj) (member root others) (is_id root victim) (v root) (not-victim root (λ e. f.root_unnamed into to (named-to ∙ e)))))
-              f.root_is_dir;
           found = λ d n. found (d == dir) (d == into) (d == obj) (member d others) (is_id d victim) (leads up into d (v d)) (v d) (dir-not-into d) (victim-not-obj d) (fits d) n;
-          new = λ d n e. let p = at-is into to d n e in (p.0, p.1, refl);
-          new_is = λ d n o h. (at-from into to d n h.0 h.1, h.2);
-          one = λ d e m n o r x y. (x.0 ∙ sym y.0, x.1 ∙ sym y.1);
-          kept = λ d n o t c h. (
-            λ e. let p = f.once obj d dir n from (subst (λ x. Names v d n x) e h) named in true≢false (sym (at-from dir from d n p.0 p.1) ∙ c),
-            λ e. let p = f.once o d into n to h (named-to ∙ e) in true≢false (sym (at-from into to d n p.0 p.1) ∙ t),
-          );
-          put_out = λ d n o t h s.
-              let p = at-is into to d n t in
-              s.1 (sym named-to ∙ subst (λ m. Names v into m o) p.1 (subst (λ x. Names v x n o) p.0 h));
-          cut_out = λ d n o c h s.
-              let p = at-is dir from d n c in
-              s.0 (one_entry o obj (sym (subst (λ m. Names v dir m o) p.1 (subst (λ x. Names v x n o) p.0 h)) ∙ named));
-          away = λ d n o x s. s.0 x.2;
-          no_root = λ d n x. root-not x.2;
-          new_live = λ d n o x. subst (λ y. IsLive (w y)) (sym x.2) (subst (λ b. T (not b)) (sym (alive obj obj-stays)) (f.live obj dir from named));
-          live_up = λ o l s. subst (λ b. T (not b)) (sym (alive o s.1)) l;
-          live_down = λ o l. elim (cases_Bool (o == obj)) [
-            | inl e ↦ inl (into, to, (refl, refl, eqb-true o obj e))
-            | inr e ↦
-                let stays : victim ≡ Some o → ⊥ = λ g. not-both (is_gone (w o)) (victim-gone o g) l in
-                inr (subst (λ b. T (not b)) (alive o stays) l, (eqb-false o obj e, stays))
-          ];
+          named = named;
+          named_to = named-to;
+          same_root = λ h. dir-same (root == dir) (root == into) (root == obj) (member root others) (is_id root victim) (v root) (not-victim root h);
+          alive = alive;
+          victim_gone = victim-gone;
+          stays = obj-stays;
         })

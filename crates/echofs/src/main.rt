@@ -2,7 +2,7 @@
 //! script of calls and crashes, and prints what was answered and what was lost.
 #![tactic(auto)]
 
-ghost use Rattle.std.specs.Prelude.{◌≡◌, ◌≢◌, ◌↔◌, ◌≤◌, [], ◌∷◌, map, codes, MatchBool};
+ghost use Rattle.std.specs.Prelude.{◌≡◌, ◌≢◌, ◌↔◌, ◌≤◌, [], ◌∷◌, map, codes, MatchBool, IsSome};
 ghost use Rattle.std.specs.String.{string_bytes};
 ghost use Rattle.ec_drill.specs.Drill.{code};
 ghost use Rattle.ec_drill.specs.declared.status.Status.{Status};
@@ -44,7 +44,9 @@ fn is_drill(words: &[String]) -> bool
 }
 
 // What the program says of a status on standard error.
-fn reason(status: u8) -> Option<&'static str> {
+fn reason(status: u8) -> Option<&'static str>
+    ensures { IsSome result ↔ (status ≢ 0) }
+{
     match status {
         0 => None,
         2 => Some("usage: echofs drill < SCRIPT"),

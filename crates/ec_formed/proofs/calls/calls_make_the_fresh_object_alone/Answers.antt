@@ -1,4 +1,3 @@
-use Rattle.std.proofs.Common.{sym, ◌∙◌}
 use Rattle.ec_formed.proofs.Fresh.{gone-stays, plain-makes}
 use Rattle.ec_formed.proofs.calls.calls_make_the_fresh_object_alone.Goals as goal
 
