@@ -2,19 +2,27 @@
 use Rattle.std.specs.Prelude.{◌≡◌, ◌≤◌, ◌+◌, ◌||◌, ◌&&◌, All, ℕ, Bool, false, List, [], ◌∷◌, Option, Some, None, length, eqb, ltb, if◌then◌else◌}
 use Rattle.std.specs.List.{position, slice_split}
 use Rattle.std.specs.Str.{is_utf8}
+use Rattle.ec_base.specs.Limits.{max_name_bytes, max_path_names}
 use Rattle.ec_base.specs.declared.name.NameFault.{NameFault}
 use Rattle.ec_base.specs.declared.name.NameFault.TheVariants as fault
 use Rattle.ec_base.specs.declared.name.PathFault.{PathFault}
 use Rattle.ec_base.specs.declared.name.PathFault.TheVariants as unread
 
+abbrev pub is_slash : ℕ → Bool
+is_slash byte = eqb byte 47
+
+-- a slash or NUL
 abbrev pub is_bad : ℕ → Bool
-is_bad byte = eqb byte 47 || eqb byte 0
+is_bad byte = is_slash byte || eqb byte 0
+
+abbrev pub is_dot : ℕ → Bool
+is_dot byte = eqb byte 46
 
 -- `.` or `..`
 abbrev pub is_dots : List ℕ → Bool
 is_dots [] = false
-is_dots (a ∷ []) = eqb a 46
-is_dots (a ∷ b ∷ []) = eqb a 46 && eqb b 46
+is_dots (a ∷ []) = is_dot a
+is_dots (a ∷ b ∷ []) = is_dot a && is_dot b
 is_dots (a ∷ b ∷ c ∷ bytes) = false
 
 abbrev pub fault_in_text : List ℕ → Option ℕ → Option NameFault
@@ -23,17 +31,13 @@ fault_in_text bytes None = if is_dots bytes then Some fault.DotName else (if is_
 
 -- the first fault, in the order of the tests
 abbrev pub name_fault : List ℕ → Option NameFault
-name_fault bytes = if eqb (length bytes) 0 then Some fault.Empty else (if ltb 64 (length bytes) then Some fault.Long else fault_in_text bytes (position is_bad bytes))
+name_fault bytes = if eqb (length bytes) 0 then Some fault.Empty else (if ltb max_name_bytes (length bytes) then Some fault.Long else fault_in_text bytes (position is_bad bytes))
 
 abbrev pub IsName : List ℕ → Type 0
 IsName bytes = name_fault bytes ≡ None
 
--- at most 16 names
 abbrev pub IsPath : List (List ℕ) → Type 0
-IsPath names = (length names ≤ 16) × All IsName names
-
-abbrev pub is_slash : ℕ → Bool
-is_slash byte = eqb byte 47
+IsPath names = (length names ≤ max_path_names) × All IsName names
 
 -- the names that the bytes after the first one hold: no name where there is none, and else the parts between the slashes
 abbrev pub path_names : List ℕ → List (List ℕ)
@@ -48,7 +52,7 @@ or_later place None later = later
 -- the first fault of names of which this many stand before
 abbrev pub names_fault : ℕ → List (List ℕ) → Option PathFault
 names_fault before [] = None
-names_fault before (name ∷ names) = if ltb before 16 then or_later (before + 1) (name_fault name) (names_fault (before + 1) names) else Some unread.Deep
+names_fault before (name ∷ names) = if ltb before max_path_names then or_later (before + 1) (name_fault name) (names_fault (before + 1) names) else Some unread.Deep
 
 -- the first fault, in the order of the tests
 abbrev pub path_fault : List ℕ → Option PathFault

@@ -1,6 +1,7 @@
 -- What sources and sinks do to the bytes that they tell and to their counts of faults.
-use Rattle.std.specs.Prelude.{◌≡◌, ℕ, ◌+◌, ◌-◌, ◌^◌, ◌≤◌, min, List, Option, is_some, length, take}
+use Rattle.std.specs.Prelude.{◌≡◌, ◌==◌, ℕ, ◌+◌, ◌≤◌, if◌then◌else◌, List, Option, is_some, length, take}
 use Rattle.std.specs.Io.KnownBytes.{Consumes, Appends, Keeps, IsAtEnd}
+use Rattle.ec_base.specs.Limits.{last_count}
 use Rattle.ec_base.specs.declared.outside.Took.{Took}
 use Rattle.ec_base.specs.declared.outside.Took.TheVariants as took
 use Rattle.ec_base.specs.declared.outside.Gave.{Gave}
@@ -8,9 +9,9 @@ use Rattle.ec_base.specs.declared.outside.Gave.TheVariants as gave
 
 -- one more, in a u64 that stops at its last value
 abbrev pub one_more : ℕ → ℕ
-one_more n = min (n + 1) (2 ^ 64 - 1)
+one_more n = if n == last_count then n else n + 1
 
--- a count has risen, or stands at its last value
+-- a count has risen, or stands at the last value that a real adapter's count can have
 abbrev pub Rose : ℕ → ℕ → Type 0
 Rose before now = one_more before ≤ now
 

@@ -1,6 +1,10 @@
 // Numbers of objects, clerks, operations and sessions, ages, and the modes of a token.
 ghost use Rattle.std.specs.Prelude.{◌≡◌, ◌↔◌, ◌<◌, ◌≤◌, ◌+◌, ◌^◌, ℕ, IfSome, IsNone, MatchOption};
+ghost use Rattle.ec_base.specs.Ages.{is_older};
+ghost use Rattle.ec_base.specs.Holds.{is_below};
+ghost use Rattle.ec_base.specs.Limits.{clerk_count, last_counter};
 
+use crate::limits::{CLERK_COUNT, LAST_COUNTER};
 use crate::list::{Duplicate, NoMemory};
 use std::marker::Model;
 
@@ -61,22 +65,25 @@ pub struct ClerkId {
 }
 
 impl Model for ClerkId {
+    ghost use Rattle.std.specs.Prelude.{◌<◌, ℕ};
+    ghost use Rattle.ec_base.specs.Limits.{clerk_count};
+
     ghost Value = { ℕ };
 
     ghost view = { λ a. a.number };
 
-    ghost invariant = { λ a. a.number ≤ 15 };
+    ghost invariant = { λ a. a.number < clerk_count };
 
     ghost inverse = { λ n. record { number = n } };
 }
 
 impl ClerkId {
-    /// The clerk of this number, or `None` above 15.
+    /// The clerk of this number, or `None` from 16 on.
     pub fn new(number: u8) -> Option<ClerkId>
         ensures some { IfSome result (λ id. id ≡ number) }
-        ensures none { IsNone result ↔ (15 < number) }
+        ensures none { IsNone result ↔ (clerk_count ≤ number) }
     {
-        if number > 15 {
+        if number >= CLERK_COUNT {
             return None;
         }
         Some(ClerkId { number })
@@ -85,7 +92,7 @@ impl ClerkId {
     /// The number, 0 to 15.
     pub fn get(&self) -> u8
         ensures value { result ≡ self.now }
-        ensures below { result ≤ 15 }
+        ensures below { result < clerk_count }
     {
         self.number
     }
@@ -140,6 +147,15 @@ pub struct Age {
     pub round: u32,
 }
 
+impl Age {
+    /// Whether this age is below the other one: by boot, then by round, as by `<`.
+    pub fn is_older(&self, other: &Age) -> bool
+        ensures { result ≡ is_older self.now other.now }
+    {
+        self < other
+    }
+}
+
 impl Duplicate for Age {
     fn duplicate(&self) -> Result<Self, NoMemory> {
         Ok(*self)
@@ -154,6 +170,15 @@ pub enum Hold {
     Write,
 }
 
+impl Hold {
+    /// Whether this mode allows less than the other one, as by `<`.
+    pub fn is_below(&self, other: &Hold) -> bool
+        ensures { result ≡ is_below self.now other.now }
+    {
+        self < other
+    }
+}
+
 impl Duplicate for Hold {
     fn duplicate(&self) -> Result<Self, NoMemory> {
         Ok(*self)
@@ -162,7 +187,7 @@ impl Duplicate for Hold {
 
 /// The next value of a counter. Counters stop at 2^62.
 pub fn next(n: u64) -> Option<u64>
-    ensures { MatchOption result (2 ^ 62 ≤ n) (λ m. (m ≡ n + 1) × (n < 2 ^ 62)) }
+    ensures { MatchOption result (last_counter ≤ n) (λ m. (m ≡ n + 1) × (n < last_counter)) }
 {
-    if n >= 1 << 62 { None } else { Some(n + 1) }
+    if n >= LAST_COUNTER { None } else { Some(n + 1) }
 }

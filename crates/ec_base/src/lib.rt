@@ -3,6 +3,7 @@
 
 mod counter;
 mod ids;
+mod limits;
 mod list;
 mod name;
 mod outside;
@@ -12,6 +13,7 @@ mod tests;
 
 pub use counter::Counter;
 pub use ids::{Age, ClerkId, Hold, ObjId, OpNo, SessionNo, next};
+pub use limits::{CLERK_COUNT, LAST_COUNTER, MAX_NAME_BYTES, MAX_PATH_NAMES};
 pub use list::{Duplicate, List, NoMemory};
 pub use name::{Name, NameFault, Path, PathFault};
 pub use outside::{Gave, MemSink, MemSource, Sink, Source, StdSink, StdSource, Took};

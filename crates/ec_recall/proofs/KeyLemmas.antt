@@ -6,7 +6,7 @@ use Rattle.std.specs.Map.{lookup, set_value, keys_of, values_of}
 use Rattle.std.proofs.lemmas.Bool.{eqb-true, and_parts}
 use Rattle.std.proofs.lemmas.List.{append_assoc}
 use Rattle.ec_base.specs.declared.ids.Hold.{Hold}
-use Rattle.ec_tokens.specs.Holds.{stronger}
+use Rattle.ec_base.specs.Holds.{stronger}
 use Rattle.ec_tokens.specs.Tokens.{Tokens}
 use Rattle.ec_recall.specs.declared.want.Want.{Want}
 use Rattle.ec_recall.specs.Due.{is_due, news, told_of, given_after, wants_from}

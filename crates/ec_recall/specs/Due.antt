@@ -3,7 +3,7 @@ use Rattle.std.specs.Prelude.{◌==◌, ℕ, Bool, not, ◌&&◌, if◌then◌el
 use Rattle.std.specs.List.{list_any}
 use Rattle.ec_base.specs.declared.ids.Hold.{Hold}
 use Rattle.ec_base.specs.declared.ids.Hold.TheVariants.{Free, Read, Write}
-use Rattle.ec_tokens.specs.Holds.{is_free}
+use Rattle.ec_base.specs.Holds.{is_free}
 use Rattle.ec_tokens.specs.Tokens.{Tokens, Holder, conflicts, is_clear, granted}
 use Rattle.ec_recall.specs.declared.want.Want.{Want}
 use Rattle.ec_recall.specs.declared.want.Action.{Action}

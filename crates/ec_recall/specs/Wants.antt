@@ -1,7 +1,7 @@
 -- The wants that wait, in the order of arrival.
 use Rattle.std.specs.Prelude.{◌==◌, ℕ, Bool, ◌&&◌, if◌then◌else◌, List, [], ◌∷◌}
 use Rattle.ec_base.specs.declared.ids.Hold.{Hold}
-use Rattle.ec_tokens.specs.Holds.{stronger}
+use Rattle.ec_base.specs.Holds.{stronger}
 use Rattle.ec_recall.specs.declared.want.Want.{Want}
 
 -- The want is this session's for this object.

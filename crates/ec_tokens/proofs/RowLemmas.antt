@@ -8,7 +8,7 @@ use Rattle.std.specs.FinMap.Entries.{find-put}
 use Rattle.ec_base.specs.SortedLaws.{put-put}
 use Rattle.ec_base.specs.declared.ids.Hold.{Hold}
 use Rattle.ec_tokens.specs.declared.token.Token.{Token}
-use Rattle.ec_tokens.specs.Holds.{clash}
+use Rattle.ec_base.specs.Holds.{clash}
 use Rattle.ec_tokens.specs.Tokens.{Row, Tokens, Holder, holders, held_by, mode, first, first_conflict, is_conflict}
 
 -- The first of the rows that are left.

@@ -14,7 +14,7 @@ use Rattle.ec_base.specs.declared.ids.Hold.TheVariants.{Free}
 use Rattle.ec_base.specs.Sorted.{without}
 use Rattle.ec_base.specs.SortedLaws.{first as front, second as rest, find-without}
 use Rattle.ec_tokens.specs.declared.token.Token.{Token}
-use Rattle.ec_tokens.specs.Holds.{is_free, is_below, clash}
+use Rattle.ec_base.specs.Holds.{is_free, is_below, clash}
 use Rattle.ec_tokens.specs.Tokens.{Row, Tokens, Holder, held_by, is_conflict, row, row_of, token, mode, IsSound, holders, first, first_conflict, is_clear, granted, fits_back, lowered, claimed_in, claimed, clash_at, first_clash}
 
 -- Maps by number.

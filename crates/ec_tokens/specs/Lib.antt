@@ -1,4 +1,3 @@
 pub mod Claims
-pub mod Holds
 pub mod Laws
 pub mod Tokens

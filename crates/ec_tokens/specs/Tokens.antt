@@ -7,7 +7,7 @@ use Rattle.ec_base.specs.Sorted.{without}
 use Rattle.ec_base.specs.declared.ids.Hold.{Hold}
 use Rattle.ec_base.specs.declared.ids.Hold.TheVariants.{Free}
 use Rattle.ec_tokens.specs.declared.token.Token.{Token}
-use Rattle.ec_tokens.specs.Holds.{is_free, is_below, clash}
+use Rattle.ec_base.specs.Holds.{is_free, is_below, clash}
 
 -- A session's tokens, by object.
 abbrev pub Row : Type 0

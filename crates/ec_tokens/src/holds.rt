@@ -1,6 +1,6 @@
 // The order of the modes, and which of them conflict.
 ghost use Rattle.std.specs.Prelude.{◌≡◌};
-ghost use Rattle.ec_tokens.specs.Holds as holds;
+ghost use Rattle.ec_base.specs.Holds as holds;
 
 use ec_base::Hold;
 

@@ -1,4 +1,4 @@
--- The modes of a token.
+-- The modes of a token, in the order Free, Read, Write.
 use Rattle.std.specs.Prelude.{ℕ, Bool, true, false, not, ◌&&◌, ◌||◌, if◌then◌else◌, nat_lt}
 use Rattle.ec_base.specs.declared.ids.Hold.{Hold}
 use Rattle.ec_base.specs.declared.ids.Hold.TheVariants.{Free, Read, Write}
@@ -23,6 +23,9 @@ is_below a b = nat_lt (rank a) (rank b)
 
 abbrev pub stronger : Hold → Hold → Hold
 stronger a b = if is_below a b then b else a
+
+abbrev pub weaker : Hold → Hold → Hold
+weaker a b = if is_below a b then a else b
 
 -- Of two sessions on one object: one is Write and the other isn't Free.
 abbrev pub clash : Hold → Hold → Bool
