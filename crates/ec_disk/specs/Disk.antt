@@ -1,6 +1,6 @@
 -- Images of a disk, and what its calls do to them.
-use Rattle.std.specs.Prelude.{◌<◌, ◌≡◌, ◌⊎◌, ℕ, ◌+◌, ◌-◌, ◌≤◌, List, ◌++◌, Option, Some, None, IsSome, length, take, drop, replicate, get_or}
-use Rattle.ec_base.specs.Outside.{Rose}
+use Rattle.std.specs.Prelude.{◌<◌, ◌≡◌, ◌⊎◌, ℕ, zero, suc, ◌+◌, ◌-◌, ◌≤◌, List, ◌++◌, Option, Some, None, IsSome, length, take, drop, replicate, get_or}
+use Rattle.ec_base.specs.Outside.{Rose, one_more}
 
 -- the byte at a place, zero past the end
 abbrev pub byte : List ℕ → ℕ → ℕ
@@ -67,9 +67,11 @@ pub record LeavesOnly (old new : View) (P : List ℕ → Type 0) : Type 0 where
   -- for a run that began earlier
   pub before : (t : ℕ) (c : List ℕ) → t ≤ old.moment → new.left_since t c → old.left_since t c ⊎ P c
 
--- How often a disk failed and stopped. Where it is armed, the read, write or sync of the number `armed` from now on stops, and so do
--- all calls after it; at 0 it has stopped.
+-- How often a disk was called, failed and stopped. Each read, write, sync and question for the length has its number, from 1, which is
+-- `calls` behind it: calls that are to fail are told by these numbers. Where the disk is armed, the read, write or sync of the number
+-- `armed` from now on stops, and so do all calls after it; at 0 it has stopped.
 pub record Counts : Type 0 where
+  pub calls : ℕ
   pub faults : ℕ
   pub stops : ℕ
   pub armed : Option ℕ
@@ -92,6 +94,16 @@ IsDue (Some n) = n ≤ 1
 abbrev pub after_calls : ℕ → Option ℕ → Option ℕ
 after_calls calls None = None
 after_calls calls (Some n) = Some (n - calls)
+
+-- so many calls later
+abbrev pub calls_later : ℕ → ℕ → ℕ
+calls_later zero calls = calls
+calls_later (suc more) calls = one_more (calls_later more calls)
+
+-- so many reads, writes and syncs, and no other call
+pub record Called (calls : ℕ) (old new : Counts) : Type 0 where
+  pub numbered : new.calls ≡ calls_later calls old.calls
+  pub armed : new.armed ≡ after_calls calls old.armed
 
 -- a read, write or sync: it counts down, stops only where that is due, and is not done there
 pub record CountsDown (old new : Option ℕ) (Going Stopping : Type 0) : Type 0 where

@@ -1,10 +1,13 @@
 -- What a disk in memory keeps, and what its calls add.
-use Rattle.std.specs.Prelude.{◌≡◌, ℕ, List, [], ◌∷◌, ◌++◌, length}
+use Rattle.std.specs.Prelude.{◌≡◌, ◌⊎◌, ℕ, List, [], ◌∷◌, ◌++◌, length}
+use Rattle.ec_disk.specs.Calls as call
+use Rattle.ec_disk.specs.Calls.{Call, Trial}
 use Rattle.ec_disk.specs.Disk.{Counts}
 use Rattle.ec_disk.specs.Past.{shot_of}
 use Rattle.ec_disk.specs.Turns.{counts_of, next_turn, next_len_turn, next_call}
 use Rattle.ec_disk.specs.declared.disk.DiskAnswer.{DiskAnswer}
 use Rattle.ec_disk.specs.declared.disk.DiskAnswer.TheVariants as answer
+use Rattle.ec_disk.specs.declared.disk.Choice.{Choice}
 use Rattle.ec_disk.specs.declared.disk.DiskLen.{DiskLen}
 use Rattle.ec_disk.specs.declared.disk.DiskLen.TheVariants as len
 use Rattle.ec_disk.specs.declared.turns.Turn.{Turn}
@@ -56,7 +59,7 @@ pub record SameCall (old new : MemDisk) : Type 0 where
   pub fails : fails_of new ≡ fails_of old
   pub calls : calls_of new ≡ calls_of old
 
--- a write that stops is carried out, one that fails isn't
+-- A write that stops is carried out. One that fails, or for which there is no memory, isn't: a crash later doesn't find its range written.
 abbrev pub with_write : DiskAnswer → ℕ → List ℕ → List Step → List Step
 with_write answer.Done at bytes steps = steps ++ step.Write at bytes ∷ []
 with_write answer.Stopped at bytes steps = steps ++ step.Write at bytes ∷ []
@@ -69,3 +72,29 @@ with_step answer.Done x steps = steps ++ x ∷ []
 with_step answer.Stopped x steps = steps
 with_step answer.Failed x steps = steps
 with_step answer.NoMemory x steps = steps
+
+-- one call, which adds its step
+pub record Adds (old : MemDisk) (says : Type 0) (steps : List Step) (new : MemDisk) : Type 0 where
+  pub answers : says
+  pub next : NextCall old new
+  pub steps_are : steps_of new ≡ steps
+
+-- what a call does: it answers as its turn says, or, where it needs memory, that there is none
+abbrev pub Does : MemDisk → Call → MemDisk → Type 0
+Does old (call.Read at before said after) new = Adds old (said ≡ next_answer old) (steps_of old) new
+Does old (call.Write at piece said) new = Adds old ((said ≡ answer.NoMemory) ⊎ (said ≡ next_answer old)) (with_write said at piece (steps_of old)) new
+Does old (call.Sync said) new = Adds old ((said ≡ answer.NoMemory) ⊎ (said ≡ next_answer old)) (with_step said step.Sync (steps_of old)) new
+Does old (call.Len said) new = Adds old (said ≡ next_len old) (steps_of old) new
+
+-- a power cut is done, or there is no memory for it and nothing changes
+pub record CutBy (choice : Choice) (old : MemDisk) (said : DiskAnswer) (new : MemDisk) : Type 0 where
+  pub answers : (said ≡ answer.NoMemory) ⊎ (said ≡ answer.Done)
+  pub same : SameCall old new
+  pub steps_are : steps_of new ≡ with_step said (step.Cut choice) (steps_of old)
+  pub unchanged : said ≡ answer.NoMemory → counts_of_disk new ≡ counts_of_disk old
+
+-- what a trial of a crash does
+abbrev pub Tries : MemDisk → Trial → MemDisk → Type 0
+Tries old (call.Arm calls) new = SameCall old new × (steps_of new ≡ steps_of old)
+Tries old call.Disarm new = SameCall old new × (steps_of new ≡ steps_of old)
+Tries old (call.PowerCut choice said) new = CutBy choice old said new

@@ -9,7 +9,7 @@ use Rattle.ec_disk.specs.declared.turns.Turn.{Turn}
 use Rattle.ec_disk.specs.declared.turns.Turn.TheVariants as turn
 
 abbrev pub counts_of : Turns → Counts
-counts_of t = record { faults = t.faults; stops = t.stops; armed = t.armed }
+counts_of t = record { calls = t.calls; faults = t.faults; stops = t.stops; armed = t.armed }
 
 -- the number of the next call, from 1
 abbrev pub next_call : Turns → ℕ

@@ -6,17 +6,19 @@ use crate::turns::{Turn, Turns};
 use crate::undo::{Undo, torn};
 use ec_base::{List, NoMemory};
 use std::alloc::{AllocError, AllocFailed, Global};
-use std::fs::File;
+use std::fs::{File, OpenFile};
 use std::io;
-use std::io::{Read, Seek, SeekFrom, Write};
+use std::os::unix::fs::FileExt;
 
-/// A disk over a file that is open for reading and writing. It tells no content.
+/// A disk over a file that is open for reading and writing, and that nobody else writes. It tells no content.
 ///
-/// A place at 2^63 or above, or a range that isn't inside the file, is answered `Failed`.
+/// A place at 2^63 or above, or a read of a range that isn't inside the file, is answered `Failed`.
 #[derive(Drop)]
-pub struct FileDisk {
-    file: File,
+pub struct FileDisk<F = File> {
+    file: F,
     turns: Turns,
+    // The file's length, asked once. It isn't known behind a write that failed.
+    len: Option<u64>,
     // The length at the last sync, where there was a write since.
     synced_len: Option<u64>,
     undos: Vec<Undo>,
@@ -62,21 +64,24 @@ impl<T: Drop> From<AllocFailed<T>> for FileFault {
     }
 }
 
-impl FileDisk {
-    ghost use Rattle.std.specs.Prelude.{◌≡◌, None, Some, IfOk, OnErr};
+impl<F: FileExt + OpenFile + Drop> FileDisk<F> {
+    ghost use Rattle.std.specs.Prelude.{◌≡◌, ◌≤◌, length, None, Some, IfOk, OnErr};
     ghost use Rattle.ec_disk.specs.Disk.{Counted, Counts};
     ghost use Rattle.ec_disk.specs.Turns.{counts_of};
     ghost use Rattle.ec_disk.specs.declared.disk.DiskAnswer.TheVariants as answer;
 
     /// Takes the file as it stands: its bytes count as synced.
-    pub fn new(alloc: Global, file: File) -> Result<FileDisk, NoMemory>
-        ensures { IfOk result (λ disk. counts_of disk.turns ≡ record { faults = 0; stops = 0; armed = None }) }
+    pub fn new(alloc: Global, file: F) -> Result<FileDisk<F>, NoMemory>
+        ensures { IfOk result (λ disk. counts_of disk.turns ≡ record { calls = 0; faults = 0; stops = 0; armed = None }) }
     {
+        let undos = Vec::with_capacity(alloc, 1)?;
+        let len = file.metadata().ok().map(|metadata| metadata.len());
         Ok(FileDisk {
             file,
             turns: Turns::new(Vec::new(alloc)),
+            len,
             synced_len: None,
-            undos: Vec::with_capacity(alloc, 1)?,
+            undos,
         })
     }
 
@@ -84,6 +89,7 @@ impl FileDisk {
     fn answer(&mut self, done: Result<(), FileFault>) -> DiskAnswer
         ensures counts { Counted (counts_of self.old.turns) (counts_of self.new.turns) (result ≡ answer.Failed) ⊥ }
         ensures armed { self.new.turns.armed ≡ self.old.turns.armed }
+        ensures calls { self.new.turns.calls ≡ self.old.turns.calls }
         ensures never_stops { result ≡ answer.Stopped → ⊥ }
     {
         match done {
@@ -96,28 +102,44 @@ impl FileDisk {
         }
     }
 
+    // The file is asked only where its length isn't known.
+    fn file_len(&mut self) -> Result<u64, FileFault>
+        ensures turns { self.new.turns ≡ self.old.turns }
+    {
+        if let Some(len) = self.len {
+            return Ok(len);
+        }
+        let len = self.file.metadata()?.len();
+        self.len = Some(len);
+        Ok(len)
+    }
+
     fn write(&mut self, at: u64, piece: &[u8]) -> Result<(), FileFault>
         ensures turns { self.new.turns ≡ self.old.turns }
     {
+        let Some(end) = at.checked_add(piece.len() as u64) else {
+            return Err(FileFault::Device);
+        };
         let alloc = *self.undos.allocator();
-        let len = self.file.seek(SeekFrom::End(0))?;
-        let old = List::of(read_range(alloc, &mut self.file, at, piece.len())?);
+        let len = self.file_len()?;
+        let old = List::of(read_range(alloc, &self.file, len, at, piece.len())?);
         self.undos.push(Undo { at, old })?;
         if self.synced_len.is_none() {
             self.synced_len = Some(len);
         }
+        self.len = None;
         if at > len {
             self.file.set_len(at)?;
         }
-        self.file.seek(SeekFrom::Start(at))?;
-        self.file.write_all(piece)?;
+        self.file.write_all_at(piece, at)?;
+        self.len = Some(len.max(end));
         Ok(())
     }
 
     fn sync_file(&mut self) -> Result<(), FileFault>
         ensures turns { self.new.turns ≡ self.old.turns }
     {
-        self.file.sync_all()?;
+        self.file.sync_data()?;
         self.undos.clear();
         self.synced_len = None;
         Ok(())
@@ -126,80 +148,70 @@ impl FileDisk {
     fn cut(&mut self, choice: Choice) -> Result<(), FileFault>
         ensures turns { self.new.turns ≡ self.old.turns }
     {
-        let alloc = *self.undos.allocator();
+        let len = self.file_len()?;
         match choice {
             Choice::Old => {
-                put_back(alloc, &mut self.file, &self.undos, false)?;
-                if let Some(len) = self.synced_len {
-                    self.file.set_len(len)?;
+                self.put_back(len, false)?;
+                if let Some(synced_len) = self.synced_len {
+                    self.file.set_len(synced_len)?;
+                    self.len = Some(synced_len);
                 }
             }
             Choice::New => {}
-            Choice::Torn => put_back(alloc, &mut self.file, &self.undos, true)?,
+            Choice::Torn => self.put_back(len, true)?,
         }
         self.sync_file()
     }
-}
 
-// Writes the old bytes back, the last first; where torn, those at odd places alone.
-fn put_back(
-    alloc: Global,
-    file: &mut File,
-    undos: &[Undo],
-    is_torn: bool,
-) -> Result<(), FileFault> {
-    for undo in undos.iter().rev() {
-        let old = undo.old.as_slice();
-        if is_torn {
-            let new = read_range(alloc, file, undo.at, old.len())?;
-            let bytes = torn(alloc, undo.at, &new, old)?;
-            write_inside(file, undo.at, &bytes)?;
-        } else {
-            write_inside(file, undo.at, old)?;
+    // Writes the old bytes back, the last first; where torn, those at odd places alone.
+    fn put_back(&self, len: u64, is_torn: bool) -> Result<(), FileFault> {
+        let alloc = *self.undos.allocator();
+        for undo in self.undos.iter().rev() {
+            let old = undo.old.as_slice();
+            if is_torn {
+                let new = read_range(alloc, &self.file, len, undo.at, old.len())?;
+                let bytes = torn(alloc, undo.at, &new, old)?;
+                write_inside(&self.file, len, undo.at, &bytes)?;
+            } else {
+                write_inside(&self.file, len, undo.at, old)?;
+            }
         }
+        Ok(())
     }
-    Ok(())
 }
 
-// How many of `count` bytes from `at` on are inside a file.
-fn inside(file: &mut File, at: u64, count: usize) -> Result<usize, FileFault>
-    ensures { IfOk result (λ kept. kept ≤ count) }
+// How many of `count` bytes from `at` on are inside a file of this length.
+fn inside(len: u64, at: u64, count: usize) -> usize
+    ensures { result ≤ count }
 {
-    let len = file.seek(SeekFrom::End(0))?;
-    if at >= len {
-        return Ok(0);
-    }
-    Ok(count.min((len - at) as usize))
+    count.min(len.saturating_sub(at) as usize)
 }
 
-// The bytes from `at` on, zeros past the end.
-fn read_range(alloc: Global, file: &mut File, at: u64, count: usize) -> Result<Vec<u8>, FileFault>
+// The bytes of a file of this length from `at` on, zeros past the end.
+fn read_range<F: FileExt>(
+    alloc: Global,
+    file: &F,
+    len: u64,
+    at: u64,
+    count: usize,
+) -> Result<Vec<u8>, FileFault>
     ensures { IfOk result (λ bytes. length bytes.items ≡ count) }
 {
-    let kept = inside(file, at, count)?;
     let mut bytes = Vec::new(alloc);
     bytes.resize(count, 0)?;
-    file.seek(SeekFrom::Start(at))?;
-    file.read_exact(&mut bytes[..kept])?;
+    let kept = inside(len, at, count);
+    file.read_exact_at(&mut bytes[..kept], at)?;
     Ok(bytes)
 }
 
-// Writes what of these bytes is inside the file.
-fn write_inside(file: &mut File, at: u64, bytes: &[u8]) -> Result<(), FileFault> {
-    let kept = inside(file, at, bytes.len())?;
-    file.seek(SeekFrom::Start(at))?;
-    file.write_all(&bytes[..kept])?;
+// Writes what of these bytes is inside a file of this length.
+fn write_inside<F: FileExt>(file: &F, len: u64, at: u64, bytes: &[u8]) -> Result<(), FileFault> {
+    let kept = inside(len, at, bytes.len());
+    file.write_all_at(&bytes[..kept], at)?;
     Ok(())
 }
 
-// Fills `into`, and fails where the file ends before.
-fn read_whole(file: &mut File, at: u64, into: &mut [u8]) -> Result<(), FileFault> {
-    file.seek(SeekFrom::Start(at))?;
-    file.read_exact(into)?;
-    Ok(())
-}
-
-impl Disk for FileDisk {
+impl<F: FileExt + OpenFile + Drop> Disk for FileDisk<F> {
     ghost use Rattle.std.specs.Prelude.{[]};
     ghost use Rattle.ec_disk.specs.Turns.{counts_of};
     ghost use Rattle.ec_disk.specs.Past.{view_of};
@@ -210,6 +222,8 @@ impl Disk for FileDisk {
 
     ghost counts = { λ d. counts_of d.turns };
 
+    ghost does = { λ old call new. Unit {0} };
+
     ghost given = { λ told d. absurd told };
 
     ghost counts_now = { λ told d t c le left. absurd told };
@@ -219,7 +233,7 @@ impl Disk for FileDisk {
     fn read_at(&mut self, at: u64, into: &mut [u8]) -> DiskAnswer {
         match self.turns.next() {
             Turn::Goes => {
-                let done = read_whole(&mut self.file, at, into);
+                let done = self.file.read_exact_at(into, at).map_err(FileFault::from);
                 self.answer(done)
             }
             Turn::Fails => DiskAnswer::Failed,
@@ -252,7 +266,7 @@ impl Disk for FileDisk {
 
     fn len(&mut self) -> DiskLen {
         match self.turns.next_len() {
-            Turn::Goes => match self.file.seek(SeekFrom::End(0)) {
+            Turn::Goes => match self.file_len() {
                 Ok(len) => DiskLen::Len(len),
                 Err(_) => {
                     self.turns.fault();
@@ -265,7 +279,9 @@ impl Disk for FileDisk {
     }
 }
 
-impl CrashDisk for FileDisk {
+impl<F: FileExt + OpenFile + Drop> CrashDisk for FileDisk<F> {
+    ghost tries = { λ old trial new. Unit {0} };
+
     fn arm(&mut self, calls: u64) {
         self.turns.arm(calls);
     }
@@ -281,44 +297,5 @@ impl CrashDisk for FileDisk {
             self.turns.disarm();
         }
         answer
-    }
-}
-
-#[cfg(test)]
-mod tests {
-    use super::*;
-    use std::fs;
-
-    #[test]
-    fn cuts_leave_old_new_or_torn_in_the_file(rt: HostRuntime) -> io::Result<()> {
-        let cases = [
-            (Choice::Old, "old.img", b"abcd".as_slice()),
-            (Choice::New, "new.img", b"aXYZ\0\0QR".as_slice()),
-            (Choice::Torn, "torn.img", b"abYd\0\0Q\0".as_slice()),
-        ];
-        for (choice, path, want) in cases {
-            let mut options = File::options();
-            options.read(true).write(true).create(true).truncate(true);
-            let file = options.open(&rt, path)?;
-            let mut disk = FileDisk::new(rt.alloc(), file).expect(&rt, "memory");
-            assert_eq!(rt; disk.write_at(0, b"abcd"), DiskAnswer::Done);
-            assert_eq!(rt; disk.sync(), DiskAnswer::Done);
-            assert_eq!(rt; disk.write_at(1, b"xyz"), DiskAnswer::Done);
-            disk.arm(1);
-            assert_eq!(rt; disk.write_at(1, b"XYZ"), DiskAnswer::Stopped);
-            assert_eq!(rt; disk.sync(), DiskAnswer::Stopped);
-            disk.disarm();
-            assert_eq!(rt; disk.write_at(6, b"QR"), DiskAnswer::Done);
-            let mut byte = [0];
-            assert_eq!(rt; disk.read_at(6, &mut byte), DiskAnswer::Done);
-            assert_eq!(rt; byte, [b'Q']);
-            assert_eq!(rt; disk.read_at(8, &mut byte), DiskAnswer::Failed);
-            assert_eq!(rt; disk.power_cut(choice), DiskAnswer::Done);
-            drop(disk);
-            let image = fs::read(&rt, path)?;
-            assert_eq!(rt; image.as_slice(), want, "after {choice:?}");
-            fs::remove_file(&rt, path)?;
-        }
-        Ok(())
     }
 }

@@ -1,4 +1,4 @@
-// A lent disk is a disk.
+// A lent disk is a disk: each call is the same call on the disk itself.
 use crate::disk::{Choice, CrashDisk, Disk, DiskAnswer, DiskLen};
 
 impl<D: Disk> Disk for &mut D {
@@ -7,6 +7,8 @@ impl<D: Disk> Disk for &mut D {
     ghost view = { λ d. D.view d.now };
 
     ghost counts = { λ d. D.counts d.now };
+
+    ghost does = { λ old call new. D.does old.now call new.now };
 
     ghost given = { λ told d. D.given told d.now };
 
@@ -32,6 +34,8 @@ impl<D: Disk> Disk for &mut D {
 }
 
 impl<D: CrashDisk> CrashDisk for &mut D {
+    ghost tries = { λ old trial new. D.tries old.now trial new.now };
+
     fn arm(&mut self, calls: u64) {
         (**self).arm(calls);
     }

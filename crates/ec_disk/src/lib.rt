@@ -5,6 +5,8 @@ mod disk;
 mod file;
 mod lent;
 mod memory;
+#[cfg(test)]
+mod tests;
 mod turns;
 mod undo;
 

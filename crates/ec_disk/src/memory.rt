@@ -41,7 +41,7 @@ impl MemDisk {
         ensures steps { IfOk result (λ disk. steps_of disk ≡ []) }
         ensures calls { IfOk result (λ disk. calls_of disk ≡ 0) }
         ensures fails { IfOk result (λ disk. IsPermutation fails.items (fails_of disk)) }
-        ensures counts { IfOk result (λ disk. counts_of_disk disk ≡ record { faults = 0; stops = 0; armed = None }) }
+        ensures counts { IfOk result (λ disk. counts_of_disk disk ≡ record { calls = 0; faults = 0; stops = 0; armed = None }) }
     {
         let mut fails = fails;
         fails.sort()?;
@@ -128,12 +128,7 @@ fn after_cut(
 }
 
 impl Disk for MemDisk {
-    ghost use Rattle.std.specs.Prelude.{◌≡◌, ◌+◌, ◌≤◌, ◌⊎◌, ℕ, Some, length};
-    ghost use Rattle.ec_disk.specs.declared.disk.DiskAnswer.TheVariants as answer;
-    ghost use Rattle.ec_disk.specs.declared.disk.DiskLen.TheVariants as len;
-    ghost use Rattle.ec_disk.specs.declared.memory.Step.TheVariants as step;
-    ghost use Rattle.ec_disk.specs.Disk.{part, written, IsSynced, Rests, InRange, Wrote, Counted, CountsDown};
-    ghost use Rattle.ec_disk.specs.Memory.{steps_of, counts_of_disk, next_answer, next_len, NextCall, with_write, with_step};
+    ghost use Rattle.ec_disk.specs.Memory.{steps_of, counts_of_disk, Does};
     ghost use Rattle.ec_disk.specs.Past.{view_of};
     ghost use Rattle.ec_disk.specs.PastLaws.{given as past_given, counts_now as past_counts_now, only_now as past_only_now};
 
@@ -143,22 +138,15 @@ impl Disk for MemDisk {
 
     ghost counts = { λ m. counts_of_disk m };
 
+    ghost does = { λ old call new. Does old call new };
+
     ghost given = { λ told m. past_given (steps_of m) };
 
     ghost counts_now = { λ told m t c le left. past_counts_now (steps_of m) t c le left };
 
     ghost only_now = { λ told m c left. past_only_now (steps_of m) c left };
 
-    fn read_at(&mut self, at: u64, into: &mut [u8]) -> DiskAnswer
-        requires inside { at + length into.old ≤ length (view_of (steps_of self.old)).gives }
-        ensures bytes { result ≡ answer.Done → into.new ≡ part (view_of (steps_of self.old)).gives at (length into.old) }
-        ensures rests { Rests (view_of (steps_of self.old)) (view_of (steps_of self.new)) }
-        ensures counts { Counted (counts_of_disk self.old) (counts_of_disk self.new) (result ≡ answer.Failed) (result ≡ answer.Stopped) }
-        ensures armed { CountsDown (counts_of_disk self.old).armed (counts_of_disk self.new).armed (result ≡ answer.Done) (result ≡ answer.Stopped) }
-        ensures answers { result ≡ next_answer self.old }
-        ensures call { NextCall self.old self.new }
-        ensures steps { steps_of self.new ≡ steps_of self.old }
-    {
+    fn read_at(&mut self, at: u64, into: &mut [u8]) -> DiskAnswer {
         match self.turns.next() {
             Turn::Goes => {}
             Turn::Fails => return DiskAnswer::Failed,
@@ -170,15 +158,9 @@ impl Disk for MemDisk {
         DiskAnswer::Done
     }
 
-    fn write_at(&mut self, at: u64, piece: &[u8]) -> DiskAnswer
-        ensures written { result ≡ answer.Done → (view_of (steps_of self.new)).gives ≡ written at piece.now (view_of (steps_of self.old)).gives }
-        ensures wrote { Wrote (InRange at (length piece.now)) (view_of (steps_of self.old)) (view_of (steps_of self.new)) }
-        ensures counts { Counted (counts_of_disk self.old) (counts_of_disk self.new) (result ≡ answer.Failed) (result ≡ answer.Stopped) }
-        ensures armed { CountsDown (counts_of_disk self.old).armed (counts_of_disk self.new).armed (result ≡ answer.Done) (result ≡ answer.Stopped) }
-        ensures answers { (result ≡ answer.NoMemory) ⊎ (result ≡ next_answer self.old) }
-        ensures call { NextCall self.old self.new }
-        ensures steps { steps_of self.new ≡ with_write result at piece.now (steps_of self.old) }
-    {
+    /// A write that stops is carried out. One that is told to fail, or for which there is no memory, changes nothing, and no later
+    /// crash finds its range written.
+    fn write_at(&mut self, at: u64, piece: &[u8]) -> DiskAnswer {
         let turn = self.turns.next();
         if turn == Turn::Fails {
             return DiskAnswer::Failed;
@@ -190,15 +172,7 @@ impl Disk for MemDisk {
         }
     }
 
-    fn sync(&mut self) -> DiskAnswer
-        ensures synced { result ≡ answer.Done → IsSynced (view_of (steps_of self.new)) }
-        ensures rests { Rests (view_of (steps_of self.old)) (view_of (steps_of self.new)) }
-        ensures counts { Counted (counts_of_disk self.old) (counts_of_disk self.new) (result ≡ answer.Failed) (result ≡ answer.Stopped) }
-        ensures armed { CountsDown (counts_of_disk self.old).armed (counts_of_disk self.new).armed (result ≡ answer.Done) (result ≡ answer.Stopped) }
-        ensures answers { (result ≡ answer.NoMemory) ⊎ (result ≡ next_answer self.old) }
-        ensures call { NextCall self.old self.new }
-        ensures steps { steps_of self.new ≡ with_step result step.Sync (steps_of self.old) }
-    {
+    fn sync(&mut self) -> DiskAnswer {
         match self.turns.next() {
             Turn::Goes => {}
             Turn::Fails => return DiskAnswer::Failed,
@@ -210,17 +184,7 @@ impl Disk for MemDisk {
         }
     }
 
-    fn len(&mut self) -> DiskLen
-        ensures len { (n : ℕ) → result ≡ len.Len n → n ≡ length (view_of (steps_of self.old)).gives }
-        ensures rests { Rests (view_of (steps_of self.old)) (view_of (steps_of self.new)) }
-        ensures counts { Counted (counts_of_disk self.old) (counts_of_disk self.new) (result ≡ len.Failed) (result ≡ len.Stopped) }
-        ensures armed { (counts_of_disk self.new).armed ≡ (counts_of_disk self.old).armed }
-        ensures stopped { result ≡ len.Stopped → (counts_of_disk self.old).armed ≡ Some 0 }
-        ensures answers { (n : ℕ) → result ≡ len.Len n → (counts_of_disk self.old).armed ≡ Some 0 → ⊥ }
-        ensures exact { result ≡ next_len self.old }
-        ensures call { NextCall self.old self.new }
-        ensures steps { steps_of self.new ≡ steps_of self.old }
-    {
+    fn len(&mut self) -> DiskLen {
         match self.turns.next_len() {
             Turn::Goes => DiskLen::Len(self.image.len() as u64),
             Turn::Fails => DiskLen::Failed,
@@ -230,42 +194,19 @@ impl Disk for MemDisk {
 }
 
 impl CrashDisk for MemDisk {
-    ghost use Rattle.std.specs.Prelude.{◌≡◌, ◌≢◌, ◌⊎◌, Some, None};
-    ghost use Rattle.ec_disk.specs.declared.disk.DiskAnswer.TheVariants as answer;
-    ghost use Rattle.ec_disk.specs.declared.memory.Step.TheVariants as step;
-    ghost use Rattle.ec_disk.specs.Disk.{IsSynced, Rests, Cut, Counted};
-    ghost use Rattle.ec_disk.specs.Memory.{steps_of, counts_of_disk, with_step, SameCall};
-    ghost use Rattle.ec_disk.specs.Past.{view_of};
+    ghost use Rattle.ec_disk.specs.Memory.{Tries};
 
-    fn arm(&mut self, calls: u64)
-        ensures rests { Rests (view_of (steps_of self.old)) (view_of (steps_of self.new)) }
-        ensures armed { counts_of_disk self.new ≡ record (counts_of_disk self.old) { armed = Some calls } }
-        ensures call { SameCall self.old self.new }
-        ensures steps { steps_of self.new ≡ steps_of self.old }
-    {
+    ghost tries = { λ old trial new. Tries old trial new };
+
+    fn arm(&mut self, calls: u64) {
         self.turns.arm(calls);
     }
 
-    fn disarm(&mut self)
-        ensures rests { Rests (view_of (steps_of self.old)) (view_of (steps_of self.new)) }
-        ensures disarmed { counts_of_disk self.new ≡ record (counts_of_disk self.old) { armed = None } }
-        ensures call { SameCall self.old self.new }
-        ensures steps { steps_of self.new ≡ steps_of self.old }
-    {
+    fn disarm(&mut self) {
         self.turns.disarm();
     }
 
-    fn power_cut(&mut self, choice: Choice) -> DiskAnswer
-        ensures cut { Cut (view_of (steps_of self.old)) (view_of (steps_of self.new)) }
-        ensures synced { result ≡ answer.Done → IsSynced (view_of (steps_of self.new)) }
-        ensures counts { Counted (counts_of_disk self.old) (counts_of_disk self.new) (result ≡ answer.Failed) (result ≡ answer.Stopped) }
-        ensures never_stops { result ≡ answer.Stopped → ⊥ }
-        ensures disarmed { result ≡ answer.Done → (counts_of_disk self.new).armed ≡ None }
-        ensures answers { (result ≡ answer.NoMemory) ⊎ (result ≡ answer.Done) }
-        ensures call { SameCall self.old self.new }
-        ensures steps { steps_of self.new ≡ with_step result (step.Cut choice) (steps_of self.old) }
-        ensures unchanged { result ≡ answer.NoMemory → counts_of_disk self.new ≡ counts_of_disk self.old }
-    {
+    fn power_cut(&mut self, choice: Choice) -> DiskAnswer {
         match self.cut(choice) {
             Ok(()) => {
                 self.turns.disarm();

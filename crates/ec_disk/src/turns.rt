@@ -40,7 +40,7 @@ impl Turns {
         requires { IsNonDecreasing fails.items }
         ensures fails { result.fails ≡ fails }
         ensures calls { result.calls ≡ 0 }
-        ensures counts { counts_of result ≡ record { faults = 0; stops = 0; armed = None } }
+        ensures counts { counts_of result ≡ record { calls = 0; faults = 0; stops = 0; armed = None } }
     {
         Turns {
             fails,

@@ -3,7 +3,7 @@ use Rattle.std.proofs.Common.{◌≡◌, ◌+◌, ◌<◌, ◌≤◌, ◌^◌, �
 use Rattle.std.specs.Int.{w32, from_be_bytes}
 use Rattle.std.proofs.lemmas.Nat.{from_be_bytes-to_be_bytes_4}
 use Rattle.std.proofs.lemmas.List.{take_at, drop_at, take-append-drop, length-take-le, drop-drop}
-use Rattle.ec_frame.specs.Frames.{header, frame, Begins, BeginsLong, BeginsNone}
+use Rattle.ec_frame.specs.Frames.{max_body_bytes, header, frame, Begins, BeginsLong, BeginsNone}
 
 pub length-header : (n : ℕ) → length (header n) ≡ 4
 unfolding header
@@ -26,7 +26,7 @@ same_header m n r s p q e =
     let h = same_halves (header m) (header n) r s (length-header m ∙ sym (length-header n)) e in
     (header_is_one m n p q h.0, h.1)
 
-small_fits : (n : ℕ) → n ≤ 1048576 → n < 2 ^ 32
+small_fits : (n : ℕ) → n ≤ max_body_bytes → n < 2 ^ 32
 small_fits n h = omega arith
 
 -- one frame at the front
@@ -41,8 +41,8 @@ pub long_front : (s b r : List ℕ) (n : ℕ) → Begins s b r → BeginsLong s 
 long_front s b r n g h =
     let e = same_header (length b) n (b ++ r) h.spelled.0 (small_fits (length b) g.small) h.fits
     (sym (append_assoc (header (length b)) b r) ∙ sym g.spelled ∙ h.spelled.1) in
-    let small : length b ≤ 1048576 = g.small in
-    let large : 1048576 < n = h.large in
+    let small : length b ≤ max_body_bytes = g.small in
+    let large : max_body_bytes < n = h.large in
     let same : length b ≡ n = e.0 in
     absurd (omega arith)
 
@@ -68,11 +68,11 @@ long_stays s more n g = record {
 with_rest : (s : List ℕ) (n : ℕ) → take 4 s ≡ header n → s ≡ header n ++ drop 4 s
 with_rest s n e = sym (take-append-drop 4 s) ∙ ap (λ h. h ++ drop 4 s) e
 
-pub begins : (s : List ℕ) (n : ℕ) → take 4 s ≡ header n → n ≤ 1048576 → 4 + n ≤ length s → Begins s (take n (drop 4 s)) (drop (4 + n) s)
+pub begins : (s : List ℕ) (n : ℕ) → take 4 s ≡ header n → n ≤ max_body_bytes → 4 + n ≤ length s → Begins s (take n (drop 4 s)) (drop (4 + n) s)
 begins s n e h l =
     let len : length (take n (drop 4 s)) ≡ n = length-take-le n (drop 4 s) (omega (arith, length-drop 4 s)) in
     record {
-      small = subst (λ k. k ≤ 1048576) (sym len) h;
+      small = subst (λ k. k ≤ max_body_bytes) (sym len) h;
       spelled =
           with_rest s n e
           ∙ ap (λ x. header n ++ x) (sym (take-append-drop n (drop 4 s)) ∙ ap (λ x. take n (drop 4 s) ++ x) (drop-drop n 4 s))
@@ -80,7 +80,7 @@ begins s n e h l =
           ∙ ap (λ k. (header k ++ take n (drop 4 s)) ++ drop (4 + n) s) (sym len);
     }
 
-pub begins_long : (s : List ℕ) (n : ℕ) → take 4 s ≡ header n → 1048576 < n → n < 2 ^ 32 → BeginsLong s n
+pub begins_long : (s : List ℕ) (n : ℕ) → take 4 s ≡ header n → max_body_bytes < n → n < 2 ^ 32 → BeginsLong s n
 begins_long s n e h l = record { large = h; fits = l; spelled = (drop 4 s, with_rest s n e) }
 
 -- a frame has its length's bytes, and so has a length that is too large
@@ -100,7 +100,7 @@ none_in_short s l = record {
   long = λ n g. absurd (omega (arith, length-long s n g));
 }
 
-pub none_in_part : (s : List ℕ) (n : ℕ) → take 4 s ≡ header n → n ≤ 1048576 → length s < 4 + n → BeginsNone s
+pub none_in_part : (s : List ℕ) (n : ℕ) → take 4 s ≡ header n → n ≤ max_body_bytes → length s < 4 + n → BeginsNone s
 none_in_part s n e h l = record {
   frame = λ b r g.
       let same : length b ≡ n =
@@ -109,6 +109,6 @@ none_in_part s n e h l = record {
       absurd (omega (arith, same, length-front s b r g));
   long = λ k g.
       let same : k ≡ n = (same_header k n g.spelled.0 (drop 4 s) g.fits (small_fits n h) (sym g.spelled.1 ∙ with_rest s n e)).0 in
-      let large : 1048576 < k = g.large in
+      let large : max_body_bytes < k = g.large in
       absurd (omega (arith, same));
 }

@@ -1,8 +1,10 @@
 -- Streams of frames: whatever the pieces, the messages are the same.
-use Rattle.std.proofs.Common.{◌≡◌, ℕ, List, [], ◌∷◌, ◌++◌, flat_map, refl, sym, ◌∙◌, ap, subst, append_assoc, append-nil}
+use Rattle.std.proofs.Common.{◌≡◌, ℕ, ◌+◌, ◌≤◌, List, [], ◌∷◌, ◌++◌, flat_map, length, drop, refl, sym, ◌∙◌, ap, subst, arith, append_assoc, append-nil, length-append, length-drop}
+use Rattle.std.proofs.lemmas.Bool.Decides.{nat_tests}
+use Rattle.std.proofs.lemmas.List.{drop_at}
 use Rattle.std.specs.List.{AllByRecursion}
-use Rattle.ec_frame.specs.Frames.{frame, IsBody}
-use Rattle.ec_frame.specs.Streams.{Event, Fed, Took, Runs, stream, taken, IsAtEnd, AreMessages}
+use Rattle.ec_frame.specs.Frames.{frame, IsBody, Held, taken_kept, bytes_moved}
+use Rattle.ec_frame.specs.Streams.{Event, Fed, Took, Runs, stream, taken, all_moved, IsAtEnd, AreMessages}
 use Rattle.ec_frame.specs.FrameLaws.{one_front}
 
 -- the bytes held and those that come are the frames taken and the bytes left
@@ -43,3 +45,21 @@ split_piece old new xs ys events r = subst (λ x. Runs x events new) (sym (appen
 
 pub joined_piece : (old new xs ys : List ℕ) (events : List Event) → Runs old (Fed xs ∷ Fed ys ∷ events) new → Runs old (Fed (xs ++ ys) ∷ events) new
 joined_piece old new xs ys events r = subst (λ x. Runs x events new) (append_assoc old xs ys) r
+
+-- a byte is taken before one is moved
+moves_or_keeps : (held : Held) → bytes_moved held + taken_kept held ≤ held.taken
+moves_or_keeps held = grind (arith, nat_tests)
+
+pub moved-within : (held : Held) (events : List Event) (new : List ℕ) → Runs held.left events new → all_moved held events ≤ held.taken + length held.left + length (stream events)
+moved-within held [] new r = omega arith
+moved-within held (Fed piece ∷ events) new r =
+    let next : Held = record { taken = taken_kept held; left = held.left ++ piece } in
+    omega (arith, moved-within next events new r, moves_or_keeps held, length-append held.left piece, length-append piece (stream events))
+moved-within held (Took body ∷ events) new r =
+    let size = length (frame body) in
+    let next : Held = record { taken = held.taken + size; left = drop size held.left } in
+    let rest : drop size held.left ≡ r.0 = ap (drop size) r.1.spelled ∙ drop_at (frame body) r.0 size refl in
+    omega (arith, moved-within next events new (subst (λ x. Runs x events new) (sym rest) r.2), length-drop size held.left, ap length r.1.spelled, length-append (frame body) r.0)
+
+pub moved_once : (events : List Event) (new : List ℕ) → Runs [] events new → all_moved (record { taken = 0; left = [] }) events ≤ length (stream events)
+moved_once events new r = omega (arith, moved-within (record { taken = 0; left = [] }) events new r)

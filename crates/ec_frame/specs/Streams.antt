@@ -1,7 +1,7 @@
 -- Streams of frames, which come in any pieces.
-use Rattle.std.specs.Prelude.{◌≡◌, ℕ, List, [], ◌∷◌, ◌++◌, flat_map}
+use Rattle.std.specs.Prelude.{◌≡◌, ℕ, ◌+◌, List, [], ◌∷◌, ◌++◌, flat_map, length, drop}
 use Rattle.std.specs.List.{AllByRecursion}
-use Rattle.ec_frame.specs.Frames.{frame, IsBody, Begins}
+use Rattle.ec_frame.specs.Frames.{frame, IsBody, Begins, Held, taken_kept, bytes_moved}
 
 -- A piece comes, or a body is taken.
 pub data Event : Type 0 where
@@ -24,6 +24,12 @@ abbrev pub taken : List Event → List (List ℕ)
 taken [] = []
 taken (Fed piece ∷ events) = taken events
 taken (Took body ∷ events) = body ∷ taken events
+
+-- how many bytes are moved in all
+abbrev pub all_moved : Held → List Event → ℕ
+all_moved held [] = 0
+all_moved held (Fed piece ∷ events) = bytes_moved held + all_moved (record { taken = taken_kept held; left = held.left ++ piece }) events
+all_moved held (Took body ∷ events) = all_moved (record { taken = held.taken + length (frame body); left = drop (length (frame body)) held.left }) events
 
 abbrev pub IsAtEnd : List ℕ → Type 0
 IsAtEnd bytes = (body rest : List ℕ) → Begins bytes body rest → ⊥

@@ -1,7 +1,7 @@
 // What holds of every stream of frames.
-ghost use Rattle.std.specs.Prelude.{◌≡◌, ◌↔◌, ℕ, List, [], ◌∷◌, ◌++◌};
+ghost use Rattle.std.specs.Prelude.{◌≡◌, ◌↔◌, ◌≤◌, ℕ, List, [], ◌∷◌, ◌++◌, length};
 ghost use Rattle.ec_frame.specs.Frames.{Begins, BeginsLong};
-ghost use Rattle.ec_frame.specs.Streams.{Event, Fed, Runs, stream, taken, IsAtEnd, AreMessages};
+ghost use Rattle.ec_frame.specs.Streams.{Event, Fed, Runs, stream, taken, all_moved, IsAtEnd, AreMessages};
 
 /// However a stream is cut and whenever its bodies are taken, they are the messages of the whole stream.
 pub fn any_pieces()
@@ -25,4 +25,9 @@ pub fn one_beginning()
     ensures not_both { (bytes body rest : List ℕ) (n : ℕ) → Begins bytes body rest → BeginsLong bytes n → ⊥ }
     ensures frame_stays { (bytes body rest more : List ℕ) → Begins bytes body rest → Begins (bytes ++ more) body (rest ++ more) }
     ensures long_stays { (bytes more : List ℕ) (n : ℕ) → BeginsLong bytes n → BeginsLong (bytes ++ more) n }
+{}
+
+/// However a stream is cut, no more bytes are moved in memory than came.
+pub fn moved_once()
+    ensures { (events : List Event) (held : List ℕ) → Runs [] events held → all_moved (record { taken = 0; left = [] }) events ≤ length (stream events) }
 {}

@@ -8,5 +8,5 @@ mod laws;
 mod tests;
 
 pub use fault::FrameFault;
-pub use frames::{Frames, frame};
-pub use laws::{any_pieces, joined_pieces, one_beginning, one_reading};
+pub use frames::{Frames, MAX_BODY_BYTES, frame};
+pub use laws::{any_pieces, joined_pieces, moved_once, one_beginning, one_reading};

@@ -1,7 +1,7 @@
 -- What a journal on a disk stands for.
 use Rattle.std.specs.Prelude.{◌≡◌, ◌⊎◌, ◌<◌, ◌≤◌, ◌+◌, ◌-◌, ℕ, true, false, List, [], ◌∷◌, ◌++◌, length}
 use Rattle.ec_disk.specs.Disk.{View, LeavesOnly}
-use Rattle.ec_journal.specs.Records.{records, HasBodies, RunsPast}
+use Rattle.ec_journal.specs.Records.{around_bytes, records, HasBodies, RunsPast}
 use Rattle.ec_journal.specs.declared.journal.Journal.{Journal}
 use Rattle.ec_journal.specs.declared.read.Found.{Found}
 
@@ -21,7 +21,7 @@ free_of journal = journal.size - journal.end
 
 -- what an append of this body needs: a gate, a length, the body and the next gate
 abbrev pub need_of : List ℕ → ℕ
-need_of body = length body + 6
+need_of body = length body + around_bytes
 
 -- A disk stands for a journal with these bodies.
 pub record IsOn (now : View) (journal : Journal) (bodies : List (List ℕ)) : Type 0 where

@@ -1,7 +1,7 @@
 // Calls on a disk that a journal, and the store above it, are made of.
 ghost use Rattle.std.specs.Prelude.{◌≡◌, ◌+◌, ◌≤◌, ℕ, length, IfOk, OnOk, IsErrOf};
 ghost use Rattle.ec_disk.specs.declared.disk.DiskAnswer.TheVariants as said;
-ghost use Rattle.ec_disk.specs.Disk.{View, InRange, part, written, IsSynced, Rests, Counted, after_calls};
+ghost use Rattle.ec_disk.specs.Disk.{View, InRange, part, written, IsSynced, Rests, Counted, Called};
 ghost use Rattle.ec_disk.specs.Runs.{Ran};
 ghost use Rattle.ec_journal.specs.declared.fault.JournalFault.TheVariants as fault;
 
@@ -29,7 +29,7 @@ pub fn write_synced<D: Disk>(disk: &mut D, at: u64, piece: &[u8]) -> Result<(), 
     ensures ran { D.tells → Ran (InRange at (length piece.now)) (D.view disk.old) (D.view disk.new) }
     ensures written { OnOk result (D.tells → (D.view disk.new).gives ≡ written at piece.now (D.view disk.old).gives) }
     ensures synced { OnOk result (D.tells → IsSynced (D.view disk.new)) }
-    ensures calls { OnOk result ((D.counts disk.new).armed ≡ after_calls 2 (D.counts disk.old).armed) }
+    ensures calls { OnOk result (Called 2 (D.counts disk.old) (D.counts disk.new)) }
     ensures counts { Counted (D.counts disk.old) (D.counts disk.new) (IsErrOf result fault.DiskFailed) (IsErrOf result fault.DiskStopped) }
     ensures no_room { (need free : ℕ) → IsErrOf result (fault.NoRoom need free) → ⊥ }
     ensures no_bad { (place : ℕ) → IsErrOf result (fault.Bad place) → ⊥ }
@@ -48,7 +48,7 @@ pub fn read_part<D: Disk>(
 ) -> Result<Vec<u8>, JournalFault>
     requires inside { D.tells → at + size ≤ length (D.view disk.old).gives }
     ensures bytes { IfOk result (λ bytes. D.tells → bytes.items ≡ part (D.view disk.old).gives at size) }
-    ensures calls { OnOk result ((D.counts disk.new).armed ≡ after_calls 1 (D.counts disk.old).armed) }
+    ensures calls { OnOk result (Called 1 (D.counts disk.old) (D.counts disk.new)) }
     ensures length { IfOk result (λ bytes. length bytes.items ≡ size) }
     ensures rests { D.tells → Rests (D.view disk.old) (D.view disk.new) }
     ensures counts { Counted (D.counts disk.old) (D.counts disk.new) (IsErrOf result fault.DiskFailed) (IsErrOf result fault.DiskStopped) }

@@ -1,16 +1,22 @@
 // A journal: it reads its records back, and adds one behind them.
 ghost use Rattle.std.specs.Prelude.{◌≡◌, ◌+◌, ◌^◌, ◌<◌, ◌≤◌, ℕ, length, IfOk, OnOk, IsErrOf};
-ghost use Rattle.ec_disk.specs.Disk.{InRange, written, IsSynced, Counted, after_calls};
+ghost use Rattle.ec_disk.specs.Disk.{InRange, written, IsSynced, Counted, Called};
 ghost use Rattle.ec_disk.specs.Runs.{Ran};
-ghost use Rattle.ec_journal.specs.Records.{staged};
+ghost use Rattle.ec_journal.specs.Records.{max_record_bytes, staged};
 ghost use Rattle.ec_journal.specs.declared.fault.JournalFault.TheVariants as fault;
 
 use crate::device::write_synced;
 use crate::fault::JournalFault;
-use crate::read::{OPEN, read_records};
+use crate::read::{AROUND_BYTES, LENGTH_BYTES, OPEN, read_records};
 use ec_base::List;
 use ec_disk::Disk;
 use std::alloc::{AllocError, Global};
+
+/// `append` takes a body of at most this many bytes.
+pub const MAX_RECORD_BYTES: usize = 524_288;
+
+// What is written behind a body, a gate that isn't open.
+const CLOSED: u8 = 0;
 
 /// A row of records in a range of a disk.
 ///
@@ -26,9 +32,9 @@ pub struct Journal {
 
 impl Journal {
     ghost use Rattle.std.specs.Prelude.{◌≡◌, ◌+◌, ◌^◌, ◌<◌, ◌≤◌, ℕ, length, IfOk, OnOk, OnErr, IsErrOf};
-    ghost use Rattle.ec_disk.specs.Disk.{IsSynced, Counted, Rests, after_calls};
+    ghost use Rattle.ec_disk.specs.Disk.{IsSynced, Counted, Called, Rests};
     ghost use Rattle.ec_disk.specs.Runs.{Ran};
-    ghost use Rattle.ec_journal.specs.Records.{records, HasBodies};
+    ghost use Rattle.ec_journal.specs.Records.{head_bytes, max_record_bytes, records, HasBodies};
     ghost use Rattle.ec_journal.specs.Journal.{place_of, size_of, end_of, free_of, need_of, FromGate, Adds, LeavesEither, IsBad};
     ghost use Rattle.ec_journal.specs.declared.fault.JournalFault.TheVariants as fault;
 
@@ -56,7 +62,7 @@ impl Journal {
         ensures bodies { IfOk result (λ opened. D.tells → HasBodies (D.view disk.old).gives at size opened.1.items) }
         ensures journal { IfOk result (λ opened. (place_of opened.0 ≡ at) × (size_of opened.0 ≡ size) × (D.tells → end_of opened.0 ≡ length (records opened.1.items))) }
         ensures bad { (place : ℕ) → IsErrOf result (fault.Bad place) → D.tells → IsBad (D.view disk.old).gives at size place }
-        ensures calls { OnOk result ((D.counts disk.new).armed ≡ after_calls 1 (D.counts disk.old).armed) }
+        ensures calls { OnOk result (Called 1 (D.counts disk.old) (D.counts disk.new)) }
         ensures not_bad { OnOk result (D.tells → (place : ℕ) → IsBad (D.view disk.old).gives at size place → ⊥) }
         ensures rests { D.tells → Rests (D.view disk.old) (D.view disk.new) }
         ensures counts { Counted (D.counts disk.old) (D.counts disk.new) (IsErrOf result fault.DiskFailed) (IsErrOf result fault.DiskStopped) }
@@ -84,21 +90,21 @@ impl Journal {
         disk: &mut D,
         body: &[u8],
     ) -> Result<(), JournalFault>
-        requires { length body.now ≤ 524288 }
+        requires { length body.now ≤ max_record_bytes }
         ensures ok { OnOk result (D.tells → Adds (D.view disk.old) (D.view disk.new) self.old self.new body.now) }
         ensures synced { OnOk result (D.tells → IsSynced (D.view disk.new)) }
         ensures any_moment { D.tells → LeavesEither (D.view disk.old) (D.view disk.new) self.old body.now }
-        ensures calls { OnOk result ((D.counts disk.new).armed ≡ after_calls 4 (D.counts disk.old).armed) }
+        ensures calls { OnOk result (Called 4 (D.counts disk.old) (D.counts disk.new)) }
         ensures ran { D.tells → Ran (FromGate self.old) (D.view disk.old) (D.view disk.new) }
         ensures full { free_of self.old < need_of body.now → IsErrOf result (fault.NoRoom (need_of body.now) (free_of self.old)) }
         ensures no_room { (need free : ℕ) → IsErrOf result (fault.NoRoom need free) → (need ≡ need_of body.now) × (free ≡ free_of self.old) × (free < need) × (disk.new ≡ disk.old) }
         ensures no_bad { (place : ℕ) → IsErrOf result (fault.Bad place) → ⊥ }
         ensures counts { Counted (D.counts disk.old) (D.counts disk.new) (IsErrOf result fault.DiskFailed) (IsErrOf result fault.DiskStopped) }
         ensures place { (place_of self.new ≡ place_of self.old) × (size_of self.new ≡ size_of self.old) }
-        ensures end { OnOk result (end_of self.new ≡ end_of self.old + length body.now + 5) }
+        ensures end { OnOk result (end_of self.new ≡ end_of self.old + length body.now + head_bytes) }
         ensures err { OnErr result (self.new ≡ self.old) }
     {
-        let need = body.len() as u64 + 6;
+        let need = (body.len() + AROUND_BYTES) as u64;
         let free = self.size - self.end;
         if need > free {
             return Err(JournalFault::NoRoom(need, free));
@@ -118,11 +124,11 @@ fn write_staged<D: Disk>(
     at: u64,
     body: &[u8],
 ) -> Result<(), JournalFault>
-    requires { length body.now ≤ 524288 }
+    requires { length body.now ≤ max_record_bytes }
     ensures ran { D.tells → Ran (InRange at (length (staged body.now))) (D.view disk.old) (D.view disk.new) }
     ensures written { OnOk result (D.tells → (D.view disk.new).gives ≡ written at (staged body.now) (D.view disk.old).gives) }
     ensures synced { OnOk result (D.tells → IsSynced (D.view disk.new)) }
-    ensures calls { OnOk result ((D.counts disk.new).armed ≡ after_calls 2 (D.counts disk.old).armed) }
+    ensures calls { OnOk result (Called 2 (D.counts disk.old) (D.counts disk.new)) }
     ensures counts { Counted (D.counts disk.old) (D.counts disk.new) (IsErrOf result fault.DiskFailed) (IsErrOf result fault.DiskStopped) }
     ensures no_room { (need free : ℕ) → IsErrOf result (fault.NoRoom need free) → ⊥ }
     ensures no_bad { (place : ℕ) → IsErrOf result (fault.Bad place) → ⊥ }
@@ -132,13 +138,13 @@ fn write_staged<D: Disk>(
 }
 
 fn staged(alloc: Global, body: &[u8]) -> Result<Vec<u8>, AllocError>
-    requires { length body.now ≤ 524288 }
+    requires { length body.now ≤ max_record_bytes }
     ensures { IfOk result (λ piece. piece.items ≡ staged body.now) }
 {
-    let mut piece = Vec::with_capacity(alloc, body.len() + 5)?;
+    let mut piece = Vec::with_capacity(alloc, LENGTH_BYTES + body.len() + 1)?;
     piece.extend_from_slice(&(body.len() as u32).to_be_bytes())?;
     piece.extend_from_slice(body)?;
-    piece.push(0)?;
+    piece.push(CLOSED)?;
     Ok(piece)
 }
 
@@ -147,9 +153,14 @@ mod tests {
     use super::*;
     use ec_disk::{Choice, CrashDisk, DiskAnswer, DiskLen, MemDisk};
 
-    // A synced disk of 20 zero bytes.
+    // A synced disk of 20 zero bytes, made by its calls 1 and 2.
     fn zeros(alloc: Global) -> Result<MemDisk, JournalFault> {
-        let mut disk = MemDisk::new(alloc, Vec::new(alloc))?;
+        zeros_failing(alloc, &[])
+    }
+
+    // The same, whose calls of these numbers fail.
+    fn zeros_failing(alloc: Global, fails: &[u64]) -> Result<MemDisk, JournalFault> {
+        let mut disk = MemDisk::new(alloc, fails.to_vec(alloc)?)?;
         write_synced(&mut disk, 0, &[0; 20])?;
         Ok(disk)
     }
@@ -204,5 +215,27 @@ mod tests {
         assert_eq!(rt; disk.write_at(8, b"O\0\0\0\x07"), DiskAnswer::Done);
         let bad = bodies_on(rt.alloc(), &mut disk).err();
         assert_eq!(rt; bad, Some(JournalFault::Bad(8)));
+    }
+
+    #[test]
+    fn fault_of_the_disk_is_shown(rt: HostRuntime) {
+        // The four calls of an append have the numbers 3 to 6.
+        for number in 3..=7 {
+            let mut disk = zeros_failing(rt.alloc(), &[number]).expect(&rt, "disk");
+            let mut journal = Journal::new(0, 20, 0);
+            let answer = journal.append(rt.alloc(), &mut disk, b"abcd");
+            let want = if number < 7 { Err(JournalFault::DiskFailed) } else { Ok(()) };
+            assert_eq!(rt; answer, want, "at call {number}");
+        }
+        // The one call of an opening has the number 3.
+        for (number, want) in [(3, Some(JournalFault::DiskFailed)), (4, None)] {
+            let mut disk = zeros_failing(rt.alloc(), &[number]).expect(&rt, "disk");
+            let answer = Journal::open(rt.alloc(), &mut disk, 0, 20).err();
+            assert_eq!(rt; answer, want, "at call {number}");
+        }
+        let mut disk = zeros(rt.alloc()).expect(&rt, "disk");
+        disk.arm(1);
+        let answer = Journal::open(rt.alloc(), &mut disk, 0, 20).err();
+        assert_eq!(rt; answer, Some(JournalFault::DiskStopped));
     }
 }

@@ -8,5 +8,5 @@ mod read;
 
 pub use device::{read_part, write_synced};
 pub use fault::JournalFault;
-pub use journal::Journal;
+pub use journal::{Journal, MAX_RECORD_BYTES};
 pub use read::{Found, read_records};

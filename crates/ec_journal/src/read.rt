@@ -1,8 +1,8 @@
 // Reading the records of a journal.
 ghost use Rattle.std.specs.Prelude.{◌≡◌, ◌≢◌, ◌⊎◌, ◌+◌, ◌^◌, ◌<◌, ◌≤◌, ℕ, Bool, true, false, List, [], length, IfOk, OnOk, IfSome, IfNone, IsErrOf};
 ghost use Rattle.std.specs.Int.{w32, from_be_bytes};
-ghost use Rattle.ec_disk.specs.Disk.{byte, part, Rests, Counted, after_calls};
-ghost use Rattle.ec_journal.specs.Records.{open_gate, HasBodies, RunsPast};
+ghost use Rattle.ec_disk.specs.Disk.{byte, part, Rests, Counted, Called};
+ghost use Rattle.ec_journal.specs.Records.{open_gate, around_bytes, length_bytes, HasBodies, RunsPast};
 ghost use Rattle.ec_journal.specs.Journal.{IsFound};
 ghost use Rattle.ec_journal.specs.declared.fault.JournalFault.TheVariants as fault;
 
@@ -14,6 +14,14 @@ use std::alloc::Global;
 
 /// The byte of a gate that is open.
 pub const OPEN: u8 = b'O';
+
+pub const LENGTH_BYTES: usize = 4;
+
+// A gate and a length stand in front of a body.
+const HEAD_BYTES: usize = 1 + LENGTH_BYTES;
+
+/// What a record needs beside its body: a gate, a length and the next gate.
+pub const AROUND_BYTES: usize = HEAD_BYTES + 1;
 
 /// The records at the front of a journal.
 #[derive(Debug, Drop)]
@@ -38,7 +46,7 @@ pub fn read_records<D: Disk>(
     requires inside { D.tells → at + size ≤ length (D.view disk.old).gives }
     ensures found { IfOk result (λ found. D.tells → IsFound (D.view disk.old).gives at size found) }
     ensures end { IfOk result (λ found. found.end < size) }
-    ensures calls { OnOk result ((D.counts disk.new).armed ≡ after_calls 1 (D.counts disk.old).armed) }
+    ensures calls { OnOk result (Called 1 (D.counts disk.old) (D.counts disk.new)) }
     ensures rests { D.tells → Rests (D.view disk.old) (D.view disk.new) }
     ensures counts { Counted (D.counts disk.old) (D.counts disk.new) (IsErrOf result fault.DiskFailed) (IsErrOf result fault.DiskStopped) }
     ensures no_room { (need free : ℕ) → IsErrOf result (fault.NoRoom need free) → ⊥ }
@@ -52,14 +60,14 @@ pub fn read_records<D: Disk>(
 // The length of the body behind an open gate, where its record and the next gate are inside.
 fn body_len(bytes: &[u8], gate: usize) -> Option<usize>
     requires { gate < length bytes.now }
-    ensures some { IfSome result (λ len. (len < 2 ^ 32) × (gate + 6 + len ≤ length bytes.now) × (len ≡ from_be_bytes w32 (part bytes.now (gate + 1) 4))) }
-    ensures none { IfNone result ((length bytes.now < gate + 6) ⊎ (length bytes.now < gate + 6 + from_be_bytes w32 (part bytes.now (gate + 1) 4))) }
+    ensures some { IfSome result (λ len. (len < 2 ^ 32) × (gate + around_bytes + len ≤ length bytes.now) × (len ≡ from_be_bytes w32 (part bytes.now (gate + 1) length_bytes))) }
+    ensures none { IfNone result ((length bytes.now < gate + around_bytes) ⊎ (length bytes.now < gate + around_bytes + from_be_bytes w32 (part bytes.now (gate + 1) length_bytes))) }
 {
-    if bytes.len() - gate < 6 {
+    if bytes.len() - gate < AROUND_BYTES {
         return None;
     }
     let len = number_at(bytes, gate + 1) as usize;
-    if bytes.len() - gate - 6 < len {
+    if bytes.len() - gate - AROUND_BYTES < len {
         None
     } else {
         Some(len)
@@ -81,9 +89,10 @@ fn records_in(alloc: Global, bytes: &[u8]) -> Result<Found, NoMemory>
                 is_whole: false,
             });
         };
-        let body = bytes[end + 5..end + 5 + len].to_vec(alloc)?;
+        let start = end + HEAD_BYTES;
+        let body = bytes[start..start + len].to_vec(alloc)?;
         bodies.push(List::of(body))?;
-        end += 5 + len;
+        end = start + len;
     }
     Ok(Found {
         bodies: List::of(bodies),
@@ -93,10 +102,10 @@ fn records_in(alloc: Global, bytes: &[u8]) -> Result<Found, NoMemory>
 }
 
 fn number_at(bytes: &[u8], at: usize) -> u32
-    requires { at + 4 ≤ length bytes.now }
-    ensures { result ≡ from_be_bytes w32 (part bytes.now at 4) }
+    requires { at + length_bytes ≤ length bytes.now }
+    ensures { result ≡ from_be_bytes w32 (part bytes.now at length_bytes) }
 {
-    let mut four = [0; 4];
-    four.copy_from_slice(&bytes[at..at + 4]);
-    u32::from_be_bytes(four)
+    let mut number = [0; LENGTH_BYTES];
+    number.copy_from_slice(&bytes[at..at + LENGTH_BYTES]);
+    u32::from_be_bytes(number)
 }

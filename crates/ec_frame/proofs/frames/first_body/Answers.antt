@@ -6,11 +6,11 @@ use Rattle.ec_frame.proofs.frames.first_body.Goals as goal
 pub returns-in_default-clause-none : goal.returns-in_default-clause-none
 returns-in_default-clause-none c = none_in_short c.args.bytes.now c.in_default.ensures
 
-pub returns-then-body_length-gt-MAX_BODY-clause-err : goal.returns-then-body_length-gt-MAX_BODY-clause-err
-returns-then-body_length-gt-MAX_BODY-clause-err c = begins_long _ _ c.in-Some.ensures.1 (omega arith) (omega arith)
+pub returns-then-body_length-gt-MAX_BODY_BYTES-clause-err : goal.returns-then-body_length-gt-MAX_BODY_BYTES-clause-err
+returns-then-body_length-gt-MAX_BODY_BYTES-clause-err c = begins_long _ _ c.in-Some.ensures.1 (omega arith) (omega arith)
 
-pub returns-then-bytes-body_length-clause-none : goal.returns-then-bytes-body_length-clause-none
-returns-then-bytes-body_length-clause-none c = none_in_part _ _ c.in-Some.ensures.1 (omega arith) (omega (arith, c.in-Some.ensures.0))
+pub returns-then-rest-body_length-clause-none : goal.returns-then-rest-body_length-clause-none
+returns-then-rest-body_length-clause-none c = none_in_part _ _ c.in-Some.ensures.1 (omega arith) (omega (arith, c.in-Some.ensures.0))
 
 pub returns-in_err-body-clause-err : goal.returns-in_err-body-clause-err
 returns-in_err-body-clause-err c =

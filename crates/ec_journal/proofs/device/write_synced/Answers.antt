@@ -1,6 +1,6 @@
-use Rattle.std.proofs.Common.{length, ap, ◌∙◌, Option, ℕ}
-use Rattle.ec_disk.specs.Disk.{InRange, after_calls}
-use Rattle.ec_disk.specs.Counting.{after_calls-add}
+use Rattle.std.proofs.Common.{length}
+use Rattle.ec_disk.specs.Disk.{InRange}
+use Rattle.ec_disk.specs.Counting.{called_both}
 use Rattle.ec_disk.specs.Runs.{begun, and_wrote, and_rests}
 use Rattle.ec_journal.proofs.device.write_synced.Goals as goal
 
@@ -25,4 +25,6 @@ returns-clause-ran g c told =
     and_rests W old mid (g.D.Disk.view c.sync.new.self) (and_wrote W W (λ i at. at) old old mid (begun W old (g.met.D.Disk.only_now told c.args.disk.now)) (c.write_at.ensures.wrote told)) (c.sync.ensures.rests told)
 
 pub returns-clause-calls : goal.returns-clause-calls
-returns-clause-calls g c = c.sync.ensures.armed.next ∙ ap (λ (armed : Option ℕ). after_calls 1 armed) c.write_at.ensures.armed.next ∙ after_calls-add 1 1 (g.D.Disk.counts c.args.disk.now).armed
+returns-clause-calls g c =
+    called_both 1 1 (g.D.Disk.counts c.args.disk.now) (g.D.Disk.counts c.write_at.new.self) (g.D.Disk.counts c.sync.new.self)
+    (record { numbered = c.write_at.ensures.call; armed = c.write_at.ensures.armed.next }) (record { numbered = c.sync.ensures.call; armed = c.sync.ensures.armed.next })

@@ -5,7 +5,7 @@ use Rattle.ec_disk.specs.PastLaws.{cuts, cut-synced}
 use Rattle.ec_disk.proofs.memory.MemDiskCrashDisk.power_cut.Goals as goal
 
 pub returns-in-Ok-clause-cut : goal.returns-in-Ok-clause-cut
-returns-in-Ok-clause-cut c = subst (λ l. Cut (view_of c.args.self.now.log.items) (view_of l)) (sym c.in-Ok.ensures.ok) (cuts c.args.self.now.log.items c.args.choice)
+returns-in-Ok-clause-cut c told = subst (λ l. Cut (view_of c.args.self.now.log.items) (view_of l)) (sym c.in-Ok.ensures.ok) (cuts c.args.self.now.log.items c.args.choice)
 
 pub returns-in-Ok-clause-synced : goal.returns-in-Ok-clause-synced
-returns-in-Ok-clause-synced c done = subst (λ l. IsSynced (view_of l)) (sym c.in-Ok.ensures.ok) (cut-synced c.args.self.now.log.items c.args.choice)
+returns-in-Ok-clause-synced c told done = subst (λ l. IsSynced (view_of l)) (sym c.in-Ok.ensures.ok) (cut-synced c.args.self.now.log.items c.args.choice)

@@ -5,14 +5,14 @@ use Rattle.ec_disk.specs.PastLaws.{wrote, gives-written}
 use Rattle.ec_disk.proofs.memory.MemDiskDisk.write_at.Goals as goal
 
 pub returns-in-Ok-clause-wrote : goal.returns-in-Ok-clause-wrote
-returns-in-Ok-clause-wrote c =
+returns-in-Ok-clause-wrote c told =
     let log = c.args.self.now.log.items in
     subst (λ l. Wrote (InRange c.args.at (length c.args.piece.now)) (view_of log) (view_of l)) (sym c.in-Ok.ensures.ok) (wrote log c.args.at c.args.piece.now)
 
 pub returns-in-Ok-2-clause-wrote : goal.returns-in-Ok-2-clause-wrote
-returns-in-Ok-2-clause-wrote c =
+returns-in-Ok-2-clause-wrote c told =
     let log = c.args.self.now.log.items in
     subst (λ l. Wrote (InRange c.args.at (length c.args.piece.now)) (view_of log) (view_of l)) (sym c.in-Ok.ensures.ok) (wrote log c.args.at c.args.piece.now)
 
 pub returns-in-Ok-2-clause-written : goal.returns-in-Ok-2-clause-written
-returns-in-Ok-2-clause-written c done = ap (λ l. Shot.now (shot_of l)) c.in-Ok.ensures.ok ∙ gives-written c.args.self.now.log.items c.args.at c.args.piece.now
+returns-in-Ok-2-clause-written c told done = ap (λ l. Shot.now (shot_of l)) c.in-Ok.ensures.ok ∙ gives-written c.args.self.now.log.items c.args.at c.args.piece.now

@@ -1,6 +1,5 @@
-use Rattle.std.proofs.Common.{arith, ap, ◌∙◌, Option, ℕ}
-use Rattle.ec_disk.specs.Disk.{after_calls}
-use Rattle.ec_disk.specs.Counting.{after_calls-add}
+use Rattle.std.proofs.Common.{arith}
+use Rattle.ec_disk.specs.Counting.{called_both}
 use Rattle.ec_journal.specs.Journal.{FromGate}
 use Rattle.ec_journal.proofs.Append.{size-records, first_leaves, both_leave, both_ran, appended}
 use Rattle.ec_journal.proofs.journal.Journal.append.Goals as goal
@@ -51,4 +50,4 @@ returns-clause-ran g c told =
 
 pub returns-clause-calls : goal.returns-clause-calls
 returns-clause-calls g c =
-    c.in_ok-write_synced.ensures.calls ∙ ap (λ (armed : Option ℕ). after_calls 2 armed) c.in_ok-write_staged.ensures.calls ∙ after_calls-add 2 2 (g.D.Disk.counts c.args.disk.now).armed
+    called_both 2 2 (g.D.Disk.counts c.args.disk.now) (g.D.Disk.counts c.write_staged.new.disk) (g.D.Disk.counts c.write_synced.new.disk) c.in_ok-write_staged.ensures.calls c.in_ok-write_synced.ensures.calls
