@@ -224,7 +224,11 @@ mod tests {
             let mut disk = zeros_failing(rt.alloc(), &[number]).expect(&rt, "disk");
             let mut journal = Journal::new(0, 20, 0);
             let answer = journal.append(rt.alloc(), &mut disk, b"abcd");
-            let want = if number < 7 { Err(JournalFault::DiskFailed) } else { Ok(()) };
+            let want = if number < 7 {
+                Err(JournalFault::DiskFailed)
+            } else {
+                Ok(())
+            };
             assert_eq!(rt; answer, want, "at call {number}");
         }
         // The one call of an opening has the number 3.
