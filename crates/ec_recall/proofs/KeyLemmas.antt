@@ -1,17 +1,18 @@
 -- Wants under their keys, and those that stay.
-use Rattle.std.proofs.Common.{◌≡◌, refl, sym, ap, subst, ◌∙◌, arith, ℕ, Bool, true, false, cond, ◌&&◌, List, [], ◌∷◌, ◌++◌, map, filter, None, Some}
+use Rattle.std.proofs.Common.{◌≡◌, ◌≢◌, ◌<◌, zero, suc, length, get_or, refl, sym, ap, subst, ◌∙◌, arith, ℕ, Bool, true, false, cond, ◌&&◌, List, [], ◌∷◌, ◌++◌, map, filter, None, Some}
 use Rattle.std.specs.Prelude.{◌==◌}
 use Rattle.std.specs.List.{IsDistinct, AllByRecursion}
 use Rattle.std.specs.Map.{lookup, set_value, keys_of, values_of}
 use Rattle.std.proofs.lemmas.Bool.{eqb-true, and_parts}
 use Rattle.std.proofs.lemmas.List.{append_assoc}
 use Rattle.ec_base.specs.declared.ids.Hold.{Hold}
-use Rattle.ec_base.specs.Holds.{stronger}
-use Rattle.ec_tokens.specs.Tokens.{Tokens}
+use Rattle.ec_base.specs.Holds.{is_free, stronger}
+use Rattle.ec_base.specs.declared.ids.Hold.TheVariants.{Free}
+use Rattle.ec_tokens.specs.Tokens.{Tokens, conflicts}
 use Rattle.ec_recall.specs.declared.want.Want.{Want}
-use Rattle.ec_recall.specs.Due.{is_due, news, told_of, given_after, wants_from}
+use Rattle.ec_recall.specs.Due.{is_due, told_of, given_after, wants_from}
 use Rattle.ec_recall.specs.Keys.{Key, key_of, same_key, IsKeyed, AreApart}
-use Rattle.ec_recall.specs.Wants.{is_of, noted}
+use Rattle.ec_recall.specs.Wants.{is_of, noted, NoneFree}
 
 same_key-sym : (a b : Key) → same_key a b ≡ same_key b a
 same_key-sym a b = ap (λ c. c && (a.1 == b.1)) (eqb-sym a.0 b.0) ∙ ap (λ c. (b.0 == a.0) && c) (eqb-sym a.1 b.1)
@@ -115,12 +116,12 @@ apart_stays ts given (w ∷ ws) apart = go (is_due ts given w) (apart_stays ts (
     others k (v ∷ vs) g all = by (is_due ts g v) (others k vs (given_after ts g v) all.1)
       where
         by : (b : Bool) → AllByRecursion (λ y. same_key k y ≡ false) (map key_of (wants_from ts (given_after ts g v) vs))
-            → AllByRecursion (λ y. same_key k y ≡ false) (map key_of (cond b [] (record v { told = v.told ++ map told_of (news ts v) } ∷ []) ++ wants_from ts (given_after ts g v) vs))
+            → AllByRecursion (λ y. same_key k y ≡ false) (map key_of (cond b [] (record v { told = map told_of (conflicts ts v.session v.obj v.hold) } ∷ []) ++ wants_from ts (given_after ts g v) vs))
         by true r = r
         by false r = (all.0, r)
 
     go : (b : Bool) → AreApart (wants_from ts (given_after ts given w) ws)
-        → AreApart (cond b [] (record w { told = w.told ++ map told_of (news ts w) } ∷ []) ++ wants_from ts (given_after ts given w) ws)
+        → AreApart (cond b [] (record w { told = map told_of (conflicts ts w.session w.obj w.hold) } ∷ []) ++ wants_from ts (given_after ts given w) ws)
     go true r = r
     go false r = (others (key_of w) ws (given_after ts given w) apart.0, r)
 
@@ -134,3 +135,44 @@ keyed_more es new k w ws all keyed apart is key more =
 
 pub apart_from_unique : (es : List (Key × Want)) → IsKeyed es → IsDistinct same_key (keys_of es) → AreApart (values_of es)
 apart_from_unique es keyed unique = subst (IsDistinct same_key) (keys-keyed es keyed) unique
+
+-- No want is Free.
+
+pub free_none : (ws : List Want) (i : ℕ) (w : Want) → NoneFree ws → i < length ws → w ≡ get_or ws i w → is_free w.hold ≡ false
+free_none [] i w held within is = absurd (omega arith)
+free_none (v ∷ ws) zero w held within is = ap (λ u. is_free u.hold) is ∙ held.0
+free_none (v ∷ ws) (suc i) w held within is = free_none ws i w held.1 (omega arith) is
+
+pub not_free : (h : Hold) → is_free h ≡ false → h ≢ Free
+not_free h held is = absurd (grind (arith, ap is_free is, held))
+
+pub held_free : (h : Hold) → h ≢ Free → is_free h ≡ false
+held_free h differ = grind arith
+
+stronger_held : (a b : Hold) → is_free a ≡ false → is_free (stronger a b) ≡ false
+stronger_held a b held = grind (arith, held)
+
+pub held_noted : (s x : ℕ) (h : Hold) (ws : List Want) → is_free h ≡ false → NoneFree ws → NoneFree (noted s x h ws)
+held_noted s x h [] held none = (held, tt)
+held_noted s x h (w ∷ ws) held none = go (is_of s x w) (held_noted s x h ws held none.1)
+  where
+    go : (b : Bool) → NoneFree (noted s x h ws) → NoneFree (cond b (again h w ∷ ws) (w ∷ noted s x h ws))
+    go true later = (stronger_held w.hold h none.0, none.1)
+    go false later = (none.0, later)
+
+pub held_filter : (test : Want → Bool) (ws : List Want) → NoneFree ws → NoneFree (filter test ws)
+held_filter test [] none = tt
+held_filter test (w ∷ ws) none = go (test w) (held_filter test ws none.1)
+  where
+    go : (b : Bool) → NoneFree (filter test ws) → NoneFree (cond b (w ∷ filter test ws) (filter test ws))
+    go true later = (none.0, later)
+    go false later = later
+
+pub held_stays : (ts given : Tokens) (ws : List Want) → NoneFree ws → NoneFree (wants_from ts given ws)
+held_stays ts given [] none = tt
+held_stays ts given (w ∷ ws) none = go (is_due ts given w) (held_stays ts (given_after ts given w) ws none.1)
+  where
+    go : (b : Bool) → NoneFree (wants_from ts (given_after ts given w) ws)
+        → NoneFree (cond b [] (record w { told = map told_of (conflicts ts w.session w.obj w.hold) } ∷ []) ++ wants_from ts (given_after ts given w) ws)
+    go true r = r
+    go false r = (none.0, r)

@@ -2,8 +2,8 @@
 use Rattle.std.specs.Prelude.{◌==◌, ℕ, Bool, not, ◌&&◌, if◌then◌else◌, List, [], ◌∷◌, ◌++◌, map, filter}
 use Rattle.std.specs.List.{list_any}
 use Rattle.ec_base.specs.declared.ids.Hold.{Hold}
-use Rattle.ec_base.specs.declared.ids.Hold.TheVariants.{Free, Read, Write}
-use Rattle.ec_base.specs.Holds.{is_free}
+use Rattle.ec_base.specs.declared.ids.Hold.TheVariants.{Free, Read}
+use Rattle.ec_base.specs.Holds.{is_write}
 use Rattle.ec_tokens.specs.Tokens.{Tokens, Holder, conflicts, is_clear, granted}
 use Rattle.ec_recall.specs.declared.want.Want.{Want}
 use Rattle.ec_recall.specs.declared.want.Action.{Action}
@@ -13,9 +13,9 @@ use Rattle.ec_recall.specs.declared.want.Action.TheVariants.{Grant, Recall}
 abbrev pub is_due : Tokens → Tokens → Want → Bool
 is_due ts given w = is_clear ts w.session w.obj w.hold && is_clear given w.session w.obj w.hold
 
--- The grants of the list so far, as tokens, and one more. Free conflicts with nothing, and isn't recorded.
+-- The grants of the list so far, as tokens, and one more.
 abbrev pub given_to : ℕ → ℕ → Hold → Tokens → Tokens
-given_to s x h given = if is_free h then given else granted s x h 0 given
+given_to s x h given = granted s x h 0 given
 
 -- The holder's token, by its number, was recalled for the want since its last noting.
 abbrev pub is_told : List (ℕ × ℕ) → Holder → Bool
@@ -27,9 +27,7 @@ news ts w = filter (λ holder. not (is_told w.told holder)) (conflicts ts w.sess
 
 -- A reader needs the others down to Read, a writer down to Free.
 abbrev pub recall_to : Hold → Hold
-recall_to Free = Write
-recall_to Read = Read
-recall_to Write = Free
+recall_to h = if is_write h then Free else Read
 
 abbrev pub recall_of : Want → Holder → Action
 recall_of w holder = Recall holder.0 w.obj holder.2 (recall_to w.hold)
@@ -41,9 +39,10 @@ told_of holder = (holder.0, holder.2)
 abbrev pub answer : Tokens → Tokens → Want → List Action
 answer ts given w = if is_due ts given w then Grant w.session w.obj w.hold ∷ [] else map (recall_of w) (news ts w)
 
--- A want that is granted leaves; another one stays, with what was recalled for it.
+-- A want that is granted leaves; another one stays. Each holder that conflicts with it was then told, now or before. Earlier ones needn't be
+-- kept: a token's mode only falls and its number never comes back.
 abbrev pub stay : Tokens → Tokens → Want → List Want
-stay ts given w = if is_due ts given w then [] else record w { told = w.told ++ map told_of (news ts w) } ∷ []
+stay ts given w = if is_due ts given w then [] else record w { told = map told_of (conflicts ts w.session w.obj w.hold) } ∷ []
 
 abbrev pub given_after : Tokens → Tokens → Want → Tokens
 given_after ts given w = if is_due ts given w then given_to w.session w.obj w.hold given else given

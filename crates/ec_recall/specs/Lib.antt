@@ -1,4 +1,5 @@
 pub mod Due
 pub mod Keys
 pub mod Laws
+pub mod Rounds
 pub mod Wants

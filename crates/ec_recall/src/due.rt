@@ -1,7 +1,8 @@
 // What is due to a list of wants.
-ghost use Rattle.std.specs.Prelude.{◌≡◌, ◌++◌, ◌∷◌, [], map, OnOk, IfOk, IsTrue};
+ghost use Rattle.std.specs.Prelude.{◌≡◌, ◌≢◌, ◌++◌, ◌∷◌, [], map, filter, not, OnOk, IfOk, IsTrue};
 ghost use Rattle.ec_recall.specs.Due as due;
-ghost use Rattle.ec_tokens.specs.Tokens as tokens;
+ghost use Rattle.ec_recall.specs.Wants.{NoneFree};
+ghost use Rattle.ec_tokens.specs.Tokens.{is_clear, conflicts};
 
 use crate::want::{Action, Want};
 use ec_base::{Hold, List, NoMemory, SessionNo};
@@ -18,6 +19,7 @@ pub struct Round {
 
 /// What is due to the wants, which stand in the order of arrival, at these tokens.
 pub fn serve(alloc: Global, tokens: &Tokens, wants: &[Want]) -> Result<Round, NoMemory>
+    requires { NoneFree wants.now }
     ensures actions { IfOk result (λ round. round.actions.items ≡ due.actions tokens.now wants.now) }
     ensures wants { IfOk result (λ round. round.wants.items ≡ due.wants_after tokens.now wants.now) }
 {
@@ -27,13 +29,14 @@ pub fn serve(alloc: Global, tokens: &Tokens, wants: &[Want]) -> Result<Round, No
         given: Tokens::new(alloc)?,
     };
     for want in wants {
-        round.take(alloc, tokens, want)?;
+        round.take(tokens, want)?;
     }
     Ok(round)
 }
 
 impl Round {
-    fn take(&mut self, alloc: Global, tokens: &Tokens, want: &Want) -> Result<(), NoMemory>
+    fn take(&mut self, tokens: &Tokens, want: &Want) -> Result<(), NoMemory>
+        requires { want.now.hold ≢ Hold.Free }
         ensures actions { OnOk result (self.new.actions.items ≡ self.old.actions.items ++ due.answer tokens.now self.old.given want.now) }
         ensures wants { OnOk result (self.new.wants.items ≡ self.old.wants.items ++ due.stay tokens.now self.old.given want.now) }
         ensures given { OnOk result (self.new.given ≡ due.given_after tokens.now self.old.given want.now) }
@@ -41,31 +44,31 @@ impl Round {
         if is_due(tokens, &self.given, want) {
             self.grant(want)
         } else {
-            self.recall(alloc, tokens, want)
+            self.recall(tokens, want)
         }
     }
 
     fn grant(&mut self, want: &Want) -> Result<(), NoMemory>
-        requires { IsTrue (tokens.is_clear self.old.given want.now.session want.now.obj want.now.hold) }
+        requires held { want.now.hold ≢ Hold.Free }
+        requires clear { IsTrue (is_clear self.old.given want.now.session want.now.obj want.now.hold) }
         ensures actions { OnOk result (self.new.actions.items ≡ self.old.actions.items ++ Action.Grant want.now.session want.now.obj want.now.hold ∷ []) }
         ensures wants { OnOk result (self.new.wants.items ≡ self.old.wants.items) }
         ensures given { OnOk result (self.new.given ≡ due.given_to want.now.session want.now.obj want.now.hold self.old.given) }
     {
-        match want.hold {
-            Hold::Free => {}
-            _ => self.given.grant(want.session, want.obj, want.hold, 0)?,
-        }
+        self.given.grant(want.session, want.obj, want.hold, 0)?;
         self.actions
             .push(Action::Grant(want.session, want.obj, want.hold))?;
         Ok(())
     }
 
-    fn recall(&mut self, alloc: Global, tokens: &Tokens, want: &Want) -> Result<(), NoMemory>
+    fn recall(&mut self, tokens: &Tokens, want: &Want) -> Result<(), NoMemory>
         ensures actions { OnOk result (self.new.actions.items ≡ self.old.actions.items ++ map (due.recall_of want.now) (due.news tokens.now want.now)) }
-        ensures wants { OnOk result (self.new.wants.items ≡ self.old.wants.items ++ record (want.now) { told = want.now.told ++ map due.told_of (due.news tokens.now want.now) } ∷ []) }
+        ensures wants { OnOk result (self.new.wants.items ≡ self.old.wants.items ++ record (want.now) { told = map due.told_of (conflicts tokens.now want.now.session want.now.obj want.now.hold) } ∷ []) }
         ensures given { OnOk result (self.new.given ≡ self.old.given) }
     {
-        let news = news(tokens, want)?;
+        let holders = tokens.conflicts(want.session, want.obj, want.hold)?;
+        let told = told_of(&holders)?;
+        let news = unheard(want.told.as_slice(), holders);
         let to = recall_to(want.hold);
         for holder in &news {
             self.actions
@@ -75,7 +78,7 @@ impl Round {
             session: want.session,
             obj: want.obj,
             hold: want.hold,
-            told: told_also(alloc, &want.told, &news)?,
+            told,
         })?;
         Ok(())
     }
@@ -88,13 +91,15 @@ fn is_due(tokens: &Tokens, given: &Tokens, want: &Want) -> bool
         && given.is_clear(want.session, want.obj, want.hold)
 }
 
-fn news(tokens: &Tokens, want: &Want) -> Result<Vec<(SessionNo, Hold, u64)>, NoMemory>
-    ensures { IfOk result (λ list. list.items ≡ due.news tokens.now want.now) }
+// The holders that weren't told.
+fn unheard(
+    told: &[(SessionNo, u64)],
+    mut holders: Vec<(SessionNo, Hold, u64)>,
+) -> Vec<(SessionNo, Hold, u64)>
+    ensures { result.items ≡ filter (λ holder. not (due.is_told told.now holder)) holders.items }
 {
-    let told = want.told.as_slice();
-    let mut holders = tokens.conflicts(want.session, want.obj, want.hold)?;
     holders.retain(|holder| !is_told(told, holder));
-    Ok(holders)
+    holders
 }
 
 fn is_told(told: &[(SessionNo, u64)], holder: &(SessionNo, Hold, u64)) -> bool
@@ -103,28 +108,22 @@ fn is_told(told: &[(SessionNo, u64)], holder: &(SessionNo, Hold, u64)) -> bool
     told.iter().any(|t| t.0 == holder.0 && t.1 == holder.2)
 }
 
+// A reader needs the others down to Read, a writer down to Free.
 fn recall_to(hold: Hold) -> Hold
     ensures { result ≡ due.recall_to hold }
 {
     match hold {
-        Hold::Free => Hold::Write,
-        Hold::Read => Hold::Read,
+        Hold::Free | Hold::Read => Hold::Read,
         Hold::Write => Hold::Free,
     }
 }
 
-fn told_also(
-    alloc: Global,
-    told: &List<(SessionNo, u64)>,
-    news: &[(SessionNo, Hold, u64)],
-) -> Result<List<(SessionNo, u64)>, NoMemory>
-    ensures { IfOk result (λ list. list ≡ told.now ++ map due.told_of news.now) }
+fn told_of(holders: &Vec<(SessionNo, Hold, u64)>) -> Result<List<(SessionNo, u64)>, NoMemory>
+    ensures { IfOk result (λ list. list ≡ map due.told_of holders.now.items) }
 {
-    let before = told.as_slice();
-    let mut all = Vec::with_capacity(alloc, before.len())?;
-    all.extend_from_slice(before)?;
-    for holder in news {
-        all.push((holder.0, holder.2))?;
+    let mut told = Vec::with_capacity(*holders.allocator(), holders.len())?;
+    for holder in holders {
+        told.push((holder.0, holder.2))?;
     }
-    Ok(List::of(all))
+    Ok(List::of(told))
 }

@@ -2,8 +2,10 @@
 #![tactic(auto)]
 
 mod due;
+mod laws;
 mod recalls;
 mod want;
 
+pub use laws::{grants_are_clear, grants_shorten, no_grant_settles};
 pub use recalls::Recalls;
 pub use want::{Action, Want};

@@ -1,8 +1,10 @@
 // The wants that wait, by session and object and in the order of arrival.
-ghost use Rattle.std.specs.Prelude.{◌≡◌, ◌==◌, [], not, filter, IfOk, OnOk, OnErr};
+ghost use Rattle.std.specs.Prelude.{◌≡◌, ◌≢◌, ◌==◌, [], not, filter, IfOk, OnOk, OnErr};
 ghost use Rattle.ec_recall.specs.Due as due;
 ghost use Rattle.ec_recall.specs.Wants as wants;
 ghost use Rattle.ec_recall.specs.Keys.{AreApart, IsKeyed, same_key};
+ghost use Rattle.ec_recall.specs.Rounds.{GrantsGoIn};
+ghost use Rattle.ec_tokens.specs.Tokens.{IsSound};
 ghost use Rattle.indexmap.specs.IndexMap.{IsUnique, values};
 
 use crate::due::serve;
@@ -24,13 +26,14 @@ impl Model for Recalls {
     ghost use Rattle.std.specs.Prelude.{List};
     ghost use Rattle.ec_recall.specs.declared.want.Want.{Want};
     ghost use Rattle.ec_recall.specs.Keys.{IsKeyed, same_key};
+    ghost use Rattle.ec_recall.specs.Wants.{NoneFree};
     ghost use Rattle.indexmap.specs.IndexMap.{IsUnique, values};
 
     ghost Value = { List Want };
 
     ghost view = { λ r. values r.wants };
 
-    ghost invariant = { λ r. IsKeyed r.wants.entries × IsUnique same_key r.wants };
+    ghost invariant = { λ r. IsKeyed r.wants.entries × IsUnique same_key r.wants × NoneFree (values r.wants) };
 }
 
 impl Recalls {
@@ -47,6 +50,7 @@ impl Recalls {
     /// Notes a want. A session has one want for an object, the stronger one, which keeps its place.
     /// Each further noting, a weaker one too, makes the recalls for the want due again.
     pub fn want(&mut self, s: SessionNo, obj: ObjId, hold: Hold) -> Result<(), NoMemory>
+        requires { hold ≢ Hold.Free }
         ensures ok { OnOk result (self.new ≡ wants.noted s obj hold self.old) }
         ensures err { OnErr result (self.new ≡ self.old) }
     {
@@ -73,10 +77,13 @@ impl Recalls {
     /// granted, and leaves. Any other stays, and each conflicting holder is recalled, in session
     /// order, once for each noting of the want and number of the token: down to Read for a reader,
     /// and to Free for a writer. A grant of the list itself causes no recall.
+    ///
+    /// So the grants of the answer may be recorded one after the other, each with any number.
     pub fn due(&mut self, tokens: &Tokens) -> Result<Vec<Action>, NoMemory>
         ensures actions { IfOk result (λ actions. actions.items ≡ due.actions tokens.now self.old) }
         ensures wants { OnOk result (self.new ≡ due.wants_after tokens.now self.old) }
         ensures err { OnErr result (self.new ≡ self.old) }
+        ensures grants { IfOk result (λ actions. IsSound tokens.now → GrantsGoIn tokens.now actions.items) }
     {
         let round = serve(self.alloc, tokens, self.wants.values().as_slice())?;
         self.wants = keyed(self.alloc, round.wants)?;

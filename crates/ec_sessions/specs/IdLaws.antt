@@ -1,5 +1,5 @@
--- Lists of ids: one taken out, and sixteen put in.
-use Rattle.std.proofs.Common.{◌≡◌, ◌==◌, ◌+◌, ◌-◌, ◌<◌, ◌≤◌, ◌^◌, inl, inr, ℕ, zero, suc, Bool, true, false, ◌||◌, if◌then◌else◌, nat_lt, cond, List, [], ◌∷◌, ◌++◌, length, get_or, take, drop, refl, sym, ◌∙◌, ap, subst, append-nil, arith}
+-- Lists of ids: one taken out, and sixteen put in. No public clause cites this file.
+use Rattle.std.proofs.Common.{◌≡◌, ◌==◌, ◌+◌, ◌-◌, ◌<◌, ◌≤◌, ◌^◌, inl, inr, ℕ, zero, suc, Bool, true, false, ◌||◌, ◌&&◌, not, Option, None, Some, if◌then◌else◌, nat_lt, cond, List, [], ◌∷◌, ◌++◌, length, get_or, take, drop, refl, sym, ◌∙◌, ap, subst, append-nil, arith}
 use Rattle.std.specs.Prelude.{◌≢◌, Result, Ok, Err, MatchResult}
 use Rattle.std.specs.Ordering.{nat_cmp}
 use Rattle.std.specs.List.{prefix_len, remove, AllPairs}
@@ -8,7 +8,8 @@ use Rattle.std.proofs.lemmas.Bool.{cases_Bool, cases_eq, eq-eqb, lt-ltb, ltb-tru
 use Rattle.std.proofs.lemmas.List.{take_rest}
 use Rattle.std.proofs.lemmas.List.Kept.{AllPairs-from_increasing}
 use Rattle.std.proofs.lemmas.List.Sorted.{searched}
-use Rattle.ec_sessions.specs.Slots.{is_in, without, run, sixteen, with_ids, AreIds}
+use Rattle.ec_sessions.specs.declared.slot.Slot.{Slot}
+use Rattle.ec_sessions.specs.Slots.{unspent_of, is_reserved, spent, is_in, without, run, sixteen, with_ids, AreIds}
 use Rattle.ec_sessions.specs.Windows.{times}
 
 without-hit : (id other : ℕ) (ids : List ℕ) → (other == id) ≡ true → without id (other ∷ ids) ≡ ids
@@ -46,6 +47,39 @@ taken_out id ids seen (Ok at) is increasing found =
 taken_out id ids seen (Err at) is increasing found =
     let apart = searched ids id (Err at) (subst (λ l. IsBinarySearchResult (λ y. nat_cmp y id) l (Err at)) is found) (rises ids increasing) in
     out_none id ids (λ k within same. elim (cases_Bool (nat_lt k at)) [ inl h ↦ omega (arith, apart.1 k (ltb-true k at h)) | inr h ↦ omega (arith, apart.2 k (ltb-false k at h) within) ])
+
+found_there : (id at : ℕ) (ids : List ℕ) → at < length ids → get_or ids at 0 ≡ id → true ≡ is_in id ids
+found_there id at [] l e = absurd (omega arith)
+found_there id zero (other ∷ ids) l e = sym (ap (λ b. b || is_in id ids) (eq-eqb other id e))
+found_there id (suc at) (other ∷ ids) l e = grind (arith, found_there id at ids (omega arith) e)
+
+-- and tells what is there
+pub seen_there : (id : ℕ) (ids : List ℕ) (at : ℕ) → IsStrictlyIncreasing ids → IsBinarySearchResult (λ y. nat_cmp y id) ids (Ok at) → true ≡ is_in id ids
+seen_there id ids at increasing found = let at_id = searched ids id (Ok at) found (rises ids increasing) in found_there id at ids at_id.0 at_id.1
+
+-- what is there behind it
+in_without : (id other : ℕ) (ids : List ℕ) → AllPairs (λ x y. x < y) ids → is_in other (without id ids) ≡ (is_in other ids && not (other == id))
+in_without id other [] rising = refl
+in_without id other (e ∷ es) rising =
+    elim (cases_Bool (e == id)) [
+      | inl hit ↦ ap (is_in other) (without-hit id e es hit) ∙ grind (arith, hit, gone)
+      | inr miss ↦ ap (is_in other) (without-miss id e es miss) ∙ grind (arith, miss, in_without id other es later)
+    ]
+  where
+    later : AllPairs (λ x y. x < y) es
+    later i j d before within = rising (suc i) (suc j) d (omega arith) (omega arith)
+
+    gone : false ≡ is_in e es
+    gone = (out_none e es (λ k within same. omega (arith, rising 0 (suc k) 0 (omega arith) (omega arith), same))).0
+
+pub one_spent : (slot : Option Slot) (id other : ℕ) → IsStrictlyIncreasing (unspent_of slot) → is_reserved (spent id slot) other ≡ (is_reserved slot other && not (other == id))
+one_spent None id other rising = refl
+one_spent (Some slot) id other rising =
+    let there = in_without id other slot.unspent (AllPairs-from_increasing slot.unspent rising) in
+    elim (cases_Bool slot.is_open) [
+      | inl is ↦ ap (λ b. is_reserved (Some (if b then record slot { unspent = without id slot.unspent } else slot)) other) is ∙ ap (λ b. slot.is_open && b) there ∙ grind (arith, is)
+      | inr shut ↦ ap (λ b. is_reserved (Some (if b then record slot { unspent = without id slot.unspent } else slot)) other) shut ∙ grind (arith, shut)
+    ]
 
 -- the sixteen ids stand behind those below
 pub with_ids-split : (first n : ℕ) (ids : List ℕ) → n ≡ prefix_len (λ id. nat_lt id first) ids → (take n ids ++ sixteen first) ++ drop n ids ≡ with_ids first ids

@@ -1,7 +1,8 @@
 -- The last session of each of sixteen clerks.
-use Rattle.std.specs.Prelude.{◌≡◌, ◌==◌, ◌+◌, ◌<◌, ◌≤◌, ◌^◌, ℕ, zero, suc, Bool, true, false, ◌||◌, ◌&&◌, if◌then◌else◌, nat_lt, List, [], ◌∷◌, ◌++◌, length, Option, None, Some, IsTrue, slice_index_or, slice_set}
+use Rattle.std.specs.Prelude.{◌≡◌, ◌==◌, ◌+◌, ◌<◌, ◌≤◌, ◌^◌, ℕ, zero, suc, Bool, true, false, ◌&&◌, if◌then◌else◌, nat_lt, List, [], ◌∷◌, ◌++◌, length, Option, None, Some, IsTrue, slice_index_or, slice_set}
 use Rattle.std.specs.List.{list_any}
 use Rattle.std.specs.List.Sorted.{IsStrictlyIncreasing}
+use Rattle.ec_base.specs.Ages.{is_older}
 use Rattle.ec_base.specs.declared.ids.Age.{Age}
 use Rattle.ec_sessions.specs.declared.slot.Slot.{Slot}
 use Rattle.ec_sessions.specs.declared.slot.Greeting.{Greeting}
@@ -9,10 +10,6 @@ use Rattle.ec_sessions.specs.declared.slot.Greeting.TheVariants.{Greater, Same, 
 use Rattle.ec_sessions.specs.Windows.{new_window, mark_answer, after_mark, times}
 use Rattle.ec_sessions.specs.declared.window.Marked.{Marked}
 use Rattle.ec_sessions.specs.declared.window.Marked.TheVariants as answer
-
--- Ages rise by boot, then by round.
-abbrev pub is_older : Age → Age → Bool
-is_older a b = nat_lt a.boot b.boot || ((a.boot == b.boot) && nat_lt a.round b.round)
 
 -- by clerk number: None for a clerk that never had a session
 abbrev pub Slots : Type 0

@@ -1,4 +1,4 @@
--- What a window has after marks.
+-- What a window has after marks. No public clause cites this file.
 use Rattle.std.proofs.Common.{◌≡◌, ◌==◌, ◌+◌, ◌-◌, ◌/◌, ◌%◌, ◌^◌, ◌<◌, ◌≤◌, ◌⊎◌, inl, inr, ℕ, zero, suc, true, false, ◌||◌, if◌then◌else◌, nat_le, nat_lt, List, [], ◌∷◌, bit_or, max, refl, sym, ◌∙◌, ap, subst, arith, lit<}
 use Rattle.std.specs.Int.{bit_at}
 use Rattle.std.proofs.lemmas.Bool.{le-leb, lt-leb, leb-false, eq-eqb, ne_eqb, ltb-false, or_left, or_parts, cases_order, cases_eq, cases_Bool, true≢false, both_ways}

@@ -1,7 +1,8 @@
 // What holds of all windows and slots.
-ghost use Rattle.std.specs.Prelude.{◌≡◌, ◌≢◌, ◌↔◌, ◌<◌, ◌≤◌, ◌+◌, ◌++◌, ℕ, List, Option, length, true, false};
+ghost use Rattle.std.specs.Prelude.{◌≡◌, ◌==◌, ◌≢◌, ◌&&◌, not, ◌↔◌, ◌<◌, ◌≤◌, ◌+◌, ◌++◌, ℕ, List, Option, length, true, false};
+ghost use Rattle.std.specs.List.Sorted.{IsStrictlyIncreasing};
 ghost use Rattle.ec_sessions.specs.declared.slot.Slot.{Slot};
-ghost use Rattle.ec_sessions.specs.Slots.{Slots, slot_at, with_slot, sixteen, with_ids};
+ghost use Rattle.ec_sessions.specs.Slots.{Slots, slot_at, with_slot, sixteen, with_ids, unspent_of, is_reserved, spent};
 ghost use Rattle.ec_sessions.specs.Windows.{new_window, has, after_marks, newly_marked, times};
 
 /// Over every list of marks each number is answered `Marked` at most once, and a new window then has of the numbers
@@ -16,6 +17,11 @@ pub fn marks_of_a_window()
 pub fn one_slot()
     ensures same { (clerk : ℕ) (slot : Option Slot) (slots : Slots) → clerk < length slots → slot_at (with_slot clerk slot slots) clerk ≡ slot }
     ensures others { (clerk other : ℕ) (slot : Option Slot) (slots : Slots) → other ≢ clerk → slot_at (with_slot clerk slot slots) other ≡ slot_at slots other }
+{}
+
+/// A further id is reserved behind one that is spent exactly where it was before, and is another one.
+pub fn one_spent()
+    ensures { (slot : Option Slot) (id other : ℕ) → IsStrictlyIncreasing (unspent_of slot) → is_reserved (spent id slot) other ≡ (is_reserved slot other && not (other == id)) }
 {}
 
 /// Sixteen ids above all others stand behind them.

@@ -9,7 +9,7 @@ mod tests;
 mod unspent;
 mod window;
 
-pub use laws::{ids_behind, marks_of_a_window, one_slot};
+pub use laws::{ids_behind, marks_of_a_window, one_slot, one_spent};
 pub use sessions::Sessions;
 pub use slot::{Greeting, Slot};
 pub use window::{Marked, Window};

@@ -5,7 +5,7 @@ ghost use Rattle.ec_sessions.specs.Slots.{slot_at, with_slot, open_session, is_g
 
 use crate::slot::{self, Greeting, Slot};
 use crate::window::Marked;
-use ec_base::{Age, ClerkId, NoMemory, ObjId, SessionNo};
+use ec_base::{Age, ClerkId, Duplicate, NoMemory, ObjId, SessionNo};
 use std::alloc::Global;
 use std::marker::Model;
 
@@ -78,6 +78,13 @@ impl Sessions {
         slot::grant(alloc, &mut self.slots[clerk.get() as usize], first)
     }
 
+    /// Whether the id is one of the unspent ones of the clerk's open session.
+    pub fn is_reserved(&self, clerk: ClerkId, id: ObjId) -> bool
+        ensures { result ≡ is_reserved (slot_at self.now clerk) id }
+    {
+        slot::is_reserved(&self.slots[clerk.get() as usize], id)
+    }
+
     /// Takes an id out of the unspent ones of the clerk's open session, and tells whether it was one of them.
     pub fn spend(&mut self, clerk: ClerkId, id: ObjId) -> bool
         ensures answer { result ≡ is_reserved (slot_at self.old clerk) id }
@@ -128,6 +135,24 @@ impl Sessions {
         read_ids(&slots);
         Ok(Sessions { slots })
     }
+}
+
+impl Duplicate for Sessions {
+    fn duplicate(&self) -> Result<Self, NoMemory> {
+        Ok(Sessions {
+            slots: copied(&self.slots)?,
+        })
+    }
+}
+
+fn copied(slots: &Vec<Option<Slot>>) -> Result<Vec<Option<Slot>>, NoMemory>
+    ensures { IfOk result (λ copies. copies.items ≡ slots.now.items) }
+{
+    let mut copies = Vec::with_capacity(*slots.allocator(), slots.len())?;
+    for slot in slots {
+        copies.push(slot.duplicate()?)?;
+    }
+    Ok(copies)
 }
 
 // A proof knows the range of the ids that are read. No code is left of this.

@@ -2,11 +2,11 @@
 ghost use Rattle.std.specs.Prelude.{◌≡◌, ◌==◌, ◌+◌, ◌<◌, ◌≤◌, ◌^◌, ℕ, List, [], ◌++◌, length, None, Some, IfOk, OnOk, OnErr};
 ghost use Rattle.std.specs.List.Sorted.{IsStrictlyIncreasing};
 ghost use Rattle.ec_sessions.specs.Windows.{mark_answer};
-ghost use Rattle.ec_sessions.specs.Slots.{is_older, is_greater, open_session, greeting, is_in, is_reserved, CanMark, CanReserve, batch_answer, AreIds, unspent_of, new_slot, ended, with_ids, granted, spent, batch_marked, open_count};
+ghost use Rattle.ec_sessions.specs.Slots.{is_greater, open_session, greeting, is_in, is_reserved, CanMark, CanReserve, batch_answer, AreIds, unspent_of, new_slot, ended, with_ids, granted, spent, batch_marked, open_count};
 
-use crate::unspent::{spend_in, with_ids};
+use crate::unspent::{is_there, spend_in, with_ids};
 use crate::window::{Marked, Window};
-use ec_base::{Age, List as Items, NoMemory, ObjId, SessionNo};
+use ec_base::{Age, Duplicate, List as Items, NoMemory, ObjId, SessionNo};
 use std::alloc::Global;
 
 /// The last session of a clerk: its age, whether it's open, the window of its batches, how often it was granted ids,
@@ -22,6 +22,20 @@ pub struct Slot {
     pub unspent: Items<ObjId>,
 }
 
+impl Duplicate for Slot {
+    fn duplicate(&self) -> Result<Self, NoMemory> {
+        Ok(Slot {
+            age: self.age,
+            session: self.session,
+            is_open: self.is_open,
+            window: self.window,
+            grants: self.grants,
+            last_first: self.last_first,
+            unspent: self.unspent.duplicate()?,
+        })
+    }
+}
+
 /// What a server makes of a clerk's hello.
 #[derive(Clone, Copy, Debug, Drop, PartialEq, Eq)]
 pub enum Greeting {
@@ -35,25 +49,19 @@ pub enum Greeting {
     OldBoot(Age),
 }
 
-fn is_older(a: Age, b: Age) -> bool
-    ensures { result ≡ is_older a b }
-{
-    a.boot < b.boot || a.boot == b.boot && a.round < b.round
-}
-
 pub(crate) fn greet(slot: &Option<Slot>, age: Age) -> Greeting
     ensures { result ≡ greeting slot.now age }
 {
     let Some(slot) = slot else {
         return Greeting::Greater(None);
     };
-    if is_older(slot.age, age) {
+    if slot.age.is_older(&age) {
         Greeting::Greater(if slot.is_open {
             Some(slot.session)
         } else {
             None
         })
-    } else if is_older(age, slot.age) {
+    } else if age.is_older(&slot.age) {
         Greeting::OldBoot(slot.age)
     } else if slot.is_open {
         Greeting::Same(slot.session)
@@ -135,6 +143,16 @@ pub(crate) fn spend(alloc: Global, slot: &mut Option<Slot>, id: ObjId) -> bool
     match slot {
         Some(slot) if slot.is_open => spend_in(alloc, &mut slot.unspent, id),
         _ => false,
+    }
+}
+
+pub(crate) fn is_reserved(slot: &Option<Slot>, id: ObjId) -> bool
+    requires { IsStrictlyIncreasing (unspent_of slot.now) }
+    ensures { result ≡ is_reserved slot.now id }
+{
+    match slot {
+        Some(slot) => slot.is_open && is_there(slot.unspent.as_slice(), id),
+        None => false,
     }
 }
 

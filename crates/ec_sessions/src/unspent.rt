@@ -8,6 +8,17 @@ use ec_base::{List as Items, NoMemory, ObjId};
 use std::alloc::Global;
 use std::mem;
 
+/// Whether the id is one of these, which rise.
+pub(crate) fn is_there(ids: &[ObjId], id: ObjId) -> bool
+    requires { IsStrictlyIncreasing ids.now }
+    ensures { result ≡ is_in id ids.now }
+{
+    match ids.binary_search(&id) {
+        Ok(_) => true,
+        Err(_) => false,
+    }
+}
+
 /// Takes an id out, and tells whether it was there. It takes no memory.
 pub(crate) fn spend_in(alloc: Global, ids: &mut Items<ObjId>, id: ObjId) -> bool
     requires { IsStrictlyIncreasing ids.old }

@@ -1,26 +1,31 @@
--- What a changed map of tokens holds, and that no two tokens conflict after a change.
+-- What a changed map of tokens holds, and that no two tokens conflict after a change. No public clause cites this file.
 use Rattle.std.proofs.Common.{◌≡◌, ◌≢◌, refl, sym, ap, ◌∙◌, arith, ℕ, Bool, true, false, not, cond, ◌&&◌, List, [], ◌∷◌, Option, None, Some, filter, subst, length, ◌<◌, ◌⊎◌, inl, inr, ⊎_elim, zero, suc}
-use Rattle.std.specs.Prelude.{◌==◌, T, is_none, slice_index_or, Contains}
-use Rattle.std.specs.Ordering.{nat_cmp, is_lt, eq_by_cmp}
+use Rattle.std.specs.Prelude.{◌==◌, T, is_none, is_some, unwrap_or, slice_index_or, Contains}
+use Rattle.std.specs.Ordering.{nat_cmp, is_lt, is_eq, eq_by_cmp}
 use Rattle.std.specs.Cmp.{nat_cmp_total, eq_by_cmp_equiv, unsigned_ties}
 use Rattle.std.specs.FinMap.{find, put, is_sorted}
-use Rattle.std.specs.FinMap.Entries.{below_all, find-put, is_sorted-put, is_sorted-where_key}
+use Rattle.std.specs.FinMap.Entries.{below_all, by_order, find-put, is_sorted-put, is_sorted-where_key, same_entries}
+use Rattle.std.specs.declared.cmp.Ordering.TheVariants.{Less, Equal, Greater}
+use Rattle.std.proofs.lemmas.Cmp.{tied_itself}
 use Rattle.std.proofs.lemmas.Bool.Decides.{nat_tests}
 use Rattle.std.proofs.lemmas.List.Elements.{Contains-append_right}
-use Rattle.std.proofs.lemmas.Bool.{eqb-true, eqb-false, and_parts, not-true}
+use Rattle.std.proofs.lemmas.Bool.{eqb-true, eqb-false, ne_eqb, and_parts, not-true}
 use Rattle.std.specs.List.{list_all}
 use Rattle.ec_base.specs.declared.ids.Hold.{Hold}
 use Rattle.ec_base.specs.declared.ids.Hold.TheVariants.{Free}
 use Rattle.ec_base.specs.Sorted.{without}
-use Rattle.ec_base.specs.SortedLaws.{first as front, second as rest, find-without}
+use Rattle.ec_base.specs.SortedLaws.{first as front, second as rest, both, find-without}
 use Rattle.ec_tokens.specs.declared.token.Token.{Token}
 use Rattle.ec_base.specs.Holds.{is_free, is_below, clash}
-use Rattle.ec_tokens.specs.Tokens.{Row, Tokens, Holder, held_by, is_conflict, row, row_of, token, mode, IsSound, holders, first, first_conflict, is_clear, granted, fits_back, lowered, claimed_in, claimed, clash_at, first_clash}
+use Rattle.ec_tokens.specs.Tokens.{Row, Tokens, is_row, with_row, Holder, held_by, is_conflict, row, row_of, token, mode, IsSound, holders, first, first_conflict, is_clear, granted, fits_back, lowered, claimed_in, claimed, clash_at, first_clash}
 
 -- Maps by number.
 
 tied : (j k : ℕ) → eq_by_cmp nat_cmp j k ≡ true → j ≡ k
 tied j k e = eqb-true j k (unsigned_ties j k ∙ e)
+
+exact : (j k : ℕ) → nat_cmp j k ≡ Equal → j ≡ k
+exact j k e = tied j k (ap is_eq e)
 
 module _ {X : Type 0} (j k : ℕ) where
   found-put : (x : X) (es : List (ℕ × X)) → find nat_cmp j (put nat_cmp k x es) ≡ cond (j == k) (Some x) (find nat_cmp j es)
@@ -28,6 +33,20 @@ module _ {X : Type 0} (j k : ℕ) where
 
   found-without : (es : List (ℕ × X)) → find nat_cmp j (without nat_cmp k es) ≡ cond (j == k) None (find nat_cmp j es)
   found-without es = find-without nat_cmp nat_cmp_total j k es ∙ ap (λ b. cond b None (find nat_cmp j es)) ((eq_by_cmp_equiv nat_cmp_total).symm k j ∙ sym (unsigned_ties j k))
+
+same_Some : {A : Type 0} {x y : A} → Some x ≡ Some y → x ≡ y
+same_Some {x = x} e = ap (λ o. unwrap_or o x) e
+
+not_None : {A : Type 0} {x : A} → Some x ≡ None → ⊥
+not_None e = subst T (ap is_some e) tt
+
+positive : (n : ℕ) → T (not (suc n == 0))
+positive n = subst (λ b. T (not b)) (sym (ne_eqb (suc n) 0 (λ e. absurd (omega (arith, e))))) tt
+
+put_some : {X : Type 0} (k : ℕ) (x : X) (es : List (ℕ × X)) → T (not (length (put nat_cmp k x es) == 0))
+put_some k x [] = positive 0
+put_some k x (e ∷ es) =
+    elim (nat_cmp k e.0) as (λ o. T (not (length (by_order o ((k, x) ∷ e ∷ es) ((e.0, x) ∷ es) (e ∷ put nat_cmp k x es)) == 0))) [ Less ↦ positive _ | Equal ↦ positive _ | Greater ↦ positive _ ]
 
 -- Modes.
 
@@ -124,9 +143,13 @@ module _ (ts : Tokens) (s : ℕ) (sound : IsSound ts) where
   fit_row x k found = (sound.held s x k found, λ t other. ap (λ o. clash (mode o) (mode (token ts t x))) (sym found) ∙ sound.apart s t x (λ e. eqb-false t s other (sym e)))
 
   -- The session has this row or none, and all others theirs.
-  sound_changed : (own : Option Row) (new : Tokens) → AllFit ts s (row_of own) → T (is_sorted nat_cmp new) → ((u : ℕ) → find nat_cmp u new ≡ cond (u == s) own (find nat_cmp u ts)) → IsSound new
-  sound_changed own new fit rising found = record { apart = λ u v x differ. (λ i. clash (mode (shows u x i)) (mode (shows v x i))) ∙ apart u v x differ (u == s) (v == s) refl refl; held = λ u x k is. held u x k (u == s) refl (sym (shows u x) ∙ is); rising = rising }
+  sound_changed : (own : Option Row) (new : Tokens) → AllFit ts s (row_of own) → ((r : Row) → own ≡ Some r → T (is_row r)) → T (is_sorted nat_cmp new) → ((u : ℕ) → find nat_cmp u new ≡ cond (u == s) own (find nat_cmp u ts)) → IsSound new
+  sound_changed own new fit is_own rising found = record { apart = λ u v x differ. (λ i. clash (mode (shows u x i)) (mode (shows v x i))) ∙ apart u v x differ (u == s) (v == s) refl refl; held = λ u x k is. held u x k (u == s) refl (sym (shows u x) ∙ is); rising = rising; rows = λ u r is. rows u r (u == s) (sym (found u) ∙ is) }
     where
+      rows : (u : ℕ) (r : Row) (b : Bool) → cond b own (find nat_cmp u ts) ≡ Some r → T (is_row r)
+      rows u r true is = is_own r is
+      rows u r false is = sound.rows u r is
+
       shows : (u x : ℕ) → token new u x ≡ find nat_cmp x (row_of (cond (u == s) own (find nat_cmp u ts)))
       shows u x = ap (λ o. find nat_cmp x (row_of o)) (found u)
 
@@ -145,11 +168,26 @@ module _ (ts : Tokens) (s : ℕ) (sound : IsSound ts) where
       held u x k true p is = (fit x k is).0
       held u x k false p is = sound.held u x k is
 
-  sound_put : (r : Row) → AllFit ts s r → IsSound (put nat_cmp s r ts)
-  sound_put r fit = sound_changed (Some r) _ fit (is_sorted-put nat_cmp nat_cmp_total s r ts sound.rising) (λ u. found-put u s r ts)
+  sound_put : (r : Row) → AllFit ts s r → T (is_row r) → IsSound (put nat_cmp s r ts)
+  sound_put r fit is_own = sound_changed (Some r) _ fit (λ q same. subst (λ l. T (is_row l)) (same_Some same) is_own) (is_sorted-put nat_cmp nat_cmp_total s r ts sound.rising) (λ u. found-put u s r ts)
 
   pub sound_without : IsSound (without nat_cmp s ts)
-  sound_without = sound_changed None _ (λ x k found. absurd (grind arith)) (is_sorted-where_key nat_cmp _ ts sound.rising) (λ u. found-without u s ts)
+  sound_without = sound_changed None _ (λ x k found. absurd (grind arith)) (λ q none. absurd (not_None (sym none))) (is_sorted-where_key nat_cmp _ ts sound.rising) (λ u. found-without u s ts)
+
+  -- The row's objects rise, and it may be empty.
+  sound_with_row : (r : Row) → AllFit ts s r → T (is_sorted nat_cmp r) → IsSound (with_row s r ts)
+  sound_with_row r fit rising = by (length r == 0) refl
+    where
+      by : (b : Bool) → (length r == 0) ≡ b → IsSound (cond b (without nat_cmp s ts) (put nat_cmp s r ts))
+      by true e = sound_without
+      by false e = sound_put r fit (both (not (length r == 0)) (is_sorted nat_cmp r) (subst (λ b. T (not b)) (sym e) tt) rising)
+
+  row_rises : T (is_sorted nat_cmp (row ts s))
+  row_rises = go (find nat_cmp s ts) refl
+    where
+      go : (o : Option Row) → find nat_cmp s ts ≡ o → T (is_sorted nat_cmp (row_of o))
+      go None e = tt
+      go (Some r) e = rest (not (length r == 0)) (is_sorted nat_cmp r) (sound.rows s r e)
 
   fit_put : (r : Row) (x : ℕ) (k : Token) → AllFit ts s r → Fits ts s x k → AllFit ts s (put nat_cmp x k r)
   fit_put r x k fit new y t found = go (y == x) refl (sym (found-put y x k r) ∙ found)
@@ -169,10 +207,10 @@ module _ (ts : Tokens) (s : ℕ) (sound : IsSound ts) where
   fits x h n held clear = (held, λ t other. clash-sym _ _ ∙ clear_of ts s x h clear t other)
 
   pub sound_granted : (x : ℕ) (h : Hold) (n : ℕ) → is_free h ≡ false → is_clear ts s x h ≡ true → IsSound (granted s x h n ts)
-  sound_granted x h n held clear = sound_put _ (fit_put (row ts s) x _ fit_row (fits x h n held clear))
+  sound_granted x h n held clear = sound_put _ (fit_put (row ts s) x _ fit_row (fits x h n held clear)) (both _ _ (put_some x _ (row ts s)) (is_sorted-put nat_cmp nat_cmp_total x _ (row ts s) row_rises))
 
   pub sound_lowered : (x : ℕ) (to : Hold) (n : ℕ) → fits_back (token ts s x) n to ≡ true → IsSound (lowered s x to n ts)
-  sound_lowered x to n back = sound_put _ (by (is_free to) refl)
+  sound_lowered x to n back = sound_with_row _ (by (is_free to) refl) (rises (is_free to))
     where
       within : (o : Option Token) → token ts s x ≡ o → fits_back o n to ≡ true → (t : ℕ) → (t == s) ≡ false → clash to (mode (token ts t x)) ≡ false
       within None e f t other = absurd (grind arith)
@@ -184,9 +222,17 @@ module _ (ts : Tokens) (s : ℕ) (sound : IsSound ts) where
       by true e = fit_without (row ts s) x fit_row
       by false e = fit_put (row ts s) x _ fit_row (e, within (token ts s x) refl back)
 
+      rises : (b : Bool) → T (is_sorted nat_cmp (cond b (without nat_cmp x (row ts s)) (put nat_cmp x (record { hold = to; number = n }) (row ts s))))
+      rises true = is_sorted-where_key nat_cmp _ (row ts s) row_rises
+      rises false = is_sorted-put nat_cmp nat_cmp_total x _ (row ts s) row_rises
+
   pub sound_claimed : (list : List (ℕ × Hold)) → list_all (λ e. not (is_free e.1)) list ≡ true → first_clash ts s list ≡ None → IsSound (claimed s list ts)
-  sound_claimed list held clear = sound_put _ (go list (row ts s) held clear fit_row)
+  sound_claimed list held clear = sound_with_row _ (go list (row ts s) held clear fit_row) (rises list (row ts s) row_rises)
     where
+      rises : (l : List (ℕ × Hold)) (r : Row) → T (is_sorted nat_cmp r) → T (is_sorted nat_cmp (claimed_in l r))
+      rises [] r h = h
+      rises (e ∷ es) r h = rises es _ (is_sorted-put nat_cmp nat_cmp_total e.0 _ r h)
+
       parts : (e : ℕ × Hold) (es : List (ℕ × Hold)) (o : Option ℕ) → first_conflict ts s e.0 e.1 ≡ o → clash_at e.0 o (first_clash ts s es) ≡ None → (is_clear ts s e.0 e.1 ≡ true) × (first_clash ts s es ≡ None)
       parts e es None p c = (ap is_none p, c)
       parts e es (Some t) p c = absurd (grind arith)
@@ -199,7 +245,41 @@ module _ (ts : Tokens) (s : ℕ) (sound : IsSound ts) where
           go es _ p.1 q.1 (fit_put r e.0 _ fit (fits e.0 e.1 0 (not-true (is_free e.1) p.0) q.0))
 
 pub sound_none : IsSound []
-sound_none = record { apart = λ s t x differ. refl; held = λ s x t found. absurd (grind arith); rising = tt }
+sound_none = record { apart = λ s t x differ. refl; held = λ s x t found. absurd (grind arith); rising = tt; rows = λ s r found. absurd (not_None (sym found)) }
 
 pub not_free : (h : Hold) → h ≢ Free → is_free h ≡ false
 not_free h differ = grind arith
+
+-- What a grant leaves.
+pub token-granted : (ts : Tokens) (s x : ℕ) (h : Hold) (n t y : ℕ) → token (granted s x h n ts) t y ≡ cond ((t == s) && (y == x)) (Some (record { hold = h; number = n })) (token ts t y)
+token-granted ts s x h n t y =
+    ap (λ o. find nat_cmp y (row_of o)) (found-put t s _ ts) ∙ go (t == s) refl
+  where
+    k : Token
+    k = record { hold = h; number = n }
+
+    go : (b : Bool) → (t == s) ≡ b → find nat_cmp y (row_of (cond b (Some (put nat_cmp x k (row ts s))) (find nat_cmp t ts))) ≡ cond (b && (y == x)) (Some k) (token ts t y)
+    go true e = found-put y x k (row ts s) ∙ ap (λ z. cond (y == x) (Some k) (token ts z y)) (sym (eqb-true t s e))
+    go false e = refl
+
+-- The list is the map.
+
+has_first : (r : Row) → T (is_row r) → (x : ℕ) × (t : Token) × (find nat_cmp x r ≡ Some t)
+has_first [] h = absurd h
+has_first (e ∷ es) h = (e.0, e.1, rw (tied_itself nat_cmp_total e.0) refl)
+
+pub one_list : (ts us : Tokens) → IsSound ts → IsSound us → ((s x : ℕ) → token ts s x ≡ token us s x) → ts ≡ us
+one_list ts us a b same = same_entries nat_cmp nat_cmp_total exact ts us a.rising b.rising (λ s. go s (find nat_cmp s ts) (find nat_cmp s us) refl refl)
+  where
+    go : (s : ℕ) (o p : Option Row) → find nat_cmp s ts ≡ o → find nat_cmp s us ≡ p → o ≡ p
+    go s None None e f = refl
+    go s (Some q) (Some r) e f =
+        let h = a.rows s q e in
+        let k = b.rows s r f in
+        ap Some (same_entries nat_cmp nat_cmp_total exact q r (rest _ _ h) (rest _ _ k) (λ x. ap (λ o. find nat_cmp x (row_of o)) (sym e) ∙ same s x ∙ ap (λ o. find nat_cmp x (row_of o)) f))
+    go s (Some q) None e f =
+        let w = has_first q (a.rows s q e) in
+        absurd (not_None (sym w.2 ∙ ap (λ o. find nat_cmp w.0 (row_of o)) (sym e) ∙ same s w.0 ∙ ap (λ o. find nat_cmp w.0 (row_of o)) f))
+    go s None (Some r) e f =
+        let w = has_first r (b.rows s r f) in
+        absurd (not_None (sym w.2 ∙ ap (λ o. find nat_cmp w.0 (row_of o)) (sym f) ∙ sym (same s w.0) ∙ ap (λ o. find nat_cmp w.0 (row_of o)) e))

@@ -1,5 +1,5 @@
 -- The tokens that sessions hold: a map by session of maps by object, each as the list of its pairs with rising keys.
-use Rattle.std.specs.Prelude.{◌≡◌, ◌≢◌, ◌==◌, ℕ, Bool, true, false, not, ◌&&◌, if◌then◌else◌, T, List, [], ◌∷◌, filter, is_none, nat_lt, Option, None, Some}
+use Rattle.std.specs.Prelude.{◌≡◌, ◌≢◌, ◌==◌, ℕ, Bool, true, false, not, ◌&&◌, if◌then◌else◌, T, List, [], ◌∷◌, length, filter, is_none, nat_lt, Option, None, Some}
 use Rattle.std.specs.List.{list_all}
 use Rattle.std.specs.Ordering.{nat_cmp}
 use Rattle.std.specs.FinMap.{find, put, is_sorted}
@@ -38,10 +38,15 @@ AllApart ts = (s t x : ℕ) → s ≢ t → clash (mode (token ts s x)) (mode (t
 abbrev pub NoneFree : Tokens → Type 0
 NoneFree ts = (s x : ℕ) (t : Token) → token ts s x ≡ Some t → is_free t.hold ≡ false
 
+-- Each row has a token, and its objects rise.
+abbrev pub is_row : Row → Bool
+is_row r = not (length r == 0) && is_sorted nat_cmp r
+
 pub record IsSound (ts : Tokens) : Type 0 where
   pub apart : AllApart ts
   pub held : NoneFree ts
   pub rising : T (is_sorted nat_cmp ts)
+  pub rows : (s : ℕ) (r : Row) → find nat_cmp s ts ≡ Some r → T (is_row r)
 
 -- Who holds a token on the object, in session order: the session, the mode and the number.
 abbrev pub Holder : Type 0
@@ -84,9 +89,13 @@ fits_back (Some t) n to = (t.number == n) && not (is_below t.hold to)
 abbrev pub lowered_in : ℕ → Hold → ℕ → Row → Row
 lowered_in x to n r = if is_free to then without nat_cmp x r else put nat_cmp x (record { hold = to; number = n }) r
 
+-- The session's tokens are those of the row. A session without a token has no row.
+abbrev pub with_row : ℕ → Row → Tokens → Tokens
+with_row s r ts = if length r == 0 then without nat_cmp s ts else put nat_cmp s r ts
+
 -- The session's token of this number on the object is lowered; to Free it's none.
 abbrev pub lowered : ℕ → ℕ → Hold → ℕ → Tokens → Tokens
-lowered s x to n ts = put nat_cmp s (lowered_in x to n (row ts s)) ts
+lowered s x to n ts = with_row s (lowered_in x to n (row ts s)) ts
 
 -- Each token of the list is recorded with number 0.
 abbrev pub claimed_in : List (ℕ × Hold) → Row → Row
@@ -94,7 +103,7 @@ claimed_in [] r = r
 claimed_in (e ∷ es) r = claimed_in es (put nat_cmp e.0 (record { hold = e.1; number = 0 }) r)
 
 abbrev pub claimed : ℕ → List (ℕ × Hold) → Tokens → Tokens
-claimed s list ts = put nat_cmp s (claimed_in list (row ts s)) ts
+claimed s list ts = with_row s (claimed_in list (row ts s)) ts
 
 -- The first of the list that conflicts: the object, and the first session whose token conflicts.
 abbrev pub clash_at : ℕ → Option ℕ → Option (ℕ × ℕ) → Option (ℕ × ℕ)

@@ -1,4 +1,4 @@
-// The order of the modes, and which of them conflict.
+// Which modes conflict, and which of two is the stronger one.
 ghost use Rattle.std.specs.Prelude.{◌≡◌};
 ghost use Rattle.ec_base.specs.Holds as holds;
 
@@ -15,24 +15,9 @@ pub fn clash(a: Hold, b: Hold) -> bool
     }
 }
 
-pub fn is_below(a: Hold, b: Hold) -> bool
-    ensures { result ≡ holds.is_below a b }
-{
-    rank(a) < rank(b)
-}
-
+/// The one of two modes that allows more.
 pub fn stronger(a: Hold, b: Hold) -> Hold
     ensures { result ≡ holds.stronger a b }
 {
-    if is_below(a, b) { b } else { a }
-}
-
-fn rank(hold: Hold) -> u8
-    ensures { result ≡ holds.rank hold }
-{
-    match hold {
-        Hold::Free => 0,
-        Hold::Read => 1,
-        Hold::Write => 2,
-    }
+    if a.is_below(&b) { b } else { a }
 }

@@ -2,10 +2,12 @@
 #![tactic(auto)]
 
 mod holds;
+mod laws;
 mod rows;
 mod token;
 mod tokens;
 
-pub use holds::{clash, is_below, stronger};
+pub use holds::{clash, stronger};
+pub use laws::one_list;
 pub use token::Token;
 pub use tokens::{ClaimFault, Tokens};

@@ -5,7 +5,7 @@ ghost use Rattle.std.specs.Ordering.{nat_cmp};
 ghost use Rattle.std.specs.FinMap.{find, is_sorted};
 ghost use Rattle.ec_tokens.specs.Tokens as tokens;
 
-use crate::holds::{clash, is_below};
+use crate::holds::clash;
 use crate::token::Token;
 use ec_base::{Duplicate, Hold, NoMemory, ObjId, SessionNo, SortedMap};
 use std::alloc::Global;
@@ -52,7 +52,7 @@ pub fn give_back(
     number: u64,
     to: Hold,
 ) -> bool
-    requires { T (is_sorted nat_cmp rows.old) }
+    requires { tokens.IsSound rows.old }
     ensures answer { result ≡ tokens.fits_back (tokens.token rows.old s obj) number to }
     ensures lowered { OnTrue result (rows.new ≡ tokens.lowered s obj to number rows.old) }
     ensures kept { OnFalse result (rows.new ≡ rows.old) }
@@ -61,8 +61,20 @@ pub fn give_back(
         return false;
     };
     let fits = lower(&mut row, obj, number, to);
-    rows.replace(&s, row);
+    put_back(rows, s, row);
     fits
+}
+
+// Puts a row in the place of the one that stands there. An empty one goes.
+fn put_back(rows: &mut Rows, s: SessionNo, row: Row)
+    requires { is_some (find nat_cmp s rows.old) ≡ true }
+    ensures { rows.new ≡ tokens.with_row s row rows.old }
+{
+    if row.is_empty() {
+        rows.remove(&s);
+    } else {
+        rows.replace(&s, row);
+    }
 }
 
 fn lower(row: &mut Row, obj: ObjId, number: u64, to: Hold) -> bool
@@ -73,7 +85,7 @@ fn lower(row: &mut Row, obj: ObjId, number: u64, to: Hold) -> bool
     let Some(token) = row.get(&obj).copied() else {
         return false;
     };
-    if token.number != number || is_below(token.hold, to) {
+    if token.number != number || token.hold.is_below(&to) {
         return false;
     }
     match to {
@@ -101,6 +113,10 @@ pub fn claim(
                 number: 0,
             },
         )?;
+    }
+    if row.is_empty() {
+        rows.remove(&s);
+        return Ok(());
     }
     rows.insert(s, row)
 }

@@ -42,7 +42,8 @@ impl From<NoMemory> for ClaimFault {
 /// Free. No two of the tokens kept here conflict.
 ///
 /// They are kept by session, and then by object, in sorted maps: a look-up by object takes a search
-/// in the row of each session, and a session is dropped, or claims, in one piece.
+/// in the row of each session, and a session is dropped, or claims, in one piece. A session without
+/// a token has no row, so that two tables with the same tokens are one list.
 #[derive(Drop)]
 pub struct Tokens {
     alloc: Global,

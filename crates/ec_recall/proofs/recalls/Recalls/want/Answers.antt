@@ -4,8 +4,8 @@ use Rattle.indexmap.specs.IndexMap.{insert_entry}
 use Rattle.indexmap.proofs.CallerLemmas.{insert_entry-new}
 use Rattle.ec_recall.specs.declared.want.Want.{Want}
 use Rattle.ec_recall.specs.Keys.{IsKeyed, same_key}
-use Rattle.ec_recall.specs.Wants.{noted}
-use Rattle.ec_recall.proofs.KeyLemmas.{again, fresh, noted_found, noted_absent, keyed_again, keyed_push, values-push}
+use Rattle.ec_recall.specs.Wants.{noted, NoneFree}
+use Rattle.ec_recall.proofs.KeyLemmas.{held_free, held_noted, again, fresh, noted_found, noted_absent, keyed_again, keyed_push, values-push}
 use Rattle.ec_recall.proofs.recalls.Recalls.want.Goals as goal
 
 -- The want that was there, as it's written back.
@@ -24,7 +24,11 @@ written c =
 
 pub invariant_of-self : goal.invariant_of-self
 unfolding back
-invariant_of-self c = (subst IsKeyed (sym (written c)) (keyed_again c.args.s c.args.obj c.args.hold c.self.inside.wants.entries c.in-Some.want.now c.self.invariant.0 (found c)), (c.get_mut.follows.holds (back c)).4)
+invariant_of-self c =
+    let es = c.self.inside.wants.entries in
+    let new = ap values_of (written c) ∙ noted_found c.args.s c.args.obj c.args.hold es c.in-Some.want.now c.self.invariant.0 (found c) in
+    (subst IsKeyed (sym (written c)) (keyed_again c.args.s c.args.obj c.args.hold es c.in-Some.want.now c.self.invariant.0 (found c)), (c.get_mut.follows.holds (back c)).4,
+     subst NoneFree (sym new) (held_noted c.args.s c.args.obj c.args.hold (values_of es) (held_free c.args.hold c.requires) c.self.invariant.2))
 
 pub returns-in-Some-clause-ok : goal.returns-in-Some-clause-ok
 unfolding back
@@ -41,8 +45,14 @@ added c =
     ∙ insert_entry-new same_key c.self.inside.wants c.key_of-key.result (made c.of-2.result) (sym c.in_default.ensures.value)
     ∙ ap (λ k. es ++ (k, made c.of-2.result) ∷ []) key ∙ ap (λ told. es ++ ((c.args.s, c.args.obj), made told) ∷ []) (c.of-2.ensures ∙ c.new-2.ensures.items)
 
+absent : (c : goal.Joined-branch-2) → values_of c.insert.new.self.entries ≡ noted c.args.s c.args.obj c.args.hold (values_of c.self.inside.wants.entries)
+absent c = ap values_of (added c) ∙ values-push c.self.inside.wants.entries _ _ ∙ sym (noted_absent c.args.s c.args.obj c.args.hold c.self.inside.wants.entries c.self.invariant.0 (ap (λ k. lookup (same_key k) c.self.inside.wants.entries) (sym c.key_of-key.ensures) ∙ sym c.in_default.ensures.value))
+
 pub invariant_of-self-2 : goal.invariant_of-self-2
-invariant_of-self-2 c = (subst IsKeyed (sym (added c)) (keyed_push c.self.inside.wants.entries _ _ c.self.invariant.0 refl), c.in_ok-insert.ensures.unique)
+invariant_of-self-2 c =
+    let es = c.self.inside.wants.entries in
+    (subst IsKeyed (sym (added c)) (keyed_push es _ _ c.self.invariant.0 refl), c.in_ok-insert.ensures.unique,
+     subst NoneFree (sym (absent c)) (held_noted c.args.s c.args.obj c.args.hold (values_of es) (held_free c.args.hold c.requires) c.self.invariant.2))
 
 pub returns-clause-ok : goal.returns-clause-ok
-returns-clause-ok c = ap values_of (added c) ∙ values-push c.self.inside.wants.entries _ _ ∙ sym (noted_absent c.args.s c.args.obj c.args.hold c.self.inside.wants.entries c.self.invariant.0 (ap (λ k. lookup (same_key k) c.self.inside.wants.entries) (sym c.key_of-key.ensures) ∙ sym c.in_default.ensures.value)) ∙ ap (noted c.args.s c.args.obj c.args.hold) c.self.view_is
+returns-clause-ok c = absent c ∙ ap (noted c.args.s c.args.obj c.args.hold) c.self.view_is
