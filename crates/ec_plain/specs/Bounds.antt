@@ -1,5 +1,5 @@
 -- The bounds of calls: 16 names in a path, 1 to 4,096 bytes in a write, at most 4,096 in a read, 1 to 8 paths to order, modes of 12 bits.
-use Rattle.std.specs.Prelude.{ℕ, Bool, true, ◌&&◌, nat_le, length}
+use Rattle.std.specs.Prelude.{Bool, true, ◌&&◌, nat_le, length}
 use Rattle.std.specs.List.{list_all}
 use Rattle.ec_plain.specs.Walk.{Path}
 use Rattle.ec_plain.specs.declared.call.Call.{Call}

@@ -1,5 +1,5 @@
 -- What a call comes to on one plain volume.
-use Rattle.std.specs.Prelude.{◌==◌, ◌+◌, ◌-◌, ℕ, Bool, not, ◌&&◌, if◌then◌else◌, nat_lt, nat_le, List, [], ◌∷◌, ◌++◌, map, length, take, drop, Option, None, Some, is_some}
+use Rattle.std.specs.Prelude.{◌==◌, ◌+◌, ◌-◌, ℕ, Bool, true, false, not, ◌&&◌, if◌then◌else◌, nat_lt, nat_le, List, [], ◌∷◌, ◌++◌, map, length, take, drop, Option, None, Some, is_some}
 use Rattle.ec_volume.specs.Entries.{Entries, entry}
 use Rattle.ec_volume.specs.Image.{entries_of, bytes_of, is_gone, is_dir}
 use Rattle.ec_volume.specs.Update.{Above, member}
@@ -203,3 +203,7 @@ plain v (call.Fsync p) fresh = on_reached (walk v p) λ o os. answers reply.Ok o
 plain v (call.Forder ps) fresh = plain_forder v ps [] []
 plain v call.Sync fresh = answers reply.Ok []
 plain v (call.Chown p owner) fresh = on_reached (walk v p) λ o os. issues (Owner o owner) os
+
+abbrev pub is_sync : Call → Bool
+is_sync call.Sync = true
+is_sync _ = false

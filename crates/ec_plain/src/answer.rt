@@ -1,6 +1,5 @@
 // What a call comes to on one plain volume.
 ghost use Rattle.std.specs.Prelude.{◌≡◌, IfOk};
-ghost use Rattle.ec_volume.specs.Volume.{images};
 ghost use Rattle.ec_plain.specs.Plain.{plain};
 
 use crate::call::{Call, Outcome, Reply};
@@ -12,12 +11,12 @@ use crate::remove::plain_drop;
 use crate::rename::plain_rename;
 use crate::walk::object_at;
 use ec_base::{NoMemory, ObjId};
-use ec_volume::{Kind, Update, Volume};
+use ec_volume::{Kind, Look, Update};
 use std::alloc::Global;
 
 /// What the call comes to, where a new object is to have the fresh id.
-pub fn plain(alloc: Global, v: &Volume, call: &Call, fresh: ObjId) -> Result<Outcome, NoMemory>
-    ensures { IfOk result (λ o. o ≡ plain (images v.now) call.now fresh) }
+pub fn plain<V: Look>(alloc: Global, v: &V, call: &Call, fresh: ObjId) -> Result<Outcome, NoMemory>
+    ensures { IfOk result (λ o. o ≡ plain (V.images v.now) call.now fresh) }
 {
     match call {
         Call::Mkdir(path) => plain_make(alloc, v, Kind::Dir, path.names(), fresh),

@@ -1,7 +1,6 @@
 // What is done at the object that a walk reached.
 ghost use Rattle.std.specs.Prelude.{◌≡◌, length, map, take, drop, IfOk};
 ghost use Rattle.ec_volume.specs.Image.{bytes_of, entries_of};
-ghost use Rattle.ec_volume.specs.Volume.{images};
 ghost use Rattle.ec_plain.specs.Walk.{Path};
 ghost use Rattle.ec_plain.specs.Plain.{write_in, len_in, read_in, list_in, stat_of};
 
@@ -9,17 +8,17 @@ use crate::call::{Outcome, Refusal, Reply};
 use crate::object::{bytes_of, entries_of, is_dir};
 use crate::outcome::{answers, issues, refuses};
 use ec_base::{Duplicate, List, Name, NoMemory, ObjId};
-use ec_volume::{Entries, Image, Kind, Update, Volume};
+use ec_volume::{Entries, Image, Kind, Look, Update};
 use std::alloc::Global;
 
-pub(crate) fn write_in(
-    v: &Volume,
+pub(crate) fn write_in<V: Look>(
+    v: &V,
     at: u32,
     bytes: &List<u8>,
     obj: ObjId,
     read: Vec<ObjId>,
 ) -> Result<Outcome, NoMemory>
-    ensures { IfOk result (λ o. o ≡ write_in (images v.now) at bytes.now obj read.items) }
+    ensures { IfOk result (λ o. o ≡ write_in (V.images v.now) at bytes.now obj read.items) }
 {
     if is_dir(v, obj) {
         return Ok(refuses(Refusal::IsDir, read));
@@ -41,8 +40,8 @@ pub(crate) fn write_in(
     ))
 }
 
-pub(crate) fn len_in(v: &Volume, len: u32, obj: ObjId, read: Vec<ObjId>) -> Outcome
-    ensures { result ≡ len_in (images v.now) len obj read.items }
+pub(crate) fn len_in<V: Look>(v: &V, len: u32, obj: ObjId, read: Vec<ObjId>) -> Outcome
+    ensures { result ≡ len_in (V.images v.now) len obj read.items }
 {
     if is_dir(v, obj) {
         return refuses(Refusal::IsDir, read);
@@ -53,15 +52,15 @@ pub(crate) fn len_in(v: &Volume, len: u32, obj: ObjId, read: Vec<ObjId>) -> Outc
     issues(Update::Len { obj, len }, read)
 }
 
-pub(crate) fn read_in(
+pub(crate) fn read_in<V: Look>(
     alloc: Global,
-    v: &Volume,
+    v: &V,
     at: u32,
     count: u32,
     obj: ObjId,
     read: Vec<ObjId>,
 ) -> Result<Outcome, NoMemory>
-    ensures { IfOk result (λ o. o ≡ read_in (images v.now) at count obj read.items) }
+    ensures { IfOk result (λ o. o ≡ read_in (V.images v.now) at count obj read.items) }
 {
     if is_dir(v, obj) {
         return Ok(refuses(Refusal::IsDir, read));
@@ -78,14 +77,14 @@ fn part(bytes: &[u8], at: usize, count: usize) -> &[u8]
     &rest[..count.min(rest.len())]
 }
 
-pub(crate) fn list_in(
+pub(crate) fn list_in<V: Look>(
     alloc: Global,
-    v: &Volume,
+    v: &V,
     place: u8,
     obj: ObjId,
     read: Vec<ObjId>,
 ) -> Result<Outcome, NoMemory>
-    ensures { IfOk result (λ o. (p : Path) → length p ≡ place → o ≡ list_in (images v.now) p obj read.items) }
+    ensures { IfOk result (λ o. (p : Path) → length p ≡ place → o ≡ list_in (V.images v.now) p obj read.items) }
 {
     match entries_of(v, obj) {
         None => Ok(refuses(Refusal::NotDir(place), read)),
@@ -107,8 +106,8 @@ fn names_of(alloc: Global, entries: &Entries) -> Result<Vec<Name>, NoMemory>
 }
 
 // What the object shows.
-pub(crate) fn stat_of(v: &Volume, obj: ObjId) -> Reply
-    ensures { result ≡ stat_of (images v.now obj) }
+pub(crate) fn stat_of<V: Look>(v: &V, obj: ObjId) -> Reply
+    ensures { result ≡ stat_of (V.images v.now obj) }
 {
     match v.look(obj) {
         Some(

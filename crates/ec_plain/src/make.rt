@@ -1,6 +1,5 @@
 // New objects.
 ghost use Rattle.std.specs.Prelude.{◌≡◌, ◌≤◌, length, IfOk};
-ghost use Rattle.ec_volume.specs.Volume.{images};
 ghost use Rattle.ec_plain.specs.Walk.{last_of};
 ghost use Rattle.ec_plain.specs.Plain.{on_parent, make_in, plain_make};
 
@@ -9,18 +8,18 @@ use crate::object::entries_of;
 use crate::outcome::{issues, refuses};
 use crate::walk::{Walked, last_of, parent_of, walk};
 use ec_base::{Duplicate, Name, NoMemory, ObjId};
-use ec_volume::{Entries, Kind, Update, Volume};
+use ec_volume::{Entries, Kind, Look, Update};
 use std::alloc::Global;
 
-pub(crate) fn plain_make(
+pub(crate) fn plain_make<V: Look>(
     alloc: Global,
-    v: &Volume,
+    v: &V,
     kind: Kind,
     names: &[Name],
     fresh: ObjId,
 ) -> Result<Outcome, NoMemory>
     requires { length names.now ≤ 16 }
-    ensures { IfOk result (λ o. o ≡ plain_make (images v.now) kind names.now fresh) }
+    ensures { IfOk result (λ o. o ≡ plain_make (V.images v.now) kind names.now fresh) }
 {
     match names {
         [] => Ok(refuses(Refusal::Root, Vec::new(alloc))),
@@ -28,16 +27,16 @@ pub(crate) fn plain_make(
     }
 }
 
-fn make_below(
+fn make_below<V: Look>(
     alloc: Global,
-    v: &Volume,
+    v: &V,
     kind: Kind,
     names: &[Name],
     fresh: ObjId,
 ) -> Result<Outcome, NoMemory>
     requires some { 1 ≤ length names.now }
     requires few { length names.now ≤ 16 }
-    ensures { IfOk result (λ o. o ≡ on_parent (images v.now) names.now (make_in kind (last_of names.now) fresh)) }
+    ensures { IfOk result (λ o. o ≡ on_parent (V.images v.now) names.now (make_in kind (last_of names.now) fresh)) }
 {
     let Walked { to, read } = walk(alloc, v, parent_of(names))?;
     match to {

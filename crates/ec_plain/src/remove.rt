@@ -2,7 +2,6 @@
 ghost use Rattle.std.specs.Prelude.{◌≡◌, ◌≤◌, ℕ, List as Listed, length, IfOk, MatchResult};
 ghost use Rattle.ec_volume.specs.Entries.{Entries as EntryList};
 ghost use Rattle.ec_volume.specs.Image.{entries_of};
-ghost use Rattle.ec_volume.specs.Volume.{images};
 ghost use Rattle.ec_plain.specs.Plain.{on_entry, drop_in, plain_drop};
 ghost use Rattle.ec_plain.specs.declared.call.Outcome.{Outcome as Outcomes};
 
@@ -11,7 +10,7 @@ use crate::object::{entries_of, is_dir, is_gone};
 use crate::outcome::{issues, refuses};
 use crate::walk::{Walked, last_of, parent_of, walk};
 use ec_base::{Duplicate, Name, NoMemory, ObjId};
-use ec_volume::{Kind, Update, Volume};
+use ec_volume::{Kind, Look, Update};
 use std::alloc::Global;
 
 // An object below its parent, and the objects read on the way.
@@ -23,16 +22,16 @@ pub(crate) struct Found {
 }
 
 // The object that the path reaches below its parent, or the refusal.
-pub(crate) fn entry_at(
+pub(crate) fn entry_at<V: Look>(
     alloc: Global,
-    v: &Volume,
+    v: &V,
     names: &[Name],
 ) -> Result<Result<Found, Outcome>, NoMemory>
     requires some { 1 ≤ length names.now }
     requires few { length names.now ≤ 16 }
     ensures { IfOk result (λ r. MatchResult r
-        (λ found. (f : ℕ → EntryList → ℕ → Listed ℕ → Outcomes) → on_entry (images v.now) names.now f ≡ f found.dir (entries_of (images v.now found.dir)) found.obj found.read.items)
-        (λ outcome. (f : ℕ → EntryList → ℕ → Listed ℕ → Outcomes) → on_entry (images v.now) names.now f ≡ outcome)) }
+        (λ found. (f : ℕ → EntryList → ℕ → Listed ℕ → Outcomes) → on_entry (V.images v.now) names.now f ≡ f found.dir (entries_of (V.images v.now found.dir)) found.obj found.read.items)
+        (λ outcome. (f : ℕ → EntryList → ℕ → Listed ℕ → Outcomes) → on_entry (V.images v.now) names.now f ≡ outcome)) }
 {
     let Walked { to, mut read } = walk(alloc, v, parent_of(names))?;
     let dir = match to {
@@ -52,14 +51,14 @@ pub(crate) fn entry_at(
     Ok(Ok(Found { dir, obj, read }))
 }
 
-pub(crate) fn plain_drop(
+pub(crate) fn plain_drop<V: Look>(
     alloc: Global,
-    v: &Volume,
+    v: &V,
     kind: Kind,
     names: &[Name],
 ) -> Result<Outcome, NoMemory>
     requires { length names.now ≤ 16 }
-    ensures { IfOk result (λ o. o ≡ plain_drop (images v.now) kind names.now) }
+    ensures { IfOk result (λ o. o ≡ plain_drop (V.images v.now) kind names.now) }
 {
     match names {
         [] => Ok(refuses(Refusal::Root, Vec::new(alloc))),
@@ -71,10 +70,10 @@ pub(crate) fn plain_drop(
 }
 
 // The object goes from the directory.
-fn drop_in(v: &Volume, kind: Kind, names: &[Name], found: Found) -> Result<Outcome, NoMemory>
+fn drop_in<V: Look>(v: &V, kind: Kind, names: &[Name], found: Found) -> Result<Outcome, NoMemory>
     requires some { 1 ≤ length names.now }
     requires few { length names.now ≤ 16 }
-    ensures { IfOk result (λ o. o ≡ drop_in (images v.now) kind names.now found.dir (entries_of (images v.now found.dir)) found.obj found.read.items) }
+    ensures { IfOk result (λ o. o ≡ drop_in (V.images v.now) kind names.now found.dir (entries_of (V.images v.now found.dir)) found.obj found.read.items) }
 {
     let Found { dir, obj, read } = found;
     match kind {

@@ -2,7 +2,6 @@
 ghost use Rattle.std.specs.Prelude.{◌≡◌, ◌≤◌, ◌++◌, ℕ, List as Listed, length, IfOk, OnOk};
 ghost use Rattle.ec_volume.specs.Image.{entries_of};
 ghost use Rattle.ec_volume.specs.Update.{member};
-ghost use Rattle.ec_volume.specs.Volume.{images};
 ghost use Rattle.ec_plain.specs.Walk.{parent_of, last_of, same_path};
 ghost use Rattle.ec_plain.specs.Plain.{kind_of, blocked, with_names, above, renames, move_into, loops, rename_in, plain_rename};
 
@@ -12,18 +11,18 @@ use crate::outcome::{answers, issues, refuses};
 use crate::remove::{Found, entry_at};
 use crate::walk::{Walked, last_of, parent_of, walk};
 use ec_base::{Duplicate, List, Name, NoMemory, ObjId};
-use ec_volume::{Entries, Image, Kind, Update, Volume};
+use ec_volume::{Entries, Image, Kind, Look, Update};
 use std::alloc::Global;
 
-pub(crate) fn plain_rename(
+pub(crate) fn plain_rename<V: Look>(
     alloc: Global,
-    v: &Volume,
+    v: &V,
     p: &[Name],
     q: &[Name],
 ) -> Result<Outcome, NoMemory>
     requires first { length p.now ≤ 16 }
     requires second { length q.now ≤ 16 }
-    ensures { IfOk result (λ o. o ≡ plain_rename (images v.now) p.now q.now) }
+    ensures { IfOk result (λ o. o ≡ plain_rename (V.images v.now) p.now q.now) }
 {
     if p.is_empty() || q.is_empty() {
         return Ok(refuses(Refusal::Root, Vec::new(alloc)));
@@ -35,9 +34,9 @@ pub(crate) fn plain_rename(
 }
 
 // The rest of the rename of an object of the directory.
-fn rename_in(
+fn rename_in<V: Look>(
     alloc: Global,
-    v: &Volume,
+    v: &V,
     p: &[Name],
     q: &[Name],
     found: Found,
@@ -45,7 +44,7 @@ fn rename_in(
     requires first { 1 ≤ length p.now }
     requires second { 1 ≤ length q.now }
     requires few { length q.now ≤ 16 }
-    ensures { IfOk result (λ o. o ≡ rename_in (images v.now) p.now q.now found.dir (entries_of (images v.now found.dir)) found.obj found.read.items) }
+    ensures { IfOk result (λ o. o ≡ rename_in (V.images v.now) p.now q.now found.dir (entries_of (V.images v.now found.dir)) found.obj found.read.items) }
 {
     let Found { dir, obj, mut read } = found;
     if same_path(p, q) {
@@ -83,8 +82,8 @@ struct Mover {
 }
 
 // The object moves to the second path, whose parent `into` has these entries.
-fn move_into(
-    v: &Volume,
+fn move_into<V: Look>(
+    v: &V,
     p: &[Name],
     q: &[Name],
     mover: Mover,
@@ -95,8 +94,8 @@ fn move_into(
     requires first { 1 ≤ length p.now }
     requires second { 1 ≤ length q.now }
     requires few { length q.now ≤ 16 }
-    ensures { IfOk result (λ o. (passed : Listed ℕ) → mover.kind ≡ kind_of (images v.now mover.obj) → mover.up ≡ above mover.kind passed (parent_of q.now)
-        → o ≡ move_into (images v.now) p.now q.now mover.dir mover.obj into entries.now passed read.items) }
+    ensures { IfOk result (λ o. (passed : Listed ℕ) → mover.kind ≡ kind_of (V.images v.now mover.obj) → mover.up ≡ above mover.kind passed (parent_of q.now)
+        → o ≡ move_into (V.images v.now) p.now q.now mover.dir mover.obj into entries.now passed read.items) }
 {
     match entries.get(last_of(q)) {
         None => {
@@ -157,15 +156,15 @@ fn renames(
     ))
 }
 
-fn kind_of(v: &Volume, o: ObjId) -> Kind
-    ensures { result ≡ kind_of (images v.now o) }
+fn kind_of<V: Look>(v: &V, o: ObjId) -> Kind
+    ensures { result ≡ kind_of (V.images v.now o) }
 {
     if is_dir(v, o) { Kind::Dir } else { Kind::File }
 }
 
 // Whether an object of the kind may not take the place of this one, which so many names lead to.
-fn blocked(kind: Kind, v: &Volume, victim: ObjId, place: u8) -> Option<Refusal>
-    ensures { result ≡ blocked kind (images v.now victim) place }
+fn blocked<V: Look>(kind: Kind, v: &V, victim: ObjId, place: u8) -> Option<Refusal>
+    ensures { result ≡ blocked kind (V.images v.now victim) place }
 {
     match (kind, v.look(victim)) {
         (Kind::File, Some(Image::Dir { .. })) => Some(Refusal::IsDir),
@@ -178,8 +177,8 @@ fn blocked(kind: Kind, v: &Volume, victim: ObjId, place: u8) -> Option<Refusal>
 }
 
 // No directory moves into itself or below itself.
-fn loops(v: &Volume, obj: ObjId, passed: &[ObjId]) -> bool
-    ensures { result ≡ loops (images v.now) obj passed.now }
+fn loops<V: Look>(v: &V, obj: ObjId, passed: &[ObjId]) -> bool
+    ensures { result ≡ loops (V.images v.now) obj passed.now }
 {
     is_dir(v, obj) && passed.contains(&obj)
 }

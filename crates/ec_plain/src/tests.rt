@@ -11,7 +11,7 @@ fn reply(alloc: Global, v: &mut Volume, call: &Call) -> Result<Reply, Fail> {
     let Outcome { reply, update, .. } = plain(alloc, v, &call.duplicate()?, fresh)?;
     if let Some(update) = update {
         if update.sound() {
-            v.apply(alloc, &update)?;
+            v.apply(&update)?;
         }
     }
     Ok(reply.duplicate()?)

@@ -1,6 +1,5 @@
 // Walks along paths.
 ghost use Rattle.std.specs.Prelude.{◌≡◌, ◌≤◌, ◌+◌, ◌++◌, length, IfOk, OnOk, MatchResult};
-ghost use Rattle.ec_volume.specs.Volume.{images};
 ghost use Rattle.ec_plain.specs.Walk.{walk, walk_from, parent_of, last_of};
 ghost use Rattle.ec_plain.specs.Reach.{reached, Reaches, Refused};
 
@@ -8,7 +7,7 @@ use crate::call::{Outcome, Refusal};
 use crate::object::is_gone;
 use crate::outcome::refuses;
 use ec_base::{Name, NoMemory, ObjId};
-use ec_volume::{Image, Volume};
+use ec_volume::{Image, Look};
 use std::alloc::Global;
 
 // Where a walk came to, and the objects whose images it read.
@@ -18,10 +17,10 @@ pub(crate) struct Walked {
     pub(crate) read: Vec<ObjId>,
 }
 
-pub(crate) fn walk(alloc: Global, v: &Volume, names: &[Name]) -> Result<Walked, NoMemory>
+pub(crate) fn walk<V: Look>(alloc: Global, v: &V, names: &[Name]) -> Result<Walked, NoMemory>
     requires { length names.now ≤ 16 }
-    ensures to { IfOk result (λ w. reached w.to ≡ (walk (images v.now) names.now).to) }
-    ensures read { IfOk result (λ w. w.read.items ≡ (walk (images v.now) names.now).read) }
+    ensures to { IfOk result (λ w. reached w.to ≡ (walk (V.images v.now) names.now).to) }
+    ensures read { IfOk result (λ w. w.read.items ≡ (walk (V.images v.now) names.now).read) }
 {
     let mut read = Vec::new(alloc);
     let to = walk_from(v, 0, ObjId::root(), names, &mut read)?;
@@ -29,16 +28,16 @@ pub(crate) fn walk(alloc: Global, v: &Volume, names: &[Name]) -> Result<Walked, 
 }
 
 // The walk from an object that `place` names led to.
-fn walk_from(
-    v: &Volume,
+fn walk_from<V: Look>(
+    v: &V,
     place: u8,
     o: ObjId,
     names: &[Name],
     read: &mut Vec<ObjId>,
 ) -> Result<Result<ObjId, Refusal>, NoMemory>
     requires { place + length names.now ≤ 16 }
-    ensures to { IfOk result (λ to. reached to ≡ (walk_from (images v.now) place o names.now).to) }
-    ensures read { OnOk result (read.new.items ≡ read.old.items ++ (walk_from (images v.now) place o names.now).read) }
+    ensures to { IfOk result (λ to. reached to ≡ (walk_from (V.images v.now) place o names.now).to) }
+    ensures read { OnOk result (read.new.items ≡ read.old.items ++ (walk_from (V.images v.now) place o names.now).read) }
 {
     read.push(o)?;
     match names {
@@ -74,13 +73,13 @@ pub(crate) fn last_of(names: &[Name]) -> &Name
 }
 
 // The object that the path reaches and the objects read on the way, or the refusal.
-pub(crate) fn object_at(
+pub(crate) fn object_at<V: Look>(
     alloc: Global,
-    v: &Volume,
+    v: &V,
     names: &[Name],
 ) -> Result<Result<(ObjId, Vec<ObjId>), Outcome>, NoMemory>
     requires { length names.now ≤ 16 }
-    ensures { IfOk result (λ r. MatchResult r (λ found. Reaches (walk (images v.now) names.now) found.0 found.1.items) (Refused (walk (images v.now) names.now))) }
+    ensures { IfOk result (λ r. MatchResult r (λ found. Reaches (walk (V.images v.now) names.now) found.0 found.1.items) (Refused (walk (V.images v.now) names.now))) }
 {
     let Walked { to, read } = walk(alloc, v, names)?;
     Ok(match to {

@@ -4,3 +4,5 @@ pub mod Distinct
 pub mod Held
 pub mod Shift
 pub mod Limits
+pub mod Changed
+pub mod Fitting

@@ -3,3 +3,4 @@ pub mod Image
 pub mod Update
 pub mod Volume
 pub mod Held
+pub mod Carry

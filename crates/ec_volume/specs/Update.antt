@@ -1,5 +1,5 @@
 -- What an update tests and changes, at each operand by itself.
-use Rattle.std.specs.Prelude.{◌==◌, ◌+◌, ℕ, Bool, true, not, ◌&&◌, ◌||◌, if◌then◌else◌, nat_lt, nat_le, List, [], ◌∷◌, ◌++◌, map, length, Option, None, Some, is_some}
+use Rattle.std.specs.Prelude.{◌==◌, ◌+◌, ℕ, Bool, true, false, not, ◌&&◌, ◌||◌, if◌then◌else◌, nat_lt, nat_le, List, [], ◌∷◌, ◌++◌, map, length, Option, None, Some, is_some}
 use Rattle.std.specs.List.{filter, list_any}
 use Rattle.ec_volume.specs.Entries.{with_entry, without_entry, same_name}
 use Rattle.ec_volume.specs.Image.{entries_of, bytes_of, is_gone, is_file, is_kind, is_id, lacks, gives, is_bare, yields, resized, overwritten, with_bytes, with_entries, with_mode, with_stamp, with_owner, new_object}
@@ -41,6 +41,10 @@ operands (Stamp obj stamp) = obj ∷ []
 operands (Order objs) = objs
 operands (Shift dir from into to obj k victim up) = dir ∷ into ∷ obj ∷ listed victim ++ filter (λ o. not (o == dir)) (ids_of up)
 operands (Owner obj owner) = obj ∷ []
+
+abbrev pub is_make : Update → Bool
+is_make (Make dir name obj k) = true
+is_make _ = false
 
 abbrev pub has_operand : ℕ → Update → Bool
 has_operand o u = member o (operands u)

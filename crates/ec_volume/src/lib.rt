@@ -6,6 +6,8 @@ mod effect;
 mod entries;
 mod fits;
 mod image;
+mod laws;
+mod look;
 #[cfg(test)]
 mod tests;
 mod update;
@@ -13,5 +15,10 @@ mod volume;
 
 pub use entries::Entries;
 pub use image::{Image, Kind};
+pub use laws::{
+    changed_volume_shows_the_update, images_tell_the_volume, lists_fit_one_by_one,
+    unfit_operand_decides,
+};
+pub use look::Look;
 pub use update::{Update, operands};
 pub use volume::{ApplyFault, Volume};

@@ -1,13 +1,12 @@
 use Rattle.std.proofs.Common.{◌∙◌, sym}
 use Rattle.ec_volume.specs.Image.{entries_of}
-use Rattle.ec_volume.specs.Volume.{images}
 use Rattle.ec_plain.specs.Plain.{drop_in, plain_drop}
 use Rattle.ec_plain.proofs.Paths.{same_ok, drops}
 use Rattle.ec_plain.proofs.remove.plain_drop.Goals as goal
 
 pub returns-in-Ok : goal.returns-in-Ok
-returns-in-Ok c =
-    let v = images c.args.v.now in
+returns-in-Ok g c =
+    let v = g.V.Look.images c.args.v.now in
     let k = c.args.kind in
     let p = c.args.names.now in
     let found = c.in-Ok.found in

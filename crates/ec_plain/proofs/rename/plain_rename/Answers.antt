@@ -1,13 +1,12 @@
 use Rattle.std.proofs.Common.{◌∙◌, ◌≤◌, length, sym, rules}
 use Rattle.ec_volume.specs.Image.{entries_of}
-use Rattle.ec_volume.specs.Volume.{images}
 use Rattle.ec_plain.specs.Plain.{rename_in, plain_rename}
 use Rattle.ec_plain.proofs.Paths.{same_ok, renames_below}
 use Rattle.ec_plain.proofs.rename.plain_rename.Goals as goal
 
 pub returns-in-Ok : goal.returns-in-Ok
-returns-in-Ok c =
-    let v = images c.args.v.now in
+returns-in-Ok g c =
+    let v = g.V.Look.images c.args.v.now in
     let p = c.args.p.now in
     let q = c.args.q.now in
     let found = c.in-Ok.found in

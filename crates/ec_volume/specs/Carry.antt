@@ -1,0 +1,14 @@
+-- What the steps of carrying an update out leave. No public clause cites this module.
+use Rattle.std.specs.Prelude.{◌==◌, if◌then◌else◌, ℕ, Option, None, Some}
+use Rattle.ec_volume.specs.Volume.{Images}
+use Rattle.ec_volume.specs.declared.image.Image.{Image}
+use Rattle.ec_volume.specs.declared.image.Image.TheVariants.{Gone}
+
+-- the volume with another image of the object
+abbrev pub instead : ℕ → Image → Images → Images
+instead o i v p = if p == o then i else v p
+
+-- the volume without an object that goes, if any
+abbrev pub cleared : Option ℕ → Images → Images
+cleared None v p = v p
+cleared (Some o) v p = if p == o then Gone else v p
