@@ -4,7 +4,7 @@ use Rattle.ec_volume.specs.declared.image.Kind.TheVariants as kind
 use Rattle.ec_plain.specs.declared.call.Call.TheVariants as call
 use Rattle.ec_plain.specs.declared.call.Reply.TheVariants as reply
 use Rattle.ec_history.specs.declared.entry.Answer.TheVariants as answer
-use Rattle.ec_history.specs.declared.shown.Shown.TheVariants.{Waits, Answered, Durable, Ended, Told, Nothing}
+use Rattle.ec_history.specs.declared.shown.Shown.TheVariants.{Waits, Answered, Durable, Ended, Told, Nothing, Unsettled}
 use Rattle.ec_wire.specs.declared.msg.MsgKind.TheVariants as msg
 use Rattle.ec_protocol.specs.declared.script.Line.TheVariants as line
 use Rattle.ec_protocol.specs.Drill.{reads}
@@ -228,6 +228,38 @@ full_window =
           ∷ Durable A (11 ∷ [])
           ∷ Durable A (12 ∷ [])
           ∷ Answered 32 A call.Sync (answer.Reply reply.Ok) None
+          ∷ [];
+      status = 0;
+    }
+
+-- two calls that make each other wait for ever
+abbrev pub endless : Run
+endless =
+    record {
+      lines =
+          reads (line.Call A (call.Create (codes "f" ∷ []))) 10
+          ∷ reads (line.Call A call.Sync) 3
+          ∷ reads (line.Call B (call.Read (codes "f" ∷ []) 0 1)) 13
+          ∷ reads (line.Cut A) 5
+          ∷ reads (line.Cut B) 5
+          ∷ reads (line.Call A (call.Write (codes "f" ∷ []) 0 (codes "x"))) 14
+          ∷ reads (line.Call B (call.Remove (codes "f" ∷ []))) 10
+          ∷ reads (line.Uncut A) 7
+          ∷ reads (line.Uncut B) 7
+          ∷ [];
+      fates = [];
+      max_objects = 1024;
+      shown =
+          Waits 1 A (call.Create (codes "f" ∷ []))
+          ∷ Answered 1 A (call.Create (codes "f" ∷ [])) (answer.Reply reply.Ok) (Some 1)
+          ∷ Waits 2 A call.Sync
+          ∷ Durable A (1 ∷ [])
+          ∷ Answered 2 A call.Sync (answer.Reply reply.Ok) None
+          ∷ Waits 3 B (call.Read (codes "f" ∷ []) 0 1)
+          ∷ Answered 3 B (call.Read (codes "f" ∷ []) 0 1) (answer.Reply (reply.Data [])) None
+          ∷ Waits 6 A (call.Write (codes "f" ∷ []) 0 (codes "x"))
+          ∷ Waits 7 B (call.Remove (codes "f" ∷ []))
+          ∷ Unsettled
           ∷ [];
       status = 0;
     }

@@ -1,6 +1,6 @@
 // Scripts of what is asked for, and in which order.
-ghost use Rattle.ec_protocol.specs.Runs.{Shows};
-ghost use Rattle.ec_protocol.specs.Asking.{closures_in_turn, fsync_before_write, full_window, pushed_again, sync_below_loss};
+ghost use Rattle.ec_protocol.specs.Runs.{Shows, ShowsWithin};
+ghost use Rattle.ec_protocol.specs.Asking.{endless, closures_in_turn, fsync_before_write, full_window, pushed_again, sync_below_loss};
 
 /// Recalls ask before waiting calls, and each closure once.
 pub fn shows_closures_in_turn()
@@ -25,4 +25,9 @@ pub fn shows_sync_below_loss()
 /// Eight batches are under way, and no ninth goes out.
 pub fn shows_full_window()
     ensures { Shows full_window }
+{}
+
+/// Two calls that take each other's tokens away for ever: the line breaks off.
+pub fn shows_endless()
+    ensures { ShowsWithin 60 endless }
 {}
