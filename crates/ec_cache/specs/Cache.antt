@@ -1,5 +1,6 @@
 -- The tokens and images that a clerk holds, in the order of use.
-use Rattle.std.specs.Prelude.{◌==◌, ◌-◌, ℕ, Bool, true, false, not, if◌then◌else◌, nat_lt, List, [], ◌∷◌, map, length, max, filter, take as front, Option, None, Some}
+use Rattle.std.specs.Prelude.{◌==◌, ◌-◌, ℕ, Bool, true, false, not, if◌then◌else◌, nat_lt, List}
+use Rattle.std.specs.Prelude.{[], ◌∷◌, map, length, max, filter, take as front, Option, None, Some}
 use Rattle.ec_base.specs.Tables.{Table, at, at_or, put, without, renewed, keys, by_key}
 use Rattle.ec_base.specs.declared.ids.Hold.{Hold}
 use Rattle.ec_base.specs.declared.ids.Hold.TheVariants.{Free, Write}

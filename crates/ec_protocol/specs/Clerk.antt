@@ -1,5 +1,6 @@
 -- The clerk: what a call, a message, a push, a flush, a resend and a bye make of it.
-use Rattle.std.specs.Prelude.{◌==◌, ◌+◌, ◌-◌, ◌^◌, ℕ, zero, suc, Bool, true, false, not, ◌&&◌, ◌||◌, nat_lt, nat_le, List, [], ◌∷◌, ◌++◌, map, drop, length, Option, None, Some, is_none, is_some}
+use Rattle.std.specs.Prelude.{◌==◌, ◌+◌, ◌-◌, ℕ, zero, suc, Bool, true, false, not, ◌&&◌, ◌||◌, nat_lt}
+use Rattle.std.specs.Prelude.{nat_le, List, [], ◌∷◌, ◌++◌, map, drop, length, Option, None, Some, is_none, is_some}
 use Rattle.std.specs.List.{list_any, list_all}
 use Rattle.ec_base.specs.Tables.{at, keys, or_else}
 use Rattle.ec_base.specs.declared.counter.Counter.{Counter}
@@ -7,6 +8,7 @@ use Rattle.ec_base.specs.declared.counter.Counter.TheVariants as counter
 use Rattle.ec_base.specs.declared.ids.Age.{Age}
 use Rattle.ec_base.specs.declared.ids.Hold.{Hold}
 use Rattle.ec_base.specs.declared.ids.Hold.TheVariants.{Free, Write}
+use Rattle.ec_base.specs.Limits.{last_counter}
 use Rattle.ec_volume.specs.Update.{operands, fits, is_sound, is_make}
 use Rattle.ec_volume.specs.declared.image.Image.TheVariants as image
 use Rattle.ec_volume.specs.declared.update.Update.{Update}
@@ -18,11 +20,13 @@ use Rattle.ec_plain.specs.declared.call.Outcome.{Outcome}
 use Rattle.ec_order.specs.Order.{Issued}
 use Rattle.ec_history.specs.declared.entry.Answer.{Answer}
 use Rattle.ec_history.specs.declared.entry.Answer.TheVariants as answer
+use Rattle.ec_sessions.specs.Limits.{ids_per_grant, last_grants, last_round}
 use Rattle.ec_sessions.specs.Slots.{run}
 use Rattle.ec_sessions.specs.declared.window.Window.{Window}
-use Rattle.ec_base.specs.Holds.{rank, is_write, is_below}
+use Rattle.ec_base.specs.Holds.{rank, is_write, is_below, weaker}
 use Rattle.ec_wire.specs.declared.msg.Msg.{Msg}
-use Rattle.ec_wire.specs.declared.msg.Msg.TheVariants.{Hello, Want, Back, Flush, Room, Claim, Bye, Opened, Grant, Recall, Kept, Ids, NoRoom, Ended, Restarted, OldBoot}
+use Rattle.ec_wire.specs.declared.msg.Msg.TheVariants.{Hello, Want, Back, Flush, Room, Claim, Bye, Opened}
+use Rattle.ec_wire.specs.declared.msg.Msg.TheVariants.{Grant, Recall, Kept, Ids, NoRoom, Ended, Restarted, OldBoot}
 use Rattle.ec_cache.specs.Cache as cache
 use Rattle.ec_cache.specs.declared.state.CacheState.{CacheState}
 use Rattle.ec_cache.specs.declared.state.Held.{Held}
@@ -33,7 +37,7 @@ use Rattle.ec_log.specs.declared.state.Pick.{Pick}
 use Rattle.ec_log.specs.declared.state.Pick.TheVariants as pick_of
 use Rattle.ec_log.specs.declared.state.LogState.{LogState}
 use Rattle.ec_report.specs.Report.{owe, clear}
-use Rattle.ec_resolve.specs.Resolve.{evaluate}
+use Rattle.ec_resolve.specs.Resolve.{evaluate, outcome}
 use Rattle.ec_resolve.specs.declared.verdict.Verdict.{Verdict}
 use Rattle.ec_resolve.specs.declared.verdict.Verdict.TheVariants.{Need, Lost, NeedIds, Done}
 use Rattle.ec_protocol.specs.declared.clerk.Clerk.{Clerk}
@@ -120,7 +124,7 @@ under_recall x k = list_any (λ r. r.obj == x) k.recalls
 -- the mode that is left: Free where the number isn't the held one
 abbrev pub left_of : Recalled → Option Held → Hold
 left_of r None = Free
-left_of r (Some h) = elim (h.number == r.number) [ true ↦ cache.weaker r.to h.hold | false ↦ Free ]
+left_of r (Some h) = elim (h.number == r.number) [ true ↦ weaker r.to h.hold | false ↦ Free ]
 
 abbrev pub lower_held : ℕ → Hold → Option Held → CacheState → CacheState
 lower_held x to None k = k
@@ -188,7 +192,7 @@ send_room n d = send (Room (session d) (epoch d) d.clerk.got n) d
 
 abbrev pub ask_anew : Doing → Doing
 ask_anew d =
-    elim (nat_le (2 ^ 62) d.clerk.asks) [
+    elim (nat_le last_counter d.clerk.asks) [
       | true ↦ spend counter.Ask d
       | false ↦ send_room (d.clerk.asks + 1) (with_clerk (λ k. record k { asking = Some (k.asks + 1); asks = k.asks + 1 }) d)
     ]
@@ -393,25 +397,31 @@ take_each n [] k = k
 take_each n (x ∷ xs) k = take_each n xs (cache.take x Write n image.Gone k)
 
 abbrev pub add_ids : ℕ → ℕ → Clerk → Clerk
-add_ids n first k = record k { got = k.got + 1; asking = None; ids = k.ids ++ run first 16; cache = take_each n (run first 16) k.cache }
+add_ids n first k = record k { got = k.got + 1; asking = None; ids = k.ids ++ run first ids_per_grant; cache = take_each n (run first ids_per_grant) k.cache }
 
 abbrev pub take_ids : ℕ → ℕ → ℕ → Doing → Doing
 take_ids got n first d =
     elim (got == d.clerk.got) [
       | false ↦ d
-      | true ↦ elim (nat_le 4294967295 got) [ true ↦ spend counter.Id d | false ↦ with_clerk (add_ids n first) d ]
+      | true ↦ elim (nat_le last_grants got) [ true ↦ spend counter.Id d | false ↦ with_clerk (add_ids n first) d ]
     ]
 
 abbrev pub needs_id : Verdict → Bool
 needs_id NeedIds = true
 needs_id _ = false
 
--- each call that waits for an id is answered, and the others go on waiting
+-- a call that waits for an id is answered with the two numbers, and the objects that it touched are used
+abbrev pub refuse_make : ℕ → ℕ → Waiting → Doing → Doing
+refuse_make live reserved w d =
+    let touched = (outcome d.clerk.cache w.call None).touched in
+    emit (out.Answer w.no (answer.NoRoom live reserved) None) (with_cache (cache.all_used touched) d)
+
+-- each such call is answered, and the others go on waiting
 abbrev pub refuse_makes : ℕ → ℕ → List Waiting → Doing → Doing
 refuse_makes live reserved [] d = d
 refuse_makes live reserved (w ∷ ws) d =
     refuse_makes live reserved ws (elim (needs_id (verdict w.call d.clerk)) [
-      | true ↦ emit (out.Answer w.no (answer.NoRoom live reserved) None) d
+      | true ↦ refuse_make live reserved w d
       | false ↦ with_clerk (λ k. record k { waiting = k.waiting ++ w ∷ [] }) d
     ])
 
@@ -458,7 +468,7 @@ lose ops k =
 abbrev pub take_ended : Window → Doing → Doing
 take_ended w d =
     let ops = log.lost w d.clerk.log in
-    elim (nat_le 4294967295 d.clerk.age.round) [
+    elim (nat_le last_round d.clerk.age.round) [
       | true ↦ spend counter.Round d
       | false ↦ hello (emit (out.Told (keys ops)) (with_clerk (lose ops) d))
     ]
@@ -481,6 +491,10 @@ taken _ d = d
 
 -- The steps of a clerk.
 
+-- so many tokens a clerk keeps
+abbrev pub max_tokens : ℕ
+max_tokens = 4096
+
 abbrev pub new_clerk : ℕ → ℕ → Clerk
 new_clerk c boot =
     record {
@@ -488,7 +502,7 @@ new_clerk c boot =
       age = record { boot = boot; round = 0 };
       session = None;
       epoch = 0;
-      cache = cache.empty 4096;
+      cache = cache.empty max_tokens;
       log = log.empty;
       owed = [];
       recalls = [];
@@ -505,7 +519,7 @@ new_clerk c boot =
 abbrev pub start : ℕ → ℕ → Doing
 start c boot =
     let d = doing (new_clerk c boot) in
-    elim (nat_lt (2 ^ 62) boot) [ true ↦ spend counter.Boot d | false ↦ hello d ]
+    elim (nat_lt last_counter boot) [ true ↦ spend counter.Boot d | false ↦ hello d ]
 
 abbrev pub add_call : Call → Clerk → Clerk
 add_call c k =
@@ -513,7 +527,7 @@ add_call c k =
 
 abbrev pub begin : Call → Clerk → Doing
 begin c k =
-    elim (nat_le (2 ^ 62) k.calls) [ true ↦ spend counter.CallNo (doing k) | false ↦ settle (doing (add_call c k)) ]
+    elim (nat_le last_counter k.calls) [ true ↦ spend counter.CallNo (doing k) | false ↦ settle (doing (add_call c k)) ]
 
 abbrev pub take : Msg → Clerk → Doing
 take m k = settle (taken m (doing k))

@@ -1,5 +1,6 @@
 -- The server: what a message, an administrator's end and a start make of it.
-use Rattle.std.specs.Prelude.{◌==◌, ◌+◌, ◌^◌, ℕ, zero, suc, Bool, true, false, not, ◌&&◌, ◌||◌, nat_lt, nat_le, List, [], ◌∷◌, ◌++◌, length, filter, Option, None, Some, is_none, is_some, Ok, Err}
+use Rattle.std.specs.Prelude.{◌==◌, ◌+◌, ℕ, zero, suc, Bool, true, false, not, ◌&&◌, ◌||◌, nat_lt, nat_le}
+use Rattle.std.specs.Prelude.{List, [], ◌∷◌, ◌++◌, length, filter, Option, None, Some, is_none, is_some, Ok, Err}
 use Rattle.std.specs.List.{list_any, list_all}
 use Rattle.ec_base.specs.Tables.{at, at_or, put, without}
 use Rattle.ec_base.specs.declared.counter.Counter.{Counter}
@@ -7,9 +8,11 @@ use Rattle.ec_base.specs.declared.counter.Counter.TheVariants as counter
 use Rattle.ec_base.specs.declared.ids.Age.{Age}
 use Rattle.ec_base.specs.declared.ids.Hold.{Hold}
 use Rattle.ec_base.specs.declared.ids.Hold.TheVariants.{Write}
+use Rattle.ec_base.specs.Limits.{last_counter}
 use Rattle.ec_volume.specs.Update.{member, operands}
 use Rattle.ec_volume.specs.Volume.{images}
 use Rattle.ec_volume.specs.declared.update.Update.{Update}
+use Rattle.ec_sessions.specs.Limits.{ids_per_grant, last_first_id, last_grants}
 use Rattle.ec_sessions.specs.Slots.{Slots, greeting, run}
 use Rattle.ec_sessions.specs.Windows.{has}
 use Rattle.ec_sessions.specs.declared.slot.Slot.{Slot}
@@ -22,7 +25,8 @@ use Rattle.ec_recall.specs.Due.{actions, wants_after}
 use Rattle.ec_recall.specs.declared.want.Action.{Action}
 use Rattle.ec_recall.specs.declared.want.Action.TheVariants as action
 use Rattle.ec_wire.specs.declared.msg.Msg.{Msg}
-use Rattle.ec_wire.specs.declared.msg.Msg.TheVariants.{Hello, Want, Back, Flush, Room, Claim, Bye, Opened, Grant, Recall, Kept, Ids, NoRoom, Ended, Restarted, OldBoot}
+use Rattle.ec_wire.specs.declared.msg.Msg.TheVariants.{Hello, Want, Back, Flush, Room, Claim, Bye, Opened}
+use Rattle.ec_wire.specs.declared.msg.Msg.TheVariants.{Grant, Recall, Kept, Ids, NoRoom, Ended, Restarted, OldBoot}
 use Rattle.ec_durable.specs.Durable.{step, slot, live, reserved, is_full}
 use Rattle.ec_durable.specs.declared.state.Durable.{Durable}
 use Rattle.ec_durable.specs.declared.record.Record.{Record}
@@ -76,7 +80,7 @@ has_claimed ss s = member ss s.claimed
 -- Token numbers.
 
 abbrev pub is_last_number : Serving → Bool
-is_last_number t = nat_le (2 ^ 62) t.server.number
+is_last_number t = nat_le last_counter t.server.number
 
 abbrev pub next_number : Serving → Serving
 next_number t =
@@ -107,13 +111,20 @@ abbrev pub forget_old : Option ℕ → Server → Server
 forget_old None s = s
 forget_old (Some ss) s = forget ss s
 
--- a new session, which has claimed; the old one ends, if there is one
+abbrev pub add_claimed : ℕ → Server → Server
+add_claimed ss s = record s { claimed = ss ∷ s.claimed }
+
+-- the session is open: it has claimed, and the old one has ended, if there is one
+abbrev pub tell_opened : ℕ → Age → ℕ → Option ℕ → Serving → Serving
+tell_opened c age ss old t = tell c (Opened age ss (epoch t)) (with_server (λ s. add_claimed ss (forget_old old s)) t)
+
+-- a new session
 abbrev pub open_new : ℕ → Age → Option ℕ → Serving → Serving
 open_new c age old t =
     let ss = t.server.durable.next_session in
-    elim (nat_le (2 ^ 62) ss) [
+    elim (nat_le last_counter ss) [
       | true ↦ spend counter.Session t
-      | false ↦ commit (record_of.Open c age ss) (λ u. tell c (Opened age ss (epoch u)) (with_server (λ s. record (forget_old old s) { claimed = ss ∷ (forget_old old s).claimed }) u)) stay t
+      | false ↦ commit (record_of.Open c age ss) (tell_opened c age ss old) stay t
     ]
 
 abbrev pub greet : ℕ → Age → Greeting → Serving → Serving
@@ -176,14 +187,14 @@ with_ids ss n (x ∷ xs) ts = with_ids ss n xs (elim (is_clear ts ss x Write) [ 
 -- the tokens of sixteen ids are recorded, with one new number
 abbrev pub record_ids : ℕ → ℕ → Serving → Serving
 record_ids ss first t =
-    with_server (λ s. record s { tokens = with_ids ss s.number (run first 16) s.tokens; recorded = put ss s.number s.recorded }) (next_number t)
+    with_server (λ s. record s { tokens = with_ids ss s.number (run first ids_per_grant) s.tokens; recorded = put ss s.number s.recorded }) (next_number t)
 
 abbrev pub send_ids : ℕ → ℕ → ℕ → ℕ → Serving → Serving
 send_ids c ss got first t = tell c (Ids ss (epoch t) got (at_or 0 ss t.server.recorded) first) t
 
 -- the next ids, or their numbers of grants, would pass a limit
 abbrev pub ids_are_spent : ℕ → Serving → Bool
-ids_are_spent got t = nat_lt 4294967279 t.server.durable.next_id || nat_le 4294967295 got
+ids_are_spent got t = nat_lt last_first_id t.server.durable.next_id || nat_le last_grants got
 
 abbrev pub grant_ids : ℕ → ℕ → ℕ → ℕ → Serving → Serving
 grant_ids c ss got ask t =
@@ -331,7 +342,7 @@ tell_all c (sl ∷ slots) t = tell_all (c + 1) slots (tell_start c t sl)
 abbrev pub start : Durable → Serving
 start d =
     let t = serving (new_server d) in
-    elim (nat_le (2 ^ 62) d.epoch) [
+    elim (nat_le last_counter d.epoch) [
       | true ↦ spend counter.Epoch t
       | false ↦ commit (record_of.Epoch (d.epoch + 1)) (λ u. tell_all 0 u.server.durable.sessions u) stay t
     ]

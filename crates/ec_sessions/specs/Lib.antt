@@ -1,4 +1,5 @@
 pub mod IdLaws
+pub mod Limits
 pub mod Slots
 pub mod WindowLaws
 pub mod Windows
