@@ -1,0 +1,5 @@
+pub mod Steps
+pub mod Rule
+pub mod Told
+pub mod Passes
+pub mod Laws
