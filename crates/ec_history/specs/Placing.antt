@@ -14,7 +14,7 @@ use Rattle.ec_history.specs.declared.entry.Answer.TheVariants as answer
 use Rattle.ec_history.specs.declared.entry.Entry.TheVariants as entry
 use Rattle.ec_history.specs.declared.shown.Shown.{Shown}
 use Rattle.ec_history.specs.declared.shown.Shown.TheVariants.{Waits, Answered, Durable, Ended, Unseen, Told, Crashed}
-pub use Rattle.ec_history.specs.declared.watch.Watch.{Watch}
+use Rattle.ec_history.specs.declared.watch.Watch.{Watch}
 
 -- Whether the answer shows that its start has a session: all do but those that need no token.
 abbrev pub shows : Call → Answer → Bool

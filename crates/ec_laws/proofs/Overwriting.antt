@@ -1,6 +1,6 @@
 -- Overwrites: what they keep, and in which order they come.
-use Rattle.std.proofs.Common.{◌≡◌, refl, sym, ap, subst, ◌∙◌, inl, inr, arith, ◌≤◌, ◌+◌, ◌⊎◌, ℕ, T, Bool, true, false, not, ◌==◌, ◌&&◌, ◌||◌, cond, List, [], ◌∷◌, ltb, leb, suc, length}
-use Rattle.std.proofs.lemmas.Bool.{cases_Bool, and_parts, and_cases, eqb-true, ltb-false, leb-true, true≢false}
+use Rattle.std.proofs.Common.{◌≡◌, refl, sym, ap, subst, ◌∙◌, inl, inr, arith, ◌<◌, ◌≤◌, ◌+◌, ℕ, T, Bool, true, false, not, ◌==◌, ◌&&◌, ◌||◌, cond, List, [], ◌∷◌, ltb, leb, suc, length}
+use Rattle.std.proofs.lemmas.Bool.{cases_Bool, and_parts, and_from, and_cases, cases_lt, eqb-true, ltb-true, ltb-false, leb-true, true≢false}
 use Rattle.ec_volume.specs.Image.{is_file, bytes_of, with_bytes, overwritten}
 use Rattle.ec_volume.specs.Update.{has_operand, fits, effect}
 use Rattle.ec_volume.specs.Volume.{fits_in_turn}
@@ -98,6 +98,31 @@ data Apart (p k q l : ℕ) : Type 0 where
 
 is-zero : (n : ℕ) → ltb 0 n ≡ false → n ≡ 0
 is-zero n h = grind arith
+
+small : (a b : ℕ) → a < b → ltb a b ≡ true
+small a b h = grind arith
+
+pub meet-place : (m k n l : ℕ) → meet m k n l ≡ true → (p : ℕ) × (m ≤ p) × (p < m + k) × (n ≤ p) × (p < n + l)
+meet-place m k n l h =
+    let a = and_parts (ltb 0 k && ltb 0 l && ltb m (n + l)) (ltb n (m + k)) h in
+    let b = and_parts (ltb 0 k && ltb 0 l) (ltb m (n + l)) a.0 in
+    let c = and_parts (ltb 0 k) (ltb 0 l) b.0 in
+    let some : 0 < k = ltb-true 0 k c.0 in
+    let some_other : 0 < l = ltb-true 0 l c.1 in
+    let early : m < n + l = ltb-true m (n + l) b.1 in
+    let late : n < m + k = ltb-true n (m + k) a.1 in
+    elim (cases_lt m n) [
+      | inl lt ↦ (n, omega (arith, lt), late, omega arith, omega (arith, some_other))
+      | inr le ↦ (m, omega arith, omega (arith, some), le, early)
+    ]
+
+pub meet-from : (m k n l p : ℕ) → m ≤ p → p < m + k → n ≤ p → p < n + l → meet m k n l ≡ true
+meet-from m k n l p a b c d =
+    let first : ltb 0 k ≡ true = small 0 k (omega (arith, a, b)) in
+    let last : ltb 0 l ≡ true = small 0 l (omega (arith, c, d)) in
+    let early : ltb m (n + l) ≡ true = small m (n + l) (omega (arith, a, d)) in
+    let late : ltb n (m + k) ≡ true = small n (m + k) (omega (arith, b, c)) in
+    and_from (ltb 0 k && ltb 0 l && ltb m (n + l)) (ltb n (m + k)) (and_from (ltb 0 k && ltb 0 l) (ltb m (n + l)) (and_from (ltb 0 k) (ltb 0 l) first last) early) late
 
 ranges-apart : (p k q l : ℕ) → meet p k q l ≡ false → Apart p k q l
 ranges-apart p k q l h = elim (and_cases (ltb 0 k && ltb 0 l && ltb p (q + l)) (ltb q (p + k)) h) [

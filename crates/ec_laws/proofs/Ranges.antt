@@ -80,8 +80,8 @@ none-commute p q y bs = ext_get_or 0 (overwritten p [] (overwritten q y bs)) (ov
     one-length =
         omega (arith, length-overwritten p [] (overwritten q y bs), length-overwritten q y bs, length-overwritten q y (overwritten p [] bs), length-overwritten p [] bs)
 
-    same : (as : List ℕ) (i : ℕ) → get_or (overwritten p [] as) i 0 ≡ get_or as i 0
-    same as i = elim (cases_lt i p) [ inl a ↦ byte-below p [] as i a | inr a ↦ byte-above p [] as i (omega (arith, a)) ]
+    same : (cs : List ℕ) (i : ℕ) → get_or (overwritten p [] cs) i 0 ≡ get_or cs i 0
+    same cs i = elim (cases_lt i p) [ inl a ↦ byte-below p [] cs i a | inr a ↦ byte-above p [] cs i (omega (arith, a)) ]
 
     byte : (i : ℕ) → get_or (overwritten p [] (overwritten q y bs)) i 0 ≡ get_or (overwritten q y (overwritten p [] bs)) i 0
     byte i = same (overwritten q y bs) i ∙ elim (cases_lt i q) [

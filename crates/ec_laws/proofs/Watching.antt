@@ -4,7 +4,8 @@ use Rattle.std.proofs.lemmas.Bool.{cond_both, cond-true, and_parts, or_parts, eq
 use Rattle.std.specs.List.{list_any}
 use Rattle.ec_volume.specs.Image.{is_id}
 use Rattle.ec_volume.specs.Update.{listed}
-use Rattle.ec_history.specs.Placing.{Watch, watch, watch_from, watch_next, unwatched, begun, answered, or_else, owner, is_running, is_end_of, shows}
+use Rattle.ec_history.specs.Placing.{watch, watch_from, watch_next, unwatched, begun, answered, ended, or_else, owner, is_running, is_end_of, shows}
+use Rattle.ec_history.specs.declared.watch.Watch.{Watch}
 use Rattle.ec_history.specs.declared.shown.Shown.{Shown}
 use Rattle.ec_history.specs.declared.shown.Shown.TheVariants.{Waits, Answered, Durable, Ended, Told, Crashed}
 use Rattle.ec_laws.proofs.More.{watch-step}
@@ -35,12 +36,28 @@ sound-begun w h =
 runs-begun : (w : Watch) → (begun w).running ≡ true
 runs-begun w = cond_both w.running w (record w { starts = w.starts + 1; running = true }) (λ v. v.running ≡ true) (λ e. e) (λ e. refl)
 
--- the watch behind an answer, by what was untold
+-- The watch behind an answer, by what was untold: the answer shows a session; or one is open; or not yet.
+abbrev pub showing : Watch → Option ℕ → Watch
+showing w op = record w { open_start = or_else w.open_start w.starts; undurable = w.early ++ (w.undurable ++ listed op); early = [] }
+
+abbrev pub in_session : Watch → Option ℕ → Watch
+in_session w op = record w { undurable = w.undurable ++ listed op }
+
+abbrev pub before_session : Watch → Option ℕ → Watch
+before_session w op = record w { early = w.early ++ listed op }
+
 abbrev pub answered_as : Watch → Bool → Option ℕ → Option (List ℕ) → Watch
 answered_as w sh op u = elim u [
   | Some ns ↦ record w { untold = Some (ns ++ listed op) }
-  | None ↦ cond sh (record w { open_start = or_else w.open_start w.starts; undurable = w.undurable ++ listed op }) w
+  | None ↦ cond sh (showing w op) (cond (is_id w.starts w.open_start) (in_session w op) (before_session w op))
 ]
+
+-- The watch behind the end of a session: of the running start's, or of an earlier one's.
+abbrev pub own_end : Watch → List ℕ → Watch
+own_end w ns = record w { open_start = None; undurable = []; early = []; untold = Some ns }
+
+abbrev pub other_end : Watch → Watch
+other_end w = record w { open_start = None; undurable = [] }
 
 sound-answered : (w : Watch) (sh : Bool) (op : Option ℕ) → w.running ≡ true → IsSound w → IsSound (answered w sh op)
 sound-answered w sh op r h = go w.untold refl
@@ -48,11 +65,13 @@ sound-answered w sh op r h = go w.untold refl
     go : (u : Option (List ℕ)) → w.untold ≡ u → IsSound (answered_as w sh op u)
     go (Some ns) e = record { ended_runs = λ u. h.ended_runs (ap is_some e); counted = h.counted; opened = h.opened }
     go None e =
-        cond_both sh (record w { open_start = or_else w.open_start w.starts; undurable = w.undurable ++ listed op }) w IsSound (λ f. record {
+        cond_both sh (showing w op) (cond (is_id w.starts w.open_start) (in_session w op) (before_session w op)) IsSound (λ f. record {
           ended_runs = λ u. absurd (true≢false (sym u ∙ ap is_some e));
           counted = h.counted;
           opened = λ b. here w.open_start h.opened b;
-        }) (λ f. h)
+        })
+        (λ f. cond_both (is_id w.starts w.open_start) (in_session w op) (before_session w op) IsSound
+            (λ i. record { ended_runs = h.ended_runs; counted = h.counted; opened = h.opened }) (λ i. record { ended_runs = h.ended_runs; counted = h.counted; opened = h.opened }))
       where
         here : (o : Option ℕ) → ((b : ℕ) → o ≡ Some b → (1 ≤ b) × (b ≤ w.starts)) → (b : ℕ) → or_else o w.starts ≡ Some b → (1 ≤ b) × (b ≤ w.starts)
         here (Some a) k b q = k b q
@@ -66,15 +85,12 @@ sound-next c w (Waits l d cl) h = cond_both (c == d) (begun w) w IsSound (λ e. 
 sound-next c w (Answered l d cl a op) h =
     cond_both (c == d) (answered (begun w) (shows cl a) op) w IsSound (λ e. sound-answered (begun w) (shows cl a) op (runs-begun w) (sound-begun w h)) (λ e. h)
 sound-next c w (Durable d ns) h = cond_both (c == d) _ w IsSound (λ e. record { ended_runs = h.ended_runs; counted = h.counted; opened = h.opened }) (λ e. h)
-sound-next c w (Ended d ns) h = cond_both (c == d) _ w IsSound (λ e. record {
-  ended_runs = λ u. (
-    refl,
-    cond_both (is_running w (owner w)) (Some ns) w.untold (λ v. is_some v ≡ true → w.running ≡ true)
-        (λ r k. (and_parts w.running (is_id w.starts (owner w)) r).0) (λ r k. (h.ended_runs k).1) u,
-  );
-  counted = h.counted;
-  opened = λ b o. absurd (none_some b o);
-}) (λ e. h)
+sound-next c w (Ended d ns) h =
+    cond_both (c == d) (ended w ns) w IsSound
+    (λ e. cond_both (is_running w (owner w)) (own_end w ns) (other_end w) IsSound
+        (λ r. record { ended_runs = λ u. (refl, (and_parts w.running (is_id w.starts (owner w)) r).0); counted = h.counted; opened = λ b o. absurd (none_some b o) })
+        (λ r. record { ended_runs = λ u. (refl, (h.ended_runs u).1); counted = h.counted; opened = λ b o. absurd (none_some b o) }))
+    (λ e. h)
   where
     none_some : (b : ℕ) → None ≡ Some b → ⊥
     none_some b q = cc
@@ -113,12 +129,12 @@ held-next c b w (Waits l d cl) e h = cond_both (c == d) (begun w) w (IsHeld b) (
 held-next c b w (Answered l d cl a op) e h =
     cond_both (c == d) (answered (begun w) (shows cl a) op) w (IsHeld b) (λ f. held-answered b (begun w) (shows cl a) op (held-begun b w h)) (λ f. h)
 held-next c b w (Durable d ns) e h = cond_both (c == d) _ w (IsHeld b) (λ f. record { untold = h.untold; open_start = h.open_start; running = h.running; starts = h.starts }) (λ f. h)
-held-next c b w (Ended d ns) e h = cond_both (c == d) _ w (IsHeld b) (λ f. record {
-  untold = cond_both (is_running w (owner w)) (Some ns) w.untold (λ v. is_some v ≡ true) (λ r. refl) (λ r. h.untold);
-  open_start = refl;
-  running = h.running;
-  starts = h.starts;
-}) (λ f. h)
+held-next c b w (Ended d ns) e h =
+    cond_both (c == d) (ended w ns) w (IsHeld b)
+    (λ f. cond_both (is_running w (owner w)) (own_end w ns) (other_end w) (IsHeld b)
+        (λ r. record { untold = refl; open_start = refl; running = h.running; starts = h.starts })
+        (λ r. record { untold = h.untold; open_start = refl; running = h.running; starts = h.starts }))
+    (λ f. h)
 held-next c b w (Told d ns) e h = cond_both (c == d) _ w (IsHeld b) (λ f. absurd (true≢false (sym f ∙ e))) (λ f. h)
 held-next c b w (Crashed d) e h = cond_both (c == d) _ w (IsHeld b) (λ f. absurd (true≢false (sym f ∙ e))) (λ f. h)
 held-next c b w s e h = h
@@ -133,8 +149,8 @@ held-from c b w (s ∷ ss) e h =
 pub held-ended : (c : ℕ) (w : Watch) (ns : List ℕ) → is_running w (owner w) ≡ true → IsHeld w.starts (watch_next c w (Ended c ns))
 held-ended c w ns r =
     let same : (c == c) ≡ true = grind arith in
-    subst (IsHeld w.starts) (sym (cond-true (c == c) _ w same)) record {
-      untold = ap is_some (cond-true (is_running w (owner w)) (Some ns) w.untold r);
+    subst (IsHeld w.starts) (sym (cond-true (c == c) (ended w ns) w same ∙ cond-true (is_running w (owner w)) (own_end w ns) (other_end w) r)) record {
+      untold = refl;
       open_start = refl;
       running = (and_parts w.running (is_id w.starts (owner w)) r).0;
       starts = refl;

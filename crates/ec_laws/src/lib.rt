@@ -27,6 +27,7 @@ pub use list_example::{
 };
 pub use overwrites::{
     overwrites_change_places, overwrites_fit_by_length, overwrites_keep_the_stat,
+    ranges_meet_at_a_place,
 };
 pub use placing::{
     each_line_is_placed, lines_above_cover, places_are_distinct, watched_starts_are_counted,
