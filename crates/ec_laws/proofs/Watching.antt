@@ -1,9 +1,9 @@
 -- What the lines so far show of a clerk.
-use Rattle.std.proofs.Common.{◌≡◌, refl, sym, ap, subst, ◌∙◌, arith, ◌≤◌, ◌+◌, ℕ, Bool, true, false, ◌==◌, ◌&&◌, cond, List, [], ◌∷◌, ◌++◌, Option, Some, None, is_some, is_none, append_assoc, append-nil}
+use Rattle.std.proofs.Common.{◌≡◌, refl, sym, ap, subst, ◌∙◌, arith, ◌≤◌, ◌+◌, ℕ, Bool, true, false, not, ◌==◌, ◌&&◌, cond, List, [], ◌∷◌, ◌++◌, Option, Some, None, is_some, is_none, append_assoc, append-nil}
 use Rattle.std.proofs.lemmas.Bool.{cond_both, cond-true, and_parts, or_parts, eqb-true, true≢false}
-use Rattle.std.specs.List.{list_any}
+use Rattle.std.specs.List.{filter, list_any}
 use Rattle.ec_volume.specs.Image.{is_id}
-use Rattle.ec_volume.specs.Update.{listed}
+use Rattle.ec_volume.specs.Update.{member, listed}
 use Rattle.ec_history.specs.Placing.{watch, watch_from, watch_next, unwatched, begun, answered, ended, or_else, owner, is_running, is_end_of, shows}
 use Rattle.ec_history.specs.declared.watch.Watch.{Watch}
 use Rattle.ec_history.specs.declared.shown.Shown.{Shown}
@@ -193,6 +193,42 @@ untold-runs c ss ns u =
 
 pub running-counted : (c : ℕ) (ss : List Shown) → (watch c ss).running ≡ true → 1 ≤ (watch c ss).starts
 running-counted c ss = (sound c ss).counted
+
+-- Where no session is open, nothing is undurable.
+abbrev IsClosed : Watch → Type 0
+IsClosed w = w.open_start ≡ None → w.undurable ≡ []
+
+closed-begun : (w : Watch) → IsClosed w → IsClosed (begun w)
+closed-begun w h = cond_both w.running w (record w { starts = w.starts + 1; running = true }) IsClosed (λ e. h) (λ e. h)
+
+closed-answered : (w : Watch) (sh : Bool) (op : Option ℕ) → IsClosed w → IsClosed (answered w sh op)
+closed-answered w sh op h = go w.untold refl
+  where
+    opens : (o : Option ℕ) (n : ℕ) → or_else o n ≡ None → ⊥
+    opens (Some b) n e = absurd (true≢false (ap is_some e))
+    opens None n e = absurd (true≢false (ap is_some e))
+
+    not_open : (n : ℕ) (o : Option ℕ) → is_id n o ≡ true → o ≡ None → ⊥
+    not_open n o e f = true≢false (sym e ∙ ap (is_id n) f)
+
+    go : (u : Option (List ℕ)) → w.untold ≡ u → IsClosed (answered_as w sh op u)
+    go (Some ns) e = h
+    go None e =
+        cond_both sh (showing w op) (cond (is_id w.starts w.open_start) (in_session w op) (before_session w op)) IsClosed (λ f o. absurd (opens w.open_start w.starts o))
+        (λ f. cond_both (is_id w.starts w.open_start) (in_session w op) (before_session w op) IsClosed (λ i o. absurd (not_open w.starts w.open_start i o)) (λ i. h))
+
+closed-next : (c : ℕ) (w : Watch) (s : Shown) → IsClosed w → IsClosed (watch_next c w s)
+closed-next c w (Waits l d cl) h = cond_both (c == d) (begun w) w IsClosed (λ e. closed-begun w h) (λ e. h)
+closed-next c w (Answered l d cl a op) h = cond_both (c == d) (answered (begun w) (shows cl a) op) w IsClosed (λ e. closed-answered (begun w) (shows cl a) op (closed-begun w h)) (λ e. h)
+closed-next c w (Durable d ns) h = cond_both (c == d) _ w IsClosed (λ e o. ap (filter (λ n. not (member n ns))) (h o)) (λ e. h)
+closed-next c w (Ended d ns) h =
+    cond_both (c == d) (ended w ns) w IsClosed (λ e. cond_both (is_running w (owner w)) (own_end w ns) (other_end w) IsClosed (λ r o. refl) (λ r o. refl)) (λ e. h)
+closed-next c w (Told d ns) h = cond_both (c == d) _ w IsClosed (λ e. h) (λ e. h)
+closed-next c w (Crashed d) h = cond_both (c == d) _ w IsClosed (λ e. h) (λ e. h)
+closed-next c w s h = h
+
+pub closed-undurable : (c : ℕ) (ss : List Shown) → (watch c ss).open_start ≡ None → (watch c ss).undurable ≡ []
+closed-undurable c = from_front (λ ss. IsClosed (watch c ss)) (λ o. refl) (λ ss s h. subst IsClosed (sym (watch-step c ss s)) (closed-next c (watch c ss) s h))
 
 pub open-counted : (c b : ℕ) (ss : List Shown) → (watch c ss).open_start ≡ Some b → (1 ≤ b) × (b ≤ (watch c ss).starts)
 open-counted c b ss = (sound c ss).opened b

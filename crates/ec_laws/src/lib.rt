@@ -30,7 +30,8 @@ pub use overwrites::{
     ranges_meet_at_a_place,
 };
 pub use placing::{
-    each_line_is_placed, lines_above_cover, places_are_distinct, watched_starts_are_counted,
+    each_line_is_placed, lines_above_cover, places_are_distinct, rising_lists_are_sets,
+    watched_starts_are_counted,
 };
 pub use projection::{
     an_object_sees_its_own_updates, equal_projections_are_enough, longer_lists_go_on,
