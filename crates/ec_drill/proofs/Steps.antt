@@ -7,7 +7,8 @@ use Rattle.ec_volume.specs.declared.image.Image.{Image}
 use Rattle.ec_volume.specs.declared.update.Update.{Update}
 use Rattle.ec_history.specs.History.{History, Op, updates, numbers, of_start, kept, owed, Throughout, Each}
 use Rattle.ec_history.specs.Legal.{IsLegal, is_op_of, from_formatted}
-use Rattle.ec_history.specs.Placing.{Watch, watch, watch_next, gives_entry, is_numbered, place, MayFollow, EachLine}
+use Rattle.ec_history.specs.Placing.{watch, watch_next, gives_entry, is_numbered, place, MayFollow, EachLine}
+use Rattle.ec_history.specs.declared.watch.Watch.{Watch}
 use Rattle.ec_history.specs.Lines.{IsCovered}
 use Rattle.ec_history.specs.declared.entry.Entry.{Entry}
 use Rattle.ec_history.specs.declared.shown.Shown.{Shown}

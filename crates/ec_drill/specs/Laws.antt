@@ -10,7 +10,8 @@ use Rattle.ec_plain.specs.Bounds.{is_bounded}
 use Rattle.ec_plain.specs.declared.call.Call.{Call}
 use Rattle.ec_history.specs.History.{Base, History, Throughout, kept, kept_next, owed, owed_next}
 use Rattle.ec_history.specs.Legal.{IsLegal, IsLegalNext, from_formatted}
-use Rattle.ec_history.specs.Placing.{Watch, watch, watch_next, owner, or_zero, gives_entry, call_entry, place, ArePlaceable, MayFollow}
+use Rattle.ec_history.specs.Placing.{watch, watch_next, owner, or_zero, gives_entry, call_entry, place, ArePlaceable, MayFollow}
+use Rattle.ec_history.specs.declared.watch.Watch.{Watch}
 use Rattle.ec_history.specs.Lines.{IsCovered, AreCovered}
 use Rattle.ec_history.specs.declared.entry.Answer.{Answer}
 use Rattle.ec_history.specs.declared.entry.Entry.{Entry}

@@ -4,7 +4,7 @@ use Rattle.std.specs.List.{list_all}
 use Rattle.ec_volume.specs.Image.{is_gone, with_entries, new_object}
 use Rattle.ec_volume.specs.Entries.{with_entry}
 use Rattle.ec_volume.specs.Update.{is_sound}
-use Rattle.ec_volume.specs.Volume.{formatted, after, Fits, WellFormed, AllReached}
+use Rattle.ec_volume.specs.Volume.{formatted, after, Fits, WellFormed}
 use Rattle.ec_volume.specs.declared.image.Image.TheVariants.{Gone, File, Dir}
 use Rattle.ec_volume.specs.declared.image.Kind.TheVariants as kind
 use Rattle.ec_volume.specs.declared.update.Update.{Update}
@@ -13,14 +13,12 @@ use Rattle.ec_history.specs.Legal.{from_formatted}
 use Rattle.ec_laws.proofs.Objects.{fits-tried}
 use Rattle.ec_laws.specs.Example.{two_files}
 use Rattle.ec_formed.specs.Bases.{IsBase}
-use Rattle.ec_formed.proofs.Formatted.{formatted-formed, formatted-reached}
+use Rattle.ec_formed.proofs.Formatted.{formatted-formed}
 use Rattle.ec_formed.proofs.Kept.{kept-formed}
-use Rattle.ec_formed.proofs.Laws.{kept-reached}
 
 pub base-formatted : IsBase from_formatted
 base-formatted = record {
   formed = formatted-formed;
-  reached = formatted-reached;
   gone = λ p l. subst (λ x. T (is_gone (cond x (Dir 493 0 0 []) Gone))) (sym (above p l)) tt;
   apart = λ p q e. omega (arith, e);
 }
@@ -55,7 +53,6 @@ files-fit = fits-tried formatted files tt
 pub base-files : IsBase two_files
 base-files = record {
   formed = subst WellFormed same-volume (kept-formed formatted files formatted-formed files-sound files-fit);
-  reached = subst AllReached same-volume (kept-reached formatted files formatted-formed formatted-reached files-sound files-fit);
   gone = λ p l. go p (eqb (3 + p) 1) (eqb (3 + p) 2) (eqb (3 + p) 3) (above p 1 l (omega arith)) (above p 2 l (omega arith)) (above p 3 l (omega arith));
   apart = λ p q e. omega (arith, e);
 }

@@ -23,7 +23,7 @@ use Rattle.ec_laws.proofs.Removed.{both, left, right, removal}
 use Rattle.ec_laws.proofs.Pulled.{pulled-fit_alone}
 use Rattle.ec_laws.proofs.Places.{places-within, places-distinct}
 use Rattle.ec_laws.proofs.Left.{loss-fits}
-use Rattle.ec_formed.specs.Bases.{IsBase, AreAtLines, LeaveWellFormed, is_bounded_entry}
+use Rattle.ec_formed.specs.Bases.{IsBase, AllHeld, AreAtLines, LeaveWellFormed, is_bounded_entry}
 use Rattle.ec_formed.proofs.Fresh.{makes, gone-stays, plain-makes}
 
 -- Lists.
@@ -94,9 +94,10 @@ module _ (formed : (v : Images) (us : List Update) → WellFormed v → T (list_
     (reached : (v : Images) (us : List Update) → WellFormed v → AllReached v → T (list_all is_sound us) → Fits v us → AllReached (after v us))
     (sound : (v : Images) (cl : Call) (fresh : ℕ) (u : Update) → WellFormed v → T (is_gone (v fresh)) → T (is_bounded cl) → (plain v cl fresh).update ≡ Some u → T (is_sound u))
     (fitting : (v : Images) (cl : Call) (fresh : ℕ) (u : Update) → WellFormed v → T (is_gone (v fresh)) → (plain v cl fresh).update ≡ Some u → Fits v (u ∷ []))
+    (within : (v : Images) (us : List Update) → AllHeld v → T (list_all is_sound us) → Fits v us → AllHeld (after v us))
     (base : Base) (is : IsBase base) where
   leave : (ks : List Op) → T (list_all is_sound (updates ks)) → Fits base.volume (updates ks) → LeaveWellFormed base ks
-  leave ks s f = record { sound = s; fits = f; formed = formed base.volume (updates ks) is.formed s f; reached = reached base.volume (updates ks) is.formed is.reached s f }
+  leave ks s f = record { sound = s; fits = f; formed = formed base.volume (updates ks) is.formed s f; reached = λ r. reached base.volume (updates ks) is.formed r s f; held = λ h. within base.volume (updates ks) h s f }
 
   pub part : (inside : Op → Bool) (ks : List Op) → LeaveWellFormed base ks → T (holds_needed (λ k. k.update) inside ks) → LeaveWellFormed base (filter inside ks)
   part inside ks l h = leave (filter inside ks) (all-filter inside ks l.sound) (pulled-fit_alone (λ k. k.update) base.volume inside ks h l.fits)

@@ -2,7 +2,6 @@
 ghost use Rattle.std.specs.Prelude.{◌≡◌, ◌||◌, ℕ, T, [], ◌∷◌, Some};
 ghost use Rattle.std.specs.List.{list_all};
 ghost use Rattle.ec_volume.specs.Image.{is_gone};
-ghost use Rattle.ec_volume.specs.Held.{is_held};
 ghost use Rattle.ec_volume.specs.Update.{is_sound};
 ghost use Rattle.ec_volume.specs.Volume.{formatted, after, Fits, WellFormed, AllReached};
 ghost use Rattle.ec_volume.specs.declared.image.Kind.TheVariants as kind;
@@ -15,7 +14,7 @@ ghost use Rattle.ec_history.specs.Legal.{IsLegal, is_closed, from_formatted};
 ghost use Rattle.ec_history.specs.Placing.{place};
 ghost use Rattle.ec_laws.specs.Example.{two_files, writes, lines};
 ghost use Rattle.ec_laws.specs.Needs.{holds_needed};
-ghost use Rattle.ec_formed.specs.Bases.{IsBase, AreAtLines, LeaveWellFormed, is_bounded_entry};
+ghost use Rattle.ec_formed.specs.Bases.{IsBase, AllHeld, AreAtLines, LeaveWellFormed, is_bounded_entry};
 ghost use Rattle.ec_formed.specs.Example.{a, b, g, building, built, nesting, changes};
 
 /// Updates build two directories and a file; new files and directories, renames, moves of a file
@@ -24,7 +23,7 @@ ghost use Rattle.ec_formed.specs.Example.{a, b, g, building, built, nesting, cha
 pub fn premises_can_be_met()
     ensures building { T (list_all is_sound building) × Fits formatted building }
     ensures built { WellFormed built × AllReached built }
-    ensures held { (o : ℕ) → T (is_gone (built o) || is_held (built o)) }
+    ensures held { AllHeld built }
     ensures changes { T (list_all is_sound changes) × Fits built changes }
     ensures fresh { T (is_gone (built 5)) }
     ensures bounded { T (is_bounded (call.Create (a ∷ g ∷ []))) × T (is_bounded (call.Rename (b ∷ []) (a ∷ b ∷ []))) }

@@ -15,7 +15,8 @@ pub fn formatted_is_a_base()
 {}
 
 /// What a legal history keeps, behind each entry and as a whole, is sound, fits and leaves a
-/// well-formed volume with each object reached; so the entries of a transcript's lines do.
+/// well-formed volume; so the entries of a transcript's lines do. Each object is reached, or within
+/// its limits, where each one of the base is.
 pub fn what_is_kept_is_well_formed()
     ensures throughout { (base : Base) (most : ℕ) (h : History) → IsBase base → AreAtLines h → IsLegal base most h → Throughout (λ past e. LeaveWellFormed base (kept base (past ++ e ∷ []))) [] h }
     ensures whole { (base : Base) (most : ℕ) (h : History) → IsBase base → AreAtLines h → IsLegal base most h → LeaveWellFormed base (kept base h) }

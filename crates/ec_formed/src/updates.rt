@@ -1,11 +1,10 @@
 // Volumes that stay well formed behind updates.
-ghost use Rattle.std.specs.Prelude.{ℕ, T, ◌||◌, List};
+ghost use Rattle.std.specs.Prelude.{T, List};
 ghost use Rattle.std.specs.List.{list_all};
-ghost use Rattle.ec_volume.specs.Image.{is_gone};
-ghost use Rattle.ec_volume.specs.Held.{is_held};
 ghost use Rattle.ec_volume.specs.Update.{is_sound};
 ghost use Rattle.ec_volume.specs.Volume.{Images, formatted, after, Fits, WellFormed, AllReached};
 ghost use Rattle.ec_volume.specs.declared.update.Update.{Update};
+ghost use Rattle.ec_formed.specs.Bases.{AllHeld};
 
 /// Sound updates that fit leave a well-formed volume well formed, and each live object reached from
 /// the root; a directory that moved may lie deeper than a path of a call reaches. They keep images
@@ -13,12 +12,12 @@ ghost use Rattle.ec_volume.specs.declared.update.Update.{Update};
 pub fn fitting_updates_keep_volumes_well_formed()
     ensures formed { (v : Images) (us : List Update) → WellFormed v → T (list_all is_sound us) → Fits v us → WellFormed (after v us) }
     ensures reached { (v : Images) (us : List Update) → WellFormed v → AllReached v → T (list_all is_sound us) → Fits v us → AllReached (after v us) }
-    ensures held { (v : Images) (us : List Update) → ((o : ℕ) → T (is_gone (v o) || is_held (v o))) → T (list_all is_sound us) → Fits v us → (o : ℕ) → T (is_gone (after v us o) || is_held (after v us o)) }
+    ensures held { (v : Images) (us : List Update) → AllHeld v → T (list_all is_sound us) → Fits v us → AllHeld (after v us) }
 {}
 
 /// The formatted volume is so.
 pub fn formatted_is_well_formed()
     ensures formed { WellFormed formatted }
     ensures reached { AllReached formatted }
-    ensures held { (o : ℕ) → T (is_gone (formatted o) || is_held (formatted o)) }
+    ensures held { AllHeld formatted }
 {}

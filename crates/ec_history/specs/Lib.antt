@@ -2,3 +2,4 @@ pub mod History
 pub mod Legal
 pub mod Placing
 pub mod Lines
+pub mod Written

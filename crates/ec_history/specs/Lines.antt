@@ -5,7 +5,8 @@ use Rattle.ec_volume.specs.Image.{is_id}
 use Rattle.ec_volume.specs.Update.{member}
 use Rattle.ec_volume.specs.Volume.{Images, HaveOneShape, after}
 use Rattle.ec_history.specs.History.{Base, History, Op, updates, kept, Covers, Throughout}
-use Rattle.ec_history.specs.Placing.{Watch, watch_next, unwatched, place}
+use Rattle.ec_history.specs.Placing.{watch_next, unwatched, place}
+use Rattle.ec_history.specs.declared.watch.Watch.{Watch}
 use Rattle.ec_history.specs.declared.entry.Entry.{Entry}
 use Rattle.ec_history.specs.declared.entry.Entry.TheVariants as entry
 use Rattle.ec_history.specs.declared.shown.Shown.{Shown}

@@ -14,6 +14,7 @@ use Rattle.ec_history.specs.declared.entry.Answer.TheVariants as answer
 use Rattle.ec_history.specs.declared.entry.Entry.TheVariants as entry
 use Rattle.ec_history.specs.declared.shown.Shown.{Shown}
 use Rattle.ec_history.specs.declared.shown.Shown.TheVariants.{Waits, Answered, Durable, Ended, Unseen, Told, Crashed}
+use Rattle.ec_history.specs.declared.watch.Watch.{Watch}
 
 -- Whether the answer shows that its start has a session: all do but those that need no token.
 abbrev pub shows : Call → Answer → Bool
@@ -21,20 +22,9 @@ shows call.Sync a = false
 shows _ (answer.Reply (reply.Refused no.Root)) = false
 shows _ _ = true
 
--- What the lines so far show of one clerk.
-pub record Watch : Type 0 where
-  -- how many starts began, and whether the last one is running
-  pub starts : ℕ
-  pub running : Bool
-  -- the start whose session is open, and the operations of this session that no durable line named
-  pub open_start : Option ℕ
-  pub undurable : List ℕ
-  -- what the running start lost with its session and was not told yet, with its later operations
-  pub untold : Option (List ℕ)
-  pub crashed : Bool
-
+-- What the lines so far show of one clerk is a `Watch`.
 abbrev pub unwatched : Watch
-unwatched = record { starts = 0; running = false; open_start = None; undurable = []; untold = None; crashed = false }
+unwatched = record { starts = 0; running = false; open_start = None; undurable = []; early = []; untold = None; crashed = false }
 
 -- a call line of a clerk that isn't running begins its next start
 abbrev pub begun : Watch → Watch
@@ -44,11 +34,15 @@ abbrev pub or_else : Option ℕ → ℕ → Option ℕ
 or_else (Some b) c = Some b
 or_else None c = Some c
 
+-- An operation belongs to its start whatever answer it stands on: to the loss that isn't told yet; to the open session; or to the one that comes.
 abbrev pub answered : Watch → Bool → Option ℕ → Watch
 answered w shown op =
     elim w.untold [
       | Some ns ↦ record w { untold = Some (ns ++ listed op) }
-      | None ↦ if shown then record w { open_start = or_else w.open_start w.starts; undurable = w.undurable ++ listed op } else w
+      | None ↦
+          if shown then record w { open_start = or_else w.open_start w.starts; undurable = w.early ++ (w.undurable ++ listed op); early = [] }
+          else if is_id w.starts w.open_start then record w { undurable = w.undurable ++ listed op }
+          else record w { early = w.early ++ listed op }
     ]
 
 -- the start to which an ended line belongs now: the open one, else the running one, unless that was ended and not told yet
@@ -59,13 +53,21 @@ owner w = elim w.open_start [ Some b ↦ Some b | None ↦ if w.running && is_no
 abbrev pub is_running : Watch → Option ℕ → Bool
 is_running w b = w.running && is_id w.starts b
 
+-- what an ended line loses now: the operations of that start that no durable line named
+abbrev pub to_lose : Watch → List ℕ
+to_lose w = if is_some w.open_start then w.undurable else w.early
+
+-- a session ends that loses these: that of the running start, which is still to be told, or that of an earlier one
+abbrev pub ended : Watch → List ℕ → Watch
+ended w ns = if is_running w (owner w) then record w { open_start = None; undurable = []; early = []; untold = Some ns } else record w { open_start = None; undurable = [] }
+
 abbrev pub watch_next : ℕ → Watch → Shown → Watch
 watch_next c w (Waits l d cl) = if c == d then begun w else w
 watch_next c w (Answered l d cl a op) = if c == d then answered (begun w) (shows cl a) op else w
 watch_next c w (Durable d ns) = if c == d then record w { undurable = filter (λ n. not (member n ns)) w.undurable } else w
-watch_next c w (Ended d ns) = if c == d then record w { open_start = None; undurable = []; untold = if is_running w (owner w) then Some ns else w.untold } else w
+watch_next c w (Ended d ns) = if c == d then ended w ns else w
 watch_next c w (Told d ns) = if c == d then record w { untold = None } else w
-watch_next c w (Crashed d) = if c == d then record w { running = false; untold = None; crashed = true } else w
+watch_next c w (Crashed d) = if c == d then record w { running = false; early = []; untold = None; crashed = true } else w
 watch_next c w _ = w
 
 abbrev pub watch_from : ℕ → Watch → List Shown → Watch
@@ -94,13 +96,18 @@ EachLine P (s ∷ ss) = P s × EachLine P ss
 abbrev pub may_show : Watch → Bool
 may_show w = is_some w.untold || (is_none w.open_start || is_id w.starts w.open_start)
 
+-- Lists of operations are compared as sets: each number of one is in the other.
+abbrev pub same_numbers : List ℕ → List ℕ → Bool
+same_numbers ns ms = list_all (λ n. member n ms) ns && list_all (λ m. member m ns) ms
+
+-- A durable line names operations of the open session; where none is open there are none to name.
 abbrev pub MayFollow : List Shown → Shown → Type 0
 MayFollow past (Waits l c cl) = EachLine (Agrees l c cl) past
 MayFollow past (Answered l c cl a op) = EachLine (Agrees l c cl) past × EachLine (Unanswered l) past × T (not (shows cl a) || may_show (begun (watch c past)))
-MayFollow past (Durable c ns) = T (is_some (watch c past).open_start) × T (list_all (λ n. member n (watch c past).undurable) ns)
-MayFollow past (Ended c ns) = T (is_some (owner (watch c past))) × (ns ≡ (watch c past).undurable)
+MayFollow past (Durable c ns) = T (list_all (λ n. member n (watch c past).undurable) ns)
+MayFollow past (Ended c ns) = T (is_some (owner (watch c past))) × T (same_numbers ns (to_lose (watch c past)))
 MayFollow past (Unseen c) = ((watch c past).crashed ≡ true) × ((watch c past).open_start ≡ None)
-MayFollow past (Told c ns) = (watch c past).untold ≡ Some ns
+MayFollow past (Told c ns) = T (elim (watch c past).untold [ Some ms ↦ same_numbers ns ms | None ↦ false ])
 MayFollow past _ = ⊤
 
 abbrev pub ArePlaceable : List Shown → List Shown → Type 0

@@ -1,5 +1,5 @@
 // What a history is made of.
-use ec_base::{ClerkId, List, OpNo};
+use ec_base::{ClerkId, Duplicate, List, NoMemory, OpNo};
 use ec_plain::{Call, Reply};
 
 /// What a call was answered.
@@ -33,4 +33,14 @@ pub enum Entry {
         boot: u64,
         ops: List<OpNo>,
     },
+}
+
+impl Duplicate for Answer {
+    fn duplicate(&self) -> Result<Self, NoMemory> {
+        Ok(match self {
+            Answer::Reply(reply) => Answer::Reply(reply.duplicate()?),
+            Answer::NoRoom(live, reserved) => Answer::NoRoom(*live, *reserved),
+            Answer::Lost(ops) => Answer::Lost(ops.duplicate()?),
+        })
+    }
 }

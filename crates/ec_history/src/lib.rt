@@ -5,7 +5,9 @@
 mod entry;
 mod rule;
 mod shown;
+mod watch;
 
 pub use entry::{Answer, Entry};
 pub use rule::Rule;
 pub use shown::{LimitName, Shown};
+pub use watch::Watch;

@@ -1,6 +1,6 @@
 // The lines of a transcript.
 use crate::entry::Answer;
-use ec_base::{ClerkId, Counter, List, OpNo};
+use ec_base::{ClerkId, Counter, Duplicate, List, NoMemory, OpNo};
 use ec_plain::Call;
 
 /// What a script or a drill has too many of.
@@ -40,4 +40,28 @@ pub enum Shown {
     Limit(LimitName, u64),
     /// The last line: this counter would pass its limit.
     Spent(Counter),
+}
+
+impl Duplicate for Shown {
+    fn duplicate(&self) -> Result<Self, NoMemory> {
+        Ok(match self {
+            Shown::Waits(line, clerk, call) => Shown::Waits(*line, *clerk, call.duplicate()?),
+            Shown::Answered(line, clerk, call, answer, op) => {
+                Shown::Answered(*line, *clerk, call.duplicate()?, answer.duplicate()?, *op)
+            }
+            Shown::Durable(clerk, ops) => Shown::Durable(*clerk, ops.duplicate()?),
+            Shown::Ended(clerk, ops) => Shown::Ended(*clerk, ops.duplicate()?),
+            Shown::Unseen(clerk) => Shown::Unseen(*clerk),
+            Shown::Told(clerk, ops) => Shown::Told(*clerk, ops.duplicate()?),
+            Shown::Crashed(clerk) => Shown::Crashed(*clerk),
+            Shown::Stopped => Shown::Stopped,
+            Shown::Started => Shown::Started,
+            Shown::Nothing => Shown::Nothing,
+            Shown::Unsettled => Shown::Unsettled,
+            Shown::Bad(line, column) => Shown::Bad(*line, *column),
+            Shown::DiskBad(place) => Shown::DiskBad(*place),
+            Shown::Limit(name, number) => Shown::Limit(*name, *number),
+            Shown::Spent(counter) => Shown::Spent(*counter),
+        })
+    }
 }

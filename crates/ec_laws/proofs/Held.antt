@@ -9,7 +9,8 @@ use Rattle.ec_plain.specs.declared.call.Call.{Call}
 use Rattle.ec_history.specs.History.{History, is_entry_of}
 use Rattle.ec_history.specs.declared.entry.Answer.{Answer}
 use Rattle.ec_history.specs.declared.entry.Entry.TheVariants as entry
-use Rattle.ec_history.specs.Placing.{Watch, watch, unwatched, gives_entry, owner, or_zero, is_running, is_end_of, is_call_of, call_entry, late, ops_in, line_entries, place_from, place}
+use Rattle.ec_history.specs.Placing.{watch, unwatched, gives_entry, owner, or_zero, is_running, is_end_of, is_call_of, call_entry, late, ops_in, line_entries, place_from, place}
+use Rattle.ec_history.specs.declared.watch.Watch.{Watch}
 use Rattle.ec_history.specs.declared.shown.Shown.{Shown}
 use Rattle.ec_history.specs.declared.shown.Shown.TheVariants.{Answered, Ended}
 use Rattle.ec_laws.proofs.More.{watch-step, watch-append}

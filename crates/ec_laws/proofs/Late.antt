@@ -3,16 +3,18 @@ use Rattle.std.proofs.Common.{◌≡◌, refl, sym, ap, subst, ◌∙◌, arith,
 use Rattle.std.proofs.lemmas.Bool.{cond_both, cond-true, cond-false, cases_Bool, eqb-true, true≢false}
 use Rattle.std.specs.List.{list_any}
 use Rattle.std.proofs.lemmas.List.Folds.{list_any-append}
+use Rattle.ec_volume.specs.Image.{is_id}
 use Rattle.ec_volume.specs.Update.{listed}
 use Rattle.ec_plain.specs.declared.call.Call.{Call}
 use Rattle.ec_history.specs.History.{History}
 use Rattle.ec_history.specs.declared.entry.Answer.{Answer}
 use Rattle.ec_history.specs.declared.entry.Entry.TheVariants as entry
-use Rattle.ec_history.specs.Placing.{Watch, watch, watch_from, watch_next, begun, answered, or_else, or_zero, owner, is_running, is_end_of, is_call_of, call_entry, late, ops_in, line_entries, place_from, place, shows}
+use Rattle.ec_history.specs.Placing.{watch, watch_from, watch_next, begun, answered, ended, or_zero, owner, is_running, is_end_of, is_call_of, call_entry, late, ops_in, line_entries, place_from, place, shows}
+use Rattle.ec_history.specs.declared.watch.Watch.{Watch}
 use Rattle.ec_history.specs.declared.shown.Shown.{Shown}
 use Rattle.ec_history.specs.declared.shown.Shown.TheVariants.{Waits, Answered, Durable, Ended, Told, Crashed}
 use Rattle.ec_laws.proofs.More.{watch-step, watch-append}
-use Rattle.ec_laws.proofs.Watching.{from_front, answered_as, IsHeld, held-from, held-ended}
+use Rattle.ec_laws.proofs.Watching.{from_front, showing, in_session, before_session, answered_as, own_end, other_end, IsHeld, held-from, held-ended}
 
 pub same_number : (c : ℕ) → (c == c) ≡ true
 same_number c = grind arith
@@ -220,7 +222,7 @@ answered-untold w sh op ms h = go w.untold refl h
         some_is : Some (ns ++ listed op) ≡ Some ms → ms ≡ ns ++ listed op
         some_is q = cc
     go None e k =
-        absurd (none_some (cond_both sh (record w { open_start = or_else w.open_start w.starts; undurable = w.undurable ++ listed op }) w (λ v. v.untold ≡ Some ms → w.untold ≡ Some ms) (λ f x. x) (λ f x. x) k))
+        absurd (none_some (cond_both sh (showing w op) (cond (is_id w.starts w.open_start) (in_session w op) (before_session w op)) (λ v. v.untold ≡ Some ms → w.untold ≡ Some ms) (λ f x. x) (λ f. cond_both (is_id w.starts w.open_start) (in_session w op) (before_session w op) (λ v. v.untold ≡ Some ms → w.untold ≡ Some ms) (λ i x. x) (λ i x. x)) k))
       where
         none_some : w.untold ≡ Some ms → ⊥
         none_some q = cc
@@ -244,7 +246,13 @@ since-next c ss (Ended d ns) seen ms u =
     cond_both (c == d) _ (watch c ss) (λ v. v.untold ≡ Some ms → Since c (ss ++ Ended d ns ∷ []) ms)
     (λ e k. new (eqb-true c d e) k) (λ e k. still c ss (Ended d ns) seen ms refl refl k) u
   where
-    new : c ≡ d → cond (is_running (watch c ss) (owner (watch c ss))) (Some ns) ((watch c ss).untold) ≡ Some ms → Since c (ss ++ Ended d ns ∷ []) ms
+    own : is_running (watch c ss) (owner (watch c ss)) ≡ true → ended (watch c ss) ns ≡ own_end (watch c ss) ns
+    own r = cond-true (is_running (watch c ss) (owner (watch c ss))) (own_end (watch c ss) ns) (other_end (watch c ss)) r
+
+    other : is_running (watch c ss) (owner (watch c ss)) ≡ false → ended (watch c ss) ns ≡ other_end (watch c ss)
+    other r = cond-false (is_running (watch c ss) (owner (watch c ss))) (own_end (watch c ss) ns) (other_end (watch c ss)) r
+
+    new : c ≡ d → (ended (watch c ss) ns).untold ≡ Some ms → Since c (ss ++ Ended d ns ∷ []) ms
     new e k = elim (cases_Bool (is_running (watch c ss) (owner (watch c ss)))) [
       | inl r ↦ record {
         front = ss;
@@ -253,9 +261,9 @@ since-next c ss (Ended d ns) seen ms u =
         whole = ap (λ x. ss ++ Ended x ns ∷ []) (sym e);
         runs = r;
         lasts = refl;
-        losses = some_is (sym (cond-true (is_running (watch c ss) (owner (watch c ss))) (Some ns) (watch c ss).untold r) ∙ k) ∙ sym (append-nil ns);
+        losses = some_is (sym (ap (λ w. w.untold) (own r)) ∙ k) ∙ sym (append-nil ns);
       }
-      | inr r ↦ still c ss (Ended d ns) seen ms refl refl (sym (cond-false (is_running (watch c ss) (owner (watch c ss))) (Some ns) (watch c ss).untold r) ∙ k)
+      | inr r ↦ still c ss (Ended d ns) seen ms refl refl (sym (ap (λ w. w.untold) (other r)) ∙ k)
     ]
       where
         some_is : Some ns ≡ Some ms → ms ≡ ns

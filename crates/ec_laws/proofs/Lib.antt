@@ -11,6 +11,7 @@ pub mod Inserted
 pub mod Taken
 pub mod Objects
 pub mod Ranges
+pub mod Sets
 pub mod Overwriting
 pub mod Pulled
 pub mod Touching

@@ -6,7 +6,8 @@ use Rattle.ec_plain.specs.declared.call.Call.{Call}
 use Rattle.ec_history.specs.Legal.{is_op_of}
 use Rattle.std.proofs.lemmas.List.Folds.{list_any-append}
 use Rattle.ec_history.specs.History.{Base, History, Op, Owed, kept, kept_from, kept_next, issued, issued_by, issued_from, owed, owed_from, owed_next, is_lost, names, is_entry_of, same_start, due, distinct_numbers, meets, outcome}
-use Rattle.ec_history.specs.Placing.{Watch, watch, watch_from, watch_next, unwatched, last_place, gives_entry, before_line, is_numbered}
+use Rattle.ec_history.specs.Placing.{watch, watch_from, watch_next, unwatched, last_place, gives_entry, before_line, is_numbered}
+use Rattle.ec_history.specs.declared.watch.Watch.{Watch}
 use Rattle.ec_history.specs.Lines.{durable, durable_from, made_durable}
 use Rattle.ec_history.specs.declared.entry.Entry.{Entry}
 use Rattle.ec_history.specs.declared.entry.Entry.TheVariants as entry

@@ -1,6 +1,6 @@
 -- Overwrites: what they keep, and in which order they come.
-use Rattle.std.proofs.Common.{◌≡◌, refl, sym, ap, subst, ◌∙◌, inl, inr, arith, ◌≤◌, ◌+◌, ◌⊎◌, ℕ, T, Bool, true, false, not, ◌==◌, ◌&&◌, ◌||◌, cond, List, [], ◌∷◌, ltb, leb, length}
-use Rattle.std.proofs.lemmas.Bool.{cases_Bool, and_parts, and_cases, eqb-true, ltb-false, leb-true, true≢false}
+use Rattle.std.proofs.Common.{◌≡◌, refl, sym, ap, subst, ◌∙◌, inl, inr, arith, ◌<◌, ◌≤◌, ◌+◌, ℕ, T, Bool, true, false, not, ◌==◌, ◌&&◌, ◌||◌, cond, List, [], ◌∷◌, ltb, leb, suc, length}
+use Rattle.std.proofs.lemmas.Bool.{cases_Bool, and_parts, and_from, and_cases, cases_lt, eqb-true, ltb-true, ltb-false, leb-true, true≢false}
 use Rattle.ec_volume.specs.Image.{is_file, bytes_of, with_bytes, overwritten}
 use Rattle.ec_volume.specs.Update.{has_operand, fits, effect}
 use Rattle.ec_volume.specs.Volume.{fits_in_turn}
@@ -13,7 +13,7 @@ use Rattle.ec_plain.specs.declared.call.Reply.TheVariants as reply
 use Rattle.ec_volume.specs.declared.image.Kind.TheVariants as kind
 use Rattle.ec_order.specs.Order.{is_overwrite, meet, under}
 use Rattle.ec_laws.proofs.Objects.{holds, is-true}
-use Rattle.ec_laws.proofs.Ranges.{length-overwritten, ranges-commute}
+use Rattle.ec_laws.proofs.Ranges.{length-overwritten, ranges-commute, none-commute}
 
 pub overwrite-is : (u : Update) → is_overwrite u ≡ true → (p : ℕ) × (at : ℕ) × (bs : List ℕ) × (u ≡ Put p at bs true)
 overwrite-is (Put p at bs true) w = (p, at, bs, refl)
@@ -89,11 +89,56 @@ fit-both o i a b x y = go (has_operand o a) (has_operand o b)
 
 -- Ranges that don't meet.
 
-ranges-apart : (p k q l : ℕ) → meet p k q l ≡ false → (p + k ≤ q) ⊎ (q + l ≤ p)
-ranges-apart p k q l h = elim (and_cases (ltb p (q + l)) (ltb q (p + k)) h) [
-  | inl e ↦ inr (ltb-false p (q + l) e)
-  | inr e ↦ inl (ltb-false q (p + k) e)
+-- What keeps them apart: one of them is empty, or ends before the other.
+data Apart (p k q l : ℕ) : Type 0 where
+  none : k ≡ 0 → Apart p k q l
+  no_other : l ≡ 0 → Apart p k q l
+  first : p + k ≤ q → Apart p k q l
+  last : q + l ≤ p → Apart p k q l
+
+is-zero : (n : ℕ) → ltb 0 n ≡ false → n ≡ 0
+is-zero n h = grind arith
+
+small : (a b : ℕ) → a < b → ltb a b ≡ true
+small a b h = grind arith
+
+pub meet-place : (m k n l : ℕ) → meet m k n l ≡ true → (p : ℕ) × (m ≤ p) × (p < m + k) × (n ≤ p) × (p < n + l)
+meet-place m k n l h =
+    let a = and_parts (ltb 0 k && ltb 0 l && ltb m (n + l)) (ltb n (m + k)) h in
+    let b = and_parts (ltb 0 k && ltb 0 l) (ltb m (n + l)) a.0 in
+    let c = and_parts (ltb 0 k) (ltb 0 l) b.0 in
+    let some : 0 < k = ltb-true 0 k c.0 in
+    let some_other : 0 < l = ltb-true 0 l c.1 in
+    let early : m < n + l = ltb-true m (n + l) b.1 in
+    let late : n < m + k = ltb-true n (m + k) a.1 in
+    elim (cases_lt m n) [
+      | inl lt ↦ (n, omega (arith, lt), late, omega arith, omega (arith, some_other))
+      | inr le ↦ (m, omega arith, omega (arith, some), le, early)
+    ]
+
+pub meet-from : (m k n l p : ℕ) → m ≤ p → p < m + k → n ≤ p → p < n + l → meet m k n l ≡ true
+meet-from m k n l p a b c d =
+    let first : ltb 0 k ≡ true = small 0 k (omega (arith, a, b)) in
+    let last : ltb 0 l ≡ true = small 0 l (omega (arith, c, d)) in
+    let early : ltb m (n + l) ≡ true = small m (n + l) (omega (arith, a, d)) in
+    let late : ltb n (m + k) ≡ true = small n (m + k) (omega (arith, b, c)) in
+    and_from (ltb 0 k && ltb 0 l && ltb m (n + l)) (ltb n (m + k)) (and_from (ltb 0 k && ltb 0 l) (ltb m (n + l)) (and_from (ltb 0 k) (ltb 0 l) first last) early) late
+
+ranges-apart : (p k q l : ℕ) → meet p k q l ≡ false → Apart p k q l
+ranges-apart p k q l h = elim (and_cases (ltb 0 k && ltb 0 l && ltb p (q + l)) (ltb q (p + k)) h) [
+  | inl e ↦ elim (and_cases (ltb 0 k && ltb 0 l) (ltb p (q + l)) e) [
+    | inl f ↦ elim (and_cases (ltb 0 k) (ltb 0 l) f) [ inl z ↦ none (is-zero k z) | inr z ↦ no_other (is-zero l z) ]
+    | inr f ↦ last (ltb-false p (q + l) f)
+  ]
+  | inr e ↦ first (ltb-false q (p + k) e)
 ]
+
+nothing : (xs : List ℕ) → length xs ≡ 0 → xs ≡ []
+nothing [] e = refl
+nothing (x ∷ xs) e = absurd (some (length xs) e)
+  where
+    some : (n : ℕ) → suc n ≡ 0 → ⊥
+    some n e = omega (arith, e)
 
 bytes-commute : (f g : List ℕ → List ℕ) (i : Image) → f (g (bytes_of i)) ≡ g (f (bytes_of i)) → with_bytes f (with_bytes g i) ≡ with_bytes g (with_bytes f i)
 bytes-commute f g Gone e = refl
@@ -103,8 +148,10 @@ bytes-commute f g (Dir m s w es) e = refl
 puts-commute : (o p q m n : ℕ) (xs ys : List ℕ) (i : Image) → meet m (length xs) n (length ys) ≡ false
     → effect (Put p m xs true) o (effect (Put q n ys true) o i) ≡ effect (Put q n ys true) o (effect (Put p m xs true) o i)
 puts-commute o p q m n xs ys i h = bytes-commute (overwritten m xs) (overwritten n ys) i (elim (ranges-apart m (length xs) n (length ys) h) [
-  | inl l ↦ ranges-commute m n xs ys (bytes_of i) l
-  | inr l ↦ sym (ranges-commute n m ys xs (bytes_of i) l)
+  | none e ↦ subst (λ zs. overwritten m zs (overwritten n ys (bytes_of i)) ≡ overwritten n ys (overwritten m zs (bytes_of i))) (sym (nothing xs e)) (none-commute m n ys (bytes_of i))
+  | no_other e ↦ subst (λ zs. overwritten m xs (overwritten n zs (bytes_of i)) ≡ overwritten n zs (overwritten m xs (bytes_of i))) (sym (nothing ys e)) (sym (none-commute n m xs (bytes_of i)))
+  | first l ↦ ranges-commute m n xs ys (bytes_of i) l
+  | last l ↦ sym (ranges-commute n m ys xs (bytes_of i) l)
 ])
 
 only-operand : (o p : ℕ) → ((o == p) || false) ≡ true → o ≡ p

@@ -1,5 +1,5 @@
 -- Bytes written at two ranges that don't meet, in either order.
-use Rattle.std.proofs.Common.{◌≡◌, sym, ap, ◌∙◌, inl, inr, arith, ◌<◌, ◌≤◌, ◌+◌, ◌-◌, ℕ, List, ◌++◌, length, take, drop, replicate, length-append, length-take, length-drop}
+use Rattle.std.proofs.Common.{◌≡◌, sym, ap, ◌∙◌, inl, inr, arith, ◌<◌, ◌≤◌, ◌+◌, ◌-◌, ℕ, List, [], ◌++◌, length, take, drop, replicate, length-append, length-take, length-drop}
 use Rattle.std.proofs.lemmas.Bool.{cases_lt}
 use Rattle.std.proofs.lemmas.List.{length-replicate, get_or-take, get_or-drop, get_or_append_left, get_or-append_right, get_or-replicate, get_or_past, ext_get_or}
 use Rattle.std.proofs.Math.ListN.{get_or}
@@ -69,5 +69,25 @@ ranges-commute p q x y bs h = ext_get_or 0 (overwritten p x (overwritten q y bs)
             | inr e ↦ byte-above q y bs i e ∙ sym (byte-above q y (overwritten p x bs) i e ∙ byte-above p x bs i b)
           ]
         ])
+      ]
+    ]
+
+-- No bytes at a range, which may lengthen a file, and bytes at another.
+pub none-commute : (p q : ℕ) (y bs : List ℕ) → overwritten p [] (overwritten q y bs) ≡ overwritten q y (overwritten p [] bs)
+none-commute p q y bs = ext_get_or 0 (overwritten p [] (overwritten q y bs)) (overwritten q y (overwritten p [] bs)) one-length (λ i l. byte i)
+  where
+    one-length : length (overwritten p [] (overwritten q y bs)) ≡ length (overwritten q y (overwritten p [] bs))
+    one-length =
+        omega (arith, length-overwritten p [] (overwritten q y bs), length-overwritten q y bs, length-overwritten q y (overwritten p [] bs), length-overwritten p [] bs)
+
+    same : (cs : List ℕ) (i : ℕ) → get_or (overwritten p [] cs) i 0 ≡ get_or cs i 0
+    same cs i = elim (cases_lt i p) [ inl a ↦ byte-below p [] cs i a | inr a ↦ byte-above p [] cs i (omega (arith, a)) ]
+
+    byte : (i : ℕ) → get_or (overwritten p [] (overwritten q y bs)) i 0 ≡ get_or (overwritten q y (overwritten p [] bs)) i 0
+    byte i = same (overwritten q y bs) i ∙ elim (cases_lt i q) [
+      | inl a ↦ byte-below q y bs i a ∙ sym (byte-below q y (overwritten p [] bs) i a ∙ same bs i)
+      | inr a ↦ elim (cases_lt i (q + length y)) [
+        | inl b ↦ byte-in q y bs i a b ∙ sym (byte-in q y (overwritten p [] bs) i a b)
+        | inr b ↦ byte-above q y bs i b ∙ sym (byte-above q y (overwritten p [] bs) i b ∙ same bs i)
       ]
     ]

@@ -1,10 +1,11 @@
 -- What the lines so far show of a clerk.
-use Rattle.std.proofs.Common.{◌≡◌, refl, sym, ap, subst, ◌∙◌, arith, ◌≤◌, ◌+◌, ℕ, Bool, true, false, ◌==◌, ◌&&◌, cond, List, [], ◌∷◌, ◌++◌, Option, Some, None, is_some, is_none, append_assoc, append-nil}
+use Rattle.std.proofs.Common.{◌≡◌, refl, sym, ap, subst, ◌∙◌, arith, ◌≤◌, ◌+◌, ℕ, Bool, true, false, not, ◌==◌, ◌&&◌, cond, List, [], ◌∷◌, ◌++◌, Option, Some, None, is_some, is_none, append_assoc, append-nil}
 use Rattle.std.proofs.lemmas.Bool.{cond_both, cond-true, and_parts, or_parts, eqb-true, true≢false}
-use Rattle.std.specs.List.{list_any}
+use Rattle.std.specs.List.{filter, list_any}
 use Rattle.ec_volume.specs.Image.{is_id}
-use Rattle.ec_volume.specs.Update.{listed}
-use Rattle.ec_history.specs.Placing.{Watch, watch, watch_from, watch_next, unwatched, begun, answered, or_else, owner, is_running, is_end_of, shows}
+use Rattle.ec_volume.specs.Update.{member, listed}
+use Rattle.ec_history.specs.Placing.{watch, watch_from, watch_next, unwatched, begun, answered, ended, or_else, owner, is_running, is_end_of, shows}
+use Rattle.ec_history.specs.declared.watch.Watch.{Watch}
 use Rattle.ec_history.specs.declared.shown.Shown.{Shown}
 use Rattle.ec_history.specs.declared.shown.Shown.TheVariants.{Waits, Answered, Durable, Ended, Told, Crashed}
 use Rattle.ec_laws.proofs.More.{watch-step}
@@ -35,12 +36,28 @@ sound-begun w h =
 runs-begun : (w : Watch) → (begun w).running ≡ true
 runs-begun w = cond_both w.running w (record w { starts = w.starts + 1; running = true }) (λ v. v.running ≡ true) (λ e. e) (λ e. refl)
 
--- the watch behind an answer, by what was untold
+-- The watch behind an answer, by what was untold: the answer shows a session; or one is open; or not yet.
+abbrev pub showing : Watch → Option ℕ → Watch
+showing w op = record w { open_start = or_else w.open_start w.starts; undurable = w.early ++ (w.undurable ++ listed op); early = [] }
+
+abbrev pub in_session : Watch → Option ℕ → Watch
+in_session w op = record w { undurable = w.undurable ++ listed op }
+
+abbrev pub before_session : Watch → Option ℕ → Watch
+before_session w op = record w { early = w.early ++ listed op }
+
 abbrev pub answered_as : Watch → Bool → Option ℕ → Option (List ℕ) → Watch
 answered_as w sh op u = elim u [
   | Some ns ↦ record w { untold = Some (ns ++ listed op) }
-  | None ↦ cond sh (record w { open_start = or_else w.open_start w.starts; undurable = w.undurable ++ listed op }) w
+  | None ↦ cond sh (showing w op) (cond (is_id w.starts w.open_start) (in_session w op) (before_session w op))
 ]
+
+-- The watch behind the end of a session: of the running start's, or of an earlier one's.
+abbrev pub own_end : Watch → List ℕ → Watch
+own_end w ns = record w { open_start = None; undurable = []; early = []; untold = Some ns }
+
+abbrev pub other_end : Watch → Watch
+other_end w = record w { open_start = None; undurable = [] }
 
 sound-answered : (w : Watch) (sh : Bool) (op : Option ℕ) → w.running ≡ true → IsSound w → IsSound (answered w sh op)
 sound-answered w sh op r h = go w.untold refl
@@ -48,11 +65,13 @@ sound-answered w sh op r h = go w.untold refl
     go : (u : Option (List ℕ)) → w.untold ≡ u → IsSound (answered_as w sh op u)
     go (Some ns) e = record { ended_runs = λ u. h.ended_runs (ap is_some e); counted = h.counted; opened = h.opened }
     go None e =
-        cond_both sh (record w { open_start = or_else w.open_start w.starts; undurable = w.undurable ++ listed op }) w IsSound (λ f. record {
+        cond_both sh (showing w op) (cond (is_id w.starts w.open_start) (in_session w op) (before_session w op)) IsSound (λ f. record {
           ended_runs = λ u. absurd (true≢false (sym u ∙ ap is_some e));
           counted = h.counted;
           opened = λ b. here w.open_start h.opened b;
-        }) (λ f. h)
+        })
+        (λ f. cond_both (is_id w.starts w.open_start) (in_session w op) (before_session w op) IsSound
+            (λ i. record { ended_runs = h.ended_runs; counted = h.counted; opened = h.opened }) (λ i. record { ended_runs = h.ended_runs; counted = h.counted; opened = h.opened }))
       where
         here : (o : Option ℕ) → ((b : ℕ) → o ≡ Some b → (1 ≤ b) × (b ≤ w.starts)) → (b : ℕ) → or_else o w.starts ≡ Some b → (1 ≤ b) × (b ≤ w.starts)
         here (Some a) k b q = k b q
@@ -66,15 +85,12 @@ sound-next c w (Waits l d cl) h = cond_both (c == d) (begun w) w IsSound (λ e. 
 sound-next c w (Answered l d cl a op) h =
     cond_both (c == d) (answered (begun w) (shows cl a) op) w IsSound (λ e. sound-answered (begun w) (shows cl a) op (runs-begun w) (sound-begun w h)) (λ e. h)
 sound-next c w (Durable d ns) h = cond_both (c == d) _ w IsSound (λ e. record { ended_runs = h.ended_runs; counted = h.counted; opened = h.opened }) (λ e. h)
-sound-next c w (Ended d ns) h = cond_both (c == d) _ w IsSound (λ e. record {
-  ended_runs = λ u. (
-    refl,
-    cond_both (is_running w (owner w)) (Some ns) w.untold (λ v. is_some v ≡ true → w.running ≡ true)
-        (λ r k. (and_parts w.running (is_id w.starts (owner w)) r).0) (λ r k. (h.ended_runs k).1) u,
-  );
-  counted = h.counted;
-  opened = λ b o. absurd (none_some b o);
-}) (λ e. h)
+sound-next c w (Ended d ns) h =
+    cond_both (c == d) (ended w ns) w IsSound
+    (λ e. cond_both (is_running w (owner w)) (own_end w ns) (other_end w) IsSound
+        (λ r. record { ended_runs = λ u. (refl, (and_parts w.running (is_id w.starts (owner w)) r).0); counted = h.counted; opened = λ b o. absurd (none_some b o) })
+        (λ r. record { ended_runs = λ u. (refl, (h.ended_runs u).1); counted = h.counted; opened = λ b o. absurd (none_some b o) }))
+    (λ e. h)
   where
     none_some : (b : ℕ) → None ≡ Some b → ⊥
     none_some b q = cc
@@ -113,12 +129,12 @@ held-next c b w (Waits l d cl) e h = cond_both (c == d) (begun w) w (IsHeld b) (
 held-next c b w (Answered l d cl a op) e h =
     cond_both (c == d) (answered (begun w) (shows cl a) op) w (IsHeld b) (λ f. held-answered b (begun w) (shows cl a) op (held-begun b w h)) (λ f. h)
 held-next c b w (Durable d ns) e h = cond_both (c == d) _ w (IsHeld b) (λ f. record { untold = h.untold; open_start = h.open_start; running = h.running; starts = h.starts }) (λ f. h)
-held-next c b w (Ended d ns) e h = cond_both (c == d) _ w (IsHeld b) (λ f. record {
-  untold = cond_both (is_running w (owner w)) (Some ns) w.untold (λ v. is_some v ≡ true) (λ r. refl) (λ r. h.untold);
-  open_start = refl;
-  running = h.running;
-  starts = h.starts;
-}) (λ f. h)
+held-next c b w (Ended d ns) e h =
+    cond_both (c == d) (ended w ns) w (IsHeld b)
+    (λ f. cond_both (is_running w (owner w)) (own_end w ns) (other_end w) (IsHeld b)
+        (λ r. record { untold = refl; open_start = refl; running = h.running; starts = h.starts })
+        (λ r. record { untold = h.untold; open_start = refl; running = h.running; starts = h.starts }))
+    (λ f. h)
 held-next c b w (Told d ns) e h = cond_both (c == d) _ w (IsHeld b) (λ f. absurd (true≢false (sym f ∙ e))) (λ f. h)
 held-next c b w (Crashed d) e h = cond_both (c == d) _ w (IsHeld b) (λ f. absurd (true≢false (sym f ∙ e))) (λ f. h)
 held-next c b w s e h = h
@@ -133,8 +149,8 @@ held-from c b w (s ∷ ss) e h =
 pub held-ended : (c : ℕ) (w : Watch) (ns : List ℕ) → is_running w (owner w) ≡ true → IsHeld w.starts (watch_next c w (Ended c ns))
 held-ended c w ns r =
     let same : (c == c) ≡ true = grind arith in
-    subst (IsHeld w.starts) (sym (cond-true (c == c) _ w same)) record {
-      untold = ap is_some (cond-true (is_running w (owner w)) (Some ns) w.untold r);
+    subst (IsHeld w.starts) (sym (cond-true (c == c) (ended w ns) w same ∙ cond-true (is_running w (owner w)) (own_end w ns) (other_end w) r)) record {
+      untold = refl;
       open_start = refl;
       running = (and_parts w.running (is_id w.starts (owner w)) r).0;
       starts = refl;
@@ -177,6 +193,42 @@ untold-runs c ss ns u =
 
 pub running-counted : (c : ℕ) (ss : List Shown) → (watch c ss).running ≡ true → 1 ≤ (watch c ss).starts
 running-counted c ss = (sound c ss).counted
+
+-- Where no session is open, nothing is undurable.
+abbrev IsClosed : Watch → Type 0
+IsClosed w = w.open_start ≡ None → w.undurable ≡ []
+
+closed-begun : (w : Watch) → IsClosed w → IsClosed (begun w)
+closed-begun w h = cond_both w.running w (record w { starts = w.starts + 1; running = true }) IsClosed (λ e. h) (λ e. h)
+
+closed-answered : (w : Watch) (sh : Bool) (op : Option ℕ) → IsClosed w → IsClosed (answered w sh op)
+closed-answered w sh op h = go w.untold refl
+  where
+    opens : (o : Option ℕ) (n : ℕ) → or_else o n ≡ None → ⊥
+    opens (Some b) n e = absurd (true≢false (ap is_some e))
+    opens None n e = absurd (true≢false (ap is_some e))
+
+    not_open : (n : ℕ) (o : Option ℕ) → is_id n o ≡ true → o ≡ None → ⊥
+    not_open n o e f = true≢false (sym e ∙ ap (is_id n) f)
+
+    go : (u : Option (List ℕ)) → w.untold ≡ u → IsClosed (answered_as w sh op u)
+    go (Some ns) e = h
+    go None e =
+        cond_both sh (showing w op) (cond (is_id w.starts w.open_start) (in_session w op) (before_session w op)) IsClosed (λ f o. absurd (opens w.open_start w.starts o))
+        (λ f. cond_both (is_id w.starts w.open_start) (in_session w op) (before_session w op) IsClosed (λ i o. absurd (not_open w.starts w.open_start i o)) (λ i. h))
+
+closed-next : (c : ℕ) (w : Watch) (s : Shown) → IsClosed w → IsClosed (watch_next c w s)
+closed-next c w (Waits l d cl) h = cond_both (c == d) (begun w) w IsClosed (λ e. closed-begun w h) (λ e. h)
+closed-next c w (Answered l d cl a op) h = cond_both (c == d) (answered (begun w) (shows cl a) op) w IsClosed (λ e. closed-answered (begun w) (shows cl a) op (closed-begun w h)) (λ e. h)
+closed-next c w (Durable d ns) h = cond_both (c == d) _ w IsClosed (λ e o. ap (filter (λ n. not (member n ns))) (h o)) (λ e. h)
+closed-next c w (Ended d ns) h =
+    cond_both (c == d) (ended w ns) w IsClosed (λ e. cond_both (is_running w (owner w)) (own_end w ns) (other_end w) IsClosed (λ r o. refl) (λ r o. refl)) (λ e. h)
+closed-next c w (Told d ns) h = cond_both (c == d) _ w IsClosed (λ e. h) (λ e. h)
+closed-next c w (Crashed d) h = cond_both (c == d) _ w IsClosed (λ e. h) (λ e. h)
+closed-next c w s h = h
+
+pub closed-undurable : (c : ℕ) (ss : List Shown) → (watch c ss).open_start ≡ None → (watch c ss).undurable ≡ []
+closed-undurable c = from_front (λ ss. IsClosed (watch c ss)) (λ o. refl) (λ ss s h. subst IsClosed (sym (watch-step c ss s)) (closed-next c (watch c ss) s h))
 
 pub open-counted : (c b : ℕ) (ss : List Shown) → (watch c ss).open_start ≡ Some b → (1 ≤ b) × (b ≤ (watch c ss).starts)
 open-counted c b ss = (sound c ss).opened b

@@ -27,9 +27,11 @@ pub use list_example::{
 };
 pub use overwrites::{
     overwrites_change_places, overwrites_fit_by_length, overwrites_keep_the_stat,
+    ranges_meet_at_a_place,
 };
 pub use placing::{
-    each_line_is_placed, lines_above_cover, places_are_distinct, watched_starts_are_counted,
+    each_line_is_placed, lines_above_cover, places_are_distinct, rising_lists_are_sets,
+    watched_starts_are_counted,
 };
 pub use projection::{
     an_object_sees_its_own_updates, equal_projections_are_enough, longer_lists_go_on,

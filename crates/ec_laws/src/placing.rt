@@ -5,7 +5,9 @@ ghost use Rattle.ec_volume.specs.Update.{listed, distinct};
 ghost use Rattle.ec_plain.specs.declared.call.Call.{Call};
 ghost use Rattle.ec_history.specs.History.{Base, History, Each, Throughout, is_entry_of};
 ghost use Rattle.ec_history.specs.Lines.{IsCovered, AreCovered};
-ghost use Rattle.ec_history.specs.Placing.{Watch, watch, begun, owner, or_zero, gives_entry, call_entry, place};
+ghost use Rattle.ec_history.specs.Placing.{watch, begun, owner, or_zero, gives_entry, call_entry, place, same_numbers};
+ghost use Rattle.ec_history.specs.Written.{rises};
+ghost use Rattle.ec_history.specs.declared.watch.Watch.{Watch};
 ghost use Rattle.ec_history.specs.declared.entry.Answer.{Answer};
 ghost use Rattle.ec_history.specs.declared.entry.Entry.TheVariants as entry;
 ghost use Rattle.ec_history.specs.declared.shown.Shown.{Shown};
@@ -35,10 +37,19 @@ pub fn places_are_distinct()
 
 /// What the lines show of a clerk: while something is untold no session is open and the start runs,
 /// and its answers are of this start; starts count from 1, and an open session is of one that began.
+/// Where none is open nothing is undurable, so that a durable line has nothing to name.
 pub fn watched_starts_are_counted()
     ensures untold { (c : ℕ) (ss : List Shown) (ns : List ℕ) → (watch c ss).untold ≡ Some ns → ((watch c ss).open_start ≡ None) × ((watch c ss).running ≡ true) × (begun (watch c ss) ≡ watch c ss) }
     ensures running { (c : ℕ) (ss : List Shown) → (watch c ss).running ≡ true → 1 ≤ (watch c ss).starts }
     ensures opened { (c b : ℕ) (ss : List Shown) → (watch c ss).open_start ≡ Some b → (1 ≤ b) × (b ≤ (watch c ss).starts) }
+    ensures closed { (c : ℕ) (ss : List Shown) → (watch c ss).open_start ≡ None → (watch c ss).undurable ≡ [] }
+{}
+
+/// Lists are compared as sets: a list has the numbers of itself, and rising lists that have the same
+/// numbers are one list.
+pub fn rising_lists_are_sets()
+    ensures own { (ns : List ℕ) → T (same_numbers ns ns) }
+    ensures rising { (ns ms : List ℕ) → T (rises ns) → T (rises ms) → T (same_numbers ns ms) → ns ≡ ms }
 {}
 
 /// Durable lines name all that a transcript's calls cover, if those above its last line do.

@@ -17,9 +17,9 @@ share a b = list_any (λ o. member o (operands b)) (operands a)
 abbrev pub before : Update → Update → Bool
 before a b = share a b && not (is_overwrite a && is_overwrite b)
 
--- the bytes from m on, k of them, and those from n on, l of them, meet
+-- The k bytes from m on and the l bytes from n on have a place in common: neither range is empty, and each begins before the other ends.
 abbrev pub meet : ℕ → ℕ → ℕ → ℕ → Bool
-meet m k n l = nat_lt m (n + l) && nat_lt n (m + k)
+meet m k n l = nat_lt 0 k && nat_lt 0 l && nat_lt m (n + l) && nat_lt n (m + k)
 
 -- The same of two overwrites of one file: their ranges of bytes meet, so a is under b.
 abbrev pub under : Update → Update → Bool

@@ -102,13 +102,13 @@ each-unanswered l (s ∷ ss) h = (one s (left _ _ h), each-unanswered l ss (righ
 abbrev may_follow : List Shown → Shown → Bool
 may_follow past (Waits l c cl) = list_all (agrees l c cl) past
 may_follow past (Answered l c cl a op) = list_all (agrees l c cl) past && (list_all (unanswered l) past && (not (shows cl a) || may_show (begun (watch c past))))
-may_follow past (Durable c ns) = is_some (watch c past).open_start && list_all (λ n. member n (watch c past).undurable) ns
+may_follow past (Durable c ns) = list_all (λ n. member n (watch c past).undurable) ns
 may_follow past _ = false
 
 follows : (past : List Shown) (s : Shown) → T (may_follow past s) → MayFollow past s
 follows past (Waits l c cl) t = each-agrees l c cl past t
 follows past (Answered l c cl a op) t = (each-agrees l c cl past (left _ _ t), each-unanswered l past (left _ _ (right (list_all (agrees l c cl) past) _ t)), right (list_all (unanswered l) past) _ (right (list_all (agrees l c cl) past) _ t))
-follows past (Durable c ns) t = (left _ _ t, right _ _ t)
+follows past (Durable c ns) t = t
 follows past _ t = absurd t
 
 abbrev pub are_placeable : List Shown → List Shown → Bool

@@ -9,7 +9,7 @@ use Rattle.ec_history.specs.declared.entry.Answer.TheVariants as answer
 use Rattle.ec_history.specs.declared.shown.Shown.{Shown}
 use Rattle.ec_history.specs.declared.shown.Shown.TheVariants.{Waits, Answered, Durable, Ended, Unseen, Told, Crashed}
 use Rattle.ec_rows.specs.Clerks.{A}
-use Rattle.ec_rows.specs.Parts.{begun, flushed}
+use Rattle.ec_rows.specs.Parts.{begun, awaited, flushed}
 
 -- told, behind the loss of two operations
 abbrev pub two_lost_creates : List ℕ → List Shown
@@ -81,10 +81,53 @@ two_durable_lines second =
     ∷ []
 
 -- a durable line of this clerk
-abbrev pub durable_of_none : ℕ → List Shown
-durable_of_none clerk =
+abbrev pub durable_of : ℕ → List ℕ → List Shown
+durable_of clerk named =
     begun (call.Create (codes "f" ∷ []))
-    ++ Durable clerk []
+    ++ Durable clerk named
+    ∷ []
+
+-- the operations have the numbers 2 and 1, and are lost and told
+abbrev pub two_numbers : List ℕ → List ℕ → List Shown
+two_numbers lost told =
+    awaited 1 A (call.Create (codes "f" ∷ [])) (answer.Reply reply.Ok) (Some 2)
+    ++ Answered 2 A (call.Create (codes "g" ∷ [])) (answer.Reply reply.Ok) (Some 1)
+    ∷ Ended A lost
+    ∷ Told A told
+    ∷ []
+
+-- a sync has an operation before the session is shown
+abbrev pub early_operation : List ℕ → List Shown
+early_operation lost =
+    Answered 1 A call.Sync (answer.Reply reply.Ok) (Some 1)
+    ∷ Answered 2 A (call.Create (codes "f" ∷ [])) (answer.Reply reply.Ok) (Some 2)
+    ∷ Ended A lost
+    ∷ []
+
+-- a session ends that was never shown, of a start with an operation
+abbrev pub unshown_operation : List ℕ → List Shown
+unshown_operation lost =
+    Answered 1 A call.Sync (answer.Reply reply.Ok) (Some 1)
+    ∷ Ended A lost
+    ∷ []
+
+-- a sync has an operation in an open session
+abbrev pub operation_of_sync : List ℕ → List Shown
+operation_of_sync lost =
+    begun (call.Create (codes "f" ∷ []))
+    ++ Answered 2 A call.Sync (answer.Reply reply.Ok) (Some 2)
+    ∷ Ended A lost
+    ∷ []
+
+-- the next start has an operation while the session of the first one is open
+abbrev pub operation_of_next_start : List ℕ → List ℕ → List Shown
+operation_of_next_start first next =
+    begun (call.Create (codes "f" ∷ []))
+    ++ Crashed A
+    ∷ Answered 3 A call.Sync (answer.Reply reply.Ok) (Some 1)
+    ∷ Ended A first
+    ∷ Answered 4 A (call.Create (codes "g" ∷ [])) (answer.Reply reply.Ok) (Some 2)
+    ∷ Ended A next
     ∷ []
 
 -- an unseen session, behind an answer and these lines

@@ -25,6 +25,8 @@ pub fn overwrites_under_others()
     ensures first_byte { under (update.Put 2 3 (codes "ab") true) (update.Put 2 2 (codes "cd") true) ≡ true }
     ensures behind { under (update.Put 2 3 (codes "ab") true) (update.Put 2 5 (codes "cd") true) ≡ false }
     ensures ahead { under (update.Put 2 3 (codes "ab") true) (update.Put 2 1 (codes "cd") true) ≡ false }
+    ensures nothing_written { under (update.Put 2 3 [] true) (update.Put 2 2 (codes "cd") true) ≡ false }
+    ensures nothing_behind { under (update.Put 2 2 (codes "cd") true) (update.Put 2 3 [] true) ≡ false }
     ensures other_file { under (update.Put 2 3 (codes "ab") true) (update.Put 4 3 (codes "cd") true) ≡ false }
     ensures no_overwrite { under (update.Put 2 3 (codes "ab") false) (update.Put 2 3 (codes "cd") true) ≡ false }
 {}

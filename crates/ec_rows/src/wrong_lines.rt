@@ -8,7 +8,7 @@ ghost use Rattle.ec_history.specs.declared.shown.Shown.TheVariants.{Crashed, End
 ghost use Rattle.ec_history.specs.Legal.{IsLegal, from_formatted};
 ghost use Rattle.ec_history.specs.Placing.{ArePlaceable, place};
 ghost use Rattle.ec_rows.specs.Clerks.{A, B};
-ghost use Rattle.ec_rows.specs.WrongLines.{two_lost_creates, late_write, answered_line, next_start, second_start_begins, second_waits, told_behind, two_durable_lines, durable_of_none, unseen_session};
+ghost use Rattle.ec_rows.specs.WrongLines.{two_lost_creates, late_write, answered_line, next_start, second_start_begins, second_waits, told_behind, two_durable_lines, durable_of, two_numbers, early_operation, unshown_operation, operation_of_sync, operation_of_next_start, unseen_session};
 
 /// `told` names what the loss named.
 pub fn refuses_other_told()
@@ -68,10 +68,37 @@ pub fn refuses_repeated_durable()
     ensures not_issued { ¬ (ArePlaceable [] (two_durable_lines (3 ∷ []))) }
 {}
 
-/// A durable line belongs to an open session.
+/// A durable line names operations of an open session; one that names nothing breaks no rule, with
+/// a session or without.
 pub fn refuses_durable_without_session()
-    ensures still_open { ArePlaceable [] (durable_of_none A) }
-    ensures none { ¬ (ArePlaceable [] (durable_of_none B)) }
+    ensures still_open { ArePlaceable [] (durable_of A (1 ∷ [])) }
+    ensures none { ¬ (ArePlaceable [] (durable_of B (1 ∷ []))) }
+    ensures nothing { ArePlaceable [] (durable_of A []) }
+    ensures nothing_of_none { ArePlaceable [] (durable_of B []) }
+{}
+
+/// `ended` and `told` name operations as sets, in whatever order these were issued. Here the wrong
+/// numbers of the answers are the fault.
+pub fn compares_lists_as_sets()
+    ensures rising { ArePlaceable [] (two_numbers (1 ∷ 2 ∷ []) (1 ∷ 2 ∷ [])) }
+    ensures illegal { ¬ (IsLegal from_formatted 1024 (place (two_numbers (1 ∷ 2 ∷ []) (1 ∷ 2 ∷ [])))) }
+    ensures ended_one { ¬ (ArePlaceable [] (two_numbers (1 ∷ []) (1 ∷ []))) }
+    ensures ended_more { ¬ (ArePlaceable [] (two_numbers (1 ∷ 2 ∷ 3 ∷ []) (1 ∷ 2 ∷ 3 ∷ []))) }
+    ensures told_one { ¬ (ArePlaceable [] (two_numbers (1 ∷ 2 ∷ []) (2 ∷ []))) }
+{}
+
+/// An operation belongs to its start also where its answer shows no session: before the session is
+/// shown, and behind it.
+pub fn counts_operations_of_all_answers()
+    ensures before { ArePlaceable [] (early_operation (1 ∷ 2 ∷ [])) }
+    ensures illegal { ¬ (IsLegal from_formatted 1024 (place (early_operation (1 ∷ 2 ∷ [])))) }
+    ensures not_before { ¬ (ArePlaceable [] (early_operation (2 ∷ []))) }
+    ensures alone { ArePlaceable [] (unshown_operation (1 ∷ [])) }
+    ensures not_alone { ¬ (ArePlaceable [] (unshown_operation [])) }
+    ensures behind { ArePlaceable [] (operation_of_sync (1 ∷ 2 ∷ [])) }
+    ensures not_behind { ¬ (ArePlaceable [] (operation_of_sync (1 ∷ []))) }
+    ensures next_start { ArePlaceable [] (operation_of_next_start (1 ∷ []) (1 ∷ 2 ∷ [])) }
+    ensures not_of_this_start { ¬ (ArePlaceable [] (operation_of_next_start (1 ∷ []) (2 ∷ []))) }
 {}
 
 /// Only the session of a start that crashed ends unseen, and only where nothing showed it.

@@ -6,7 +6,7 @@ use Rattle.ec_laws.specs.Example.{two_files, writes}
 use Rattle.ec_formed.specs.Bases.{AreAtLines}
 use Rattle.ec_formed.specs.Example.{building}
 use Rattle.ec_formed.proofs.Formatted.{formatted-formed, formatted-reached}
-use Rattle.ec_formed.proofs.Kept.{kept-formed}
+use Rattle.ec_formed.proofs.Kept.{kept-formed, kept-held}
 use Rattle.ec_formed.proofs.Laws.{kept-reached, call-sound, call-fits}
 use Rattle.ec_formed.proofs.Keeping.{whole}
 use Rattle.ec_formed.proofs.Bases.{base-formatted, base-files}
@@ -24,4 +24,4 @@ pub returns-clause-kept : goal.returns-clause-kept
 returns-clause-kept c =
     let lines : AreAtLines writes = record { from_one = (omega arith, (omega arith, tt)); apart = tt; bounded = tt } in
     let legal : IsLegal two_files 1024 writes = search in
-    whole kept-formed kept-reached call-sound call-fits two_files base-files 1024 writes lines legal
+    whole kept-formed kept-reached call-sound call-fits kept-held two_files base-files 1024 writes lines legal

@@ -1,4 +1,4 @@
-use Rattle.ec_laws.proofs.Watching.{untold-runs, running-counted, open-counted}
+use Rattle.ec_laws.proofs.Watching.{closed-undurable, untold-runs, running-counted, open-counted}
 use Rattle.ec_laws.proofs.placing.watched_starts_are_counted.Goals as goal
 
 pub returns-clause-untold : goal.returns-clause-untold
@@ -9,3 +9,6 @@ returns-clause-running c = running-counted
 
 pub returns-clause-opened : goal.returns-clause-opened
 returns-clause-opened c = open-counted
+
+pub returns-clause-closed : goal.returns-clause-closed
+returns-clause-closed c = closed-undurable
