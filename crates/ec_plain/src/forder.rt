@@ -11,15 +11,15 @@ use std::alloc::Global;
 
 pub(crate) fn plain_forder<V: Look>(
     alloc: Global,
-    v: &V,
+    volume: &V,
     paths: &[Path],
 ) -> Result<Outcome, NoMemory>
-    ensures { IfOk result (λ o. o ≡ plain_forder (V.images v.now) paths.now [] []) }
+    ensures { IfOk result (λ outcome. outcome ≡ plain_forder (V.images volume.now) paths.now [] []) }
 {
     let mut objs = Vec::new(alloc);
     let mut touched = Vec::new(alloc);
     'paths: for path in paths {
-        let Walked { to, read } = walk(alloc, v, path.names())?;
+        let Walked { to, read } = walk(alloc, volume, path.names())?;
         touched.extend_from_slice(&read)?;
         match to {
             Ok(obj) => once_more(obj, &mut objs)?,

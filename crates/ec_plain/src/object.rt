@@ -5,33 +5,33 @@ ghost use Rattle.ec_volume.specs.Image.{is_gone, is_dir, bytes_of, entries_of};
 use ec_base::ObjId;
 use ec_volume::{Entries, Image, Look};
 
-pub(crate) fn is_gone<V: Look>(v: &V, o: ObjId) -> bool
-    ensures { result ≡ is_gone (V.images v.now o) }
+pub(crate) fn is_gone<V: Look>(volume: &V, id: ObjId) -> bool
+    ensures { result ≡ is_gone (V.images volume.now id) }
 {
-    v.look(o).is_none()
+    volume.look(id).is_none()
 }
 
-pub(crate) fn is_dir<V: Look>(v: &V, o: ObjId) -> bool
-    ensures { result ≡ is_dir (V.images v.now o) }
+pub(crate) fn is_dir<V: Look>(volume: &V, id: ObjId) -> bool
+    ensures { result ≡ is_dir (V.images volume.now id) }
 {
-    matches!(v.look(o), Some(Image::Dir { .. }))
+    matches!(volume.look(id), Some(Image::Dir { .. }))
 }
 
 // The bytes of a file, and none of another object.
-pub(crate) fn bytes_of<V: Look>(v: &V, o: ObjId) -> &[u8]
-    ensures { result.now ≡ bytes_of (V.images v.now o) }
+pub(crate) fn bytes_of<V: Look>(volume: &V, id: ObjId) -> &[u8]
+    ensures { result.now ≡ bytes_of (V.images volume.now id) }
 {
-    match v.look(o) {
+    match volume.look(id) {
         Some(Image::File { bytes, .. }) => bytes.as_slice(),
         _ => &[],
     }
 }
 
 // The entries of a directory.
-pub(crate) fn entries_of<V: Look>(v: &V, o: ObjId) -> Option<&Entries>
-    ensures { MatchOption result (is_dir (V.images v.now o) ≡ false) (λ es. (is_dir (V.images v.now o) ≡ true) × (es.now ≡ entries_of (V.images v.now o))) }
+pub(crate) fn entries_of<V: Look>(volume: &V, id: ObjId) -> Option<&Entries>
+    ensures { MatchOption result (is_dir (V.images volume.now id) ≡ false) (λ es. (is_dir (V.images volume.now id) ≡ true) × (es.now ≡ entries_of (V.images volume.now id))) }
 {
-    match v.look(o) {
+    match volume.look(id) {
         Some(Image::Dir { entries, .. }) => Some(entries),
         _ => None,
     }

@@ -4,6 +4,7 @@ use Rattle.std.specs.List.{list_all}
 use Rattle.std.specs.Ordering.{nat_cmp}
 use Rattle.std.specs.FinMap.{is_sorted}
 use Rattle.ec_base.specs.Tables.{Table, put, without}
+use Rattle.ec_volume.specs.Limits.{max_file_bytes, max_entries, max_mode}
 use Rattle.ec_volume.specs.Entries.{by_bytes}
 use Rattle.ec_volume.specs.Image.{is_gone}
 use Rattle.ec_volume.specs.Update.{operands, effect, first_unfit}
@@ -17,8 +18,8 @@ use Rattle.ec_volume.specs.declared.volume.ApplyFault.TheVariants as fault
 -- live, and within the limits of modes, bytes and entries
 abbrev pub is_held : Image → Bool
 is_held Gone = false
-is_held (File m s w bs) = nat_le m 4095 && nat_le (length bs) 65536
-is_held (Dir m s w es) = nat_le m 4095 && nat_le (length es) 128 && is_sorted by_bytes es
+is_held (File m s w bs) = nat_le m max_mode && nat_le (length bs) max_file_bytes
+is_held (Dir m s w es) = nat_le m max_mode && nat_le (length es) max_entries && is_sorted by_bytes es
 
 -- The ids rise, no image is Gone, and each one is within the limits.
 pub record IsVolume (es : List (ℕ × Image)) : Type 0 where
