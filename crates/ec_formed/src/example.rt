@@ -32,6 +32,7 @@ pub fn premises_can_be_met()
     ensures bases { IsBase from_formatted × IsBase two_files }
     ensures lines { AreAtLines writes × T (list_all (λ e. is_bounded_entry e.1) (place lines)) }
     ensures legal { IsLegal two_files 1024 writes × IsLegal two_files 1024 (place lines) }
-    ensures sets { T (holds_needed (λ k. k.update) (is_one_of 0 1 (1 ∷ [])) (kept two_files writes)) × T (is_closed (is_one_of 0 1 (1 ∷ [])) (kept two_files writes)) }
+    ensures sets { T (holds_needed (λ k. k.update) (is_one_of 0 1 (1 ∷ [])) (kept two_files writes))
+        × T (is_closed (is_one_of 0 1 (1 ∷ [])) (kept two_files writes)) }
     ensures kept { LeaveWellFormed two_files (kept two_files writes) }
 {}

@@ -9,7 +9,7 @@ ghost use Rattle.ec_drill.specs.declared.status.Status.{Status};
 ghost use Rattle.echofs.specs.Echo.{Echoes};
 
 use ec_base::{Sink, Source, StdSink, StdSource};
-use ec_drill::{Status, drill};
+use ec_drill::{MOST_OBJECTS, Status, drill};
 use std::process::ExitCode;
 use std::{env, io};
 
@@ -28,7 +28,7 @@ pub fn echo_main<R: AllocGlobal, S: Source, K: Sink>(
 {
     let _ = boot;
     if is_drill(words) {
-        drill(rt.alloc(), source, sink).code()
+        drill(rt.alloc(), source, sink, MOST_OBJECTS).code()
     } else {
         Status::Usage.code()
     }
