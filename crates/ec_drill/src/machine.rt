@@ -22,11 +22,14 @@ pub trait Machine: Sized {
 
     /// Carries out the line of this number, from 1. After want of memory the machine is of no use.
     fn carry_out(&mut self, alloc: Global, number: u32, line: Line) -> Result<Vec<Shown>, NoMemory>
-        requires stands { (base : Base) × (most : ℕ) × (lines : Lines) × (pieces : Pieces) × stands self.old base most lines pieces × (number ≡ length lines + 1) }
+        requires stands { (base : Base) × (most : ℕ) × (lines : Lines) × (pieces : Pieces) × stands self.old base most lines pieces
+            × (number ≡ length lines + 1) }
         requires few { number ≤ most_lines }
         requires carried { IsSmall line }
-        ensures ok { (base : Base) (most : ℕ) (lines : Lines) (pieces : Pieces) → stands self.old base most lines pieces → number ≡ length lines + 1 → IfOk result (λ piece. Carried base most (stands self.new base most) lines line pieces piece.items) };
+        ensures ok { (base : Base) (most : ℕ) (lines : Lines) (pieces : Pieces) → stands self.old base most lines pieces → number ≡ length lines + 1
+            → IfOk result (λ piece. Carried base most (stands self.new base most) lines line pieces piece.items) };
 
     /// What stands behind lines shows what it shows, and keeps the promise.
-    ghost promises: { (m : Self) (base : Base) (most : ℕ) (lines : Lines) (pieces : Pieces) → stands m base most lines pieces → Promise base most lines pieces × shows base most lines pieces };
+    ghost promises: { (m : Self) (base : Base) (most : ℕ) (lines : Lines) (pieces : Pieces) → stands m base most lines pieces
+        → Promise base most lines pieces × shows base most lines pieces };
 }

@@ -92,11 +92,14 @@ impl OneClerk {
         clerk: ClerkId,
         call: Call,
     ) -> Result<Vec<Shown>, NoMemory>
-        requires stands { (base : Base) × (most : ℕ) × (lines : Lines) × (pieces : Pieces) × StandsBehind self.old base most lines pieces × (number ≡ length lines + 1) }
+        requires stands { (base : Base) × (most : ℕ) × (lines : Lines) × (pieces : Pieces) × StandsBehind self.old base most lines pieces
+            × (number ≡ length lines + 1) }
         requires few { number ≤ most_lines }
         requires clerk { clerk ≡ 0 }
         requires small { IsSmallCall call }
-        ensures ok { (base : Base) (most : ℕ) (lines : Lines) (pieces : Pieces) → StandsBehind self.old base most lines pieces → number ≡ length lines + 1 → IfOk result (λ piece. Carried base most (StandsBehind self.new base most) lines (Line.Call clerk call) pieces piece.items) }
+        ensures ok { (base : Base) (most : ℕ) (lines : Lines) (pieces : Pieces) → StandsBehind self.old base most lines pieces
+            → number ≡ length lines + 1
+            → IfOk result (λ piece. Carried base most (StandsBehind self.new base most) lines (Line.Call clerk call) pieces piece.items) }
     {
         let mut piece = Vec::with_capacity(alloc, 2)?;
         if !self.state.is_crashed() {
@@ -116,8 +119,10 @@ impl OneClerk {
         requires clerk { clerk ≡ 0 }
         requires crashed { is_crashed self.old.state ≡ true }
         requires few { self.old.places < 2 ^ 31 }
-        ensures ok { (most n : ℕ) (ss : List Shown) → IsTranscript most self.old n ss → IfOk result (λ s. (s ≡ shown.Ended 0 (numbers_to self.old.ops)) × IsTranscript most self.new n (ss ++ s ∷ [])) }
-        ensures after { OnOk result ((self.new.state ≡ state.New) × (self.new.ops ≡ 0) × (self.new.max_objects ≡ self.old.max_objects) × (self.new.places ≡ self.old.places + 1)) }
+        ensures ok { (most n : ℕ) (ss : List Shown) → IsTranscript most self.old n ss
+            → IfOk result (λ s. (s ≡ shown.Ended 0 (numbers_to self.old.ops)) × IsTranscript most self.new n (ss ++ s ∷ [])) }
+        ensures after { OnOk result ((self.new.state ≡ state.New) × (self.new.ops ≡ 0) × (self.new.max_objects ≡ self.old.max_objects)
+            × (self.new.places ≡ self.old.places + 1)) }
     {
         laws();
         let ops = numbers_to(alloc, self.ops)?;
@@ -140,8 +145,10 @@ impl OneClerk {
         requires runs { is_crashed self.old.state ≡ false }
         requires few { (self.old.places < 2 ^ 31) × (self.old.ops < 2 ^ 31) }
         requires transcript { (most : ℕ) × (n : ℕ) × (ss : List Shown) × IsTranscript most self.old n ss }
-        ensures ok { (most n : ℕ) (ss : List Shown) → IsTranscript most self.old n ss → number ≡ n + 1 → IfOk result (λ s. IsAnswered number call s × IsTranscript most self.new number (ss ++ s ∷ [])) }
-        ensures after { OnOk result ((self.new.state ≡ state.Running) × (self.new.ops ≤ self.old.ops + 1) × (self.new.max_objects ≡ self.old.max_objects) × (self.new.places ≡ self.old.places + 1)) }
+        ensures ok { (most n : ℕ) (ss : List Shown) → IsTranscript most self.old n ss → number ≡ n + 1
+            → IfOk result (λ s. IsAnswered number call s × IsTranscript most self.new number (ss ++ s ∷ [])) }
+        ensures after { OnOk result ((self.new.state ≡ state.Running) × (self.new.ops ≤ self.old.ops + 1) × (self.new.max_objects ≡ self.old.max_objects)
+            × (self.new.places ≡ self.old.places + 1)) }
     {
         laws();
         let Some(fresh) = ObjId::new(self.places + 2) else {
@@ -180,7 +187,8 @@ impl OneClerk {
         requires stands { (base : Base) × (most : ℕ) × (lines : Lines) × (pieces : Pieces) × StandsBehind self.old base most lines pieces }
         requires clerk { clerk ≡ 0 }
         requires few { self.old.places < 2 ^ 31 }
-        ensures ok { (base : Base) (most : ℕ) (lines : Lines) (pieces : Pieces) → StandsBehind self.old base most lines pieces → IfOk result (λ piece. Carried base most (StandsBehind self.new base most) lines (Line.Crash clerk) pieces piece.items) }
+        ensures ok { (base : Base) (most : ℕ) (lines : Lines) (pieces : Pieces) → StandsBehind self.old base most lines pieces
+            → IfOk result (λ piece. Carried base most (StandsBehind self.new base most) lines (Line.Crash clerk) pieces piece.items) }
     {
         laws();
         let mut piece = Vec::with_capacity(alloc, 1)?;

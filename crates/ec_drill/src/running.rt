@@ -35,7 +35,8 @@ pub enum End {
 pub fn run<M: Machine, K: Sink>(alloc: Global, machine: &mut M, script: &[u8], sink: &mut K) -> End
     requires stands { (base : Base) × (most : ℕ) × M.stands machine.old base most [] [] }
     requires few { length (lines_of script.now) ≤ most_lines }
-    ensures ran { (base : Base) (most : ℕ) → M.stands machine.old base most [] [] → Ran base most (M.shows base most) result script.now (K.held sink.old) (K.held sink.new) (K.faults sink.old) (K.faults sink.new) }
+    ensures ran { (base : Base) (most : ℕ) → M.stands machine.old base most [] []
+        → Ran base most (M.shows base most) result script.now (K.held sink.old) (K.held sink.new) (K.faults sink.old) (K.faults sink.new) }
     ensures later { K.faults sink.old ≤ K.faults sink.new }
 {
     let mut ahead = script;
@@ -59,10 +60,16 @@ fn step<M: Machine, K: Sink>(
     number: u32,
     bytes: &[u8],
 ) -> Result<(), End>
-    requires stands { (base : Base) × (most : ℕ) × (lines : Lines) × (pieces : Pieces) × M.stands machine.old base most lines pieces × (number ≡ length lines + 1) }
+    requires stands { (base : Base) × (most : ℕ) × (lines : Lines) × (pieces : Pieces) × M.stands machine.old base most lines pieces
+        × (number ≡ length lines + 1) }
     requires few { number ≤ most_lines }
-    ensures ok { (base : Base) (most : ℕ) (lines : Lines) (pieces : Pieces) → M.stands machine.old base most lines pieces → number ≡ length lines + 1 → OnOk result (Stepped (M.stands machine.new base most) bytes.now lines pieces (K.held sink.old) (K.held sink.new)) }
-    ensures err { (base : Base) (most : ℕ) (lines : Lines) (pieces : Pieces) → M.stands machine.old base most lines pieces → number ≡ length lines + 1 → IfErr result (λ end. Stopped base most (M.shows base most) end bytes.now lines pieces (K.held sink.old) (K.held sink.new) (K.faults sink.old) (K.faults sink.new)) }
+    ensures ok { (base : Base) (most : ℕ) (lines : Lines) (pieces : Pieces) → M.stands machine.old base most lines pieces
+        → number ≡ length lines + 1
+        → OnOk result (Stepped (M.stands machine.new base most) bytes.now lines pieces (K.held sink.old) (K.held sink.new)) }
+    ensures err { (base : Base) (most : ℕ) (lines : Lines) (pieces : Pieces) → M.stands machine.old base most lines pieces
+        → number ≡ length lines + 1
+        → IfErr result (λ end. Stopped base most (M.shows base most) end bytes.now lines pieces (K.held sink.old) (K.held sink.new) (K.faults sink.old)
+        (K.faults sink.new)) }
     ensures later { K.faults sink.old ≤ K.faults sink.new }
 {
     let line = match read_line(alloc, bytes) {
@@ -81,11 +88,17 @@ fn carry<M: Machine, K: Sink>(
     number: u32,
     line: Line,
 ) -> Result<(), End>
-    requires stands { (base : Base) × (most : ℕ) × (lines : Lines) × (pieces : Pieces) × M.stands machine.old base most lines pieces × (number ≡ length lines + 1) }
+    requires stands { (base : Base) × (most : ℕ) × (lines : Lines) × (pieces : Pieces) × M.stands machine.old base most lines pieces
+        × (number ≡ length lines + 1) }
     requires few { number ≤ most_lines }
     requires small { IsSmall line }
-    ensures ok { (base : Base) (most : ℕ) (lines : Lines) (pieces : Pieces) → M.stands machine.old base most lines pieces → number ≡ length lines + 1 → OnOk result (CarriedOut (M.stands machine.new base most) lines line pieces (K.held sink.old) (K.held sink.new)) }
-    ensures err { (base : Base) (most : ℕ) (lines : Lines) (pieces : Pieces) → M.stands machine.old base most lines pieces → number ≡ length lines + 1 → IfErr result (λ end. CutOff base most (M.shows base most) end lines line pieces (K.held sink.old) (K.held sink.new) (K.faults sink.old) (K.faults sink.new)) }
+    ensures ok { (base : Base) (most : ℕ) (lines : Lines) (pieces : Pieces) → M.stands machine.old base most lines pieces
+        → number ≡ length lines + 1
+        → OnOk result (CarriedOut (M.stands machine.new base most) lines line pieces (K.held sink.old) (K.held sink.new)) }
+    ensures err { (base : Base) (most : ℕ) (lines : Lines) (pieces : Pieces) → M.stands machine.old base most lines pieces
+        → number ≡ length lines + 1
+        → IfErr result (λ end. CutOff base most (M.shows base most) end lines line pieces (K.held sink.old) (K.held sink.new) (K.faults sink.old)
+        (K.faults sink.new)) }
     ensures later { K.faults sink.old ≤ K.faults sink.new }
 {
     match machine.carry_out(alloc, number, line) {

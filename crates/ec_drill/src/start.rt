@@ -25,7 +25,17 @@ pub fn drill<S: Source, K: Sink>(
     max_objects: u32,
 ) -> Status
     ensures later { (S.faults source.old ≤ S.faults source.new) × (K.faults sink.old ≤ K.faults sink.new) }
-    ensures drilled { Drilled from_formatted max_objects result (record { left = S.left source.old; left_after = S.left source.new; reads = S.faults source.old; reads_after = S.faults source.new; held = K.held sink.old; held_after = K.held sink.new; writes = K.faults sink.old; writes_after = K.faults sink.new }) }
+    ensures drilled { Drilled from_formatted max_objects result
+        (record {
+          left = S.left source.old;
+          left_after = S.left source.new;
+          reads = S.faults source.old;
+          reads_after = S.faults source.new;
+          held = K.held sink.old;
+          held_after = K.held sink.new;
+          writes = K.faults sink.old;
+          writes_after = K.faults sink.new;
+        }) }
 {
     let script = match read_whole(alloc, source, MOST_BYTES) {
         Ok(script) => script,

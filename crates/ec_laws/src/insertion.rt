@@ -21,7 +21,7 @@ pub fn late_call_is_legal()
         → list_any (λ e. is_entry_of c b e.1) h' ≡ false
         → Each (λ n. ¬ (Covers base h (p, entry.Call c b l g cl a op) c b n)) ns
         → Each (λ e. (r d f : ℕ) (ms : List ℕ) → e ≡ (r, entry.Loss d f ms)
-            → T (leaves base (kept base h) d (filter (is_one_of d f ms) (kept base h)) (p, entry.Call c b l g cl a op))) h'
+        → T (leaves base (kept base h) d (filter (is_one_of d f ms) (kept base h)) (p, entry.Call c b l g cl a op))) h'
         → IsLegal base most (h ++ (p, entry.Call c b l g cl a op) ∷ [] ++ (q, entry.Loss c b (ns ++ listed op)) ∷ h') }
 {}
 

@@ -54,14 +54,14 @@ pub fn closures_can_be_met()
 /// the other start's call touched other objects.
 pub fn losses_can_be_untouched()
     ensures kept { T (list_all (λ u. list_all (λ o. fits_in_turn o (two_files.volume o) (updates (kept two_files writes))) (operands u))
-            (updates (kept two_files writes))) }
+        (updates (kept two_files writes))) }
     ensures closed { T (is_closed (is_one_of 0 1 (1 ∷ [])) (filter (of_start 0 1) (kept two_files writes))) }
     ensures untouched { Throughout (λ h e. is_entry_of 0 1 e.1 ≡ false
-            → T (touches_none two_files (kept two_files h) (filter (is_one_of 0 1 (1 ∷ [])) (kept two_files h)) e)) [] writes }
+        → T (touches_none two_files (kept two_files h) (filter (is_one_of 0 1 (1 ∷ [])) (kept two_files h)) e)) [] writes }
     ensures legal { IsLegal two_files 1024 writes }
     ensures fitting { Throughout (λ past e. Each (λ k. (o : ℕ)
-            → T (not (has_operand o k.update) || fits k.update o (after two_files.volume (updates (kept two_files past)) o)))
-            (issued_by two_files (kept two_files past) e)) [] writes }
+        → T (not (has_operand o k.update) || fits k.update o (after two_files.volume (updates (kept two_files past)) o)))
+        (issued_by two_files (kept two_files past) e)) [] writes }
 {}
 
 /// Why a call of another start counts, and not of another clerk alone: a start makes a file and the
@@ -71,6 +71,6 @@ pub fn another_start_counts()
     ensures legal { IsLegal from_formatted 1024 two_starts }
     ensures closed { T (is_closed (is_one_of 0 1 (1 ∷ [])) (filter (of_start 0 1) (kept from_formatted two_starts))) }
     ensures untouched { Throughout (λ h e. T (leaves from_formatted (kept from_formatted h) 0
-            (filter (is_one_of 0 1 (1 ∷ [])) (kept from_formatted h)) e)) [] two_starts }
+        (filter (is_one_of 0 1 (1 ∷ [])) (kept from_formatted h)) e)) [] two_starts }
     ensures unfit { ¬ Fits from_formatted.volume (updates (without 0 1 (1 ∷ []) (kept from_formatted two_starts))) }
 {}

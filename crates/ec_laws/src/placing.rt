@@ -25,7 +25,7 @@ pub fn each_line_is_placed()
         → (h : History) × (q : ℕ) × (h' : History) × (place ss ≡ h ++ (q, entry.Loss c (watch c ss).starts ns) ∷ h')
         × (list_any (λ e. is_entry_of c (watch c ss).starts e.1) h' ≡ false)
         × ((l : ℕ) (cl : Call) (a : Answer) (op : Option ℕ) → place (ss ++ Answered l c cl a op ∷ []) ≡ h ++ call_entry ss (Answered l c cl a op)
-            ++ (q, entry.Loss c (watch c ss).starts (ns ++ listed op)) ∷ h') }
+        ++ (q, entry.Loss c (watch c ss).starts (ns ++ listed op)) ∷ h') }
     ensures ended { (ss : List Shown) (c : ℕ) (ns : List ℕ)
         → place (ss ++ Ended c ns ∷ []) ≡ place ss ++ (length ss + 1, entry.Loss c (or_zero (owner (watch c ss))) ns) ∷ [] }
     ensures other { (ss : List Shown) (s : Shown) → ((c b : ℕ) (w : Watch) → gives_entry c b w s ≡ false) → place (ss ++ s ∷ []) ≡ place ss }

@@ -42,7 +42,7 @@ pub fn what_an_untouched_loss_leaves_fits()
         → T (is_closed (is_one_of c b ns) (filter (of_start c b) (kept base past)))
         → Throughout (λ h e. T (leaves base (kept base h) c (filter (is_one_of c b ns) (kept base h)) e)) [] past
         → Throughout (λ h e. is_call_of_other c e.1 ≡ false → is_entry_of c b e.1 ≡ false
-            → T (touches_none base (kept base h) (filter (is_one_of c b ns) (kept base h)) e)) [] past
+        → T (touches_none base (kept base h) (filter (is_one_of c b ns) (kept base h)) e)) [] past
         → Fits base.volume (updates (without c b ns (kept base past))) }
     ensures kept { (base : Base) (c b p : ℕ) (ns : List ℕ) (past : History) → Fits base.volume (updates (kept base past))
         → T (is_closed (is_one_of c b ns) (filter (of_start c b) (kept base past)))
@@ -59,6 +59,6 @@ pub fn what_is_kept_fits()
         → Fits base.volume (updates (kept base (past ++ (p, entry.Call c b l g cl a op) ∷ []))) }
     ensures legal { (base : Base) (most : ℕ) (h : History) → IsLegal base most h
         → Throughout (λ past e. Each (λ k. (o : ℕ) → T (not (has_operand o k.update) || fits k.update o (after base.volume (updates (kept base past)) o)))
-            (issued_by base (kept base past) e)) [] h
+        (issued_by base (kept base past) e)) [] h
         → Throughout (λ past e. Fits base.volume (updates (kept base (past ++ e ∷ [])))) [] h }
 {}

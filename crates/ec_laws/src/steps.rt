@@ -22,7 +22,7 @@ pub fn longer_history()
     ensures others_owe { (base : Base) (h g : History) (c b : ℕ) → list_any (λ e. is_entry_of c b e.1) g ≡ false → owed base (h ++ g) c b ≡ owed base h c b }
     ensures reports_next { (base : Base) (h : History) (e : ℕ × Entry) (c b p : ℕ) (cl : Call)
         → due base (h ++ e ∷ []) c b p cl ≡ distinct_numbers (filter (meets (outcome base (kept_next base (kept base h) e) p cl) cl)
-            (owed_next base c b (kept base h) (owed base h c b) e)) }
+        (owed_next base c b (kept base h) (owed base h c b) e)) }
     ensures counts_next { (c b : ℕ) (h : History) (e : ℕ × Entry)
         → length (filter (is_op_of c b) (h ++ e ∷ [])) ≡ (if is_op_of c b e then length (filter (is_op_of c b) h) + 1 else length (filter (is_op_of c b) h)) }
     ensures loses { (c b n : ℕ) (h g : History) → is_lost c b n (h ++ g) ≡ (is_lost c b n h || is_lost c b n g) }

@@ -24,7 +24,17 @@ pub fn echo_main<R: AllocGlobal, S: Source, K: Sink>(
 ) -> u8
     ensures usage { (result ≡ 2) ↔ (map string_bytes words.now ≢ codes "drill" ∷ []) }
     ensures later { (S.faults source.old ≤ S.faults source.new) × (K.faults sink.old ≤ K.faults sink.new) }
-    ensures echoes { (status : Status) × (result ≡ code status) × Echoes status (record { left = S.left source.old; left_after = S.left source.new; reads = S.faults source.old; reads_after = S.faults source.new; held = K.held sink.old; held_after = K.held sink.new; writes = K.faults sink.old; writes_after = K.faults sink.new }) }
+    ensures echoes { (status : Status) × (result ≡ code status)
+        × Echoes status (record {
+          left = S.left source.old;
+          left_after = S.left source.new;
+          reads = S.faults source.old;
+          reads_after = S.faults source.new;
+          held = K.held sink.old;
+          held_after = K.held sink.new;
+          writes = K.faults sink.old;
+          writes_after = K.faults sink.new;
+        }) }
 {
     let _ = boot;
     if is_drill(words) {
