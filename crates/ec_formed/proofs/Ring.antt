@@ -1,5 +1,5 @@
 -- A base with a ring that no path reaches.
-use Rattle.std.proofs.Common.{◌≡◌, refl, sym, ap, subst, ◌∙◌, inl, inr, arith, ◌+◌, ◌≤◌, ◌⊎◌, ℕ, T, Bool, true, false, not, ◌==◌, cond, List, [], ◌∷◌, Option, Some, None}
+use Rattle.std.proofs.Common.{◌≡◌, refl, sym, subst, ◌∙◌, inl, inr, arith, ◌+◌, ◌≤◌, ◌⊎◌, ℕ, T, Bool, true, false, not, ◌==◌, cond, List, [], ◌∷◌, Option, Some, None}
 use Rattle.std.proofs.lemmas.Bool.{eqb-true, true≢false}
 use Rattle.std.specs.FinMap.{is_sorted}
 use Rattle.ec_volume.specs.Entries.{by_bytes, same_name, entry}

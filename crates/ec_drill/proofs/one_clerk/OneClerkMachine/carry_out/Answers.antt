@@ -1,4 +1,4 @@
-use Rattle.std.proofs.Common.{sym, subst, [], ◌∷◌}
+use Rattle.std.proofs.Common.{sym, subst, []}
 use Rattle.ec_script.specs.declared.line.Line.TheVariants as line
 use Rattle.ec_drill.specs.Run.{Carried}
 use Rattle.ec_drill.specs.OneClerk.{StandsBehind}
