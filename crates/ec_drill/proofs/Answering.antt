@@ -19,13 +19,13 @@ use Rattle.ec_history.specs.History.{Op, Owed, updates, numbers, of_start, outco
 use Rattle.ec_history.specs.Legal.{IsLegal, IsCall, IsNext, is_op_of, from_formatted}
 use Rattle.ec_history.specs.Placing.{watch, unwatched, begun, answered, last_place, before_line, is_numbered, shows, may_show, place, MayFollow, EachLine, Agrees, Unanswered}
 use Rattle.ec_history.specs.Lines.{IsCovered}
+use Rattle.ec_history.specs.Written.{IsInOrder}
 use Rattle.ec_history.specs.declared.entry.Answer.TheVariants as answer
 use Rattle.ec_history.specs.declared.entry.Entry.{Entry}
 use Rattle.ec_history.specs.declared.entry.Entry.TheVariants as entry
 use Rattle.ec_history.specs.declared.shown.Shown.{Shown}
 use Rattle.ec_history.specs.declared.shown.Shown.TheVariants.{Waits, Answered, Durable, Ended, Unseen, Told, Crashed, Stopped, Started, Nothing, Unsettled, Bad, DiskBad, Limit, Spent}
 use Rattle.ec_script.specs.Grammar.{IsSmallCall}
-use Rattle.ec_drill.specs.Run.{most}
 use Rattle.ec_drill.specs.Numbers.{numbers_to}
 use Rattle.ec_drill.specs.OneClerk.{is_running, is_crashed, open_of, start_of, IsOwn, IsTranscript, Takes, Fitting}
 use Rattle.ec_drill.specs.declared.one_clerk.State.{State}
@@ -106,7 +106,7 @@ abbrev pub issued_of : ℕ → ℕ → ℕ → ℕ → Option Update → List Op
 issued_of c b k p None = []
 issued_of c b k p (Some u) = record { clerk = c; boot = b; number = k; place = p; update = u } ∷ []
 
-module _ (laws : Laws) (m m' : OneClerk) (n : ℕ) (ss : List Shown) (t : IsTranscript m n ss) (cl : Call) (small : IsSmallCall cl) (runs : is_crashed m.state ≡ false) where
+module _ (laws : Laws) (most : ℕ) (m m' : OneClerk) (n : ℕ) (ss : List Shown) (t : IsTranscript most m n ss) (cl : Call) (small : IsSmallCall cl) (runs : is_crashed m.state ≡ false) where
   abbrev fresh : ℕ
   fresh = m.places + 2
 
@@ -129,7 +129,7 @@ module _ (laws : Laws) (m m' : OneClerk) (n : ℕ) (ss : List Shown) (t : IsTran
   here r op = (length ss + 1, entry.Call 0 boot (n + 1) behind cl (answer.Reply r) op)
 
   begins : (begun (watch 0 ss)).starts ≡ boot
-  begins = ap (λ w. (begun w).starts) (watched m n ss t) ∙ begun_as m.state (watch 0 ss).starts (numbers_to m.ops) (watch 0 ss).crashed runs
+  begins = ap (λ w. (begun w).starts) (watched most m n ss t) ∙ begun_as m.state (watch 0 ss).starts (numbers_to m.ops) (watch 0 ss).crashed runs
 
   same_outcome : outcome from_formatted (kept from_formatted (place ss)) at cl ≡ out
   same_outcome = ap (λ v. plain v cl (1 + (length ss + 1))) (sym t.volume) ∙ ap (plain (images m.volume) cl) (number (length ss) m.places t.places)
@@ -155,7 +155,7 @@ module _ (laws : Laws) (m m' : OneClerk) (n : ℕ) (ss : List Shown) (t : IsTran
   watch_here r op reply =
       laws.watch_next_is 0 ss (line r op)
       ∙ ap (λ b. answered (begun (watch 0 ss)) b op) (ap (λ x. shows cl (answer.Reply x)) reply ∙ small_shows (images m.volume) cl (m.places + 2) small)
-      ∙ ap (λ w. answered (begun w) true op) (watched m n ss t)
+      ∙ ap (λ w. answered (begun w) true op) (watched most m n ss t)
       ∙ answered_as m.state (watch 0 ss).starts (numbers_to m.ops) (watch 0 ss).crashed op runs
 
   follows : (r : Reply) (op : Option ℕ) → MayFollow ss (line r op)
@@ -163,7 +163,7 @@ module _ (laws : Laws) (m m' : OneClerk) (n : ℕ) (ss : List Shown) (t : IsTran
       let apart : EachLine (λ s. is_numbered (n + 1) s ≡ false) ss = t.asked (n + 1) (omega arith) in (
         each_line-map _ _ ss (agrees (n + 1) 0 cl) apart,
         each_line-map _ _ ss (unanswered (n + 1)) apart,
-        or_right (not (shows cl (answer.Reply r))) _ (subst (λ w. T (may_show (begun w))) (sym (watched m n ss t)) (may_as m.state (watch 0 ss).starts (numbers_to m.ops) (watch 0 ss).crashed runs)),
+        or_right (not (shows cl (answer.Reply r))) _ (subst (λ w. T (may_show (begun w))) (sym (watched most m n ss t)) (may_as m.state (watch 0 ss).starts (numbers_to m.ops) (watch 0 ss).crashed runs)),
       )
 
   -- what all answers have in common
@@ -180,7 +180,7 @@ module _ (laws : Laws) (m m' : OneClerk) (n : ℕ) (ss : List Shown) (t : IsTran
     pub ops_are : Each (λ k. T (of_start 0 boot k)) (kept from_formatted (place ss) ++ issued_by from_formatted (kept from_formatted (place ss)) (here r op))
     pub count_is : m.ops + length (filter (is_op_of 0 boot) (here r op ∷ [])) ≡ m'.ops
 
-  answered_step : (r : Reply) (op : Option ℕ) → Common r op → IsTranscript m' (n + 1) (ss ++ line r op ∷ [])
+  answered_step : (r : Reply) (op : Option ℕ) → Common r op → IsTranscript most m' (n + 1) (ss ++ line r op ∷ [])
   answered_step r op c =
       let s : Shown = line r op in
       let e : ℕ × Entry = here r op in
@@ -191,6 +191,7 @@ module _ (laws : Laws) (m m' : OneClerk) (n : ℕ) (ss : List Shown) (t : IsTran
       let next : start_of m'.state (watch 0 (ss ++ s ∷ [])).starts ≡ boot = ap (λ st. start_of st (watch 0 (ss ++ s ∷ [])).starts) c.state_is ∙ ap (λ x. x.starts) w in
       record {
         placed = laws.placeable_next ss s t.placed (follows r op);
+        in_order = each_line-push IsInOrder ss s t.in_order tt;
         legal = subst (IsLegal from_formatted most) (sym p) (laws.legal_next from_formatted most (place ss) e t.legal (is_call r op c.reply c.issued c.number));
         covered = laws.covered_above from_formatted ss s (subst (Throughout (IsCovered from_formatted ss) []) (sym p) (throughout-push (IsCovered from_formatted ss) [] (place ss) e t.covered (λ k covers. absurd (covers_nothing from_formatted (place ss) e 0 boot k own covers))));
         own = subst (Each IsOwn) (sym p) (each-push IsOwn (place ss) e t.own own);
@@ -199,6 +200,7 @@ module _ (laws : Laws) (m m' : OneClerk) (n : ℕ) (ss : List Shown) (t : IsTran
         running = ap (λ x. x.running) w ∙ ap is_running (sym c.state_is);
         opened = ap (λ x. x.open_start) w ∙ ap Some (sym (ap (λ x. x.starts) w)) ∙ ap (λ st. open_of st (watch 0 (ss ++ s ∷ [])).starts) (sym c.state_is);
         undurable = ap (λ x. x.undurable) w ∙ c.undurable_are;
+        early = ap (λ x. x.early) w;
         untold = ap (λ x. x.untold) w;
         volume = c.volume_is ∙ ap (λ ks. after from_formatted.volume (updates ks)) (sym keeps);
         unused = λ o lt. let k : length (ss ++ s ∷ []) ≡ length ss + 1 = length-push ss s in c.unused_are o (omega (arith, k, lt));
@@ -225,7 +227,7 @@ module _ (laws : Laws) (m m' : OneClerk) (n : ℕ) (ss : List Shown) (t : IsTran
       clears d qs e = ap (λ q. owed_next from_formatted 0 d (kept from_formatted (place ss)) q (here r op)) e ∙ cond_nil (eqb d boot)
 
   -- a call without an update
-  pub answered_without : (r : Reply) → r ≡ out.reply → out.update ≡ None → m'.volume ≡ m.volume → m'.ops ≡ m.ops → m'.state ≡ state.Running → m'.places ≡ m.places + 1 → IsTranscript m' (n + 1) (ss ++ line r None ∷ [])
+  pub answered_without : (r : Reply) → r ≡ out.reply → out.update ≡ None → m'.volume ≡ m.volume → m'.ops ≡ m.ops → m'.state ≡ state.Running → m'.places ≡ m.places + 1 → IsTranscript most m' (n + 1) (ss ++ line r None ∷ [])
   answered_without r reply none volume ops st places = answered_step r None (record {
     reply = reply;
     issued = ap is_some (sym none);
@@ -248,7 +250,7 @@ module _ (laws : Laws) (m m' : OneClerk) (n : ℕ) (ss : List Shown) (t : IsTran
       same k = omega arith
 
   -- a call with an update, which gets the next number
-  pub answered_with : (r : Reply) (u : Update) → r ≡ out.reply → out.update ≡ Some u → ((o : ℕ) → images m'.volume o ≡ after (images m.volume) (u ∷ []) o) → m'.ops ≡ m.ops + 1 → m'.state ≡ state.Running → m'.places ≡ m.places + 1 → IsTranscript m' (n + 1) (ss ++ line r (Some (m.ops + 1)) ∷ [])
+  pub answered_with : (r : Reply) (u : Update) → r ≡ out.reply → out.update ≡ Some u → ((o : ℕ) → images m'.volume o ≡ after (images m.volume) (u ∷ []) o) → m'.ops ≡ m.ops + 1 → m'.state ≡ state.Running → m'.places ≡ m.places + 1 → IsTranscript most m' (n + 1) (ss ++ line r (Some (m.ops + 1)) ∷ [])
   answered_with r u reply some volume ops st places =
       let op : Op = record { clerk = 0; boot = boot; number = m.ops + 1; place = at; update = u } in
       let ks : List Op = kept from_formatted (place ss) in
@@ -277,8 +279,8 @@ first_none u v (o ∷ os) all = elim (fits u o (v o)) as (λ b. T b → cond b (
     here : (b : Bool) → b ≡ true → T (b || member o os)
     here b e = subst (λ x. T (x || member o os)) (sym e) tt
 
-pub call_fits : (laws : Laws) (m : OneClerk) (n : ℕ) (ss : List Shown) → IsTranscript m n ss → (cl : Call) → IsSmallCall cl → Fitting (plain (images m.volume) cl (m.places + 2)).update (images m.volume)
-call_fits laws m n ss t cl small = go (plain (images m.volume) cl (m.places + 2)).update refl
+pub call_fits : (laws : Laws) (most : ℕ) (m : OneClerk) (n : ℕ) (ss : List Shown) → IsTranscript most m n ss → (cl : Call) → IsSmallCall cl → Fitting (plain (images m.volume) cl (m.places + 2)).update (images m.volume)
+call_fits laws most m n ss t cl small = go (plain (images m.volume) cl (m.places + 2)).update refl
   where
     formed : WellFormed (images m.volume)
     formed = subst WellFormed (sym t.volume) (laws.kept_formed from_formatted most ss laws.is_base (own_bounded (place ss) t.own) t.legal).formed
@@ -299,10 +301,10 @@ call_fits laws m n ss t cl small = go (plain (images m.volume) cl (m.places + 2)
     )
 
 -- An answer, with or without an update.
-pub answered_any : (laws : Laws) (m mid m' : OneClerk) (n : ℕ) (ss : List Shown) (t : IsTranscript m n ss) (cl : Call) (small : IsSmallCall cl) → is_crashed m.state ≡ false → (o : Outcome) → o ≡ plain (images m.volume) cl (m.places + 2) → (op : Option ℕ) → Takes o.update op m mid
-    → m'.volume ≡ mid.volume → m'.ops ≡ mid.ops → m'.state ≡ state.Running → m'.places ≡ m.places + 1 → IsTranscript m' (n + 1) (ss ++ Answered (n + 1) 0 cl (answer.Reply o.reply) op ∷ [])
-answered_any laws m mid m' n ss t cl small calm o is op takes volume ops st places = go o.update refl takes
+pub answered_any : (laws : Laws) (most : ℕ) (m mid m' : OneClerk) (n : ℕ) (ss : List Shown) (t : IsTranscript most m n ss) (cl : Call) (small : IsSmallCall cl) → is_crashed m.state ≡ false → (o : Outcome) → o ≡ plain (images m.volume) cl (m.places + 2) → (op : Option ℕ) → Takes o.update op m mid
+    → m'.volume ≡ mid.volume → m'.ops ≡ mid.ops → m'.state ≡ state.Running → m'.places ≡ m.places + 1 → IsTranscript most m' (n + 1) (ss ++ Answered (n + 1) 0 cl (answer.Reply o.reply) op ∷ [])
+answered_any laws most m mid m' n ss t cl small calm o is op takes volume ops st places = go o.update refl takes
   where
-    go : (u : Option Update) → o.update ≡ u → Takes u op m mid → IsTranscript m' (n + 1) (ss ++ Answered (n + 1) 0 cl (answer.Reply o.reply) op ∷ [])
-    go None e k = subst (λ x. IsTranscript m' (n + 1) (ss ++ Answered (n + 1) 0 cl (answer.Reply o.reply) x ∷ [])) (sym k.0) (answered_without laws m m' n ss t cl small calm o.reply (ap (λ x. x.reply) is) (sym (ap (λ x. x.update) is) ∙ e) (volume ∙ k.1) (ops ∙ k.2) st places)
-    go (Some u) e k = subst (λ x. IsTranscript m' (n + 1) (ss ++ Answered (n + 1) 0 cl (answer.Reply o.reply) x ∷ [])) (sym k.0) (answered_with laws m m' n ss t cl small calm o.reply u (ap (λ x. x.reply) is) (sym (ap (λ x. x.update) is) ∙ e) (λ x. ap (λ v. images v x) volume ∙ k.1 x) (ops ∙ k.2) st places)
+    go : (u : Option Update) → o.update ≡ u → Takes u op m mid → IsTranscript most m' (n + 1) (ss ++ Answered (n + 1) 0 cl (answer.Reply o.reply) op ∷ [])
+    go None e k = subst (λ x. IsTranscript most m' (n + 1) (ss ++ Answered (n + 1) 0 cl (answer.Reply o.reply) x ∷ [])) (sym k.0) (answered_without laws most m m' n ss t cl small calm o.reply (ap (λ x. x.reply) is) (sym (ap (λ x. x.update) is) ∙ e) (volume ∙ k.1) (ops ∙ k.2) st places)
+    go (Some u) e k = subst (λ x. IsTranscript most m' (n + 1) (ss ++ Answered (n + 1) 0 cl (answer.Reply o.reply) x ∷ [])) (sym k.0) (answered_with laws most m m' n ss t cl small calm o.reply u (ap (λ x. x.reply) is) (sym (ap (λ x. x.update) is) ∙ e) (λ x. ap (λ v. images v x) volume ∙ k.1 x) (ops ∙ k.2) st places)

@@ -6,4 +6,4 @@ pub mod Losses
 pub mod Answering
 pub mod Promises
 pub mod Carries
-pub mod Limits
+pub mod TooMuch

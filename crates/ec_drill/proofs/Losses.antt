@@ -10,20 +10,20 @@ use Rattle.ec_volume.specs.declared.image.Image.TheVariants.{Gone}
 use Rattle.ec_order.specs.Order as order
 use Rattle.ec_history.specs.History.{History, Op, updates, numbers, of_start, is_one_of, kept, owed, pairs_of, Throughout, Each, Covers}
 use Rattle.ec_history.specs.Legal.{IsLegal, IsLawful, is_op_of, is_closed, is_call_of_other, from_formatted}
-use Rattle.ec_history.specs.Placing.{watch, watch_next, owner, or_zero, is_numbered, place}
+use Rattle.ec_history.specs.Placing.{watch, watch_next, owner, or_zero, to_lose, same_numbers, is_numbered, place}
 use Rattle.ec_history.specs.Lines.{IsCovered}
+use Rattle.ec_history.specs.Written.{IsInOrder}
 use Rattle.ec_history.specs.declared.entry.Entry.{Entry}
 use Rattle.ec_history.specs.declared.entry.Entry.TheVariants as entry
 use Rattle.ec_history.specs.declared.shown.Shown.{Shown}
 use Rattle.ec_history.specs.declared.shown.Shown.TheVariants.{Ended}
-use Rattle.ec_drill.specs.Run.{most}
 use Rattle.ec_drill.specs.Numbers.{numbers_to}
 use Rattle.ec_drill.specs.OneClerk.{is_running, open_of, start_of, IsOwn, IsTranscript}
 use Rattle.ec_drill.specs.declared.one_clerk.State.TheVariants as state
 use Rattle.ec_drill.specs.declared.one_clerk.OneClerk.{OneClerk}
 use Rattle.ec_drill.specs.Laws.{Laws}
 use Rattle.ec_drill.proofs.Small.{self, on, and_both, or_right, covers_nothing}
-use Rattle.ec_drill.proofs.Steps.{each_line-push, each-push, throughout-push, throughout-all, length-push, watch_as, watched}
+use Rattle.ec_drill.proofs.Steps.{each_line-push, each-push, throughout-push, throughout-all, length-push, rises-to, watch_as, watched}
 
 -- all of these operations are the start's
 abbrev AllOf : ℕ → List Op → Type 0
@@ -89,14 +89,14 @@ lawful h b ns own named all =
     no_other (p, entry.Loss c d ms) o = tt
     no_other (p, entry.Call c d l begun cl a op) o = subst (λ x. T (not (not (eqb 0 x)))) (sym o.0) tt
 
-module _ (laws : Laws) where
-  pub ended_step : (m m' : OneClerk) (n : ℕ) (ss : List Shown) → IsTranscript m n ss → m.state ≡ state.Crashed → m'.state ≡ state.New → ((o : ℕ) → images m'.volume o ≡ formatted o) → m'.ops ≡ 0 → m'.places ≡ m.places + 1 → IsTranscript m' n (ss ++ Ended 0 (numbers_to m.ops) ∷ [])
+module _ (laws : Laws) (most : ℕ) where
+  pub ended_step : (m m' : OneClerk) (n : ℕ) (ss : List Shown) → IsTranscript most m n ss → m.state ≡ state.Crashed → m'.state ≡ state.New → ((o : ℕ) → images m'.volume o ≡ formatted o) → m'.ops ≡ 0 → m'.places ≡ m.places + 1 → IsTranscript most m' n (ss ++ Ended 0 (numbers_to m.ops) ∷ [])
   ended_step m m' n ss t is is' volume ops places =
       let ns : List ℕ = numbers_to m.ops in
       let b : ℕ = (watch 0 ss).starts in
       let s : Shown = Ended 0 ns in
       let e : ℕ × Entry = (length ss + 1, entry.Loss 0 b ns) in
-      let old : watch 0 ss ≡ watch_as state.Crashed b ns (watch 0 ss).crashed = watched m n ss t ∙ ap (λ st. watch_as st b ns (watch 0 ss).crashed) is in
+      let old : watch 0 ss ≡ watch_as state.Crashed b ns (watch 0 ss).crashed = watched most m n ss t ∙ ap (λ st. watch_as st b ns (watch 0 ss).crashed) is in
       let mine : or_zero (owner (watch 0 ss)) ≡ b = ap (λ w. or_zero (owner w)) old in
       let here : place (ss ++ s ∷ []) ≡ place ss ++ e ∷ [] = laws.ended_placed ss 0 ns ∙ ap (λ x. place ss ++ (length ss + 1, entry.Loss 0 x ns) ∷ []) mine in
       let w : watch 0 (ss ++ s ∷ []) ≡ watch_as state.New b [] (watch 0 ss).crashed = laws.watch_next_is 0 ss s ∙ ap (λ x. watch_next 0 x s) old in
@@ -108,7 +108,8 @@ module _ (laws : Laws) where
       λ d lt. ap (λ h. length (filter (is_op_of 0 d) h)) here ∙ ap length (filter-append (is_op_of 0 d) (place ss) (e ∷ []) ∙ append-nil (filter (is_op_of 0 d) (place ss))) ∙ t.later d (subst (λ x. x < d) (sym start) lt) in
       let next : start_of m'.state (watch 0 (ss ++ s ∷ [])).starts ≡ b + 1 = ap (λ st. start_of st (watch 0 (ss ++ s ∷ [])).starts) is' ∙ ap (λ x. x.starts + 1) w in
       record {
-        placed = laws.placeable_next ss s t.placed (subst (λ x. T (is_some (owner x)) × (ns ≡ x.undurable)) (sym old) (tt, refl));
+        placed = laws.placeable_next ss s t.placed (subst (λ x. T (is_some (owner x)) × T (same_numbers ns (to_lose x))) (sym old) (tt, laws.same_lists ns));
+        in_order = each_line-push IsInOrder ss s t.in_order (rises-to m.ops);
         legal = subst (IsLegal from_formatted most) (sym here) (laws.legal_next from_formatted most (place ss) e t.legal law);
         covered = laws.covered_above from_formatted ss s (subst (Throughout (IsCovered from_formatted ss) []) (sym here) (throughout-push (IsCovered from_formatted ss) [] (place ss) e t.covered tt));
         own = subst (Each IsOwn) (sym here) (each-push IsOwn (place ss) e t.own refl);
@@ -117,6 +118,7 @@ module _ (laws : Laws) where
         running = ap (λ x. x.running) w ∙ ap is_running (sym is');
         opened = ap (λ x. x.open_start) w ∙ ap (λ st. open_of st (watch 0 (ss ++ s ∷ [])).starts) (sym is');
         undurable = ap (λ x. x.undurable) w ∙ ap numbers_to (sym ops);
+        early = ap (λ x. x.early) w;
         untold = ap (λ x. x.untold) w;
         volume = (λ i o. volume o i) ∙ ap (λ ks. after from_formatted.volume (updates ks)) (sym lost);
         unused = λ o lt. volume o ∙ far o (omega (arith, lt));

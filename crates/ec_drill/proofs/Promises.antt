@@ -8,11 +8,11 @@ use Rattle.std.proofs.Math.Seq.{take-length}
 use Rattle.ec_history.specs.Legal.{IsLegal, from_formatted}
 use Rattle.ec_history.specs.Placing.{place, ArePlaceable, EachLine}
 use Rattle.ec_history.specs.Lines.{AreCovered}
+use Rattle.ec_history.specs.Written.{IsInOrder}
 use Rattle.ec_history.specs.declared.shown.Shown.{Shown}
 use Rattle.ec_history.specs.declared.shown.Shown.TheVariants.{Waits, Answered, Durable, Ended, Unseen, Told, Crashed, Stopped, Started, Nothing, Unsettled, Bad, DiskBad, Limit, Spent}
 use Rattle.ec_script.specs.declared.line.Line.{Line}
 use Rattle.ec_drill.specs.Promise.{Lines, Pieces, joined, InScript, IsPiece, ArePieces, ends, may_end, Promise}
-use Rattle.ec_drill.specs.Run.{most}
 use Rattle.ec_drill.proofs.Small.{on}
 use Rattle.ec_drill.proofs.Steps.{length-push}
 use Rattle.ec_drill.proofs.Texts.{joined-push}
@@ -67,8 +67,9 @@ are_pieces-push k past (q ∷ ps) p all here = (all.0, are_pieces-push (k + 1) (
     more k n = omega arith
 
 -- What a front of the new piece has to show.
-pub record IsFrontOf (lines : Lines) (l : Line) (pieces : Pieces) (front : List Shown) : Type 0 where
+pub record IsFrontOf (most : ℕ) (lines : Lines) (l : Line) (pieces : Pieces) (front : List Shown) : Type 0 where
   pub placed : ArePlaceable [] (joined pieces ++ front)
+  pub in_order : EachLine IsInOrder (joined pieces ++ front)
   pub legal : IsLegal from_formatted most (place (joined pieces ++ front))
   pub covered : AreCovered from_formatted (joined pieces ++ front)
   pub own_calls : EachLine (InScript (lines ++ l ∷ [])) front
@@ -76,11 +77,12 @@ pub record IsFrontOf (lines : Lines) (l : Line) (pieces : Pieces) (front : List 
   pub ended : length (filter (ends 0) (joined pieces ++ front)) ≤ length (filter (may_end 0) (lines ++ l ∷ []))
   pub no_others : (c : ℕ) → c ≢ 0 → length (filter (ends c) (joined pieces ++ front)) ≡ 0
 
-pub longer_promise : (lines : Lines) (l : Line) (pieces : Pieces) (front : List Shown) → Promise from_formatted most lines pieces → length pieces ≡ length lines → IsFrontOf lines l pieces front → Promise from_formatted most (lines ++ l ∷ []) (pieces ++ front ∷ [])
-longer_promise lines l pieces front p same f =
+pub longer_promise : (most : ℕ) (lines : Lines) (l : Line) (pieces : Pieces) (front : List Shown) → Promise from_formatted most lines pieces → length pieces ≡ length lines → IsFrontOf most lines l pieces front → Promise from_formatted most (lines ++ l ∷ []) (pieces ++ front ∷ [])
+longer_promise most lines l pieces front p same f =
     let e : joined (pieces ++ front ∷ []) ≡ joined pieces ++ front = joined-push pieces front in
     record {
       placed = subst (ArePlaceable []) (sym e) f.placed;
+      in_order = subst (EachLine IsInOrder) (sym e) f.in_order;
       history = subst (λ ss. IsLegal from_formatted most (place ss)) (sym e) f.legal;
       own_calls = subst (EachLine (InScript (lines ++ l ∷ []))) (sym e) (each_line-append _ (joined pieces) front (each_in_longer lines (l ∷ []) (joined pieces) p.own_calls) f.own_calls);
       counted = count;

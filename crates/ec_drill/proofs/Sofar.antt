@@ -3,7 +3,7 @@ use Rattle.std.proofs.Common.{◌≡◌, ℕ, ◌+◌, ◌≤◌, ◌<◌, List,
 use Rattle.std.proofs.Common.{zero, suc, drop, true, ◌==◌}
 use Rattle.std.proofs.Math.ListN.{get_or}
 use Rattle.std.specs.Io.KnownBytes.{Appends}
-use Rattle.ec_history.specs.Legal.{from_formatted}
+use Rattle.ec_history.specs.History.{Base}
 use Rattle.ec_history.specs.declared.shown.Shown.{Shown}
 use Rattle.ec_history.specs.declared.shown.Shown.TheVariants.{Bad}
 use Rattle.ec_script.specs.Lines.{lines_of}
@@ -11,7 +11,8 @@ use Rattle.ec_script.specs.Grammar.{IsLine}
 use Rattle.ec_script.specs.declared.line.Line.{Line}
 use Rattle.ec_text.specs.Lines.{shown_text, text_of}
 use Rattle.ec_drill.specs.Promise.{Lines, Pieces, joined, Promise}
-use Rattle.ec_drill.specs.Run.{most, AreLines, IsNextText, EndsBy, CutBy, CutText, CutIn, CutAfter, IsOut, Stepped, Refused, Stopped, Ran}
+use Rattle.ec_drill.specs.Run.{AreLines, IsNextText, EndsBy, Ran}
+use Rattle.ec_drill.specs.Steps.{CutBy, CutText, CutIn, CutAfter, IsOut, Stepped, Refused, Stopped}
 use Rattle.ec_drill.specs.declared.running.End.{End}
 use Rattle.ec_drill.specs.declared.running.End.TheVariants as ending
 use Rattle.ec_drill.proofs.Texts.{nothing, appends_two, text_of-append, joined-push, rose_later}
@@ -61,12 +62,12 @@ goes_on Old New script ahead next line n held mid now s e step =
     }
 
 -- What a machine that stands behind its lines and pieces shows and promises.
-abbrev pub Keeps : (Lines → Pieces → Type 0) → (Lines → Pieces → Type 0) → Type 0
-Keeps Stands Shows = (lines : Lines) (pieces : Pieces) → Stands lines pieces → Promise from_formatted most lines pieces × Shows lines pieces
+abbrev pub Keeps : Base → ℕ → (Lines → Pieces → Type 0) → (Lines → Pieces → Type 0) → Type 0
+Keeps base most Stands Shows = (lines : Lines) (pieces : Pieces) → Stands lines pieces → Promise base most lines pieces × Shows lines pieces
 
 -- a run that ends between two lines, with these bytes behind what was written
-between : (Stands Shows : Lines → Pieces → Type 0) → Keeps Stands Shows → (end : End) (script ahead : List ℕ) (n : ℕ) (held mid now : Option (List ℕ)) (f g : ℕ) (last : List ℕ) (s : Sofar Stands script ahead n held mid) → Appends mid now last → EndsBy end [] (lines_of ahead) (length s.lines + 1) last f g → Ran Shows end script held now f g
-between Stands Shows keeps end script ahead n held mid now f g last s bytes why =
+between : (base : Base) (most : ℕ) (Stands Shows : Lines → Pieces → Type 0) → Keeps base most Stands Shows → (end : End) (script ahead : List ℕ) (n : ℕ) (held mid now : Option (List ℕ)) (f g : ℕ) (last : List ℕ) (s : Sofar Stands script ahead n held mid) → Appends mid now last → EndsBy end [] (lines_of ahead) (length s.lines + 1) last f g → Ran base most Shows end script held now f g
+between base most Stands Shows keeps end script ahead n held mid now f g last s bytes why =
     let kept = keeps s.lines s.pieces s.stands in
     record {
       done = s.done;
@@ -87,21 +88,21 @@ between Stands Shows keeps end script ahead n held mid now f g last s bytes why 
     }
 
 -- the script's end
-pub ends_well : (Stands Shows : Lines → Pieces → Type 0) → Keeps Stands Shows → (script ahead : List ℕ) (n : ℕ) (held now : Option (List ℕ)) (f g : ℕ) → Sofar Stands script ahead n held now → ahead ≡ [] → Ran Shows ending.Done script held now f g
-ends_well Stands Shows keeps script ahead n held now f g s none = between Stands Shows keeps ending.Done script ahead n held now now f g [] s (nothing now) (refl, ap lines_of none, refl)
+pub ends_well : (base : Base) (most : ℕ) (Stands Shows : Lines → Pieces → Type 0) → Keeps base most Stands Shows → (script ahead : List ℕ) (n : ℕ) (held now : Option (List ℕ)) (f g : ℕ) → Sofar Stands script ahead n held now → ahead ≡ [] → Ran base most Shows ending.Done script held now f g
+ends_well base most Stands Shows keeps script ahead n held now f g s none = between base most Stands Shows keeps ending.Done script ahead n held now now f g [] s (nothing now) (refl, ap lines_of none, refl)
 
-out : (Stands Shows : Lines → Pieces → Type 0) → Keeps Stands Shows → (end : End) (script ahead : List ℕ) (n : ℕ) (held mid now : Option (List ℕ)) (f g : ℕ) → Sofar Stands script ahead n held mid → IsOut end mid now → Ran Shows end script held now f g
-out Stands Shows keeps end script ahead n held mid now f g s o = between Stands Shows keeps end script ahead n held mid now f g [] s o.1 (subst (λ e. EndsBy e [] (lines_of ahead) (length s.lines + 1) [] f g) (sym o.0) (inl refl))
+out : (base : Base) (most : ℕ) (Stands Shows : Lines → Pieces → Type 0) → Keeps base most Stands Shows → (end : End) (script ahead : List ℕ) (n : ℕ) (held mid now : Option (List ℕ)) (f g : ℕ) → Sofar Stands script ahead n held mid → IsOut end mid now → Ran base most Shows end script held now f g
+out base most Stands Shows keeps end script ahead n held mid now f g s o = between base most Stands Shows keeps end script ahead n held mid now f g [] s o.1 (subst (λ e. EndsBy e [] (lines_of ahead) (length s.lines + 1) [] f g) (sym o.0) (inl refl))
 
 -- a line outside the grammar
-refused : (Stands Shows : Lines → Pieces → Type 0) → Keeps Stands Shows → (end : End) (script ahead next line : List ℕ) (n : ℕ) (held mid now : Option (List ℕ)) (f g h : ℕ) (s : Sofar Stands script ahead n held mid) → lines_of ahead ≡ line ∷ lines_of next → f ≤ g → Refused end line (length s.lines + 1) mid now g h → Ran Shows end script held now f h
-refused Stands Shows keeps ending.Done script ahead next line n held mid now f g h s e le r = absurd r.last
-refused Stands Shows keeps ending.Bad script ahead next line n held mid now f g h s e le r =
-    between Stands Shows keeps ending.Bad script ahead n held mid now f h _ s r.last (refl, line, lines_of next, e, (r.column, r.bad, refl))
-refused Stands Shows keeps ending.Sink script ahead next line n held mid now f g h s e le r =
-    between Stands Shows keeps ending.Sink script ahead n held mid now f h _ s r.last.bytes (rose_later f g h le r.last.why.0, record { text = shown_text (Bad (length s.lines + 1) r.column); next = subst (λ rest. IsNextText [] rest (length s.lines + 1) (shown_text (Bad (length s.lines + 1) r.column))) (sym e) (r.column, r.bad, refl); front = r.last.why.1 })
-refused Stands Shows keeps ending.NoMemory script ahead next line n held mid now f g h s e le r =
-    between Stands Shows keeps ending.NoMemory script ahead n held mid now f h _ s r.last.bytes (elim r.last.why [
+refused : (base : Base) (most : ℕ) (Stands Shows : Lines → Pieces → Type 0) → Keeps base most Stands Shows → (end : End) (script ahead next line : List ℕ) (n : ℕ) (held mid now : Option (List ℕ)) (f g h : ℕ) (s : Sofar Stands script ahead n held mid) → lines_of ahead ≡ line ∷ lines_of next → f ≤ g → Refused end line (length s.lines + 1) mid now g h → Ran base most Shows end script held now f h
+refused base most Stands Shows keeps ending.Done script ahead next line n held mid now f g h s e le r = absurd r.last
+refused base most Stands Shows keeps ending.Bad script ahead next line n held mid now f g h s e le r =
+    between base most Stands Shows keeps ending.Bad script ahead n held mid now f h _ s r.last (refl, line, lines_of next, e, (r.column, r.bad, refl))
+refused base most Stands Shows keeps ending.Sink script ahead next line n held mid now f g h s e le r =
+    between base most Stands Shows keeps ending.Sink script ahead n held mid now f h _ s r.last.bytes (rose_later f g h le r.last.why.0, record { text = shown_text (Bad (length s.lines + 1) r.column); next = subst (λ rest. IsNextText [] rest (length s.lines + 1) (shown_text (Bad (length s.lines + 1) r.column))) (sym e) (r.column, r.bad, refl); front = r.last.why.1 })
+refused base most Stands Shows keeps ending.NoMemory script ahead next line n held mid now f g h s e le r =
+    between base most Stands Shows keeps ending.NoMemory script ahead n held mid now f h _ s r.last.bytes (elim r.last.why [
       | inl none ↦ inl none
       | inr part ↦ inr (record { text = shown_text (Bad (length s.lines + 1) r.column); next = subst (λ rest. IsNextText [] rest (length s.lines + 1) (shown_text (Bad (length s.lines + 1) r.column))) (sym e) (r.column, r.bad, refl); front = part })
     ])
@@ -117,8 +118,8 @@ why_cut ending.Sink first more rest n last f g h le why = (rose_later f g h le w
 why_cut ending.NoMemory first more rest n last f g h le why = elim why [ inl none ↦ inl none | inr part ↦ inr (record { text = shown_text first; next = refl; front = part }) ]
 
 -- the middle of a line's piece
-cut : (Stands Shows : Lines → Pieces → Type 0) (end : End) (script ahead next line : List ℕ) (n : ℕ) (held mid now : Option (List ℕ)) (f g h : ℕ) (s : Sofar Stands script ahead n held mid) → lines_of ahead ≡ line ∷ lines_of next → f ≤ g → (l : Line) → IsLine line l → CutAfter Shows end s.lines l s.pieces mid now g h → Ran Shows end script held now f h
-cut Stands Shows end script ahead next line n held mid now f g h s e le l is c =
+cut : (base : Base) (most : ℕ) (Stands Shows : Lines → Pieces → Type 0) (end : End) (script ahead next line : List ℕ) (n : ℕ) (held mid now : Option (List ℕ)) (f g h : ℕ) (s : Sofar Stands script ahead n held mid) → lines_of ahead ≡ line ∷ lines_of next → f ≤ g → (l : Line) → IsLine line l → CutAfter base most Shows end s.lines l s.pieces mid now g h → Ran base most Shows end script held now f h
+cut base most Stands Shows end script ahead next line n held mid now f g h s e le l is c =
     let at = c.cut in
     let whole : take (length c.piece) c.piece ≡ c.piece = ap (λ p. take (length c.piece) p) (sym (append-nil c.piece)) ∙ take-front c.piece [] in
     let some : take (length at.written) c.piece ≡ at.written = ap (take (length at.written)) at.front ∙ take-front at.written (at.first ∷ at.more) in
@@ -129,26 +130,26 @@ cut Stands Shows end script ahead next line n held mid now f g h s e le l is c =
       script_lines = next_lines _ s.done line (lines_of next) (lines_of ahead) s.script_lines e;
       read = are_lines-push s.done s.lines line l s.read is;
       pieces = s.pieces ++ c.piece ∷ [];
-      promise = subst (λ p. Promise from_formatted most (s.lines ++ l ∷ []) (s.pieces ++ p ∷ [])) whole (c.fronts (length c.piece));
+      promise = subst (λ p. Promise base most (s.lines ++ l ∷ []) (s.pieces ++ p ∷ [])) whole (c.fronts (length c.piece));
       shows = c.shows;
       shown = joined s.pieces ++ at.written;
       unwritten = at.first ∷ at.more;
       front = joined-push s.pieces c.piece ∙ ap (λ p. joined s.pieces ++ p) at.front ∙ sym (append_assoc (joined s.pieces) at.written (at.first ∷ at.more));
-      written = (s.pieces ++ at.written ∷ [], joined-push s.pieces at.written, subst (λ p. Promise from_formatted most (s.lines ++ l ∷ []) (s.pieces ++ p ∷ [])) some (c.fronts (length at.written)));
+      written = (s.pieces ++ at.written ∷ [], joined-push s.pieces at.written, subst (λ p. Promise base most (s.lines ++ l ∷ []) (s.pieces ++ p ∷ [])) some (c.fronts (length at.written)));
       last = at.last;
       bytes = appends_two held mid now _ _ _ s.bytes at.bytes (sym (append_assoc (text_of (joined s.pieces)) (text_of at.written) at.last) ∙ ap (λ t. t ++ at.last) (sym (text_of-append (joined s.pieces) at.written)));
       why = why_cut end at.first at.more (lines_of next) _ at.last f g h le at.why;
     }
 
 -- a step that ends the run
-pub ends_by : (Stands Shows : Lines → Pieces → Type 0) → Keeps Stands Shows → (end : End) (script ahead next line : List ℕ) (n : ℕ) (held mid now : Option (List ℕ)) (f g h : ℕ) (s : Sofar Stands script ahead n held mid) → lines_of ahead ≡ line ∷ lines_of next → f ≤ g → Stopped Shows end line s.lines s.pieces mid now g h → Ran Shows end script held now f h
-ends_by Stands Shows keeps end script ahead next line n held mid now f g h s e le stop =
+pub ends_by : (base : Base) (most : ℕ) (Stands Shows : Lines → Pieces → Type 0) → Keeps base most Stands Shows → (end : End) (script ahead next line : List ℕ) (n : ℕ) (held mid now : Option (List ℕ)) (f g h : ℕ) (s : Sofar Stands script ahead n held mid) → lines_of ahead ≡ line ∷ lines_of next → f ≤ g → Stopped base most Shows end line s.lines s.pieces mid now g h → Ran base most Shows end script held now f h
+ends_by base most Stands Shows keeps end script ahead next line n held mid now f g h s e le stop =
     elim stop [
-      | inl o ↦ out Stands Shows keeps end script ahead n held mid now f h s o
-      | inr (inl r) ↦ refused Stands Shows keeps end script ahead next line n held mid now f g h s e le r
+      | inl o ↦ out base most Stands Shows keeps end script ahead n held mid now f h s o
+      | inr (inl r) ↦ refused base most Stands Shows keeps end script ahead next line n held mid now f g h s e le r
       | inr (inr i) ↦ elim i.cut [
-        | inl o ↦ out Stands Shows keeps end script ahead n held mid now f h s o
-        | inr c ↦ cut Stands Shows end script ahead next line n held mid now f g h s e le i.line i.read c
+        | inl o ↦ out base most Stands Shows keeps end script ahead n held mid now f h s o
+        | inr c ↦ cut base most Stands Shows end script ahead next line n held mid now f g h s e le i.line i.read c
       ]
     ]
 

@@ -1,7 +1,7 @@
 -- One more line of the one clerk's transcript.
-use Rattle.std.proofs.Common.{◌≡◌, refl, sym, subst, arith, ◌∙◌, ap, ◌+◌, ◌<◌, ◌≤◌, ℕ, suc, T, Bool, true, false, List, [], ◌∷◌, ◌++◌, None, append-nil, append_assoc}
-use Rattle.std.specs.Prelude.{length}
-use Rattle.std.specs.List.{filter}
+use Rattle.std.proofs.Common.{◌≡◌, refl, sym, subst, arith, ◌∙◌, ap, ◌+◌, ◌<◌, ◌≤◌, ℕ, zero, suc, T, Bool, true, false, ◌&&◌, List, [], ◌∷◌, ◌++◌, None, append-nil, append_assoc}
+use Rattle.std.specs.Prelude.{length, nat_lt}
+use Rattle.std.specs.List.{filter, list_all}
 use Rattle.ec_volume.specs.Volume.{images, after, image_after, image_next}
 use Rattle.ec_volume.specs.declared.image.Image.{Image}
 use Rattle.ec_volume.specs.declared.update.Update.{Update}
@@ -10,10 +10,10 @@ use Rattle.ec_history.specs.Legal.{IsLegal, is_op_of, from_formatted}
 use Rattle.ec_history.specs.Placing.{watch, watch_next, gives_entry, is_numbered, place, MayFollow, EachLine}
 use Rattle.ec_history.specs.declared.watch.Watch.{Watch}
 use Rattle.ec_history.specs.Lines.{IsCovered}
+use Rattle.ec_history.specs.Written.{rises, IsInOrder}
 use Rattle.ec_history.specs.declared.entry.Entry.{Entry}
 use Rattle.ec_history.specs.declared.shown.Shown.{Shown}
 use Rattle.ec_history.specs.declared.shown.Shown.TheVariants.{Crashed, Nothing}
-use Rattle.ec_drill.specs.Run.{most}
 use Rattle.ec_drill.specs.Numbers.{numbers_to}
 use Rattle.ec_drill.specs.OneClerk.{is_running, open_of, start_of, IsOwn, IsTranscript}
 use Rattle.ec_drill.specs.declared.one_clerk.State.{State}
@@ -26,6 +26,18 @@ use Rattle.ec_drill.specs.Laws.{Laws}
 pub each_line-push : (P : Shown → Type 0) (ss : List Shown) (s : Shown) → EachLine P ss → P s → EachLine P (ss ++ s ∷ [])
 each_line-push P [] s all here = (here, tt)
 each_line-push P (x ∷ ss) s all here = (all.0, each_line-push P ss s all.1 here)
+
+and_split : (a b : Bool) → T (a && b) → T a × T b
+and_split true b h = (tt, h)
+and_split false b h = absurd h
+
+and_join : (a b : Bool) → T a → T b → T (a && b)
+and_join true b x y = y
+and_join false b x y = absurd x
+
+all-push : (p : ℕ → Bool) (ns : List ℕ) (n : ℕ) → T (list_all p ns) → T (p n) → T (list_all p (ns ++ n ∷ []))
+all-push p [] n all here = and_join (p n) true here tt
+all-push p (m ∷ ns) n all here = let parts = and_split (p m) (list_all p ns) all in and_join (p m) (list_all p (ns ++ n ∷ [])) parts.0 (all-push p ns n parts.1 here)
 
 pub each-push : {A : Type 0} (P : A → Type 0) (xs : List A) (x : A) → Each P xs → P x → Each P (xs ++ x ∷ [])
 each-push P [] x all here = (here, tt)
@@ -61,27 +73,51 @@ numbers_to-next n = ap numbers_to (next n) ∙ ap (λ m. numbers_to n ++ m ∷ [
     next : (n : ℕ) → n + 1 ≡ suc n
     next n = omega arith
 
+-- Numbers up to one rise.
+
+below_all : (n m : ℕ) → n < m → T (list_all (λ k. nat_lt k m) (numbers_to n))
+below_all zero m lt = tt
+below_all (suc n) m lt = all-push (λ k. nat_lt k m) (numbers_to n) (suc n) (below_all n m (omega (arith, lt))) (below (suc n) m lt)
+  where
+    below : (a b : ℕ) → a < b → T (nat_lt a b)
+    below a b lt = subst T (sym (is a b lt)) tt
+      where
+        is : (a b : ℕ) → a < b → nat_lt a b ≡ true
+        is a b lt = grind arith
+
+pub rises-push : (ns : List ℕ) (m : ℕ) → T (rises ns) → T (list_all (λ k. nat_lt k m) ns) → T (rises (ns ++ m ∷ []))
+rises-push [] m r h = tt
+rises-push (n ∷ ns) m r h =
+    let parts = and_split (list_all (λ k. nat_lt n k) ns) (rises ns) r in
+    let low = and_split (nat_lt n m) (list_all (λ k. nat_lt k m) ns) h in
+    and_join (list_all (λ k. nat_lt n k) (ns ++ m ∷ [])) (rises (ns ++ m ∷ [])) (all-push (λ k. nat_lt n k) ns m parts.0 low.0) (rises-push ns m parts.1 low.1)
+
+pub rises-to : (n : ℕ) → T (rises (numbers_to n))
+rises-to zero = tt
+rises-to (suc n) = rises-push (numbers_to n) (suc n) (rises-to n) (below_all n (suc n) (omega arith))
+
 -- What the lines show of the clerk.
 
 abbrev pub watch_as : State → ℕ → List ℕ → Bool → Watch
-watch_as st starts ns crashed = record { starts = starts; running = is_running st; open_start = open_of st starts; undurable = ns; untold = None; crashed = crashed }
+watch_as st starts ns crashed = record { starts = starts; running = is_running st; open_start = open_of st starts; undurable = ns; early = []; untold = None; crashed = crashed }
 
-pub watched : (m : OneClerk) (n : ℕ) (ss : List Shown) (t : IsTranscript m n ss) → watch 0 ss ≡ watch_as m.state (watch 0 ss).starts (numbers_to m.ops) (watch 0 ss).crashed
-watched m n ss t = λ i. record { starts = (watch 0 ss).starts; running = t.running i; open_start = t.opened i; undurable = t.undurable i; untold = t.untold i; crashed = (watch 0 ss).crashed }
+pub watched : (most : ℕ) (m : OneClerk) (n : ℕ) (ss : List Shown) (t : IsTranscript most m n ss) → watch 0 ss ≡ watch_as m.state (watch 0 ss).starts (numbers_to m.ops) (watch 0 ss).crashed
+watched most m n ss t = λ i. record { starts = (watch 0 ss).starts; running = t.running i; open_start = t.opened i; undurable = t.undurable i; early = t.early i; untold = t.untold i; crashed = (watch 0 ss).crashed }
 
-module _ (laws : Laws) where
+module _ (laws : Laws) (most : ℕ) where
   -- A line that gives no entry.
-  pub quiet : (m m' : OneClerk) (n : ℕ) (ss : List Shown) (s : Shown) → IsTranscript m n ss
-      → ((c b : ℕ) (w : Watch) → gives_entry c b w s ≡ false) → ((l : ℕ) → is_numbered l s ≡ false) → MayFollow ss s
+  pub quiet : (m m' : OneClerk) (n : ℕ) (ss : List Shown) (s : Shown) → IsTranscript most m n ss
+      → ((c b : ℕ) (w : Watch) → gives_entry c b w s ≡ false) → ((l : ℕ) → is_numbered l s ≡ false) → MayFollow ss s → IsInOrder s
       → m'.volume ≡ m.volume → m'.ops ≡ m.ops → m'.places ≡ m.places + 1
       → (starts : ℕ) (crashed : Bool) → watch_next 0 (watch 0 ss) s ≡ watch_as m'.state starts (numbers_to m.ops) crashed → start_of m'.state starts ≡ start_of m.state (watch 0 ss).starts
-      → IsTranscript m' n (ss ++ s ∷ [])
-  quiet m m' n ss s t none unnumbered may volume ops places starts crashed next same =
+      → IsTranscript most m' n (ss ++ s ∷ [])
+  quiet m m' n ss s t none unnumbered may rising volume ops places starts crashed next same =
       let e : place (ss ++ s ∷ []) ≡ place ss = laws.other_placed ss s none in
       let w : watch 0 (ss ++ s ∷ []) ≡ watch_as m'.state starts (numbers_to m.ops) crashed = laws.watch_next_is 0 ss s ∙ next in
       let from : start_of m.state (watch 0 ss).starts ≡ start_of m'.state (watch 0 (ss ++ s ∷ [])).starts = sym same ∙ ap (λ x. start_of m'.state x.starts) (sym w) in
       record {
         placed = laws.placeable_next ss s t.placed may;
+        in_order = each_line-push IsInOrder ss s t.in_order rising;
         legal = subst (IsLegal from_formatted most) (sym e) t.legal;
         covered = laws.covered_above from_formatted ss s (subst (Throughout (IsCovered from_formatted ss) []) (sym e) t.covered);
         own = subst (Each IsOwn) (sym e) t.own;
@@ -90,6 +126,7 @@ module _ (laws : Laws) where
         running = ap (λ x. x.running) w;
         opened = ap (λ x. x.open_start) w ∙ ap (λ x. open_of m'.state x.starts) (sym w);
         undurable = ap (λ x. x.undurable) w ∙ ap numbers_to (sym ops);
+        early = ap (λ x. x.early) w;
         untold = ap (λ x. x.untold) w;
         volume = ap images volume ∙ t.volume ∙ ap (λ h. after from_formatted.volume (updates (kept from_formatted h))) (sym e);
         unused = λ o lt. ap (λ v. images v o) volume ∙ t.unused o (let k : length (ss ++ s ∷ []) ≡ length ss + 1 = length-push ss s in omega (arith, k, lt));
@@ -101,15 +138,15 @@ module _ (laws : Laws) where
       }
 
   -- The clerk crashes.
-  pub crashed_step : (m m' : OneClerk) (n : ℕ) (ss : List Shown) → IsTranscript m n ss → m.state ≡ state.Running → m'.state ≡ state.Crashed → m'.volume ≡ m.volume → m'.ops ≡ m.ops → m'.places ≡ m.places + 1 → IsTranscript m' n (ss ++ Crashed 0 ∷ [])
+  pub crashed_step : (m m' : OneClerk) (n : ℕ) (ss : List Shown) → IsTranscript most m n ss → m.state ≡ state.Running → m'.state ≡ state.Crashed → m'.volume ≡ m.volume → m'.ops ≡ m.ops → m'.places ≡ m.places + 1 → IsTranscript most m' n (ss ++ Crashed 0 ∷ [])
   crashed_step m m' n ss t is is' volume ops places =
-      quiet m m' n ss (Crashed 0) t (λ c b w. refl) (λ l. refl) tt volume ops places ((watch 0 ss).starts) true
-      (ap (λ w. watch_next 0 w (Crashed 0)) (watched m n ss t) ∙ ap (λ st. watch_next 0 (watch_as st (watch 0 ss).starts (numbers_to m.ops) (watch 0 ss).crashed) (Crashed 0)) is ∙ ap (λ st. watch_as st (watch 0 ss).starts (numbers_to m.ops) true) (sym is'))
+      quiet m m' n ss (Crashed 0) t (λ c b w. refl) (λ l. refl) tt tt volume ops places ((watch 0 ss).starts) true
+      (ap (λ w. watch_next 0 w (Crashed 0)) (watched most m n ss t) ∙ ap (λ st. watch_next 0 (watch_as st (watch 0 ss).starts (numbers_to m.ops) (watch 0 ss).crashed) (Crashed 0)) is ∙ ap (λ st. watch_as st (watch 0 ss).starts (numbers_to m.ops) true) (sym is'))
       (ap (λ st. start_of st (watch 0 ss).starts) is' ∙ ap (λ st. start_of st (watch 0 ss).starts) (sym is))
 
   -- A crash has no effect.
-  pub nothing_step : (m m' : OneClerk) (n : ℕ) (ss : List Shown) → IsTranscript m n ss → m'.state ≡ m.state → m'.volume ≡ m.volume → m'.ops ≡ m.ops → m'.places ≡ m.places + 1 → IsTranscript m' n (ss ++ Nothing ∷ [])
+  pub nothing_step : (m m' : OneClerk) (n : ℕ) (ss : List Shown) → IsTranscript most m n ss → m'.state ≡ m.state → m'.volume ≡ m.volume → m'.ops ≡ m.ops → m'.places ≡ m.places + 1 → IsTranscript most m' n (ss ++ Nothing ∷ [])
   nothing_step m m' n ss t is volume ops places =
-      quiet m m' n ss Nothing t (λ c b w. refl) (λ l. refl) tt volume ops places ((watch 0 ss).starts) ((watch 0 ss).crashed)
-      (watched m n ss t ∙ ap (λ st. watch_as st (watch 0 ss).starts (numbers_to m.ops) (watch 0 ss).crashed) (sym is))
+      quiet m m' n ss Nothing t (λ c b w. refl) (λ l. refl) tt tt volume ops places ((watch 0 ss).starts) ((watch 0 ss).crashed)
+      (watched most m n ss t ∙ ap (λ st. watch_as st (watch 0 ss).starts (numbers_to m.ops) (watch 0 ss).crashed) (sym is))
       (ap (λ st. start_of st (watch 0 ss).starts) is)

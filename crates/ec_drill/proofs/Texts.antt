@@ -1,7 +1,8 @@
 -- The text of lines, and what follows of bytes that are appended in turn.
-use Rattle.std.proofs.Common.{◌≡◌, ℕ, ◌+◌, ◌-◌, ◌≤◌, List, [], ◌∷◌, ◌++◌, length, take, drop, Option, Some, None, refl, sym, ap, ◌∙◌, append_assoc, append-nil, arith, take-add}
+use Rattle.std.proofs.Common.{◌≡◌, ℕ, ◌+◌, ◌-◌, ◌≤◌, ◌==◌, cond, List, [], ◌∷◌, ◌++◌, length, take, drop, Option, Some, None, refl, sym, ap, ◌∙◌, append_assoc, append-nil, arith, take-add}
 use Rattle.std.proofs.lemmas.List.{take_rest}
 use Rattle.std.specs.Io.KnownBytes.{Appends}
+use Rattle.ec_base.specs.Limits.{last_count}
 use Rattle.ec_base.specs.Outside.{Rose}
 use Rattle.ec_history.specs.declared.shown.Shown.{Shown}
 use Rattle.ec_text.specs.Lines.{shown_text, text_of}
@@ -32,4 +33,7 @@ pub joined-push : (ps : Pieces) (p : List Shown) → joined (ps ++ p ∷ []) ≡
 joined-push ps p = joined-append ps (p ∷ []) ∙ ap (λ l. joined ps ++ l) (append-nil p)
 
 pub rose_later : (f g h : ℕ) → f ≤ g → Rose g h → Rose f h
-rose_later f g h le r = omega arith
+rose_later f g h le r = later last_count f g h le r
+  where
+    later : (last f g h : ℕ) → f ≤ g → cond (g == last) g (g + 1) ≤ h → cond (f == last) f (f + 1) ≤ h
+    later last f g h le r = grind arith

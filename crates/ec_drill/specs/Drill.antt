@@ -2,24 +2,19 @@
 use Rattle.std.specs.Prelude.{◌≡◌, ◌<◌, ◌≤◌, ◌⊎◌, ◌+◌, ℕ, List, length, take, Option}
 use Rattle.std.specs.Io.KnownBytes.{Consumes, Appends, Keeps, IsAtEnd}
 use Rattle.ec_base.specs.Outside.{Rose}
+use Rattle.ec_history.specs.History.{Base}
 use Rattle.ec_history.specs.declared.shown.LimitName.{LimitName}
 use Rattle.ec_history.specs.declared.shown.LimitName.TheVariants as limit
 use Rattle.ec_history.specs.declared.shown.Shown.TheVariants.{Limit}
 use Rattle.ec_script.specs.Lines.{lines_of}
 use Rattle.ec_text.specs.Lines.{shown_text}
 use Rattle.ec_drill.specs.Answers.{AreAnswered}
+use Rattle.ec_drill.specs.Limits.{most_bytes, most_lines}
 use Rattle.ec_drill.specs.Run.{Ran}
 use Rattle.ec_drill.specs.declared.running.End.{End}
 use Rattle.ec_drill.specs.declared.running.End.TheVariants as ending
 use Rattle.ec_drill.specs.declared.status.Status.{Status}
 use Rattle.ec_drill.specs.declared.status.Status.TheVariants as status
-
--- the greatest number of bytes, and of lines
-abbrev pub most_bytes : ℕ
-most_bytes = 1048576
-
-abbrev pub most_lines : ℕ
-most_lines = 65536
 
 -- the number that the process answers
 abbrev pub code : Status → ℕ
@@ -48,12 +43,12 @@ pub record IsScript (w : Outside) (script : List ℕ) : Type 0 where
   pub at_end : IsAtEnd w.left_after
   pub few_bytes : length script ≤ most_bytes
 
--- a run over a script within the limits
-pub record RanOver (w : Outside) (end : End) : Type 0 where
+-- a run over a script within the limits, on a base and with at most so many objects
+pub record RanOver (base : Base) (most : ℕ) (w : Outside) (end : End) : Type 0 where
   pub script : List ℕ
   pub is_script : IsScript w script
   pub few_lines : length (lines_of script) ≤ most_lines
-  pub run : Ran AreAnswered end script w.held w.held_after w.writes w.writes_after
+  pub run : Ran base most AreAnswered end script w.held w.held_after w.writes w.writes_after
 
 -- The source has too much: more bytes than the limit, of which one more than the limit was read, or too many lines.
 abbrev pub IsOver : Outside → LimitName → ℕ → Type 0
@@ -82,11 +77,11 @@ abbrev pub IsSilent : Outside → Type 0
 IsSilent w = Keeps w.held w.held_after
 
 -- Each status, by its causes, with what was written.
-abbrev pub Drilled : Status → Outside → Type 0
-Drilled status.Done w = RanOver w ending.Done
-Drilled status.Usage w = ⊥
-Drilled status.BadLine w = RanOver w ending.Bad
-Drilled status.SourceFault w = Rose w.reads w.reads_after × IsSilent w
-Drilled status.SinkFault w = Rose w.writes w.writes_after × (RanOver w ending.Sink ⊎ RefusedInPart w)
-Drilled status.NoMemory w = RanOver w ending.NoMemory ⊎ RefusedInPart w ⊎ IsSilent w
-Drilled status.Limit w = (name : LimitName) × (number : ℕ) × IsOver w name number × Appends w.held w.held_after (shown_text (Limit name number))
+abbrev pub Drilled : Base → ℕ → Status → Outside → Type 0
+Drilled base most status.Done w = RanOver base most w ending.Done
+Drilled base most status.Usage w = ⊥
+Drilled base most status.BadLine w = RanOver base most w ending.Bad
+Drilled base most status.SourceFault w = Rose w.reads w.reads_after × IsSilent w
+Drilled base most status.SinkFault w = Rose w.writes w.writes_after × (RanOver base most w ending.Sink ⊎ RefusedInPart w)
+Drilled base most status.NoMemory w = RanOver base most w ending.NoMemory ⊎ RefusedInPart w ⊎ IsSilent w
+Drilled base most status.Limit w = (name : LimitName) × (number : ℕ) × IsOver w name number × Appends w.held w.held_after (shown_text (Limit name number))

@@ -1,4 +1,4 @@
--- The laws that the steps use, as the contracts of the functions that carry them.
+-- No public clause cites this module: it hands to proofs the laws that the steps use, which are the contracts of ec_laws and ec_formed.
 use Rattle.std.specs.Prelude.{◌≡◌, ◌≢◌, ◌+◌, ℕ, T, false, List, [], ◌∷◌, ◌++◌, length, Option, None, Some}
 use Rattle.std.specs.List.{list_all}
 use Rattle.ec_volume.specs.Image.{is_gone}
@@ -10,7 +10,7 @@ use Rattle.ec_plain.specs.Bounds.{is_bounded}
 use Rattle.ec_plain.specs.declared.call.Call.{Call}
 use Rattle.ec_history.specs.History.{Base, History, Throughout, kept, kept_next, owed, owed_next}
 use Rattle.ec_history.specs.Legal.{IsLegal, IsLegalNext, from_formatted}
-use Rattle.ec_history.specs.Placing.{watch, watch_next, owner, or_zero, gives_entry, call_entry, place, ArePlaceable, MayFollow}
+use Rattle.ec_history.specs.Placing.{watch, watch_next, owner, or_zero, gives_entry, call_entry, place, ArePlaceable, MayFollow, same_numbers}
 use Rattle.ec_history.specs.declared.watch.Watch.{Watch}
 use Rattle.ec_history.specs.Lines.{IsCovered, AreCovered}
 use Rattle.ec_history.specs.declared.entry.Answer.{Answer}
@@ -30,6 +30,7 @@ pub record Laws : Type 0 where
   pub ended_placed : (ss : List Shown) (c : ℕ) (ns : List ℕ) → place (ss ++ Ended c ns ∷ []) ≡ place ss ++ (length ss + 1, entry.Loss c (or_zero (owner (watch c ss))) ns) ∷ []
   pub other_placed : (ss : List Shown) (s : Shown) → ((c b : ℕ) (w : Watch) → gives_entry c b w s ≡ false) → place (ss ++ s ∷ []) ≡ place ss
   pub covered_above : (base : Base) (ss : List Shown) (s : Shown) → Throughout (IsCovered base ss) [] (place (ss ++ s ∷ [])) → AreCovered base (ss ++ s ∷ [])
+  pub same_lists : (ns : List ℕ) → T (same_numbers ns ns)
   -- volumes that stay well formed
   pub is_base : IsBase from_formatted
   pub kept_formed : (base : Base) (most : ℕ) (ss : List Shown) → IsBase base → T (list_all (λ e. is_bounded_entry e.1) (place ss)) → IsLegal base most (place ss) → LeaveWellFormed base (kept base (place ss))

@@ -1,7 +1,9 @@
+pub mod Limits
 pub mod Streams
 pub mod Promise
 pub mod Answers
 pub mod Run
+pub mod Steps
 pub mod Numbers
 pub mod Laws
 pub mod OneClerk

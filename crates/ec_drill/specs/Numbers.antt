@@ -1,4 +1,4 @@
--- The numbers of operations.
+-- No public clause cites this module: it has the numbers of operations that the one clerk loses.
 use Rattle.std.specs.Prelude.{ℕ, zero, suc, List, [], ◌∷◌, ◌++◌}
 
 -- the numbers from 1 on, so many of them

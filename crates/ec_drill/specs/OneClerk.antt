@@ -1,4 +1,4 @@
--- How the one clerk's state stands behind the transcript.
+-- No public clause cites this module: it says how the one clerk's state stands behind the transcript.
 use Rattle.std.specs.Prelude.{◌≡◌, ◌≢◌, ◌||◌, ◌+◌, ◌<◌, ◌≤◌, ℕ, T, Bool, true, false, if◌then◌else◌, List, [], ◌∷◌, length, Option, None, Some, ⊤}
 use Rattle.std.specs.List.{filter}
 use Rattle.ec_volume.specs.Update.{operands, first_unfit, is_sound}
@@ -6,10 +6,11 @@ use Rattle.ec_volume.specs.Volume.{Images, images, after}
 use Rattle.ec_volume.specs.declared.update.Update.{Update}
 use Rattle.ec_volume.specs.declared.image.Image.TheVariants.{Gone}
 use Rattle.ec_plain.specs.declared.call.Call.{Call}
-use Rattle.ec_history.specs.History.{numbers, updates, of_start, kept, owed, Each}
+use Rattle.ec_history.specs.History.{Base, numbers, updates, of_start, kept, owed, Each}
 use Rattle.ec_history.specs.Legal.{IsLegal, is_op_of, from_formatted}
 use Rattle.ec_history.specs.Placing.{watch, place, ArePlaceable, EachLine, is_numbered}
 use Rattle.ec_history.specs.Lines.{AreCovered}
+use Rattle.ec_history.specs.Written.{IsInOrder}
 use Rattle.ec_history.specs.declared.entry.Answer.{Answer}
 use Rattle.ec_history.specs.declared.entry.Entry.{Entry}
 use Rattle.ec_history.specs.declared.entry.Entry.TheVariants as entry
@@ -19,7 +20,6 @@ use Rattle.ec_script.specs.Grammar.{IsSmallCall}
 use Rattle.ec_script.specs.declared.line.Line.TheVariants as line
 use Rattle.ec_drill.specs.Promise.{Lines, Pieces, joined, Promise, ends, may_end}
 use Rattle.ec_drill.specs.Answers.{AreAnswered}
-use Rattle.ec_drill.specs.Run.{most}
 use Rattle.ec_drill.specs.Numbers.{numbers_to}
 use Rattle.ec_drill.specs.declared.one_clerk.State.{State}
 use Rattle.ec_drill.specs.declared.one_clerk.State.TheVariants as state
@@ -47,9 +47,10 @@ abbrev pub IsOwn : ℕ × Entry → Type 0
 IsOwn (p, entry.Call c b l begun cl a op) = (c ≡ 0) × IsSmallCall cl
 IsOwn (p, entry.Loss c b ns) = c ≡ 0
 
--- The transcript is good by itself, and the clerk's state is what it shows. The lines answered so far have numbers up to n.
-pub record IsTranscript (m : OneClerk) (n : ℕ) (ss : List Shown) : Type 0 where
+-- The transcript is good by itself, with at most so many objects, and the clerk's state is what it shows. The lines answered so far have numbers up to n.
+pub record IsTranscript (most : ℕ) (m : OneClerk) (n : ℕ) (ss : List Shown) : Type 0 where
   pub placed : ArePlaceable [] ss
+  pub in_order : EachLine IsInOrder ss
   pub legal : IsLegal from_formatted most (place ss)
   pub covered : AreCovered from_formatted ss
   pub own : Each IsOwn (place ss)
@@ -59,6 +60,7 @@ pub record IsTranscript (m : OneClerk) (n : ℕ) (ss : List Shown) : Type 0 wher
   pub running : (watch 0 ss).running ≡ is_running m.state
   pub opened : (watch 0 ss).open_start ≡ open_of m.state (watch 0 ss).starts
   pub undurable : (watch 0 ss).undurable ≡ numbers_to m.ops
+  pub early : (watch 0 ss).early ≡ []
   pub untold : (watch 0 ss).untold ≡ None
   -- the volume
   pub volume : images m.volume ≡ after from_formatted.volume (updates (kept from_formatted (place ss)))
@@ -97,18 +99,25 @@ state_after running crashed (line.Comment ∷ lines) = state_after running crash
 state_after running crashed (line.Call c cl ∷ lines) = state_after true false lines
 state_after running crashed (line.Crash c ∷ lines) = state_after false (running || crashed) lines
 
--- The clerk stands behind these lines and pieces.
-pub record StandsBehind (m : OneClerk) (lines : Lines) (pieces : Pieces) : Type 0 where
+-- The clerk is behind these lines and pieces.
+pub record IsBehind (most : ℕ) (m : OneClerk) (lines : Lines) (pieces : Pieces) : Type 0 where
   pub promise : Promise from_formatted most lines pieces
   pub shows : AreAnswered lines pieces
   pub counted : length pieces ≡ length lines
   pub few : length (joined pieces) ≤ length lines + length lines
   pub few_ops : m.ops ≤ length lines
-  pub transcript : IsTranscript m (length lines) (joined pieces)
+  pub transcript : IsTranscript most m (length lines) (joined pieces)
   pub state : state_after false false lines ≡ (is_running m.state, is_crashed m.state)
   -- a loss is shown for a crash alone
   pub losses : length (filter (ends 0) (joined pieces)) + (if is_crashed m.state then 1 else 0) ≤ length (filter (may_end 0) lines)
   pub no_others : (c : ℕ) → c ≢ 0 → length (filter (ends c) (joined pieces)) ≡ 0
 
-pub kept_promise : (m : OneClerk) (lines : Lines) (pieces : Pieces) → StandsBehind m lines pieces → Promise from_formatted most lines pieces × AreAnswered lines pieces
-kept_promise m lines pieces s = (s.promise, s.shows)
+-- The same of a clerk on the formatted volume, opened with this greatest number of objects.
+pub record StandsBehind (m : OneClerk) (base : Base) (most : ℕ) (lines : Lines) (pieces : Pieces) : Type 0 where
+  pub on : base ≡ from_formatted
+  pub opened : most ≡ m.max_objects
+  pub promise : Promise base most lines pieces
+  pub behind : IsBehind most m lines pieces
+
+pub kept_promise : (m : OneClerk) (base : Base) (most : ℕ) (lines : Lines) (pieces : Pieces) → StandsBehind m base most lines pieces → Promise base most lines pieces × AreAnswered lines pieces
+kept_promise m base most lines pieces s = (s.promise, s.behind.shows)

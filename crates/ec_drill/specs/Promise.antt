@@ -6,6 +6,7 @@ use Rattle.ec_history.specs.History.{Base}
 use Rattle.ec_history.specs.Legal.{IsLegal}
 use Rattle.ec_history.specs.Placing.{place, ArePlaceable, EachLine, is_numbered}
 use Rattle.ec_history.specs.Lines.{AreCovered}
+use Rattle.ec_history.specs.Written.{IsInOrder}
 use Rattle.ec_history.specs.declared.shown.Shown.{Shown}
 use Rattle.ec_history.specs.declared.shown.Shown.TheVariants.{Waits, Answered, Ended, Unseen}
 use Rattle.ec_script.specs.declared.line.Line.{Line}
@@ -57,9 +58,12 @@ may_end c _ = false
 abbrev pub AreEndsAsked : Lines → Pieces → Type 0
 AreEndsAsked lines pieces = (c k : ℕ) → k ≤ length pieces → length (filter (ends c) (joined (take k pieces))) ≤ length (filter (may_end c) (take k lines))
 
+-- What lines and pieces promise, over a base and with at most so many objects.
 pub record Promise (base : Base) (most : ℕ) (lines : Lines) (pieces : Pieces) : Type 0 where
   -- the lines have a history
   pub placed : ArePlaceable [] (joined pieces)
+  -- the list of each line rises
+  pub in_order : EachLine IsInOrder (joined pieces)
   -- it is legal on one uncached volume: each reply, each report and each loss
   pub history : IsLegal base most (place (joined pieces))
   -- each answer is that of a line of the script, with its clerk and its call

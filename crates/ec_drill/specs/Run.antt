@@ -2,7 +2,7 @@
 use Rattle.std.specs.Prelude.{◌≡◌, ◌<◌, ◌⊎◌, ℕ, ◌+◌, List, [], ◌∷◌, ◌++◌, length, take, Option}
 use Rattle.std.specs.Io.KnownBytes.{Appends}
 use Rattle.ec_base.specs.Outside.{Rose}
-use Rattle.ec_history.specs.Legal.{from_formatted}
+use Rattle.ec_history.specs.History.{Base}
 use Rattle.ec_history.specs.declared.shown.Shown.{Shown}
 use Rattle.ec_history.specs.declared.shown.Shown.TheVariants.{Bad}
 use Rattle.ec_script.specs.Lines.{lines_of}
@@ -14,14 +14,10 @@ use Rattle.ec_drill.specs.Promise.{Lines, Pieces, joined, Promise}
 use Rattle.ec_drill.specs.declared.running.End.{End}
 use Rattle.ec_drill.specs.declared.running.End.TheVariants as ending
 
--- the greatest number of objects
-abbrev pub most : ℕ
-most = 1024
-
 -- The machine, which stood behind some lines and pieces, carried out one more line and gave its piece. Each front of the piece keeps the promise.
-pub record Carried (Stands : Lines → Pieces → Type 0) (lines : Lines) (line : Line) (pieces : Pieces) (piece : List Shown) : Type 0 where
+pub record Carried (base : Base) (most : ℕ) (Stands : Lines → Pieces → Type 0) (lines : Lines) (line : Line) (pieces : Pieces) (piece : List Shown) : Type 0 where
   pub stands : Stands (lines ++ line ∷ []) (pieces ++ piece ∷ [])
-  pub fronts : (k : ℕ) → Promise from_formatted most (lines ++ line ∷ []) (pieces ++ take k piece ∷ [])
+  pub fronts : (k : ℕ) → Promise base most (lines ++ line ∷ []) (pieces ++ take k piece ∷ [])
 
 -- each of these lines of the script, read
 abbrev pub AreLines : List (List ℕ) → Lines → Type 0
@@ -59,81 +55,8 @@ EndsBy ending.Bad unwritten rest n last before now = (unwritten ≡ []) × (byte
 EndsBy ending.Sink unwritten rest n last before now = Rose before now × IsPart unwritten rest n last
 EndsBy ending.NoMemory unwritten rest n last before now = (last ≡ []) ⊎ IsPart unwritten rest n last
 
--- The steps of a run.
-
--- a part of this text was written, not the whole, and why no more
-abbrev pub CutBy : End → List ℕ → List ℕ → ℕ → ℕ → Type 0
-CutBy ending.Done text last before now = ⊥
-CutBy ending.Bad text last before now = ⊥
-CutBy ending.Sink text last before now = Rose before now × IsFront text last
-CutBy ending.NoMemory text last before now = (last ≡ []) ⊎ IsFront text last
-
-pub record CutText (end : End) (text : List ℕ) (held now : Option (List ℕ)) (faults later : ℕ) : Type 0 where
-  pub last : List ℕ
-  pub bytes : Appends held now last
-  pub why : CutBy end text last faults later
-
--- of these lines some were written, and a part of the next one
-pub record CutIn (end : End) (lines : List Shown) (held now : Option (List ℕ)) (faults later : ℕ) : Type 0 where
-  pub written : List Shown
-  pub first : Shown
-  pub more : List Shown
-  pub front : lines ≡ written ++ first ∷ more
-  pub last : List ℕ
-  pub bytes : Appends held now (text_of written ++ last)
-  pub why : CutBy end (shown_text first) last faults later
-
--- the last line was written, or a part of it
-abbrev pub LastWritten : End → List ℕ → Option (List ℕ) → Option (List ℕ) → ℕ → ℕ → Type 0
-LastWritten ending.Done text held now faults later = ⊥
-LastWritten ending.Bad text held now faults later = Appends held now text
-LastWritten ending.Sink text held now faults later = CutText ending.Sink text held now faults later
-LastWritten ending.NoMemory text held now faults later = CutText ending.NoMemory text held now faults later
-
--- one more line was carried out, and its piece written
-pub record CarriedOut (Stands : Lines → Pieces → Type 0) (lines : Lines) (line : Line) (pieces : Pieces) (held now : Option (List ℕ)) : Type 0 where
-  pub piece : List Shown
-  pub stands : Stands (lines ++ line ∷ []) (pieces ++ piece ∷ [])
-  pub bytes : Appends held now (text_of piece)
-
--- one more line was carried out, and a part of its piece written
-pub record CutAfter (Shows : Lines → Pieces → Type 0) (end : End) (lines : Lines) (line : Line) (pieces : Pieces) (held now : Option (List ℕ)) (faults later : ℕ) : Type 0 where
-  pub piece : List Shown
-  pub shows : Shows (lines ++ line ∷ []) (pieces ++ piece ∷ [])
-  pub fronts : (k : ℕ) → Promise from_formatted most (lines ++ line ∷ []) (pieces ++ take k piece ∷ [])
-  pub cut : CutIn end piece held now faults later
-
--- want of memory before anything was written
-abbrev pub IsOut : End → Option (List ℕ) → Option (List ℕ) → Type 0
-IsOut end held now = (end ≡ ending.NoMemory) × Appends held now []
-
-abbrev pub CutOff : (Lines → Pieces → Type 0) → End → Lines → Line → Pieces → Option (List ℕ) → Option (List ℕ) → ℕ → ℕ → Type 0
-CutOff Shows end lines line pieces held now faults later = IsOut end held now ⊎ CutAfter Shows end lines line pieces held now faults later
-
--- one more line of the script was read and carried out
-pub record Stepped (Stands : Lines → Pieces → Type 0) (bytes : List ℕ) (lines : Lines) (pieces : Pieces) (held now : Option (List ℕ)) : Type 0 where
-  pub line : Line
-  pub read : IsLine bytes line
-  pub carried : CarriedOut Stands lines line pieces held now
-
--- a line outside the grammar
-pub record Refused (end : End) (bytes : List ℕ) (n : ℕ) (held now : Option (List ℕ)) (faults later : ℕ) : Type 0 where
-  pub column : ℕ
-  pub bad : IsFault bytes (fault.At column)
-  pub last : LastWritten end (shown_text (Bad n column)) held now faults later
-
--- a line that was read, and in which the run ended
-pub record EndedIn (Shows : Lines → Pieces → Type 0) (end : End) (bytes : List ℕ) (lines : Lines) (pieces : Pieces) (held now : Option (List ℕ)) (faults later : ℕ) : Type 0 where
-  pub line : Line
-  pub read : IsLine bytes line
-  pub cut : CutOff Shows end lines line pieces held now faults later
-
-abbrev pub Stopped : (Lines → Pieces → Type 0) → End → List ℕ → Lines → Pieces → Option (List ℕ) → Option (List ℕ) → ℕ → ℕ → Type 0
-Stopped Shows end bytes lines pieces held now faults later =
-    IsOut end held now ⊎ Refused end bytes (length lines + 1) held now faults later ⊎ EndedIn Shows end bytes lines pieces held now faults later
-
--- A run over a script. `Shows` is what the machine's transcripts show beside the promise.
-pub record Ran (Shows : Lines → Pieces → Type 0) (end : End) (script : List ℕ) (held now : Option (List ℕ)) (faults later : ℕ) : Type 0 where
+-- A run over a script, on a base and with at most so many objects. `Shows` is what the machine's transcripts show beside the promise.
+pub record Ran (base : Base) (most : ℕ) (Shows : Lines → Pieces → Type 0) (end : End) (script : List ℕ) (held now : Option (List ℕ)) (faults later : ℕ) : Type 0 where
   -- the first lines of the script were read and carried out
   pub done : List (List ℕ)
   pub rest : List (List ℕ)
@@ -142,13 +65,13 @@ pub record Ran (Shows : Lines → Pieces → Type 0) (end : End) (script : List 
   pub read : AreLines done lines
   -- the transcript that they gave
   pub pieces : Pieces
-  pub promise : Promise from_formatted most lines pieces
+  pub promise : Promise base most lines pieces
   pub shows : Shows lines pieces
   -- the whole lines written are a front of it, and keep the promise by themselves
   pub shown : List Shown
   pub unwritten : List Shown
   pub front : joined pieces ≡ shown ++ unwritten
-  pub written : (ps : Pieces) × (joined ps ≡ shown) × Promise from_formatted most lines ps
+  pub written : (ps : Pieces) × (joined ps ≡ shown) × Promise base most lines ps
   -- the bytes written are these lines, and perhaps a part of the next text
   pub last : List ℕ
   pub bytes : Appends held now (text_of shown ++ last)

@@ -1,4 +1,4 @@
--- What the readers and writers of whole streams do.
+-- No public clause cites this module: it says what the private readers and writers of whole streams do.
 use Rattle.std.specs.Prelude.{◌≡◌, ℕ, ◌+◌, ◌<◌, ◌≤◌, List, Option, length, take}
 use Rattle.std.specs.Io.KnownBytes.{Consumes, Appends, IsAtEnd}
 use Rattle.ec_base.specs.Outside.{Rose}

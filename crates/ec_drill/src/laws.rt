@@ -7,7 +7,7 @@ use ec_formed::{
 };
 use ec_laws::{
     each_line_is_placed, lines_above_cover, longer_history, longer_history_is_legal,
-    longer_transcript, longer_transcript_is_placeable,
+    longer_transcript, longer_transcript_is_placeable, rising_lists_are_sets,
 };
 
 /// The laws of longer histories and transcripts, and of volumes that stay well formed.
@@ -20,6 +20,7 @@ pub(crate) fn laws()
     longer_transcript();
     each_line_is_placed();
     lines_above_cover();
+    rising_lists_are_sets();
     formatted_is_a_base();
     what_is_kept_is_well_formed();
     calls_make_fitting_updates();

@@ -2,6 +2,7 @@
 #![tactic(auto)]
 
 mod laws;
+mod limits;
 mod machine;
 mod one_clerk;
 mod running;
@@ -9,8 +10,8 @@ mod start;
 mod status;
 mod streams;
 
+pub use limits::{MOST_BYTES, MOST_LINES, MOST_OBJECTS};
 pub use machine::Machine;
-pub use one_clerk::OneClerk;
 pub use running::{End, run};
 pub use start::drill;
 pub use status::Status;

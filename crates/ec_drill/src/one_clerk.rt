@@ -1,6 +1,9 @@
 // One clerk's calls and crashes on one volume.
 ghost use Rattle.std.specs.Prelude.{◌≡◌, ◌+◌, ◌<◌, ◌≤◌, ◌^◌, ℕ, List, [], ◌∷◌, ◌++◌, length, true, false, IfOk, OnOk};
 ghost use Rattle.ec_script.specs.Grammar.{IsSmallCall};
+ghost use Rattle.ec_history.specs.History.{Base};
+ghost use Rattle.ec_history.specs.Legal.{from_formatted};
+ghost use Rattle.ec_drill.specs.Limits.{most_lines};
 ghost use Rattle.ec_drill.specs.Promise.{Lines, Pieces};
 ghost use Rattle.ec_drill.specs.Answers.{AreAnswered};
 ghost use Rattle.ec_drill.specs.Run.{Carried};
@@ -15,9 +18,11 @@ use ec_script::Line;
 use ec_volume::{ApplyFault, Update, Volume};
 use std::alloc::Global;
 
-/// The clerk `A` on a volume of its own. A crash loses all operations of its start.
+/// The clerk `A` on a formatted volume of its own. A crash loses all operations of its start.
 #[derive(Drop)]
 pub struct OneClerk {
+    /// With how many objects at most it was opened. It answers no `noroom`, so nothing reads this.
+    max_objects: u32,
     volume: Volume,
     /// How many lines of the transcript there are.
     places: u32,
@@ -66,11 +71,12 @@ impl OneClerk {
     ghost use Rattle.ec_drill.specs.declared.one_clerk.State.TheVariants as state;
     ghost use Rattle.ec_drill.specs.OneClerk.{IsTranscript, StandsBehind, Takes, Fitting, IsAnswered, is_crashed};
 
-    /// The clerk before its first start, on a formatted volume.
-    pub fn new(alloc: Global) -> Result<OneClerk, NoMemory>
-        ensures { IfOk result (λ clerk. StandsBehind clerk [] []) }
+    /// The clerk before its first start.
+    pub fn open(alloc: Global, max_objects: u32) -> Result<OneClerk, NoMemory>
+        ensures { IfOk result (λ clerk. StandsBehind clerk from_formatted max_objects [] []) }
     {
         Ok(OneClerk {
+            max_objects,
             volume: Volume::formatted(alloc)?,
             places: 0,
             ops: 0,
@@ -86,11 +92,14 @@ impl OneClerk {
         clerk: ClerkId,
         call: Call,
     ) -> Result<Vec<Shown>, NoMemory>
-        requires stands { (lines : Lines) × (pieces : Pieces) × StandsBehind self.old lines pieces × (number ≡ length lines + 1) }
-        requires few { number ≤ 65536 }
+        requires stands { (base : Base) × (most : ℕ) × (lines : Lines) × (pieces : Pieces) × StandsBehind self.old base most lines pieces
+            × (number ≡ length lines + 1) }
+        requires few { number ≤ most_lines }
         requires clerk { clerk ≡ 0 }
         requires small { IsSmallCall call }
-        ensures ok { (lines : Lines) (pieces : Pieces) → StandsBehind self.old lines pieces → number ≡ length lines + 1 → IfOk result (λ piece. Carried (StandsBehind self.new) lines (Line.Call clerk call) pieces piece.items) }
+        ensures ok { (base : Base) (most : ℕ) (lines : Lines) (pieces : Pieces) → StandsBehind self.old base most lines pieces
+            → number ≡ length lines + 1
+            → IfOk result (λ piece. Carried base most (StandsBehind self.new base most) lines (Line.Call clerk call) pieces piece.items) }
     {
         let mut piece = Vec::with_capacity(alloc, 2)?;
         if !self.state.is_crashed() {
@@ -110,8 +119,10 @@ impl OneClerk {
         requires clerk { clerk ≡ 0 }
         requires crashed { is_crashed self.old.state ≡ true }
         requires few { self.old.places < 2 ^ 31 }
-        ensures ok { (n : ℕ) (ss : List Shown) → IsTranscript self.old n ss → IfOk result (λ s. (s ≡ shown.Ended 0 (numbers_to self.old.ops)) × IsTranscript self.new n (ss ++ s ∷ [])) }
-        ensures after { OnOk result ((self.new.state ≡ state.New) × (self.new.ops ≡ 0) × (self.new.places ≡ self.old.places + 1)) }
+        ensures ok { (most n : ℕ) (ss : List Shown) → IsTranscript most self.old n ss
+            → IfOk result (λ s. (s ≡ shown.Ended 0 (numbers_to self.old.ops)) × IsTranscript most self.new n (ss ++ s ∷ [])) }
+        ensures after { OnOk result ((self.new.state ≡ state.New) × (self.new.ops ≡ 0) × (self.new.max_objects ≡ self.old.max_objects)
+            × (self.new.places ≡ self.old.places + 1)) }
     {
         laws();
         let ops = numbers_to(alloc, self.ops)?;
@@ -133,9 +144,11 @@ impl OneClerk {
         requires small { IsSmallCall call }
         requires runs { is_crashed self.old.state ≡ false }
         requires few { (self.old.places < 2 ^ 31) × (self.old.ops < 2 ^ 31) }
-        requires transcript { (n : ℕ) × (ss : List Shown) × IsTranscript self.old n ss }
-        ensures ok { (n : ℕ) (ss : List Shown) → IsTranscript self.old n ss → number ≡ n + 1 → IfOk result (λ s. IsAnswered number call s × IsTranscript self.new number (ss ++ s ∷ [])) }
-        ensures after { OnOk result ((self.new.state ≡ state.Running) × (self.new.ops ≤ self.old.ops + 1) × (self.new.places ≡ self.old.places + 1)) }
+        requires transcript { (most : ℕ) × (n : ℕ) × (ss : List Shown) × IsTranscript most self.old n ss }
+        ensures ok { (most n : ℕ) (ss : List Shown) → IsTranscript most self.old n ss → number ≡ n + 1
+            → IfOk result (λ s. IsAnswered number call s × IsTranscript most self.new number (ss ++ s ∷ [])) }
+        ensures after { OnOk result ((self.new.state ≡ state.Running) × (self.new.ops ≤ self.old.ops + 1) × (self.new.max_objects ≡ self.old.max_objects)
+            × (self.new.places ≡ self.old.places + 1)) }
     {
         laws();
         let Some(fresh) = ObjId::new(self.places + 2) else {
@@ -155,6 +168,7 @@ impl OneClerk {
         ensures ok { IfOk result (λ op. Takes update op self.old self.new) }
         ensures state { self.new.state ≡ self.old.state }
         ensures places { self.new.places ≡ self.old.places }
+        ensures objects { self.new.max_objects ≡ self.old.max_objects }
     {
         let Some(update) = update else {
             return Ok(None);
@@ -170,10 +184,11 @@ impl OneClerk {
     }
 
     fn crash(&mut self, alloc: Global, clerk: ClerkId) -> Result<Vec<Shown>, NoMemory>
-        requires stands { (lines : Lines) × (pieces : Pieces) × StandsBehind self.old lines pieces }
+        requires stands { (base : Base) × (most : ℕ) × (lines : Lines) × (pieces : Pieces) × StandsBehind self.old base most lines pieces }
         requires clerk { clerk ≡ 0 }
         requires few { self.old.places < 2 ^ 31 }
-        ensures ok { (lines : Lines) (pieces : Pieces) → StandsBehind self.old lines pieces → IfOk result (λ piece. Carried (StandsBehind self.new) lines (Line.Crash clerk) pieces piece.items) }
+        ensures ok { (base : Base) (most : ℕ) (lines : Lines) (pieces : Pieces) → StandsBehind self.old base most lines pieces
+            → IfOk result (λ piece. Carried base most (StandsBehind self.new base most) lines (Line.Crash clerk) pieces piece.items) }
     {
         laws();
         let mut piece = Vec::with_capacity(alloc, 1)?;
@@ -193,7 +208,7 @@ impl Machine for OneClerk {
 
     ghost stands = { StandsBehind };
 
-    ghost shows = { AreAnswered };
+    ghost shows = { λ base most lines pieces. AreAnswered lines pieces };
 
     fn carry_out(
         &mut self,

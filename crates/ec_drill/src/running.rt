@@ -1,12 +1,15 @@
 // A run over a whole script.
 ghost use Rattle.std.specs.Prelude.{◌≡◌, ◌≤◌, ◌+◌, ℕ, List, [], ◌∷◌, length, IfErr, OnOk};
 ghost use Rattle.std.specs.Io.KnownBytes.{Appends};
+ghost use Rattle.ec_history.specs.History.{Base};
 ghost use Rattle.ec_history.specs.declared.shown.Shown.TheVariants as shown;
 ghost use Rattle.ec_script.specs.Lines.{lines_of};
 ghost use Rattle.ec_script.specs.Grammar.{IsSmall, IsLine};
 ghost use Rattle.ec_text.specs.Lines.{shown_text, text_of};
 ghost use Rattle.ec_drill.specs.Promise.{Lines, Pieces};
-ghost use Rattle.ec_drill.specs.Run.{CutIn, CutText, CarriedOut, CutOff, Stepped, Stopped, LastWritten, Ran};
+ghost use Rattle.ec_drill.specs.Limits.{most_lines};
+ghost use Rattle.ec_drill.specs.Run.{Ran};
+ghost use Rattle.ec_drill.specs.Steps.{CutIn, CutText, CarriedOut, CutOff, Stepped, Stopped, LastWritten};
 
 use crate::machine::Machine;
 use crate::streams::{WriteFault, write_whole};
@@ -28,11 +31,12 @@ pub enum End {
     NoMemory,
 }
 
-/// Runs a script, and writes its transcript.
+/// Runs a script on a machine that stands behind no line yet, and writes its transcript.
 pub fn run<M: Machine, K: Sink>(alloc: Global, machine: &mut M, script: &[u8], sink: &mut K) -> End
-    requires stands { M.stands machine.old [] [] }
-    requires few { length (lines_of script.now) ≤ 65536 }
-    ensures ran { Ran M.shows result script.now (K.held sink.old) (K.held sink.new) (K.faults sink.old) (K.faults sink.new) }
+    requires stands { (base : Base) × (most : ℕ) × M.stands machine.old base most [] [] }
+    requires few { length (lines_of script.now) ≤ most_lines }
+    ensures ran { (base : Base) (most : ℕ) → M.stands machine.old base most [] []
+        → Ran base most (M.shows base most) result script.now (K.held sink.old) (K.held sink.new) (K.faults sink.old) (K.faults sink.new) }
     ensures later { K.faults sink.old ≤ K.faults sink.new }
 {
     let mut ahead = script;
@@ -56,10 +60,16 @@ fn step<M: Machine, K: Sink>(
     number: u32,
     bytes: &[u8],
 ) -> Result<(), End>
-    requires stands { (lines : Lines) × (pieces : Pieces) × M.stands machine.old lines pieces × (number ≡ length lines + 1) }
-    requires few { number ≤ 65536 }
-    ensures ok { (lines : Lines) (pieces : Pieces) → M.stands machine.old lines pieces → number ≡ length lines + 1 → OnOk result (Stepped (M.stands machine.new) bytes.now lines pieces (K.held sink.old) (K.held sink.new)) }
-    ensures err { (lines : Lines) (pieces : Pieces) → M.stands machine.old lines pieces → number ≡ length lines + 1 → IfErr result (λ end. Stopped M.shows end bytes.now lines pieces (K.held sink.old) (K.held sink.new) (K.faults sink.old) (K.faults sink.new)) }
+    requires stands { (base : Base) × (most : ℕ) × (lines : Lines) × (pieces : Pieces) × M.stands machine.old base most lines pieces
+        × (number ≡ length lines + 1) }
+    requires few { number ≤ most_lines }
+    ensures ok { (base : Base) (most : ℕ) (lines : Lines) (pieces : Pieces) → M.stands machine.old base most lines pieces
+        → number ≡ length lines + 1
+        → OnOk result (Stepped (M.stands machine.new base most) bytes.now lines pieces (K.held sink.old) (K.held sink.new)) }
+    ensures err { (base : Base) (most : ℕ) (lines : Lines) (pieces : Pieces) → M.stands machine.old base most lines pieces
+        → number ≡ length lines + 1
+        → IfErr result (λ end. Stopped base most (M.shows base most) end bytes.now lines pieces (K.held sink.old) (K.held sink.new) (K.faults sink.old)
+        (K.faults sink.new)) }
     ensures later { K.faults sink.old ≤ K.faults sink.new }
 {
     let line = match read_line(alloc, bytes) {
@@ -78,11 +88,17 @@ fn carry<M: Machine, K: Sink>(
     number: u32,
     line: Line,
 ) -> Result<(), End>
-    requires stands { (lines : Lines) × (pieces : Pieces) × M.stands machine.old lines pieces × (number ≡ length lines + 1) }
-    requires few { number ≤ 65536 }
+    requires stands { (base : Base) × (most : ℕ) × (lines : Lines) × (pieces : Pieces) × M.stands machine.old base most lines pieces
+        × (number ≡ length lines + 1) }
+    requires few { number ≤ most_lines }
     requires small { IsSmall line }
-    ensures ok { (lines : Lines) (pieces : Pieces) → M.stands machine.old lines pieces → number ≡ length lines + 1 → OnOk result (CarriedOut (M.stands machine.new) lines line pieces (K.held sink.old) (K.held sink.new)) }
-    ensures err { (lines : Lines) (pieces : Pieces) → M.stands machine.old lines pieces → number ≡ length lines + 1 → IfErr result (λ end. CutOff M.shows end lines line pieces (K.held sink.old) (K.held sink.new) (K.faults sink.old) (K.faults sink.new)) }
+    ensures ok { (base : Base) (most : ℕ) (lines : Lines) (pieces : Pieces) → M.stands machine.old base most lines pieces
+        → number ≡ length lines + 1
+        → OnOk result (CarriedOut (M.stands machine.new base most) lines line pieces (K.held sink.old) (K.held sink.new)) }
+    ensures err { (base : Base) (most : ℕ) (lines : Lines) (pieces : Pieces) → M.stands machine.old base most lines pieces
+        → number ≡ length lines + 1
+        → IfErr result (λ end. CutOff base most (M.shows base most) end lines line pieces (K.held sink.old) (K.held sink.new) (K.faults sink.old)
+        (K.faults sink.new)) }
     ensures later { K.faults sink.old ≤ K.faults sink.new }
 {
     match machine.carry_out(alloc, number, line) {

@@ -1,9 +1,11 @@
 // A drill from a source to a sink.
 ghost use Rattle.std.specs.Prelude.{◌≡◌, ◌≤◌, ◌^◌, ◌<◌};
+ghost use Rattle.ec_history.specs.Legal.{from_formatted};
 ghost use Rattle.ec_history.specs.declared.shown.Shown.TheVariants as shown;
 ghost use Rattle.ec_text.specs.Lines.{shown_text};
 ghost use Rattle.ec_drill.specs.Drill.{Drilled, LimitTold};
 
+use crate::limits::{MOST_BYTES, MOST_LINES};
 use crate::one_clerk::OneClerk;
 use crate::running::{End, run};
 use crate::status::Status;
@@ -14,15 +16,26 @@ use ec_script::count_lines;
 use ec_text::print;
 use std::alloc::Global;
 
-const MOST_BYTES: usize = 1_048_576;
-
-const MOST_LINES: usize = 65_536;
-
-/// Runs the script that the source gives, and writes its transcript to the sink. The source is
-/// read to its end first.
-pub fn drill<S: Source, K: Sink>(alloc: Global, source: &mut S, sink: &mut K) -> Status
+/// Runs the script that the source gives on a formatted volume with at most so many objects, and
+/// writes its transcript to the sink. The source is read to its end first.
+pub fn drill<S: Source, K: Sink>(
+    alloc: Global,
+    source: &mut S,
+    sink: &mut K,
+    max_objects: u32,
+) -> Status
     ensures later { (S.faults source.old ≤ S.faults source.new) × (K.faults sink.old ≤ K.faults sink.new) }
-    ensures drilled { Drilled result (record { left = S.left source.old; left_after = S.left source.new; reads = S.faults source.old; reads_after = S.faults source.new; held = K.held sink.old; held_after = K.held sink.new; writes = K.faults sink.old; writes_after = K.faults sink.new }) }
+    ensures drilled { Drilled from_formatted max_objects result
+        (record {
+          left = S.left source.old;
+          left_after = S.left source.new;
+          reads = S.faults source.old;
+          reads_after = S.faults source.new;
+          held = K.held sink.old;
+          held_after = K.held sink.new;
+          writes = K.faults sink.old;
+          writes_after = K.faults sink.new;
+        }) }
 {
     let script = match read_whole(alloc, source, MOST_BYTES) {
         Ok(script) => script,
@@ -36,7 +49,7 @@ pub fn drill<S: Source, K: Sink>(alloc: Global, source: &mut S, sink: &mut K) ->
     if lines > MOST_LINES {
         return refuse(alloc, sink, LimitName::Lines, lines as u64);
     }
-    let Ok(mut machine) = OneClerk::new(alloc) else {
+    let Ok(mut machine) = OneClerk::open(alloc, max_objects) else {
         return Status::NoMemory;
     };
     match run(alloc, &mut machine, &script, sink) {

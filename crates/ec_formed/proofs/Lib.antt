@@ -25,3 +25,4 @@ pub mod Called
 pub mod Planned
 pub mod Laws
 pub mod Bases
+pub mod Ring

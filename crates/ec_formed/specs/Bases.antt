@@ -30,7 +30,8 @@ pub record AreAtLines (h : History) : Type 0 where
 abbrev pub AllHeld : Images → Type 0
 AllHeld v = (o : ℕ) → T (is_gone (v o) || is_held (v o))
 
--- Sound operations that fit the base and leave a well-formed volume: each object reached where each one of the base is, and within its limits where each one of the base is.
+-- Sound operations that fit the base and leave a well-formed volume: each object reached, or within its limits, where each one of
+-- the base is.
 pub record LeaveWellFormed (base : Base) (ks : List Op) : Type 0 where
   pub sound : T (list_all is_sound (updates ks))
   pub fits : Fits base.volume (updates ks)

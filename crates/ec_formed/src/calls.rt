@@ -11,11 +11,14 @@ ghost use Rattle.ec_plain.specs.declared.call.Call.{Call};
 /// On a well-formed volume in which the fresh id is Gone, the update of a call fits; that of a call
 /// within its bounds is sound.
 pub fn calls_make_fitting_updates()
-    ensures sound { (v : Images) (cl : Call) (fresh : ℕ) (u : Update) → WellFormed v → T (is_gone (v fresh)) → T (is_bounded cl) → (plain v cl fresh).update ≡ Some u → T (is_sound u) }
-    ensures fits { (v : Images) (cl : Call) (fresh : ℕ) (u : Update) → WellFormed v → T (is_gone (v fresh)) → (plain v cl fresh).update ≡ Some u → Fits v (u ∷ []) }
+    ensures sound { (v : Images) (cl : Call) (fresh : ℕ) (u : Update) → WellFormed v → T (is_gone (v fresh)) → T (is_bounded cl)
+        → (plain v cl fresh).update ≡ Some u → T (is_sound u) }
+    ensures fits { (v : Images) (cl : Call) (fresh : ℕ) (u : Update) → WellFormed v → T (is_gone (v fresh)) → (plain v cl fresh).update ≡ Some u
+        → Fits v (u ∷ []) }
 {}
 
 /// A call makes no object but the one of the fresh id: another id that is Gone stays so.
 pub fn calls_make_the_fresh_object_alone()
-    ensures { (v : Images) (cl : Call) (fresh : ℕ) (u : Update) → (plain v cl fresh).update ≡ Some u → (o : ℕ) → o ≢ fresh → T (is_gone (v o)) → T (is_gone (after v (u ∷ []) o)) }
+    ensures { (v : Images) (cl : Call) (fresh : ℕ) (u : Update) → (plain v cl fresh).update ≡ Some u → (o : ℕ) → o ≢ fresh → T (is_gone (v o))
+        → T (is_gone (after v (u ∷ []) o)) }
 {}

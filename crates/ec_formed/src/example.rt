@@ -15,11 +15,12 @@ ghost use Rattle.ec_history.specs.Placing.{place};
 ghost use Rattle.ec_laws.specs.Example.{two_files, writes, lines};
 ghost use Rattle.ec_laws.specs.Needs.{holds_needed};
 ghost use Rattle.ec_formed.specs.Bases.{IsBase, AllHeld, AreAtLines, LeaveWellFormed, is_bounded_entry};
-ghost use Rattle.ec_formed.specs.Example.{a, b, g, building, built, nesting, changes};
+ghost use Rattle.ec_formed.specs.Example.{a, b, g, building, built, nesting, changes, ring};
 
 /// Updates build two directories and a file; new files and directories, renames, moves of a file
 /// and of a directory below another one, and removals are sound and fit there. Calls whose update is
-/// such a one are within their bounds. There are bases, and legal histories at lines.
+/// such a one are within their bounds. There are bases, also one with objects that no path reaches,
+/// and legal histories at lines.
 pub fn premises_can_be_met()
     ensures building { T (list_all is_sound building) × Fits formatted building }
     ensures built { WellFormed built × AllReached built }
@@ -30,8 +31,10 @@ pub fn premises_can_be_met()
     ensures create { (plain built (call.Create (a ∷ g ∷ [])) 5).update ≡ Some (Make 2 g 5 kind.File) }
     ensures rename { (plain built (call.Rename (b ∷ []) (a ∷ b ∷ [])) 5).update ≡ Some nesting }
     ensures bases { IsBase from_formatted × IsBase two_files }
+    ensures ring { IsBase ring × ¬ AllReached ring.volume }
     ensures lines { AreAtLines writes × T (list_all (λ e. is_bounded_entry e.1) (place lines)) }
     ensures legal { IsLegal two_files 1024 writes × IsLegal two_files 1024 (place lines) }
-    ensures sets { T (holds_needed (λ k. k.update) (is_one_of 0 1 (1 ∷ [])) (kept two_files writes)) × T (is_closed (is_one_of 0 1 (1 ∷ [])) (kept two_files writes)) }
+    ensures sets { T (holds_needed (λ k. k.update) (is_one_of 0 1 (1 ∷ [])) (kept two_files writes))
+        × T (is_closed (is_one_of 0 1 (1 ∷ [])) (kept two_files writes)) }
     ensures kept { LeaveWellFormed two_files (kept two_files writes) }
 {}

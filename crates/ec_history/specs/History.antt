@@ -112,7 +112,8 @@ asks base past (p, entry.Call c b l begun (call.Fsync path) (answer.Reply reply.
       | At o ↦ numbers (filter (λ k. of_start c b k && nat_le k.place begun && has_operand o k.update) (issued base past))
       | Not r ↦ []
     ]
-asks base past (p, entry.Call c b l begun call.Sync (answer.Reply reply.Ok) op) = numbers (filter (λ k. of_start c b k && nat_le k.place begun) (issued base past))
+asks base past (p, entry.Call c b l begun call.Sync (answer.Reply reply.Ok) op) =
+    numbers (filter (λ k. of_start c b k && nat_le k.place begun) (issued base past))
 asks base past _ = []
 
 abbrev pub is_entry_of : ℕ → ℕ → Entry → Bool

@@ -60,16 +60,21 @@ abbrev pub is_call_of_other : ℕ → Entry → Bool
 is_call_of_other c (entry.Call d e l begun cl a op) = not (c == d)
 is_call_of_other c (entry.Loss d e ns) = false
 
+-- behind the operations ks, the entry touched no operand of the operations ls
+abbrev pub touches_none : Base → List Op → List Op → ℕ × Entry → Bool
+touches_none base ks ls e = list_all (λ k. not (list_any (λ o. member o (touched base ks e)) (operands k.update))) ls
+
 -- the entry is no call of another clerk, or it touched no operand of these operations
 abbrev pub leaves : Base → List Op → ℕ → List Op → ℕ × Entry → Bool
-leaves base ks c ls e = not (is_call_of_other c e.1) || list_all (λ k. not (list_any (λ o. member o (touched base ks e)) (operands k.update))) ls
+leaves base ks c ls e = not (is_call_of_other c e.1) || touches_none base ks ls e
 
 -- of these operations, in the order of issue, none outside is ordered after one inside
 abbrev pub is_closed : (Op → Bool) → List Op → Bool
 is_closed inside [] = true
 is_closed inside (k ∷ ks) = (not (inside k) || list_all (λ j. inside j || not (order.before k.update j.update)) ks) && is_closed inside ks
 
--- A loss of the operations ns of the start c, b is lawful: they are kept so far, none is covered, no other clerk touched them, none kept is ordered after them, and what is left fits.
+-- A loss of the operations ns of the start c, b is lawful: they are kept so far, none is covered, no other clerk touched them,
+-- none kept is ordered after them, and what is left fits.
 pub record IsLawful (base : Base) (past : History) (c b : ℕ) (ns : List ℕ) : Type 0 where
   pub kept_so_far : T (list_all (λ n. list_any (is_one_of c b (n ∷ [])) (kept base past)) ns)
   pub uncovered : Throughout (λ h e. Each (λ n. ¬ (Covers base h e c b n)) ns) [] past

@@ -27,7 +27,8 @@ durable c b ss = durable_from c b unwatched ss
 
 -- Durable lines above the line of a call name each operation that it covers.
 abbrev pub IsCovered : Base → List Shown → History → ℕ × Entry → Type 0
-IsCovered base ss past (p, entry.Call c b l begun cl a op) = (n : ℕ) → Covers base past (p, entry.Call c b l begun cl a op) c b n → T (member n (durable c b (take (p - 1) ss)))
+IsCovered base ss past (p, entry.Call c b l begun cl a op) =
+    (n : ℕ) → Covers base past (p, entry.Call c b l begun cl a op) c b n → T (member n (durable c b (take (p - 1) ss)))
 IsCovered base ss past (p, entry.Loss c b ns) = ⊤
 
 abbrev pub AreCovered : Base → List Shown → Type 0

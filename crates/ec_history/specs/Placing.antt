@@ -59,7 +59,9 @@ to_lose w = if is_some w.open_start then w.undurable else w.early
 
 -- a session ends that loses these: that of the running start, which is still to be told, or that of an earlier one
 abbrev pub ended : Watch → List ℕ → Watch
-ended w ns = if is_running w (owner w) then record w { open_start = None; undurable = []; early = []; untold = Some ns } else record w { open_start = None; undurable = [] }
+ended w ns =
+    if is_running w (owner w) then record w { open_start = None; undurable = []; early = []; untold = Some ns }
+    else record w { open_start = None; undurable = [] }
 
 abbrev pub watch_next : ℕ → Watch → Shown → Watch
 watch_next c w (Waits l d cl) = if c == d then begun w else w

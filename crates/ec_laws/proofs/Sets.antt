@@ -1,11 +1,11 @@
 -- Lists of numbers as sets.
-use Rattle.std.proofs.Common.{◌≡◌, ◌≢◌, refl, sym, ap, subst, ◌∙◌, inl, inr, arith, ◌<◌, ℕ, T, Bool, true, false, ◌==◌, ◌&&◌, ◌||◌, cond, List, [], ◌∷◌, ltb}
+use Rattle.std.proofs.Common.{◌≡◌, ◌≢◌, refl, sym, ap, subst, ◌∙◌, inl, inr, arith, ◌<◌, ℕ, T, Bool, true, false, ◌==◌, ◌||◌, List, [], ◌∷◌, ltb}
 use Rattle.std.proofs.lemmas.Bool.{cases_Bool, eqb-true, ltb-true}
 use Rattle.std.specs.List.{list_all}
 use Rattle.ec_volume.specs.Update.{member}
 use Rattle.ec_history.specs.Placing.{same_numbers}
 use Rattle.ec_history.specs.Written.{rises}
-use Rattle.ec_laws.proofs.Objects.{holds, is-true}
+use Rattle.ec_laws.proofs.Objects.{is-true}
 use Rattle.ec_laws.proofs.Removed.{both, left, right}
 
 -- a number at the front, and one behind it

@@ -71,7 +71,7 @@ sound-answered w sh op r h = go w.untold refl
           opened = λ b. here w.open_start h.opened b;
         })
         (λ f. cond_both (is_id w.starts w.open_start) (in_session w op) (before_session w op) IsSound
-            (λ i. record { ended_runs = h.ended_runs; counted = h.counted; opened = h.opened }) (λ i. record { ended_runs = h.ended_runs; counted = h.counted; opened = h.opened }))
+        (λ i. record { ended_runs = h.ended_runs; counted = h.counted; opened = h.opened }) (λ i. record { ended_runs = h.ended_runs; counted = h.counted; opened = h.opened }))
       where
         here : (o : Option ℕ) → ((b : ℕ) → o ≡ Some b → (1 ≤ b) × (b ≤ w.starts)) → (b : ℕ) → or_else o w.starts ≡ Some b → (1 ≤ b) × (b ≤ w.starts)
         here (Some a) k b q = k b q
@@ -88,8 +88,8 @@ sound-next c w (Durable d ns) h = cond_both (c == d) _ w IsSound (λ e. record {
 sound-next c w (Ended d ns) h =
     cond_both (c == d) (ended w ns) w IsSound
     (λ e. cond_both (is_running w (owner w)) (own_end w ns) (other_end w) IsSound
-        (λ r. record { ended_runs = λ u. (refl, (and_parts w.running (is_id w.starts (owner w)) r).0); counted = h.counted; opened = λ b o. absurd (none_some b o) })
-        (λ r. record { ended_runs = λ u. (refl, (h.ended_runs u).1); counted = h.counted; opened = λ b o. absurd (none_some b o) }))
+    (λ r. record { ended_runs = λ u. (refl, (and_parts w.running (is_id w.starts (owner w)) r).0); counted = h.counted; opened = λ b o. absurd (none_some b o) })
+    (λ r. record { ended_runs = λ u. (refl, (h.ended_runs u).1); counted = h.counted; opened = λ b o. absurd (none_some b o) }))
     (λ e. h)
   where
     none_some : (b : ℕ) → None ≡ Some b → ⊥
@@ -132,8 +132,8 @@ held-next c b w (Durable d ns) e h = cond_both (c == d) _ w (IsHeld b) (λ f. re
 held-next c b w (Ended d ns) e h =
     cond_both (c == d) (ended w ns) w (IsHeld b)
     (λ f. cond_both (is_running w (owner w)) (own_end w ns) (other_end w) (IsHeld b)
-        (λ r. record { untold = refl; open_start = refl; running = h.running; starts = h.starts })
-        (λ r. record { untold = h.untold; open_start = refl; running = h.running; starts = h.starts }))
+    (λ r. record { untold = refl; open_start = refl; running = h.running; starts = h.starts })
+    (λ r. record { untold = h.untold; open_start = refl; running = h.running; starts = h.starts }))
     (λ f. h)
 held-next c b w (Told d ns) e h = cond_both (c == d) _ w (IsHeld b) (λ f. absurd (true≢false (sym f ∙ e))) (λ f. h)
 held-next c b w (Crashed d) e h = cond_both (c == d) _ w (IsHeld b) (λ f. absurd (true≢false (sym f ∙ e))) (λ f. h)

@@ -21,6 +21,8 @@ pub fn premises_can_be_met()
     ensures lawful { IsLegalNext two_files 1024 writes (5, entry.Call 0 1 5 3 write_f (answer.Reply reply.Ok) (Some 2)) }
     ensures alone { list_any (λ e. is_entry_of 0 1 e.1) other_loss ≡ false }
     ensures uncovered { Each (λ n. ¬ (Covers two_files writes (5, entry.Call 0 1 5 3 write_f (answer.Reply reply.Ok) (Some 2)) 0 1 n)) (1 ∷ []) }
-    ensures left { Each (λ e. (r d f : ℕ) (ms : List ℕ) → e ≡ (r, entry.Loss d f ms) → T (leaves two_files (kept two_files writes) d (filter (is_one_of d f ms) (kept two_files writes)) (5, entry.Call 0 1 5 3 write_f (answer.Reply reply.Ok) (Some 2)))) other_loss }
+    ensures left { Each (λ e. (r d f : ℕ) (ms : List ℕ) → e ≡ (r, entry.Loss d f ms)
+        → T (leaves two_files (kept two_files writes) d (filter (is_one_of d f ms) (kept two_files writes))
+        (5, entry.Call 0 1 5 3 write_f (answer.Reply reply.Ok) (Some 2)))) other_loss }
     ensures covered { AreCovered two_files lines }
 {}

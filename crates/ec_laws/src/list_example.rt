@@ -6,8 +6,8 @@ ghost use Rattle.std.specs.FinMap.{is_sorted};
 ghost use Rattle.ec_volume.specs.Update.{operands, has_operand, member, fits, first_unfit};
 ghost use Rattle.ec_volume.specs.Volume.{after, fits_in_turn, Fits};
 ghost use Rattle.ec_order.specs.Order.{is_overwrite, share, under, closure};
-ghost use Rattle.ec_history.specs.History.{Each, Throughout, updates, of_start, is_one_of, is_entry_of, issued_by, kept, touched, without};
-ghost use Rattle.ec_history.specs.Legal.{IsLegal, from_formatted, is_closed, leaves};
+ghost use Rattle.ec_history.specs.History.{Each, Throughout, updates, of_start, is_one_of, is_entry_of, issued_by, kept, without};
+ghost use Rattle.ec_history.specs.Legal.{touches_none, IsLegal, from_formatted, is_closed, leaves};
 ghost use Rattle.ec_laws.specs.Needs.{holds_needed};
 ghost use Rattle.ec_laws.specs.Example.{two_files, writes};
 ghost use Rattle.ec_laws.specs.ListExample.{file, one_file, early, late, new_mode, make_g, overwrites, numbered, two_starts};
@@ -53,11 +53,15 @@ pub fn closures_can_be_met()
 /// Of two starts' writes one may be lost: what is left of its start is not ordered after it, and
 /// the other start's call touched other objects.
 pub fn losses_can_be_untouched()
-    ensures kept { T (list_all (λ u. list_all (λ o. fits_in_turn o (two_files.volume o) (updates (kept two_files writes))) (operands u)) (updates (kept two_files writes))) }
+    ensures kept { T (list_all (λ u. list_all (λ o. fits_in_turn o (two_files.volume o) (updates (kept two_files writes))) (operands u))
+        (updates (kept two_files writes))) }
     ensures closed { T (is_closed (is_one_of 0 1 (1 ∷ [])) (filter (of_start 0 1) (kept two_files writes))) }
-    ensures untouched { Throughout (λ h e. is_entry_of 0 1 e.1 ≡ false → T (list_all (λ k. not (list_any (λ o. member o (touched two_files (kept two_files h) e)) (operands k.update))) (filter (is_one_of 0 1 (1 ∷ [])) (kept two_files h)))) [] writes }
+    ensures untouched { Throughout (λ h e. is_entry_of 0 1 e.1 ≡ false
+        → T (touches_none two_files (kept two_files h) (filter (is_one_of 0 1 (1 ∷ [])) (kept two_files h)) e)) [] writes }
     ensures legal { IsLegal two_files 1024 writes }
-    ensures fitting { Throughout (λ past e. Each (λ k. (o : ℕ) → T (not (has_operand o k.update) || fits k.update o (after two_files.volume (updates (kept two_files past)) o))) (issued_by two_files (kept two_files past) e)) [] writes }
+    ensures fitting { Throughout (λ past e. Each (λ k. (o : ℕ)
+        → T (not (has_operand o k.update) || fits k.update o (after two_files.volume (updates (kept two_files past)) o)))
+        (issued_by two_files (kept two_files past) e)) [] writes }
 {}
 
 /// Why a call of another start counts, and not of another clerk alone: a start makes a file and the
@@ -66,6 +70,7 @@ pub fn losses_can_be_untouched()
 pub fn another_start_counts()
     ensures legal { IsLegal from_formatted 1024 two_starts }
     ensures closed { T (is_closed (is_one_of 0 1 (1 ∷ [])) (filter (of_start 0 1) (kept from_formatted two_starts))) }
-    ensures untouched { Throughout (λ h e. T (leaves from_formatted (kept from_formatted h) 0 (filter (is_one_of 0 1 (1 ∷ [])) (kept from_formatted h)) e)) [] two_starts }
+    ensures untouched { Throughout (λ h e. T (leaves from_formatted (kept from_formatted h) 0
+        (filter (is_one_of 0 1 (1 ∷ [])) (kept from_formatted h)) e)) [] two_starts }
     ensures unfit { ¬ Fits from_formatted.volume (updates (without 0 1 (1 ∷ []) (kept from_formatted two_starts))) }
 {}

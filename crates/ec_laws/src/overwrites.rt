@@ -19,15 +19,18 @@ pub fn overwrites_keep_the_stat()
 
 /// Whether an overwrite fits depends on the kind and the length alone.
 pub fn overwrites_fit_by_length()
-    ensures { (o : ℕ) (i j : Image) (u : Update) → is_overwrite u ≡ true → is_file i ≡ is_file j → length (bytes_of i) ≡ length (bytes_of j) → fits u o i ≡ fits u o j }
+    ensures { (o : ℕ) (i j : Image) (u : Update) → is_overwrite u ≡ true → is_file i ≡ is_file j → length (bytes_of i) ≡ length (bytes_of j)
+        → fits u o i ≡ fits u o j }
 {}
 
 /// Overwrites of one file fit in either order or in neither; and where their ranges of bytes don't
 /// meet they come to the same in either order.
 pub fn overwrites_change_places()
     ensures bytes { (p q : ℕ) (xs ys bs : List ℕ) → p + length xs ≤ q → overwritten p xs (overwritten q ys bs) ≡ overwritten q ys (overwritten p xs bs) }
-    ensures effects { (o : ℕ) (i : Image) (a b : Update) → is_overwrite a ≡ true → is_overwrite b ≡ true → has_operand o a ≡ true → has_operand o b ≡ true → under a b ≡ false → effect a o (effect b o i) ≡ effect b o (effect a o i) }
-    ensures fit { (o : ℕ) (i : Image) (a b : Update) → is_overwrite a ≡ true → is_overwrite b ≡ true → fits_in_turn o i (a ∷ b ∷ []) ≡ fits_in_turn o i (b ∷ a ∷ []) }
+    ensures effects { (o : ℕ) (i : Image) (a b : Update) → is_overwrite a ≡ true → is_overwrite b ≡ true → has_operand o a ≡ true
+        → has_operand o b ≡ true → under a b ≡ false → effect a o (effect b o i) ≡ effect b o (effect a o i) }
+    ensures fit { (o : ℕ) (i : Image) (a b : Update) → is_overwrite a ≡ true → is_overwrite b ≡ true
+        → fits_in_turn o i (a ∷ b ∷ []) ≡ fits_in_turn o i (b ∷ a ∷ []) }
 {}
 
 /// Two ranges of bytes meet exactly where some place is in both.

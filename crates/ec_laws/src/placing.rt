@@ -24,8 +24,10 @@ pub fn each_line_is_placed()
     ensures late_answer { (ss : List Shown) (c : ℕ) (ns : List ℕ) → (watch c ss).untold ≡ Some ns
         → (h : History) × (q : ℕ) × (h' : History) × (place ss ≡ h ++ (q, entry.Loss c (watch c ss).starts ns) ∷ h')
         × (list_any (λ e. is_entry_of c (watch c ss).starts e.1) h' ≡ false)
-        × ((l : ℕ) (cl : Call) (a : Answer) (op : Option ℕ) → place (ss ++ Answered l c cl a op ∷ []) ≡ h ++ call_entry ss (Answered l c cl a op) ++ (q, entry.Loss c (watch c ss).starts (ns ++ listed op)) ∷ h') }
-    ensures ended { (ss : List Shown) (c : ℕ) (ns : List ℕ) → place (ss ++ Ended c ns ∷ []) ≡ place ss ++ (length ss + 1, entry.Loss c (or_zero (owner (watch c ss))) ns) ∷ [] }
+        × ((l : ℕ) (cl : Call) (a : Answer) (op : Option ℕ) → place (ss ++ Answered l c cl a op ∷ []) ≡ h ++ call_entry ss (Answered l c cl a op)
+        ++ (q, entry.Loss c (watch c ss).starts (ns ++ listed op)) ∷ h') }
+    ensures ended { (ss : List Shown) (c : ℕ) (ns : List ℕ)
+        → place (ss ++ Ended c ns ∷ []) ≡ place ss ++ (length ss + 1, entry.Loss c (or_zero (owner (watch c ss))) ns) ∷ [] }
     ensures other { (ss : List Shown) (s : Shown) → ((c b : ℕ) (w : Watch) → gives_entry c b w s ≡ false) → place (ss ++ s ∷ []) ≡ place ss }
 {}
 
@@ -39,7 +41,8 @@ pub fn places_are_distinct()
 /// and its answers are of this start; starts count from 1, and an open session is of one that began.
 /// Where none is open nothing is undurable, so that a durable line has nothing to name.
 pub fn watched_starts_are_counted()
-    ensures untold { (c : ℕ) (ss : List Shown) (ns : List ℕ) → (watch c ss).untold ≡ Some ns → ((watch c ss).open_start ≡ None) × ((watch c ss).running ≡ true) × (begun (watch c ss) ≡ watch c ss) }
+    ensures untold { (c : ℕ) (ss : List Shown) (ns : List ℕ) → (watch c ss).untold ≡ Some ns
+        → ((watch c ss).open_start ≡ None) × ((watch c ss).running ≡ true) × (begun (watch c ss) ≡ watch c ss) }
     ensures running { (c : ℕ) (ss : List Shown) → (watch c ss).running ≡ true → 1 ≤ (watch c ss).starts }
     ensures opened { (c b : ℕ) (ss : List Shown) → (watch c ss).open_start ≡ Some b → (1 ≤ b) × (b ≤ (watch c ss).starts) }
     ensures closed { (c : ℕ) (ss : List Shown) → (watch c ss).open_start ≡ None → (watch c ss).undurable ≡ [] }

@@ -12,7 +12,8 @@ ghost use Rattle.ec_order.specs.Order.{share};
 pub fn longer_lists_go_on()
     ensures leave { (o : ℕ) (i : Image) (us ws : List Update) → image_after o i (us ++ ws) ≡ image_after o (image_after o i us) ws }
     ensures fit { (o : ℕ) (i : Image) (us ws : List Update) → fits_in_turn o i (us ++ ws) ≡ (fits_in_turn o i us && fits_in_turn o (image_after o i us) ws) }
-    ensures fit_next { (base : Images) (us : List Update) (u : Update) → Fits base us → ((o : ℕ) → T (not (has_operand o u) || fits u o (after base us o))) → Fits base (us ++ u ∷ []) }
+    ensures fit_next { (base : Images) (us : List Update) (u : Update) → Fits base us
+        → ((o : ℕ) → T (not (has_operand o u) || fits u o (after base us o))) → Fits base (us ++ u ∷ []) }
 {}
 
 /// What a list leaves at an object, and whether it fits there, depends on those of its updates

@@ -12,7 +12,8 @@ ghost use Rattle.ec_laws.specs.Needs.{holds_needed};
 /// Of two updates on one object the later one needs the earlier one, but where both are overwrites
 /// whose ranges of bytes don't meet. Updates without a common operand don't need each other.
 pub fn needs_within_an_object()
-    ensures common { (o : ℕ) (a b : Update) → has_operand o a ≡ true → has_operand o b ≡ true → needs a b ≡ (not (is_overwrite a && is_overwrite b) || under a b) }
+    ensures common { (o : ℕ) (a b : Update) → has_operand o a ≡ true → has_operand o b ≡ true
+        → needs a b ≡ (not (is_overwrite a && is_overwrite b) || under a b) }
     ensures strangers { (a b : Update) → share a b ≡ false → needs a b ≡ false }
 {}
 
@@ -41,8 +42,10 @@ pub fn what_holds_its_needs_fits_first()
 /// it, before all else, and fit there.
 pub fn what_holds_its_needs_comes_next()
     ensures leave { (base : Images) (inside next : Op → Bool) (ks : List Op) → T (holds_needed (λ k. k.update) inside ks)
-        → after base (updates (filter inside ks) ++ updates (filter (λ k. not (inside k) && next k) ks)) ≡ after base (updates (filter (λ k. inside k || next k) ks)) }
-    ensures fit { (base : Images) (inside next : Op → Bool) (ks : List Op) → T (holds_needed (λ k. k.update) inside ks) → T (holds_needed (λ k. k.update) (λ k. inside k || next k) ks)
+        → after base (updates (filter inside ks) ++ updates (filter (λ k. not (inside k) && next k) ks))
+        ≡ after base (updates (filter (λ k. inside k || next k) ks)) }
+    ensures fit { (base : Images) (inside next : Op → Bool) (ks : List Op) → T (holds_needed (λ k. k.update) inside ks)
+        → T (holds_needed (λ k. k.update) (λ k. inside k || next k) ks)
         → Fits base (updates ks) → Fits base (updates (filter inside ks) ++ updates (filter (λ k. not (inside k) && next k) ks)) }
 {}
 

@@ -17,11 +17,14 @@ pub fn longer_history()
     ensures issues { (base : Base) (h g : History) → issued base (h ++ g) ≡ issued base h ++ issued_from base (kept base h) g }
     ensures issues_next { (base : Base) (h : History) (e : ℕ × Entry) → issued base (h ++ e ∷ []) ≡ issued base h ++ issued_by base (kept base h) e }
     ensures owes { (base : Base) (h g : History) (c b : ℕ) → owed base (h ++ g) c b ≡ owed_from base c b (kept base h) (owed base h c b) g }
-    ensures owes_next { (base : Base) (h : History) (e : ℕ × Entry) (c b : ℕ) → owed base (h ++ e ∷ []) c b ≡ owed_next base c b (kept base h) (owed base h c b) e }
+    ensures owes_next { (base : Base) (h : History) (e : ℕ × Entry) (c b : ℕ)
+        → owed base (h ++ e ∷ []) c b ≡ owed_next base c b (kept base h) (owed base h c b) e }
     ensures others_owe { (base : Base) (h g : History) (c b : ℕ) → list_any (λ e. is_entry_of c b e.1) g ≡ false → owed base (h ++ g) c b ≡ owed base h c b }
     ensures reports_next { (base : Base) (h : History) (e : ℕ × Entry) (c b p : ℕ) (cl : Call)
-        → due base (h ++ e ∷ []) c b p cl ≡ distinct_numbers (filter (meets (outcome base (kept_next base (kept base h) e) p cl) cl) (owed_next base c b (kept base h) (owed base h c b) e)) }
-    ensures counts_next { (c b : ℕ) (h : History) (e : ℕ × Entry) → length (filter (is_op_of c b) (h ++ e ∷ [])) ≡ (if is_op_of c b e then length (filter (is_op_of c b) h) + 1 else length (filter (is_op_of c b) h)) }
+        → due base (h ++ e ∷ []) c b p cl ≡ distinct_numbers (filter (meets (outcome base (kept_next base (kept base h) e) p cl) cl)
+        (owed_next base c b (kept base h) (owed base h c b) e)) }
+    ensures counts_next { (c b : ℕ) (h : History) (e : ℕ × Entry)
+        → length (filter (is_op_of c b) (h ++ e ∷ [])) ≡ (if is_op_of c b e then length (filter (is_op_of c b) h) + 1 else length (filter (is_op_of c b) h)) }
     ensures loses { (c b n : ℕ) (h g : History) → is_lost c b n (h ++ g) ≡ (is_lost c b n h || is_lost c b n g) }
 {}
 
@@ -32,6 +35,8 @@ pub fn longer_transcript()
     ensures shows_next { (c : ℕ) (ss : List Shown) (s : Shown) → watch c (ss ++ s ∷ []) ≡ watch_next c (watch c ss) s }
     ensures stores { (c b : ℕ) (ss ts : List Shown) → durable c b (ss ++ ts) ≡ durable c b ss ++ durable_from c b (watch c ss) ts }
     ensures stores_next { (c b : ℕ) (ss : List Shown) (s : Shown) → durable c b (ss ++ s ∷ []) ≡ durable c b ss ++ made_durable c b (watch c ss) s }
-    ensures places_next { (c b : ℕ) (ss : List Shown) (s : Shown) → last_place c b unwatched 1 0 (ss ++ s ∷ []) ≡ (if gives_entry c b (watch c ss) s then length ss + 1 else last_place c b unwatched 1 0 ss) }
-    ensures begins { (l : ℕ) (ss ts : List Shown) → before_line l (ss ++ ts) ≡ (if list_any (is_numbered l) ss then before_line l ss else ss ++ before_line l ts) }
+    ensures places_next { (c b : ℕ) (ss : List Shown) (s : Shown)
+        → last_place c b unwatched 1 0 (ss ++ s ∷ []) ≡ (if gives_entry c b (watch c ss) s then length ss + 1 else last_place c b unwatched 1 0 ss) }
+    ensures begins { (l : ℕ) (ss ts : List Shown)
+        → before_line l (ss ++ ts) ≡ (if list_any (is_numbered l) ss then before_line l ss else ss ++ before_line l ts) }
 {}

@@ -9,7 +9,7 @@ ghost use Rattle.ec_drill.specs.declared.status.Status.{Status};
 ghost use Rattle.echofs.specs.Echo.{Echoes};
 
 use ec_base::{Sink, Source, StdSink, StdSource};
-use ec_drill::{Status, drill};
+use ec_drill::{MOST_OBJECTS, Status, drill};
 use std::process::ExitCode;
 use std::{env, io};
 
@@ -24,11 +24,21 @@ pub fn echo_main<R: AllocGlobal, S: Source, K: Sink>(
 ) -> u8
     ensures usage { (result ≡ 2) ↔ (map string_bytes words.now ≢ codes "drill" ∷ []) }
     ensures later { (S.faults source.old ≤ S.faults source.new) × (K.faults sink.old ≤ K.faults sink.new) }
-    ensures echoes { (status : Status) × (result ≡ code status) × Echoes status (record { left = S.left source.old; left_after = S.left source.new; reads = S.faults source.old; reads_after = S.faults source.new; held = K.held sink.old; held_after = K.held sink.new; writes = K.faults sink.old; writes_after = K.faults sink.new }) }
+    ensures echoes { (status : Status) × (result ≡ code status)
+        × Echoes status (record {
+          left = S.left source.old;
+          left_after = S.left source.new;
+          reads = S.faults source.old;
+          reads_after = S.faults source.new;
+          held = K.held sink.old;
+          held_after = K.held sink.new;
+          writes = K.faults sink.old;
+          writes_after = K.faults sink.new;
+        }) }
 {
     let _ = boot;
     if is_drill(words) {
-        drill(rt.alloc(), source, sink).code()
+        drill(rt.alloc(), source, sink, MOST_OBJECTS).code()
     } else {
         Status::Usage.code()
     }

@@ -10,6 +10,7 @@ use Rattle.ec_formed.proofs.Kept.{kept-formed, kept-held}
 use Rattle.ec_formed.proofs.Laws.{kept-reached, call-sound, call-fits}
 use Rattle.ec_formed.proofs.Keeping.{whole}
 use Rattle.ec_formed.proofs.Bases.{base-formatted, base-files}
+use Rattle.ec_formed.proofs.Ring.{base-ring, ring-unreached}
 use Rattle.ec_formed.proofs.example.premises_can_be_met.Goals as goal
 
 pub returns-clause-built : goal.returns-clause-built
@@ -19,6 +20,9 @@ returns-clause-built c =
 
 pub returns-clause-bases : goal.returns-clause-bases
 returns-clause-bases c = (base-formatted, base-files)
+
+pub returns-clause-ring : goal.returns-clause-ring
+returns-clause-ring c = (base-ring, ring-unreached)
 
 pub returns-clause-kept : goal.returns-clause-kept
 returns-clause-kept c =
