@@ -98,10 +98,11 @@ settled_from ts given (w ∷ ws) none = go (is_due ts given w) refl none (settle
     go false e none r =
         let later = r (sym (recalls_have_none w (news ts w) (actions_from ts given ws)) ∙ none) in
         let rest = wants_from ts given ws in
-        let unheard : news ts kept ≡ [] = told_all kept.told (conflicts ts w.session w.obj w.hold) (λ h is. is) in
-        (ap (λ b. cond b (Grant w.session w.obj w.hold ∷ []) (map (recall_of kept) (news ts kept)) ++ actions_from ts (cond b (given_to w.session w.obj w.hold given) given) rest) e
-        ∙ ap (λ hs. map (recall_of kept) hs ++ actions_from ts given rest) unheard ∙ later.0,
-         ap (λ b. cond b [] (kept ∷ []) ++ wants_from ts (cond b (given_to w.session w.obj w.hold given) given) rest) e ∙ ap (λ l. kept ∷ l) later.1)
+        let unheard : news ts kept ≡ [] = told_all kept.told (conflicts ts w.session w.obj w.hold) (λ h is. is) in (
+          ap (λ b. cond b (Grant w.session w.obj w.hold ∷ []) (map (recall_of kept) (news ts kept)) ++ actions_from ts (cond b (given_to w.session w.obj w.hold given) given) rest) e
+              ∙ ap (λ hs. map (recall_of kept) hs ++ actions_from ts given rest) unheard ∙ later.0,
+          ap (λ b. cond b [] (kept ∷ []) ++ wants_from ts (cond b (given_to w.session w.obj w.hold given) given) rest) e ∙ ap (λ l. kept ∷ l) later.1,
+        )
 
 pub settled : (ts : Tokens) (ws : List Want) → list_any is_grant (actions ts ws) ≡ false → (actions ts (wants_after ts ws) ≡ []) × (wants_after ts (wants_after ts ws) ≡ wants_after ts ws)
 settled ts ws none = settled_from ts [] ws none

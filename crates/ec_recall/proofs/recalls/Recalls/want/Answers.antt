@@ -26,9 +26,11 @@ pub invariant_of-self : goal.invariant_of-self
 unfolding back
 invariant_of-self c =
     let es = c.self.inside.wants.entries in
-    let new = ap values_of (written c) ∙ noted_found c.args.s c.args.obj c.args.hold es c.in-Some.want.now c.self.invariant.0 (found c) in
-    (subst IsKeyed (sym (written c)) (keyed_again c.args.s c.args.obj c.args.hold es c.in-Some.want.now c.self.invariant.0 (found c)), (c.get_mut.follows.holds (back c)).4,
-     subst NoneFree (sym new) (held_noted c.args.s c.args.obj c.args.hold (values_of es) (held_free c.args.hold c.requires) c.self.invariant.2))
+    let new = ap values_of (written c) ∙ noted_found c.args.s c.args.obj c.args.hold es c.in-Some.want.now c.self.invariant.0 (found c) in (
+      subst IsKeyed (sym (written c)) (keyed_again c.args.s c.args.obj c.args.hold es c.in-Some.want.now c.self.invariant.0 (found c)),
+      (c.get_mut.follows.holds (back c)).4,
+      subst NoneFree (sym new) (held_noted c.args.s c.args.obj c.args.hold (values_of es) (held_free c.args.hold c.requires) c.self.invariant.2),
+    )
 
 pub returns-in-Some-clause-ok : goal.returns-in-Some-clause-ok
 unfolding back
@@ -50,9 +52,11 @@ absent c = ap values_of (added c) ∙ values-push c.self.inside.wants.entries _ 
 
 pub invariant_of-self-2 : goal.invariant_of-self-2
 invariant_of-self-2 c =
-    let es = c.self.inside.wants.entries in
-    (subst IsKeyed (sym (added c)) (keyed_push es _ _ c.self.invariant.0 refl), c.in_ok-insert.ensures.unique,
-     subst NoneFree (sym (absent c)) (held_noted c.args.s c.args.obj c.args.hold (values_of es) (held_free c.args.hold c.requires) c.self.invariant.2))
+    let es = c.self.inside.wants.entries in (
+      subst IsKeyed (sym (added c)) (keyed_push es _ _ c.self.invariant.0 refl),
+      c.in_ok-insert.ensures.unique,
+      subst NoneFree (sym (absent c)) (held_noted c.args.s c.args.obj c.args.hold (values_of es) (held_free c.args.hold c.requires) c.self.invariant.2),
+    )
 
 pub returns-clause-ok : goal.returns-clause-ok
 returns-clause-ok c = absent c ∙ ap (noted c.args.s c.args.obj c.args.hold) c.self.view_is
