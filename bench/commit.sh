@@ -1,10 +1,11 @@
 #!/bin/sh
 # Times appends of 2,000 bytes to a journal over a real file beside a C program with the same writes and two syncs an append, and
-# prints both rates and their ratio. They run by turns; each time is the least of five.
-# Usage: bench/commit.sh PROGRAM [FOLDER] [RECORDS]   (the ec_bench program; `rt run` in crates/ec_bench builds it; FOLDER is on the disk to be measured)
+# prints both rates and their ratio. They run by turns; each time is the least of its runs, of which a busy disk needs more than five.
+# Usage: bench/commit.sh PROGRAM [FOLDER] [RECORDS] [RUNS]   (the ec_bench program; `rt run` in crates/ec_bench builds it; FOLDER is on the disk to be measured)
 set -eu
-program=${1:?usage: bench/commit.sh PROGRAM [FOLDER] [RECORDS]}
+program=${1:?usage: bench/commit.sh PROGRAM [FOLDER] [RECORDS] [RUNS]}
 records=${3:-500}
+runs=${4:-5}
 folder=$(mktemp -d "${2:-.}/commit.XXXXXX")
 trap 'rm -rf "$folder"' EXIT
 cc -O2 -o "$folder/commit" "$(dirname "$0")/commit.c"
@@ -19,7 +20,7 @@ timed() {
     echo "$name $start $end" | awk '{ printf "%s %.6f\n", $1, $3 - $2 }'
 }
 
-for run in 1 2 3 4 5; do
+for run in $(seq "$runs"); do
     timed journal "$program" "$folder/journal.img" "$records" 0
     timed c "$folder/commit" "$folder/c.img" "$records"
 done > "$folder/times"
