@@ -1,5 +1,6 @@
 -- The text of lines, and what follows of bytes that are appended in turn.
 use Rattle.std.proofs.Common.{◌≡◌, ℕ, ◌+◌, ◌-◌, ◌≤◌, List, [], ◌∷◌, ◌++◌, length, take, drop, Option, Some, None, refl, sym, ap, ◌∙◌, append_assoc, append-nil, arith, take-add}
+use Rattle.std.proofs.lemmas.Grind.{common_steps}
 use Rattle.std.proofs.lemmas.List.{take_rest}
 use Rattle.std.specs.Io.KnownBytes.{Appends}
 use Rattle.ec_base.specs.Outside.{Rose}
@@ -32,4 +33,4 @@ pub joined-push : (ps : Pieces) (p : List Shown) → joined (ps ++ p ∷ []) ≡
 joined-push ps p = joined-append ps (p ∷ []) ∙ ap (λ l. joined ps ++ l) (append-nil p)
 
 pub rose_later : (f g h : ℕ) → f ≤ g → Rose g h → Rose f h
-rose_later f g h le r = omega arith
+rose_later f g h le r = grind (arith, common_steps, le, r)
