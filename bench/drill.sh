@@ -22,7 +22,7 @@ script() {
 }
 
 seconds() {
-    for run in 1 2 3 4 5; do
+    for _ in 1 2 3 4 5; do
         start=$(date +%s.%N)
         "$program" drill < "$1" > "$2"
         end=$(date +%s.%N)

@@ -2,14 +2,19 @@
 //! script of calls and crashes, and prints what was answered and what was lost.
 #![tactic(auto)]
 
-ghost use Rattle.std.specs.Prelude.{◌≡◌, ◌≢◌, ◌↔◌, ◌≤◌, [], ◌∷◌, map, codes, MatchBool, IsSome};
+ghost use Rattle.std.specs.Prelude.{◌≡◌, ◌≢◌, ◌↔◌, ◌≤◌, ◌⊎◌, [], ◌∷◌, map, codes, MatchBool, IsSome, IfOk, IfErr};
+ghost use Rattle.std.specs.Process.{exit_status};
 ghost use Rattle.std.specs.String.{string_bytes};
 ghost use Rattle.ec_drill.specs.Drill.{code};
 ghost use Rattle.ec_drill.specs.declared.status.Status.{Status};
-ghost use Rattle.echofs.specs.Echo.{Echoes};
+ghost use Rattle.ec_drill.specs.declared.status.Status.TheVariants as status;
+ghost use Rattle.echofs.specs.Echo.{Echoes, words_of, AnswersUsage};
 
 use ec_base::{Sink, Source, StdSink, StdSource};
 use ec_drill::{MOST_OBJECTS, Status, drill};
+use std::alloc::Global;
+use std::env::Args;
+use std::io::Eprint;
 use std::process::ExitCode;
 use std::{env, io};
 
@@ -69,19 +74,67 @@ fn reason(status: u8) -> Option<&'static str>
     }
 }
 
-fn main(rt: HostRuntime) -> io::Result<ExitCode> {
-    let alloc = rt.alloc();
-    let mut words = Vec::new(alloc);
-    for word in env::args(&rt)?.skip(1) {
-        words.push(word)?;
+/// All that the process does: it answers the words behind the program's name, with these streams, and
+/// says on standard error why it ends otherwise than well. Arguments that can't be read are no words
+/// of the program. What can't be said on standard error is no fault.
+fn process<R: AllocGlobal + Eprint, S: Source, K: Sink>(
+    rt: &R,
+    args: io::Result<Args>,
+    source: &mut S,
+    sink: &mut K,
+) -> ExitCode
+    ensures usage { AnswersUsage (words_of string_bytes args) (exit_status result) }
+    ensures later { (S.faults source.old ≤ S.faults source.new) × (K.faults sink.old ≤ K.faults sink.new) }
+    ensures echoes { (status : Status) × (exit_status result ≡ code status) × Echoes status (record { left = S.left source.old; left_after = S.left source.new; reads = S.faults source.old; reads_after = S.faults source.new; held = K.held sink.old; held_after = K.held sink.new; writes = K.faults sink.old; writes_after = K.faults sink.new }) }
+{
+    let status = answer(rt, args, source, sink);
+    if let Some(reason) = reason(status) {
+        let _ = eprintln!(rt; "{reason}");
     }
+    ExitCode::from(status)
+}
+
+// The number that the process ends with.
+fn answer<R: AllocGlobal, S: Source, K: Sink>(
+    rt: &R,
+    args: io::Result<Args>,
+    source: &mut S,
+    sink: &mut K,
+) -> u8
+    ensures usage { AnswersUsage (words_of string_bytes args) result }
+    ensures later { (S.faults source.old ≤ S.faults source.new) × (K.faults sink.old ≤ K.faults sink.new) }
+    ensures echoes { (status : Status) × (result ≡ code status) × Echoes status (record { left = S.left source.old; left_after = S.left source.new; reads = S.faults source.old; reads_after = S.faults source.new; held = K.held sink.old; held_after = K.held sink.new; writes = K.faults sink.old; writes_after = K.faults sink.new }) }
+{
+    match own_words(rt.alloc(), args) {
+        Ok(words) => echo_main(rt, &words, source, sink, 1),
+        Err(fault) => fault.code(),
+    }
+}
+
+// The words behind the program's name.
+fn own_words(alloc: Global, args: io::Result<Args>) -> Result<Vec<String>, Status>
+    ensures ok { IfOk result (λ words. words_of string_bytes args ≡ Some (map string_bytes words.items)) }
+    ensures err { IfErr result (λ fault. (fault ≡ status.NoMemory) ⊎ ((fault ≡ status.Usage) × (words_of string_bytes args ≡ None))) }
+{
+    let mut args = match args {
+        Ok(args) => args,
+        Err(error) if error.kind() == io::ErrorKind::OutOfMemory => return Err(Status::NoMemory),
+        Err(_) => return Err(Status::Usage),
+    };
+    let _ = args.next();
+    let mut words = Vec::new(alloc);
+    'words: while let Some(word) = args.next() {
+        if words.push(word).is_err() {
+            return Err(Status::NoMemory);
+        }
+    }
+    Ok(words)
+}
+
+fn main(rt: HostRuntime) -> ExitCode {
     let mut source = StdSource::new(rt.reader());
     let mut sink = StdSink::new(io::writer(&rt));
-    let status = echo_main(&rt, &words, &mut source, &mut sink, 1);
-    if let Some(reason) = reason(status) {
-        eprintln!(rt; "{reason}")?;
-    }
-    Ok(ExitCode::from(status))
+    process(&rt, env::args(&rt), &mut source, &mut sink)
 }
 
 #[cfg(test)]

@@ -74,3 +74,60 @@ fn tells_the_limits(rt: HostRuntime) -> Result<(), Fail> {
     assert!(rt; text.as_slice() == b"limit bytes 1048577\n".as_slice());
     Ok(())
 }
+
+#[test]
+fn takes_the_most_that_the_limits_allow(rt: HostRuntime) -> Result<(), Fail> {
+    let lines = vec![in rt.alloc(); b'\n'; 65_536]?;
+    let (status, text) = drilled(&rt, &lines, &[], &[])?;
+    assert_eq!(rt; status, 0);
+    assert!(rt; text.is_empty());
+    let bytes = vec![in rt.alloc(); b'#'; 1_048_576]?;
+    let (status, text) = drilled(&rt, &bytes, &[], &[])?;
+    assert_eq!(rt; status, 0);
+    assert!(rt; text.is_empty());
+    Ok(())
+}
+
+// The exit status and the transcript of a process with these arguments, over a script of one line.
+fn processed(
+    rt: &(impl AllocGlobal + Eprint),
+    args: io::Result<Args>,
+) -> Result<(ExitCode, Vec<u8>), Fail> {
+    let script = Vec::from_slice(rt.alloc(), b"A create /f\n")?;
+    let mut source = MemSource::new(script, Vec::new(rt.alloc()));
+    let mut sink = MemSink::new(rt.alloc(), Vec::new(rt.alloc()));
+    let exit = process(rt, args, &mut source, &mut sink);
+    Ok((exit, sink.bytes().to_vec(rt.alloc())?))
+}
+
+fn args_of(rt: &impl AllocGlobal, words: &[&str]) -> Result<Args, Fail> {
+    let mut args = Vec::new(rt.alloc());
+    for word in words {
+        args.push(String::from_str(rt.alloc(), word)?)?;
+    }
+    Ok(args.into_iter())
+}
+
+#[test]
+fn the_first_argument_is_no_word(rt: HostRuntime) -> Result<(), Fail> {
+    let args = args_of(&rt, &["echofs", "drill"])?;
+    let (exit, text) = processed(&rt, Ok(args))?;
+    assert!(rt; exit == ExitCode::from(0));
+    assert!(rt; text.as_slice() == b"1 A create /f -> ok op 1\n".as_slice());
+    let args = args_of(&rt, &["drill"])?;
+    let (exit, text) = processed(&rt, Ok(args))?;
+    assert!(rt; exit == ExitCode::from(2));
+    assert!(rt; text.is_empty());
+    Ok(())
+}
+
+#[test]
+fn ends_where_the_arguments_cannot_be_read(rt: HostRuntime) -> Result<(), Fail> {
+    let (exit, text) = processed(&rt, Err(io::Error::from(io::ErrorKind::InvalidData)))?;
+    assert!(rt; exit == ExitCode::from(2));
+    assert!(rt; text.is_empty());
+    let (exit, text) = processed(&rt, Err(io::Error::from(io::ErrorKind::OutOfMemory)))?;
+    assert!(rt; exit == ExitCode::from(9));
+    assert!(rt; text.is_empty());
+    Ok(())
+}

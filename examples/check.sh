@@ -1,0 +1,64 @@
+#!/bin/sh
+# Runs each example through the program, and compares its bytes and its exit status with the files beside it.
+# Usage: examples/check.sh PROGRAM
+#
+# NAME.script goes to standard input, NAME.expected is the transcript and NAME.status the exit status that have to come.
+# NAME.args has the program's words, one a line; with no such file they are `drill`. Standard error has to say
+# something exactly where the status isn't 0. Then a script and a transcript that fail are tried.
+set -u
+program=$(realpath "${1:?usage: examples/check.sh PROGRAM}")
+cd "$(dirname "$0")" || exit 1
+folder=$(mktemp -d)
+trap 'rm -rf "$folder"' EXIT
+passed=0
+failed=0
+
+# Notes whether the program that just ran ended with this status, and said why on standard error where it isn't 0.
+ended() {
+    name=$1 status=$2 wanted=$3
+    if [ "$status" != "$wanted" ]; then
+        echo "$name: ended with status $status, and not $wanted"
+        return 1
+    fi
+    if [ "$status" = 0 ] && [ -s "$folder/error" ]; then
+        echo "$name: standard error isn't empty"
+        return 1
+    fi
+    if [ "$status" != 0 ] && [ ! -s "$folder/error" ]; then
+        echo "$name: standard error doesn't say why"
+        return 1
+    fi
+}
+
+count() {
+    if [ "$1" = 0 ]; then passed=$((passed + 1)); else failed=$((failed + 1)); fi
+}
+
+example() {
+    name=$1
+    set --
+    if [ -f "$name.args" ]; then
+        while IFS= read -r word; do set -- "$@" "$word"; done < "$name.args"
+    else
+        set -- drill
+    fi
+    "$program" "$@" < "$name.script" > "$folder/$name" 2> "$folder/error"
+    ended "$name" $? "$(cat "$name.status")" || return 1
+    cmp "$folder/$name" "$name.expected"
+}
+
+for script in *.script; do
+    example "${script%.script}"
+    count $?
+done
+
+# A folder can't be read, and a full device can't be written.
+"$program" drill < . > "$folder/none" 2> "$folder/error"
+ended "a script that can't be read" $? 4 && [ ! -s "$folder/none" ]
+count $?
+"$program" drill < read_back.script > /dev/full 2> "$folder/error"
+ended "a transcript that can't be written" $? 5
+count $?
+
+echo "examples: $passed passed, $failed failed"
+[ "$failed" = 0 ]
