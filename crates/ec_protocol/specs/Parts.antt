@@ -1,7 +1,7 @@
 -- Small states of the parts and of the nodes, on which their functions are tried.
 use Rattle.std.specs.Prelude.{◌+◌, ◌-◌, ◌^◌, ℕ, zero, suc, List, [], ◌∷◌, ◌++◌, map, Option, Some}
 use Rattle.ec_base.specs.declared.ids.Age.{Age}
-use Rattle.ec_base.specs.declared.ids.Hold.TheVariants.{Read}
+use Rattle.ec_base.specs.declared.ids.Hold.TheVariants.{Free, Read}
 use Rattle.ec_volume.specs.declared.image.Image.TheVariants as image
 use Rattle.ec_volume.specs.declared.image.Kind.TheVariants as kind
 use Rattle.ec_volume.specs.declared.update.Update.{Update}
@@ -95,6 +95,13 @@ said t = (t.sent, t.rec)
 
 abbrev pub fresh : Clerk
 fresh = (clerk.start 0 1).clerk
+
+-- a clerk in a session, without a recall and with one
+abbrev pub without_recall : Clerk
+without_recall = record fresh { session = Some 1; epoch = 1 }
+
+abbrev pub under_recall : Clerk
+under_recall = record without_recall { recalls = record { obj = 5; number = 1; to = Free } ∷ [] }
 
 abbrev pub outs : clerk.Doing → List Out
 outs d = d.outs

@@ -34,3 +34,6 @@ C = 2
 
 abbrev pub D : ℕ
 D = 3
+
+abbrev pub O : ℕ
+O = 14

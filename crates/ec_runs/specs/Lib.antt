@@ -1,0 +1,14 @@
+pub mod FirstPlain
+pub mod SecondPlain
+pub mod ThirdPlain
+pub mod FirstNetwork
+pub mod SecondNetwork
+pub mod ThirdNetwork
+pub mod FirstCrashes
+pub mod SecondCrashes
+pub mod ThirdCrashes
+pub mod FirstStops
+pub mod SecondStops
+pub mod ThirdStops
+pub mod StopsBefore
+pub mod StopsBehind
