@@ -1,0 +1,280 @@
+// The codes of updates are written.
+ghost use Rattle.std.specs.Prelude.{◌≡◌, ◌++◌, ◌&&◌, ◌∷◌, [], ℕ, true, false, List, OnOk, nat_le, length};
+ghost use Rattle.std.specs.List.{flat_map, list_all};
+ghost use Rattle.ec_volume.specs.Entries.{same_name};
+ghost use Rattle.ec_volume.specs.Update.{listed, distinct, ids_of, is_way, is_sound};
+ghost use Rattle.ec_codes.specs.Formats.{Writes, rows_fit};
+ghost use Rattle.ec_codes.specs.Fields.{id, id_but};
+ghost use Rattle.ec_codes.specs.Updates.{entry_fields, move_fields, is_put_length, put_fields, len_fields, mode_fields, stamp_fields, owner_fields, order_fields, step_spell, way_fields, shift_fields, update_code};
+ghost use Rattle.ec_codes.specs.SoundLaws.{is_step, IsWay};
+
+use crate::writer::{
+    put_byte, put_flag, put_id, put_kind, put_name, put_u16, put_u32, put_u64, put_victim,
+};
+use ec_base::{Name, NoMemory, ObjId};
+use ec_volume::{Kind, Update};
+
+/// Adds the code of a sound update at the end of the bytes. After want of memory the bytes end
+/// with a part of the code.
+#[tactic(auto, unfolding(crate::specs::Updates::update_code, crate::specs::Updates::form))]
+pub fn put_update(update: &Update, out: &mut Vec<u8>) -> Result<(), NoMemory>
+    requires { is_sound update.now ≡ true }
+    ensures { OnOk result (Writes update_code update.now out.old.items out.new.items) }
+{
+    match update {
+        Update::Make {
+            dir,
+            name,
+            obj,
+            kind,
+        } => {
+            put_byte(out, 1)?;
+            put_entry(out, *dir, *obj, *kind, name)
+        }
+        Update::Drop {
+            dir,
+            name,
+            obj,
+            kind,
+        } => {
+            put_byte(out, 2)?;
+            put_entry(out, *dir, *obj, *kind, name)
+        }
+        Update::Move {
+            dir,
+            from,
+            to,
+            obj,
+            kind,
+            victim,
+        } => {
+            put_byte(out, 3)?;
+            put_move(out, *dir, from, to, *obj, *kind, *victim)
+        }
+        Update::Put {
+            obj,
+            at,
+            bytes,
+            inside,
+        } => {
+            put_byte(out, 4)?;
+            put_written(out, *obj, *at, bytes.as_slice(), *inside)
+        }
+        Update::Len { obj, len } => {
+            put_byte(out, 5)?;
+            put_len(out, *obj, *len)
+        }
+        Update::Mode { obj, mode } => {
+            put_byte(out, 6)?;
+            put_mode(out, *obj, *mode)
+        }
+        Update::Stamp { obj, stamp } => {
+            put_byte(out, 7)?;
+            put_stamp(out, *obj, *stamp)
+        }
+        Update::Order { objs } => {
+            put_byte(out, 8)?;
+            put_order(out, objs.as_slice())
+        }
+        Update::Shift {
+            dir,
+            from,
+            into,
+            to,
+            obj,
+            kind,
+            victim,
+            up,
+        } => {
+            put_byte(out, 9)?;
+            put_shift(
+                out,
+                *dir,
+                from,
+                *into,
+                to,
+                *obj,
+                *kind,
+                *victim,
+                up.as_slice(),
+            )
+        }
+        Update::Owner { obj, owner } => {
+            put_byte(out, 10)?;
+            put_owner(out, *obj, *owner)
+        }
+    }
+}
+
+#[tactic(auto, unfolding(crate::specs::Updates::entry_fields))]
+fn put_entry(
+    out: &mut Vec<u8>,
+    dir: ObjId,
+    obj: ObjId,
+    kind: Kind,
+    name: &Name,
+) -> Result<(), NoMemory>
+    requires { distinct (dir ∷ obj ∷ []) ≡ true }
+    ensures { OnOk result (Writes entry_fields (dir, (obj, (kind, name.now))) out.old.items out.new.items) }
+{
+    put_id(out, dir)?;
+    put_id(out, obj)?;
+    put_kind(out, kind)?;
+    put_name(out, name)
+}
+
+#[tactic(auto, unfolding(crate::specs::Updates::move_fields))]
+fn put_move(
+    out: &mut Vec<u8>,
+    dir: ObjId,
+    from: &Name,
+    to: &Name,
+    obj: ObjId,
+    kind: Kind,
+    victim: Option<ObjId>,
+) -> Result<(), NoMemory>
+    requires apart { distinct (dir ∷ obj ∷ listed victim) ≡ true }
+    requires names { same_name from.now to.now ≡ false }
+    ensures { OnOk result (Writes move_fields (dir, (obj, (kind, (victim, (from.now, to.now))))) out.old.items out.new.items) }
+{
+    put_id(out, dir)?;
+    put_id(out, obj)?;
+    put_kind(out, kind)?;
+    put_victim(out, victim)?;
+    put_name(out, from)?;
+    put_name(out, to)
+}
+
+#[tactic(auto, unfolding(crate::specs::Updates::put_fields))]
+fn put_written(
+    out: &mut Vec<u8>,
+    obj: ObjId,
+    at: u32,
+    bytes: &[u8],
+    inside: bool,
+) -> Result<(), NoMemory>
+    requires { is_put_length at (length bytes.now) ≡ true }
+    ensures { OnOk result (Writes put_fields (obj, (at, (inside, bytes.now))) out.old.items out.new.items) }
+{
+    put_id(out, obj)?;
+    put_u32(out, at)?;
+    put_flag(out, inside)?;
+    put_u16(out, bytes.len() as u16)?;
+    out.extend_from_slice(bytes)?;
+    Ok(())
+}
+
+#[tactic(auto, unfolding(crate::specs::Updates::len_fields))]
+fn put_len(out: &mut Vec<u8>, obj: ObjId, len: u32) -> Result<(), NoMemory>
+    requires { nat_le len 65536 ≡ true }
+    ensures { OnOk result (Writes len_fields (obj, len) out.old.items out.new.items) }
+{
+    put_id(out, obj)?;
+    put_u32(out, len)
+}
+
+#[tactic(auto, unfolding(crate::specs::Updates::mode_fields))]
+fn put_mode(out: &mut Vec<u8>, obj: ObjId, mode: u16) -> Result<(), NoMemory>
+    requires { nat_le mode 4095 ≡ true }
+    ensures { OnOk result (Writes mode_fields (obj, mode) out.old.items out.new.items) }
+{
+    put_id(out, obj)?;
+    put_u16(out, mode)
+}
+
+#[tactic(auto, unfolding(crate::specs::Updates::stamp_fields))]
+fn put_stamp(out: &mut Vec<u8>, obj: ObjId, stamp: u64) -> Result<(), NoMemory>
+    ensures { OnOk result (Writes stamp_fields (obj, stamp) out.old.items out.new.items) }
+{
+    put_id(out, obj)?;
+    put_u64(out, stamp)
+}
+
+#[tactic(auto, unfolding(crate::specs::Updates::owner_fields))]
+fn put_owner(out: &mut Vec<u8>, obj: ObjId, owner: u32) -> Result<(), NoMemory>
+    ensures { OnOk result (Writes owner_fields (obj, owner) out.old.items out.new.items) }
+{
+    put_id(out, obj)?;
+    put_u32(out, owner)
+}
+
+#[tactic(auto, unfolding(crate::specs::Updates::order_fields))]
+fn put_order(out: &mut Vec<u8>, objs: &[ObjId]) -> Result<(), NoMemory>
+    requires { (distinct objs.now && (nat_le 1 (length objs.now) && nat_le (length objs.now) 8)) ≡ true }
+    ensures { OnOk result (Writes order_fields objs.now out.old.items out.new.items) }
+{
+    put_byte(out, objs.len() as u8)?;
+    put_distinct(out, objs)
+}
+
+fn put_distinct(out: &mut Vec<u8>, ids: &[ObjId]) -> Result<(), NoMemory>
+    requires { distinct ids.now ≡ true }
+    ensures spelled { OnOk result (out.new.items ≡ out.old.items ++ flat_map id.spell ids.now) }
+    ensures fit { OnOk result (rows_fit id_but [] ids.now ≡ true) }
+{
+    put_ids(out, ids)
+}
+
+fn put_ids(out: &mut Vec<u8>, ids: &[ObjId]) -> Result<(), NoMemory>
+    ensures spelled { OnOk result (out.new.items ≡ out.old.items ++ flat_map id.spell ids.now) }
+    ensures fit { OnOk result (list_all id.fits ids.now ≡ true) }
+{
+    for object in ids {
+        put_id(out, *object)?;
+    }
+    Ok(())
+}
+
+#[tactic(auto, unfolding(crate::specs::Updates::shift_fields))]
+fn put_shift(
+    out: &mut Vec<u8>,
+    dir: ObjId,
+    from: &Name,
+    into: ObjId,
+    to: &Name,
+    obj: ObjId,
+    kind: Kind,
+    victim: Option<ObjId>,
+    up: &[(ObjId, Name)],
+) -> Result<(), NoMemory>
+    requires apart { distinct (dir ∷ into ∷ obj ∷ listed victim) ≡ true }
+    requires way { IsWay kind into (into ∷ obj ∷ listed victim) up.now }
+    ensures { OnOk result (Writes shift_fields (dir, (into, (obj, (kind, (victim, (from.now, (to.now, up.now))))))) out.old.items out.new.items) }
+{
+    put_id(out, dir)?;
+    put_id(out, into)?;
+    put_id(out, obj)?;
+    put_kind(out, kind)?;
+    put_victim(out, victim)?;
+    put_name(out, from)?;
+    put_name(out, to)?;
+    put_way(out, kind, into, up)
+}
+
+fn put_way(out: &mut Vec<u8>, kind: Kind, into: ObjId, up: &[(ObjId, Name)]) -> Result<(), NoMemory>
+    requires { is_way kind into up.now ≡ true }
+    ensures { OnOk result ((others : List ℕ) → IsWay kind into others up.now → Writes (way_fields kind into others) up.now out.old.items out.new.items) }
+{
+    put_byte(out, up.len() as u8)?;
+    put_steps(out, up)?;
+    Ok(())
+}
+
+fn put_steps(out: &mut Vec<u8>, up: &[(ObjId, Name)]) -> Result<(), NoMemory>
+    ensures spelled { OnOk result (out.new.items ≡ out.old.items ++ flat_map step_spell up.now) }
+    ensures fit { OnOk result (list_all is_step up.now ≡ true) }
+{
+    for step in up {
+        put_step(out, step)?;
+    }
+    Ok(())
+}
+
+#[tactic(auto, unfolding(crate::specs::Updates::step_spell))]
+fn put_step(out: &mut Vec<u8>, step: &(ObjId, Name)) -> Result<(), NoMemory>
+    ensures spelled { OnOk result (out.new.items ≡ out.old.items ++ step_spell step.now) }
+    ensures fit { OnOk result (is_step step.now ≡ true) }
+{
+    put_id(out, step.0)?;
+    put_name(out, &step.1)
+}

@@ -1,0 +1,79 @@
+// Fields are written one behind the other.
+ghost use Rattle.std.specs.Prelude.{◌≡◌, ◌++◌, ◌≤◌, ◌<◌, ◌^◌, OnOk, List, ℕ, length, true, false};
+ghost use Rattle.std.specs.Int.{w16, w32, w64};
+ghost use Rattle.ec_codes.specs.Formats.{Writes, byte, number, such, standing, text};
+ghost use Rattle.ec_codes.specs.Fields.{id, kind_field, flag, or_zero, is_from_one, id_or_none, name};
+
+use ec_base::{Name, NoMemory, ObjId};
+use ec_volume::Kind;
+
+pub(crate) fn put_byte(out: &mut Vec<u8>, value: u8) -> Result<(), NoMemory>
+    ensures { OnOk result (Writes byte value out.old.items out.new.items) }
+{
+    out.push(value)?;
+    Ok(())
+}
+
+pub(crate) fn put_u16(out: &mut Vec<u8>, value: u16) -> Result<(), NoMemory>
+    ensures { OnOk result (Writes (number w16) value out.old.items out.new.items) }
+{
+    out.extend_from_slice(&value.to_be_bytes())?;
+    Ok(())
+}
+
+pub(crate) fn put_u32(out: &mut Vec<u8>, value: u32) -> Result<(), NoMemory>
+    ensures { OnOk result (Writes (number w32) value out.old.items out.new.items) }
+{
+    out.extend_from_slice(&value.to_be_bytes())?;
+    Ok(())
+}
+
+pub(crate) fn put_u64(out: &mut Vec<u8>, value: u64) -> Result<(), NoMemory>
+    ensures { OnOk result (Writes (number w64) value out.old.items out.new.items) }
+{
+    out.extend_from_slice(&value.to_be_bytes())?;
+    Ok(())
+}
+
+#[tactic(auto, unfolding(crate::specs::Fields::id))]
+pub(crate) fn put_id(out: &mut Vec<u8>, object: ObjId) -> Result<(), NoMemory>
+    ensures { OnOk result (Writes id object out.old.items out.new.items) }
+{
+    put_u32(out, object.get())
+}
+
+#[tactic(auto, unfolding(crate::specs::Fields::kind_field))]
+pub(crate) fn put_kind(out: &mut Vec<u8>, kind: Kind) -> Result<(), NoMemory>
+    ensures { OnOk result (Writes kind_field kind out.old.items out.new.items) }
+{
+    match kind {
+        Kind::File => put_byte(out, 1),
+        Kind::Dir => put_byte(out, 2),
+    }
+}
+
+#[tactic(auto, unfolding(crate::specs::Fields::flag))]
+pub(crate) fn put_flag(out: &mut Vec<u8>, set: bool) -> Result<(), NoMemory>
+    ensures { OnOk result (Writes flag set out.old.items out.new.items) }
+{
+    put_byte(out, u8::from(set))
+}
+
+pub(crate) fn put_victim(out: &mut Vec<u8>, victim: Option<ObjId>) -> Result<(), NoMemory>
+    ensures { OnOk result (Writes (standing or_zero is_from_one id_or_none (number w32)) victim out.old.items out.new.items) }
+{
+    match victim {
+        Some(object) => put_u32(out, object.get()),
+        None => put_u32(out, 0),
+    }
+}
+
+#[tactic(auto, unfolding(crate::specs::Fields::name))]
+pub(crate) fn put_name(out: &mut Vec<u8>, entry: &Name) -> Result<(), NoMemory>
+    ensures { OnOk result (Writes name entry.now out.old.items out.new.items) }
+{
+    let bytes = entry.bytes();
+    put_byte(out, bytes.len() as u8)?;
+    out.extend_from_slice(bytes)?;
+    Ok(())
+}
