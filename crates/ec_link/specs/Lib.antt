@@ -1,0 +1,4 @@
+pub mod Links
+pub mod Happenings
+pub mod Memory
+pub mod Spawns

@@ -1,0 +1,22 @@
+-- What is counted of jobs.
+use Rattle.std.specs.Prelude.{ℕ, Option, Some, None}
+use Rattle.ec_link.specs.declared.spawn.Spawned.{Spawned}
+use Rattle.ec_link.specs.declared.spawn.Spawned.TheVariants as spawned
+use Rattle.ec_link.specs.declared.spawn.Spawner.{Spawner}
+use Rattle.ec_link.specs.declared.spawn.Spawner.TheVariants as by
+use Rattle.ec_link.specs.Happenings.{faults_in}
+
+abbrev pub taken : {A : Type 0} → Option A → ℕ
+taken None = 0
+taken (Some job) = 1
+
+-- the jobs that were dropped since they couldn't be started
+abbrev pub refused : Spawned → ℕ
+refused spawned.All = 0
+refused spawned.Failed = 1
+refused spawned.NoMemory = 0
+
+-- how often a job couldn't be started
+abbrev pub faults_of : Spawner → ℕ
+faults_of (by.Threads s) = faults_in s.happened
+faults_of (by.Fails s) = faults_in s.happened

@@ -1,0 +1,66 @@
+// One end of a link, with its counts and, where it tells them, the bodies that it gave and got.
+ghost use Rattle.std.specs.Prelude.{◌≡◌, ℕ, ◌+◌, ◌≤◌, List, Option};
+ghost use Rattle.ec_frame.specs.Frames.{IsBody};
+ghost use Rattle.ec_link.specs.declared.link.Sent.TheVariants as sent;
+ghost use Rattle.ec_link.specs.Links.{Heard, failed, fault_of, close_of, heard, carried, added, Reads};
+
+use std::sync::Wait;
+use std::time::Clock;
+
+/// What a link answers to a body.
+#[derive(Clone, Copy, Debug, Drop, PartialEq, Eq)]
+pub enum Sent {
+    Done,
+    /// The link failed, or the body doesn't fit a frame.
+    Failed,
+    NoMemory,
+}
+
+/// What a link gives.
+#[derive(Debug, Drop)]
+pub enum Got {
+    Body(Vec<u8>),
+    /// No whole frame was there.
+    Nothing,
+    /// The next length, which is above the limit.
+    Long(u32),
+    /// The other end is gone, and no whole frame is left.
+    Closed,
+    Failed,
+    NoMemory,
+}
+
+/// One end of a link. Neither call waits for the other end.
+pub trait Link {
+    // How often it failed.
+    ghost faults: { Self → ℕ };
+
+    // How often it was found closed.
+    ghost closes: { Self → ℕ };
+
+    // What `recv` gave, where it is told.
+    ghost given: { Self → Option (List Heard) };
+
+    // The bodies that it got by a `send` that was `Done`, where they are told.
+    ghost got: { Self → Option (List (List ℕ)) };
+
+    // The bytes that were read from the other end and are not given yet.
+    ghost held: { Self → List ℕ };
+
+    /// Hands a body of at most 1,048,576 bytes to the other end.
+    fn send<R: Wait + Clock>(&mut self, rt: &R, body: &[u8]) -> Sent
+        ensures faults { faults self.old + failed result ≤ faults self.new }
+        ensures closes { closes self.old ≤ closes self.new }
+        ensures given { given self.new ≡ given self.old }
+        ensures got { got self.new ≡ added (got self.old) (carried result body.now) }
+        ensures held { held self.new ≡ held self.old }
+        ensures long { (IsBody body.now → ⊥) → result ≡ sent.Failed };
+
+    /// Gives the next body, where a whole frame is there.
+    fn recv<R: Wait + Clock>(&mut self, rt: &R) -> Got
+        ensures faults { faults self.old + fault_of result ≤ faults self.new }
+        ensures closes { closes self.old + close_of result ≤ closes self.new }
+        ensures given { given self.new ≡ added (given self.old) (heard result) }
+        ensures got { got self.new ≡ got self.old }
+        ensures read { Reads (held self.old) (held self.new) result };
+}

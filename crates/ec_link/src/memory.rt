@@ -1,0 +1,200 @@
+// Links in memory: two ends in one process.
+ghost use Rattle.std.specs.Prelude.{◌≡◌, ℕ, [], ◌++◌, List, drop, IfOk, IfSome, IfNone};
+ghost use Rattle.ec_base.specs.Outside.{one_more};
+ghost use Rattle.ec_frame.specs.Frames.{BeginsNone};
+ghost use Rattle.ec_link.specs.declared.link.Sent.TheVariants as sent;
+ghost use Rattle.ec_link.specs.Links.{failed, fault_of, close_of, heard, carried, Reads};
+ghost use Rattle.ec_link.specs.Happenings.{More};
+ghost use Rattle.ec_link.specs.Memory.{is_due, IsNew};
+
+use crate::happenings::Happenings;
+use crate::link::{Got, Link, Sent};
+use crossbeam_channel::{Receiver, Sender, TryRecvError, unbounded};
+use ec_base::NoMemory;
+use ec_frame::{FrameFault, Frames, frame};
+use std::alloc::Global;
+use std::snapshot::Snapshot;
+use std::sync::Wait;
+use std::time::Clock;
+
+/// One end of a pair of links in memory.
+#[derive(Drop)]
+pub struct MemLink {
+    alloc: Global,
+    to: Sender<Vec<u8>>,
+    from: Receiver<Vec<u8>>,
+    // What came and is not given yet.
+    frames: Frames,
+    // A piece that came when there was no memory for it.
+    late: Option<Vec<u8>>,
+    // The sends and receives that are to fail, by their number from 1 on.
+    fails: Vec<u64>,
+    calls: u64,
+    happened: Happenings,
+}
+
+/// Two ends of a new link.
+pub fn mem_pair(alloc: Global) -> Result<(MemLink, MemLink), NoMemory>
+    ensures { IfOk result (λ pair. IsNew pair.0 × IsNew pair.1) }
+{
+    let (to_right, from_left) = unbounded(alloc)?;
+    let (to_left, from_right) = unbounded(alloc)?;
+    let left = MemLink::new(alloc, to_right, from_right)?;
+    let right = MemLink::new(alloc, to_left, from_left)?;
+    Ok((left, right))
+}
+
+impl MemLink {
+    fn new(alloc: Global, to: Sender<Vec<u8>>, from: Receiver<Vec<u8>>) -> Result<MemLink, NoMemory>
+        ensures { IfOk result (λ link. IsNew link) }
+    {
+        let frames = Frames::new(alloc)?;
+        Ok(MemLink {
+            alloc,
+            to,
+            from,
+            frames,
+            late: None,
+            fails: Vec::new(alloc),
+            calls: 0,
+            happened: Happenings::new(),
+        })
+    }
+
+    /// From now on the sends and receives of this end whose number, from 1, is in the list answer `Failed`.
+    pub fn fail_at(&mut self, fails: Vec<u64>)
+        ensures { self.new ≡ record self.old { fails = fails; calls = 0 } }
+    {
+        self.fails = fails;
+        self.calls = 0;
+    }
+
+    /// Hands these bytes to the other end's frames as they are. Where the other end is gone, they are dropped.
+    pub fn put_raw<R: Wait + Clock>(&mut self, rt: &R, bytes: &[u8]) -> Result<(), NoMemory>
+        ensures { self.new ≡ self.old }
+    {
+        let piece = Vec::from_slice(self.alloc, bytes)?;
+        match self.to.send(rt, piece) {
+            Err(refused) if refused.is_out_of_memory() => Err(NoMemory),
+            _ => Ok(()),
+        }
+    }
+
+    // Counts a send or receive, and a fault where it is to fail.
+    fn fails_now(&mut self) -> bool
+        ensures due { result ≡ is_due self.old }
+        ensures others { self.new ≡ record self.old { calls = one_more self.old.calls } }
+    {
+        self.calls = self.calls.saturating_add(1);
+        self.fails.contains(&self.calls)
+    }
+}
+
+impl MemLink {
+    // Hands a frame over.
+    fn carry<R: Wait + Clock>(&mut self, rt: &R, bytes: Vec<u8>) -> Sent
+        ensures happened { More self.old.happened self.new.happened (failed result) 0 [] (carried result (drop 4 bytes.items)) }
+        ensures held { self.new.frames ≡ self.old.frames }
+    {
+        let copy = Snapshot::of(&bytes);
+        match self.to.send(rt, bytes) {
+            Ok(()) => {
+                self.happened.got(copy);
+                Sent::Done
+            }
+            Err(refused) if refused.is_out_of_memory() => Sent::NoMemory,
+            Err(_) => self.fail(),
+        }
+    }
+
+    fn fail(&mut self) -> Sent
+        ensures happened { More self.old.happened self.new.happened 1 0 [] [] }
+        ensures others { self.new ≡ record self.old { happened = self.new.happened } }
+        ensures result { result ≡ sent.Failed }
+    {
+        self.happened.fault();
+        Sent::Failed
+    }
+
+    // Reads a piece of what the other end sent, where no whole frame is there yet.
+    fn read<R: Wait + Clock>(&mut self, rt: &R) -> Option<Got>
+        requires { BeginsNone self.old.frames }
+        ensures some { IfSome result (λ got. More self.old.happened self.new.happened (fault_of got) (close_of got) (heard got) [] × Reads self.old.frames self.new.frames got) }
+        ensures none { IfNone result ((self.new.happened ≡ self.old.happened) × ((more : List ℕ) × (self.new.frames ≡ self.old.frames ++ more))) }
+    {
+        let piece = match self.late.take() {
+            Some(piece) => piece,
+            None => match self.from.try_recv(rt) {
+                Ok(piece) => piece,
+                Err(TryRecvError::Empty) => return Some(Got::Nothing),
+                Err(TryRecvError::Disconnected) => {
+                    self.happened.close();
+                    return Some(Got::Closed);
+                }
+            },
+        };
+        if self.frames.feed(&piece).is_ok() {
+            return None;
+        }
+        self.late = Some(piece);
+        Some(Got::NoMemory)
+    }
+
+    // Takes the next body off what came, or a piece of what the other end sent.
+    fn turn<R: Wait + Clock>(&mut self, rt: &R) -> Option<Got>
+        ensures some { IfSome result (λ got. More self.old.happened self.new.happened (fault_of got) (close_of got) (heard got) [] × Reads self.old.frames self.new.frames got) }
+        ensures none { IfNone result ((self.new.happened ≡ self.old.happened) × ((more : List ℕ) × (self.new.frames ≡ self.old.frames ++ more))) }
+    {
+        match self.frames.next() {
+            Ok(Some(body)) => {
+                self.happened.gave(&body);
+                Some(Got::Body(body))
+            }
+            Ok(None) => self.read(rt),
+            Err(FrameFault::LongFrame(length)) => {
+                self.happened.long(length);
+                Some(Got::Long(length))
+            }
+            Err(FrameFault::NoMemory) => Some(Got::NoMemory),
+        }
+    }
+}
+
+impl Link for MemLink {
+    ghost use Rattle.std.specs.Prelude.{Some};
+    ghost use Rattle.ec_link.specs.Happenings.{faults_in, closes_in, given_in, got_in};
+
+    ghost faults = { λ link. faults_in link.happened };
+
+    ghost closes = { λ link. closes_in link.happened };
+
+    ghost given = { λ link. Some (given_in link.happened) };
+
+    ghost got = { λ link. Some (got_in link.happened) };
+
+    ghost held = { λ link. link.frames };
+
+    fn send<R: Wait + Clock>(&mut self, rt: &R, body: &[u8]) -> Sent {
+        if self.fails_now() {
+            return self.fail();
+        }
+        match frame(self.alloc, body) {
+            Ok(bytes) => self.carry(rt, bytes),
+            Err(FrameFault::LongFrame(_)) => self.fail(),
+            Err(FrameFault::NoMemory) => Sent::NoMemory,
+        }
+    }
+
+    fn recv<R: Wait + Clock>(&mut self, rt: &R) -> Got {
+        if self.fails_now() {
+            self.happened.fault();
+            return Got::Failed;
+        }
+        for _ in rt.forever() {
+            if let Some(got) = self.turn(rt) {
+                return got;
+            }
+        }
+        unreachable!()
+    }
+}
