@@ -23,61 +23,61 @@ use Rattle.ec_plain.specs.declared.call.Outcome.{Outcome}
 -- Outcomes.
 
 abbrev pub answers : Reply → List ℕ → Outcome
-answers r os = record { reply = r; update = None; touched = os }
+answers r read = record { reply = r; update = None; touched = read }
 
 abbrev pub refuses : Refusal → List ℕ → Outcome
-refuses f os = answers (reply.Refused f) os
+refuses f read = answers (reply.Refused f) read
 
 abbrev pub issues : Update → List ℕ → Outcome
-issues u os = record { reply = reply.Ok; update = Some u; touched = os }
+issues u read = record { reply = reply.Ok; update = Some u; touched = read }
 
 -- What comes once the walk has reached an object; else its refusal. f is given the object and what was read.
 abbrev pub on_reached : Walk → (ℕ → List ℕ → Outcome) → Outcome
-on_reached w f = elim w.to [ At o ↦ f o w.read | Not r ↦ refuses r w.read ]
+on_reached walked f = elim walked.to [ At obj ↦ f obj walked.read | Not r ↦ refuses r walked.read ]
 
 -- The same for the parent, which has to be a directory. f is given its id, its entries and what was read.
 abbrev pub on_parent : Images → Path → (ℕ → Entries → List ℕ → Outcome) → Outcome
-on_parent v p f =
-    on_reached (walk v (parent_of p)) λ d os.
-    if is_dir (v d) then f d (entries_of (v d)) os else refuses (no.NotDir (length p - 1)) os
+on_parent volume path f =
+    on_reached (walk volume (parent_of path)) λ dir read.
+    if is_dir (volume dir) then f dir (entries_of (volume dir)) read else refuses (no.NotDir (length path - 1)) read
 
 -- The same for the object that the path reaches, below its parent. f is given the parent, its entries, the object and what was read.
 abbrev pub on_entry : Images → Path → (ℕ → Entries → ℕ → List ℕ → Outcome) → Outcome
-on_entry v p f =
-    on_parent v p λ d es os.
-    elim (entry es (last_of p)) [
-      | None ↦ refuses (no.NotFound (length p)) os
-      | Some o ↦ if is_gone (v o) then refuses (no.NotFound (length p)) (os ++ o ∷ []) else f d es o (os ++ o ∷ [])
+on_entry volume path f =
+    on_parent volume path λ dir entries read.
+    elim (entry entries (last_of path)) [
+      | None ↦ refuses (no.NotFound (length path)) read
+      | Some obj ↦ if is_gone (volume obj) then refuses (no.NotFound (length path)) (read ++ obj ∷ []) else f dir entries obj (read ++ obj ∷ [])
     ]
 
 -- New objects.
 
--- one of this name in the directory d
+-- one of this name in the directory
 abbrev pub make_in : Kind → List ℕ → ℕ → ℕ → Entries → List ℕ → Outcome
-make_in k n fresh d es os =
-    if is_some (entry es n) then refuses no.Exists os
-    else if nat_le max_entries (length es) then refuses no.DirFull os
-    else issues (Make d n fresh k) (os ++ fresh ∷ [])
+make_in k name fresh dir entries read =
+    if is_some (entry entries name) then refuses no.Exists read
+    else if nat_le max_entries (length entries) then refuses no.DirFull read
+    else issues (Make dir name fresh k) (read ++ fresh ∷ [])
 
 abbrev pub plain_make : Images → Kind → Path → ℕ → Outcome
-plain_make v k [] fresh = refuses no.Root []
-plain_make v k (n ∷ ns) fresh = on_parent v (n ∷ ns) (make_in k (last_of (n ∷ ns)) fresh)
+plain_make volume k [] fresh = refuses no.Root []
+plain_make volume k (name ∷ names) fresh = on_parent volume (name ∷ names) (make_in k (last_of (name ∷ names)) fresh)
 
 -- Removals.
 
--- the object o goes from the directory d
+-- the object goes from the directory
 abbrev pub drop_in : Images → Kind → Path → ℕ → Entries → ℕ → List ℕ → Outcome
-drop_in v kind.File p d es o os =
-    if is_dir (v o) then refuses no.IsDir os
-    else issues (Drop d (last_of p) o kind.File) os
-drop_in v kind.Dir p d es o os =
-    if not (is_dir (v o)) then refuses (no.NotDir (length p)) os
-    else if nat_lt 0 (length (entries_of (v o))) then refuses no.NotEmpty os
-    else issues (Drop d (last_of p) o kind.Dir) os
+drop_in volume kind.File path dir entries obj read =
+    if is_dir (volume obj) then refuses no.IsDir read
+    else issues (Drop dir (last_of path) obj kind.File) read
+drop_in volume kind.Dir path dir entries obj read =
+    if not (is_dir (volume obj)) then refuses (no.NotDir (length path)) read
+    else if nat_lt 0 (length (entries_of (volume obj))) then refuses no.NotEmpty read
+    else issues (Drop dir (last_of path) obj kind.Dir) read
 
 abbrev pub plain_drop : Images → Kind → Path → Outcome
-plain_drop v k [] = refuses no.Root []
-plain_drop v k (n ∷ ns) = on_entry v (n ∷ ns) (drop_in v k (n ∷ ns))
+plain_drop volume k [] = refuses no.Root []
+plain_drop volume k (name ∷ names) = on_entry volume (name ∷ names) (drop_in volume k (name ∷ names))
 
 -- Renames.
 
@@ -97,65 +97,65 @@ blocked kind.Dir Gone k = None
 
 -- directories, each with the name that leads on from it
 abbrev pub with_names : List ℕ → List (List ℕ) → Above
-with_names (o ∷ os) (n ∷ ns) = (o, n) ∷ with_names os ns
-with_names [] ns = []
-with_names (o ∷ os) [] = []
+with_names (dir ∷ dirs) (name ∷ names) = (dir, name) ∷ with_names dirs names
+with_names [] names = []
+with_names (dir ∷ dirs) [] = []
 
 -- The directories above the one that this walk of names read last: of a directory that moves, all from the root on.
 abbrev pub above : Kind → List ℕ → Path → Above
-above kind.File os names = []
-above kind.Dir os names = with_names os names
+above kind.File passed names = []
+above kind.Dir passed names = with_names passed names
 
--- the object o of the directory d gets the new name q in the directory e, in the place of the victim, if any; up leads to e
+-- the object of the directory gets a new name there or in another one, in the place of the victim, if any; `up` leads to the other one
 abbrev pub renames : ℕ → List ℕ → ℕ → List ℕ → ℕ → Kind → Option ℕ → Above → List ℕ → Outcome
-renames d from e to o k victim up os = if d == e then issues (Move d from to o k victim) os else issues (Shift d from e to o k victim up) os
+renames dir from into to obj k victim up read = if dir == into then issues (Move dir from to obj k victim) read else issues (Shift dir from into to obj k victim up) read
 
--- the object o of the directory d moves to the path q, whose parent e has the entries fs; the walk to e read ps, and os all that was read
+-- the object of the directory moves to the target path, whose parent `into` has these entries; the walk there passed some objects, and all those in `read` were read
 abbrev pub move_into : Images → Path → Path → ℕ → ℕ → ℕ → Entries → List ℕ → List ℕ → Outcome
-move_into v p q d o e fs ps os =
-    let k = kind_of (v o) in
-    let up = above k ps (parent_of q) in
-    elim (entry fs (last_of q)) [
-      | None ↦ if not (d == e) && nat_le max_entries (length fs) then refuses no.DirFull os else renames d (last_of p) e (last_of q) o k None up os
-      | Some t ↦ elim (blocked k (v t) (length q)) [
-        | Some r ↦ refuses r (os ++ t ∷ [])
-        | None ↦ renames d (last_of p) e (last_of q) o k (Some t) up (os ++ t ∷ [])
+move_into volume path target dir obj into entries passed read =
+    let k = kind_of (volume obj) in
+    let up = above k passed (parent_of target) in
+    elim (entry entries (last_of target)) [
+      | None ↦ if not (dir == into) && nat_le max_entries (length entries) then refuses no.DirFull read else renames dir (last_of path) into (last_of target) obj k None up read
+      | Some victim ↦ elim (blocked k (volume victim) (length target)) [
+        | Some r ↦ refuses r (read ++ victim ∷ [])
+        | None ↦ renames dir (last_of path) into (last_of target) obj k (Some victim) up (read ++ victim ∷ [])
       ]
     ]
 
 -- no directory moves into itself or below itself
 abbrev pub loops : Images → ℕ → List ℕ → Bool
-loops v o ps = is_dir (v o) && member o ps
+loops volume obj passed = is_dir (volume obj) && member obj passed
 
--- the rest of the rename, where the walk of the first path read os
+-- the rest of the rename, where the walk of the first path read these objects
 abbrev pub rename_in : Images → Path → Path → ℕ → Entries → ℕ → List ℕ → Outcome
-rename_in v p q d es o os =
-    if same_path p q then answers reply.Ok os
+rename_in volume path target dir entries obj read =
+    if same_path path target then answers reply.Ok read
     else
-    let w = walk v (parent_of q) in
-    elim w.to [
-      | Not r ↦ refuses r (os ++ w.read)
-      | At e ↦
-          if not (is_dir (v e)) then refuses (no.NotDir (length q - 1)) (os ++ w.read)
-          else if loops v o w.read then refuses no.Loop (os ++ w.read)
-          else move_into v p q d o e (entries_of (v e)) w.read (os ++ w.read)
+    let walked = walk volume (parent_of target) in
+    elim walked.to [
+      | Not r ↦ refuses r (read ++ walked.read)
+      | At into ↦
+          if not (is_dir (volume into)) then refuses (no.NotDir (length target - 1)) (read ++ walked.read)
+          else if loops volume obj walked.read then refuses no.Loop (read ++ walked.read)
+          else move_into volume path target dir obj into (entries_of (volume into)) walked.read (read ++ walked.read)
     ]
 
 abbrev pub plain_rename : Images → Path → Path → Outcome
-plain_rename v [] q = refuses no.Root []
-plain_rename v (a ∷ as') [] = refuses no.Root []
-plain_rename v (a ∷ as') (b ∷ bs) = on_entry v (a ∷ as') (rename_in v (a ∷ as') (b ∷ bs))
+plain_rename volume [] target = refuses no.Root []
+plain_rename volume (name ∷ names) [] = refuses no.Root []
+plain_rename volume (name ∷ names) (other ∷ others) = on_entry volume (name ∷ names) (rename_in volume (name ∷ names) (other ∷ others))
 
 -- The objects of the paths, each once, or the first refusal; and what was read.
 
 abbrev pub once_more : ℕ → List ℕ → List ℕ
-once_more o os = if member o os then os else os ++ o ∷ []
+once_more obj objs = if member obj objs then objs else objs ++ obj ∷ []
 
 abbrev pub plain_forder : Images → List Path → List ℕ → List ℕ → Outcome
-plain_forder v [] objs os = issues (Order objs) os
-plain_forder v (p ∷ ps) objs os =
-    let w = walk v p in
-    elim w.to [ At o ↦ plain_forder v ps (once_more o objs) (os ++ w.read) | Not r ↦ refuses r (os ++ w.read) ]
+plain_forder volume [] objs read = issues (Order objs) read
+plain_forder volume (path ∷ paths) objs read =
+    let walked = walk volume path in
+    elim walked.to [ At obj ↦ plain_forder volume paths (once_more obj objs) (read ++ walked.read) | Not r ↦ refuses r (read ++ walked.read) ]
 
 -- What is done at the object that a walk reached.
 
@@ -165,45 +165,45 @@ stat_of (Dir m s w es) = reply.Stat kind.Dir m s w (length es)
 stat_of Gone = reply.Stat kind.File 0 0 0 0
 
 abbrev pub write_in : Images → ℕ → List ℕ → ℕ → List ℕ → Outcome
-write_in v at bytes o os =
-    if is_dir (v o) then refuses no.IsDir os
-    else if nat_lt max_file_bytes (at + length bytes) then refuses no.TooLong os
-    else issues (Put o at bytes (nat_le (at + length bytes) (length (bytes_of (v o))))) os
+write_in volume at bytes obj read =
+    if is_dir (volume obj) then refuses no.IsDir read
+    else if nat_lt max_file_bytes (at + length bytes) then refuses no.TooLong read
+    else issues (Put obj at bytes (nat_le (at + length bytes) (length (bytes_of (volume obj))))) read
 
 abbrev pub len_in : Images → ℕ → ℕ → List ℕ → Outcome
-len_in v len o os =
-    if is_dir (v o) then refuses no.IsDir os
-    else if nat_lt max_file_bytes len then refuses no.TooLong os
-    else issues (Len o len) os
+len_in volume len obj read =
+    if is_dir (volume obj) then refuses no.IsDir read
+    else if nat_lt max_file_bytes len then refuses no.TooLong read
+    else issues (Len obj len) read
 
 abbrev pub read_in : Images → ℕ → ℕ → ℕ → List ℕ → Outcome
-read_in v at count o os =
-    if is_dir (v o) then refuses no.IsDir os
-    else answers (reply.Data (take count (drop at (bytes_of (v o))))) os
+read_in volume at count obj read =
+    if is_dir (volume obj) then refuses no.IsDir read
+    else answers (reply.Data (take count (drop at (bytes_of (volume obj))))) read
 
 abbrev pub list_in : Images → Path → ℕ → List ℕ → Outcome
-list_in v p o os =
-    if is_dir (v o) then answers (reply.Names (map (λ e. e.0) (entries_of (v o)))) os
-    else refuses (no.NotDir (length p)) os
+list_in volume path obj read =
+    if is_dir (volume obj) then answers (reply.Names (map (λ e. e.0) (entries_of (volume obj)))) read
+    else refuses (no.NotDir (length path)) read
 
 -- The outcome of a call on a volume, where a new object is to have the fresh id.
 abbrev pub plain : Images → Call → ℕ → Outcome
-plain v (call.Mkdir p) fresh = plain_make v kind.Dir p fresh
-plain v (call.Create p) fresh = plain_make v kind.File p fresh
-plain v (call.Write p at bytes) fresh = on_reached (walk v p) (write_in v at bytes)
-plain v (call.SetLen p len) fresh = on_reached (walk v p) (len_in v len)
-plain v (call.Read p at count) fresh = on_reached (walk v p) (read_in v at count)
-plain v (call.Chmod p mode) fresh = on_reached (walk v p) λ o os. issues (Mode o mode) os
-plain v (call.Touch p stamp) fresh = on_reached (walk v p) λ o os. issues (Stamp o stamp) os
-plain v (call.Stat p) fresh = on_reached (walk v p) λ o os. answers (stat_of (v o)) os
-plain v (call.List p) fresh = on_reached (walk v p) (list_in v p)
-plain v (call.Remove p) fresh = plain_drop v kind.File p
-plain v (call.Rmdir p) fresh = plain_drop v kind.Dir p
-plain v (call.Rename p q) fresh = plain_rename v p q
-plain v (call.Fsync p) fresh = on_reached (walk v p) λ o os. answers reply.Ok os
-plain v (call.Forder ps) fresh = plain_forder v ps [] []
-plain v call.Sync fresh = answers reply.Ok []
-plain v (call.Chown p owner) fresh = on_reached (walk v p) λ o os. issues (Owner o owner) os
+plain volume (call.Mkdir path) fresh = plain_make volume kind.Dir path fresh
+plain volume (call.Create path) fresh = plain_make volume kind.File path fresh
+plain volume (call.Write path at bytes) fresh = on_reached (walk volume path) (write_in volume at bytes)
+plain volume (call.SetLen path len) fresh = on_reached (walk volume path) (len_in volume len)
+plain volume (call.Read path at count) fresh = on_reached (walk volume path) (read_in volume at count)
+plain volume (call.Chmod path mode) fresh = on_reached (walk volume path) λ obj read. issues (Mode obj mode) read
+plain volume (call.Touch path stamp) fresh = on_reached (walk volume path) λ obj read. issues (Stamp obj stamp) read
+plain volume (call.Stat path) fresh = on_reached (walk volume path) λ obj read. answers (stat_of (volume obj)) read
+plain volume (call.List path) fresh = on_reached (walk volume path) (list_in volume path)
+plain volume (call.Remove path) fresh = plain_drop volume kind.File path
+plain volume (call.Rmdir path) fresh = plain_drop volume kind.Dir path
+plain volume (call.Rename path target) fresh = plain_rename volume path target
+plain volume (call.Fsync path) fresh = on_reached (walk volume path) λ obj read. answers reply.Ok read
+plain volume (call.Forder paths) fresh = plain_forder volume paths [] []
+plain volume call.Sync fresh = answers reply.Ok []
+plain volume (call.Chown path owner) fresh = on_reached (walk volume path) λ obj read. issues (Owner obj owner) read
 
 abbrev pub is_sync : Call → Bool
 is_sync call.Sync = true
