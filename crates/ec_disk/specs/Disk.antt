@@ -8,20 +8,20 @@ byte image i = get_or image i 0
 
 -- so many bytes from a place on
 abbrev pub part : List ℕ → ℕ → ℕ → List ℕ
-part image at n = take n (drop at image)
+part image at count = take count (drop at image)
 
 -- an image with these bytes written over it; a gap past the end is zeros
 abbrev pub written : ℕ → List ℕ → List ℕ → List ℕ
 written at bytes old = take at old ++ replicate (at - length old) 0 ++ bytes ++ drop (at + length bytes) old
 
 -- What writes at these places may make of an image that a crash leaves: any bytes there and past its end.
-pub record Loose (W : ℕ → Type 0) (old new : List ℕ) : Type 0 where
+pub record Loose (Places : ℕ → Type 0) (old new : List ℕ) : Type 0 where
   pub no_shorter : length old ≤ length new
-  pub outside : (i : ℕ) → i < length old → (W i → ⊥) → byte new i ≡ byte old i
+  pub outside : (place : ℕ) → place < length old → (Places place → ⊥) → byte new place ≡ byte old place
 
 -- the places of a range
 abbrev pub InRange : ℕ → ℕ → ℕ → Type 0
-InRange at n i = (at ≤ i) × (i < at + n)
+InRange at count place = (at ≤ place) × (place < at + count)
 
 -- a disk at one moment: what a read gives, what a crash may leave, the moment, and what a crash since an earlier one might have left
 pub record View : Type 1 where
@@ -32,40 +32,40 @@ pub record View : Type 1 where
 
 -- a crash leaves what a read gives and nothing else
 abbrev pub IsSynced : View → Type 0
-IsSynced now = (c : List ℕ) → now.may_leave c → c ≡ now.gives
+IsSynced now = (image : List ℕ) → now.may_leave image → image ≡ now.gives
 
 -- Time goes on: since an earlier moment a crash might have left what it might have before, or what it may leave now.
 pub record Elapses (old new : View) : Type 0 where
   pub later : old.moment ≤ new.moment
-  pub nothing_else : (t : ℕ) (c : List ℕ) → t ≤ old.moment → new.left_since t c → old.left_since t c ⊎ new.may_leave c
-  pub keeps : (t : ℕ) (c : List ℕ) → t ≤ old.moment → old.left_since t c → new.left_since t c
+  pub nothing_else : (since : ℕ) (image : List ℕ) → since ≤ old.moment → new.left_since since image → old.left_since since image ⊎ new.may_leave image
+  pub keeps : (since : ℕ) (image : List ℕ) → since ≤ old.moment → old.left_since since image → new.left_since since image
 
 -- a call that writes nothing
 pub record Rests (old new : View) : Type 0 where
   pub gives : new.gives ≡ old.gives
-  pub crash : (c : List ℕ) → new.may_leave c → old.may_leave c
+  pub crash : (image : List ℕ) → new.may_leave image → old.may_leave image
   pub time : Elapses old new
 
 -- an image that a crash may leave, after writes at these places
 abbrev pub After : View → (ℕ → Type 0) → List ℕ → Type 0
-After old W c = (d : List ℕ) × old.may_leave d × Loose W d c
+After old Places image = (before : List ℕ) × old.may_leave before × Loose Places before image
 
--- writes at these places alone, whatever they answered
-pub record Wrote (W : ℕ → Type 0) (old new : View) : Type 0 where
-  pub crash : (c : List ℕ) → new.may_leave c → After old W c
+-- Writes at these places alone, whatever they answered: one that failed, stopped or found no memory counts among them too.
+pub record Wrote (Places : ℕ → Type 0) (old new : View) : Type 0 where
+  pub crash : (image : List ℕ) → new.may_leave image → After old Places image
   pub time : Elapses old new
 
 -- a power cut, whatever it answered
 pub record Cut (old new : View) : Type 0 where
-  pub crash : (c : List ℕ) → new.may_leave c → old.may_leave c
+  pub crash : (image : List ℕ) → new.may_leave image → old.may_leave image
   pub time : Elapses old new
 
--- Each image that a crash since the old moment might have left has P.
-pub record LeavesOnly (old new : View) (P : List ℕ → Type 0) : Type 0 where
+-- Each image that a crash since the old moment might have left is good.
+pub record LeavesOnly (old new : View) (Good : List ℕ → Type 0) : Type 0 where
   pub later : old.moment ≤ new.moment
-  pub each : (c : List ℕ) → new.left_since old.moment c → P c
+  pub each : (image : List ℕ) → new.left_since old.moment image → Good image
   -- for a run that began earlier
-  pub before : (t : ℕ) (c : List ℕ) → t ≤ old.moment → new.left_since t c → old.left_since t c ⊎ P c
+  pub before : (since : ℕ) (image : List ℕ) → since ≤ old.moment → new.left_since since image → old.left_since since image ⊎ Good image
 
 -- How often a disk was called, failed and stopped. Each read, write, sync and question for the length has its number, from 1, which is
 -- `calls` behind it: calls that are to fail are told by these numbers. Where the disk is armed, the read, write or sync of the number
@@ -88,12 +88,12 @@ pub record Counted (old new : Counts) (Failing Stopping : Type 0) : Type 0 where
 -- the next read, write or sync stops
 abbrev pub IsDue : Option ℕ → Type 0
 IsDue None = ⊥
-IsDue (Some n) = n ≤ 1
+IsDue (Some left) = left ≤ 1
 
 -- so many reads, writes and syncs later
 abbrev pub after_calls : ℕ → Option ℕ → Option ℕ
 after_calls calls None = None
-after_calls calls (Some n) = Some (n - calls)
+after_calls calls (Some left) = Some (left - calls)
 
 -- so many calls later
 abbrev pub calls_later : ℕ → ℕ → ℕ

@@ -33,9 +33,9 @@ abbrev pub next_answer : MemDisk → DiskAnswer
 next_answer disk = answer_of (next_turn disk.turns)
 
 abbrev pub len_of : Turn → ℕ → DiskLen
-len_of turn.Goes n = len.Len n
-len_of turn.Fails n = len.Failed
-len_of turn.Stops n = len.Stopped
+len_of turn.Goes bytes = len.Len bytes
+len_of turn.Fails bytes = len.Failed
+len_of turn.Stops bytes = len.Stopped
 
 -- what the next question for the length answers
 abbrev pub next_len : MemDisk → DiskLen
@@ -68,10 +68,10 @@ with_write answer.NoMemory at bytes steps = steps
 
 -- a sync or a power cut is carried out only where it is done
 abbrev pub with_step : DiskAnswer → Step → List Step → List Step
-with_step answer.Done x steps = steps ++ x ∷ []
-with_step answer.Stopped x steps = steps
-with_step answer.Failed x steps = steps
-with_step answer.NoMemory x steps = steps
+with_step answer.Done next steps = steps ++ next ∷ []
+with_step answer.Stopped next steps = steps
+with_step answer.Failed next steps = steps
+with_step answer.NoMemory next steps = steps
 
 -- one call, which adds its step
 pub record Adds (old : MemDisk) (says : Type 0) (steps : List Step) (new : MemDisk) : Type 0 where

@@ -21,28 +21,29 @@ cut choice.New now synced = now
 cut choice.Torn now synced = torn 0 now synced
 
 abbrev pub clean : List ℕ → Shot
-clean image = record { now = image; synced = image; places = λ i. ⊥; dirty = false }
+clean image = record { now = image; synced = image; places = λ place. ⊥; dirty = false }
 
 abbrev pub apply : Shot → Step → Shot
-apply s (step.Write at bytes) = record { now = written at bytes s.now; synced = s.synced; places = λ i. s.places i ⊎ InRange at (length bytes) i; dirty = true }
-apply s step.Sync = clean s.now
-apply s (step.Cut choice) = clean (cut choice s.now s.synced)
+apply shot (step.Write at bytes) = record { now = written at bytes shot.now; synced = shot.synced; places = λ place. shot.places place ⊎ InRange at (length bytes) place; dirty = true }
+apply shot step.Sync = clean shot.now
+apply shot (step.Cut choice) = clean (cut choice shot.now shot.synced)
 
 abbrev pub apply_all : Shot → List Step → Shot
-apply_all s [] = s
-apply_all s (x ∷ xs) = apply_all (apply s x) xs
+apply_all shot [] = shot
+apply_all shot (next ∷ log) = apply_all (apply shot next) log
 
 abbrev pub shot_of : List Step → Shot
 shot_of log = apply_all (clean []) log
 
 -- What a crash may leave: the synced bytes outside the written places, and anything past their end once there was a write.
-pub record Left (s : Shot) (image : List ℕ) : Type 0 where
-  pub no_shorter : length s.synced ≤ length image
-  pub outside : (i : ℕ) → i < length s.synced → (s.places i → ⊥) → byte image i ≡ byte s.synced i
-  pub nothing_written : s.dirty ≡ false → image ≡ s.now
+pub record Left (shot : Shot) (image : List ℕ) : Type 0 where
+  pub no_shorter : length shot.synced ≤ length image
+  pub outside : (place : ℕ) → place < length shot.synced → (shot.places place → ⊥) → byte image place ≡ byte shot.synced place
+  pub nothing_written : shot.dirty ≡ false → image ≡ shot.now
 
+-- what a crash might have left at a moment, the number of steps before it, from an earlier one on
 abbrev pub LeftSince : List Step → ℕ → List ℕ → Type 0
-LeftSince log t image = (k : ℕ) × (t ≤ k) × (k ≤ length log) × Left (shot_of (take k log)) image
+LeftSince log since image = (moment : ℕ) × (since ≤ moment) × (moment ≤ length log) × Left (shot_of (take moment log)) image
 
 abbrev pub view_of : List Step → View
 view_of log = record { gives = (shot_of log).now; may_leave = Left (shot_of log); moment = length log; left_since = LeftSince log }

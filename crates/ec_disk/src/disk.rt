@@ -6,7 +6,7 @@ ghost use Rattle.ec_base.specs.Outside.{one_more};
 ghost use Rattle.ec_disk.specs.Calls as call;
 ghost use Rattle.ec_disk.specs.Disk.{View, Counts, part, written, IsSynced, Rests, InRange, Wrote, Cut, Counted, CountsDown};
 
-/// What a disk answers. After anything but `Done` a write may have changed any bytes of its range.
+/// What a disk answers.
 #[derive(Clone, Copy, Debug, Drop, PartialEq, Eq)]
 pub enum DiskAnswer {
     Done,
@@ -38,7 +38,8 @@ pub enum Choice {
 
 /// A row of bytes that outlives a crash, as far as it was synced.
 ///
-/// A write that answered anything but `Done` may have left any bytes in its range. A disk may be stricter, as `MemDisk` is.
+/// A write that answered `Failed`, `Stopped` or `NoMemory` counts among those since the last sync too: a crash may leave any bytes in its
+/// range. A disk may be stricter, as `MemDisk` is.
 pub trait Disk {
     /// Whether disks of this type tell their content.
     ghost tells: { Type 0 };
@@ -91,13 +92,13 @@ pub trait Disk {
         ensures call { (counts self.new).calls ≡ one_more (counts self.old).calls };
 
     /// What a read gives is one of the images that a crash may leave.
-    ghost given: { tells → (d : Self) → (view d).may_leave (view d).gives };
+    ghost given: { tells → (disk : Self) → (view disk).may_leave (view disk).gives };
 
     /// This moment is one of those since an earlier one.
-    ghost counts_now: { tells → (d : Self) (t : ℕ) (c : List ℕ) → t ≤ (view d).moment → (view d).may_leave c → (view d).left_since t c };
+    ghost counts_now: { tells → (disk : Self) (since : ℕ) (image : List ℕ) → since ≤ (view disk).moment → (view disk).may_leave image → (view disk).left_since since image };
 
     /// Since this moment there is no other.
-    ghost only_now: { tells → (d : Self) (c : List ℕ) → (view d).left_since (view d).moment c → (view d).may_leave c };
+    ghost only_now: { tells → (disk : Self) (image : List ℕ) → (view disk).left_since (view disk).moment image → (view disk).may_leave image };
 }
 
 /// A disk on which a crash can be tried out.

@@ -218,17 +218,17 @@ impl<F: FileExt + OpenFile + Drop> Disk for FileDisk<F> {
 
     ghost tells = { ⊥ };
 
-    ghost view = { λ d. view_of [] };
+    ghost view = { λ disk. view_of [] };
 
-    ghost counts = { λ d. counts_of d.turns };
+    ghost counts = { λ disk. counts_of disk.turns };
 
     ghost does = { λ old call new. Unit {0} };
 
-    ghost given = { λ told d. absurd told };
+    ghost given = { λ told disk. absurd told };
 
-    ghost counts_now = { λ told d t c le left. absurd told };
+    ghost counts_now = { λ told disk since image earlier left. absurd told };
 
-    ghost only_now = { λ told d c left. absurd told };
+    ghost only_now = { λ told disk image left. absurd told };
 
     fn read_at(&mut self, at: u64, into: &mut [u8]) -> DiskAnswer {
         match self.turns.next() {

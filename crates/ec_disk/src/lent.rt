@@ -4,17 +4,17 @@ use crate::disk::{Choice, CrashDisk, Disk, DiskAnswer, DiskLen};
 impl<D: Disk> Disk for &mut D {
     ghost tells = { D.tells };
 
-    ghost view = { λ d. D.view d.now };
+    ghost view = { λ disk. D.view disk.now };
 
-    ghost counts = { λ d. D.counts d.now };
+    ghost counts = { λ disk. D.counts disk.now };
 
     ghost does = { λ old call new. D.does old.now call new.now };
 
-    ghost given = { λ told d. D.given told d.now };
+    ghost given = { λ told disk. D.given told disk.now };
 
-    ghost counts_now = { λ told d t c le left. D.counts_now told d.now t c le left };
+    ghost counts_now = { λ told disk since image earlier left. D.counts_now told disk.now since image earlier left };
 
-    ghost only_now = { λ told d c left. D.only_now told d.now c left };
+    ghost only_now = { λ told disk image left. D.only_now told disk.now image left };
 
     fn read_at(&mut self, at: u64, into: &mut [u8]) -> DiskAnswer {
         (**self).read_at(at, into)

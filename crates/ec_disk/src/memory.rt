@@ -19,6 +19,9 @@ pub enum Step {
 }
 
 /// A disk in memory, of length 0 at first.
+///
+/// It's stricter than a disk has to be: a write that was told to fail, or for which there was no memory, changes nothing, and no crash
+/// finds its range written.
 #[derive(Drop)]
 pub struct MemDisk {
     turns: Turns,
@@ -134,17 +137,17 @@ impl Disk for MemDisk {
 
     ghost tells = { Unit {0} };
 
-    ghost view = { λ m. view_of (steps_of m) };
+    ghost view = { λ disk. view_of (steps_of disk) };
 
-    ghost counts = { λ m. counts_of_disk m };
+    ghost counts = { λ disk. counts_of_disk disk };
 
     ghost does = { λ old call new. Does old call new };
 
-    ghost given = { λ told m. past_given (steps_of m) };
+    ghost given = { λ told disk. past_given (steps_of disk) };
 
-    ghost counts_now = { λ told m t c le left. past_counts_now (steps_of m) t c le left };
+    ghost counts_now = { λ told disk since image earlier left. past_counts_now (steps_of disk) since image earlier left };
 
-    ghost only_now = { λ told m c left. past_only_now (steps_of m) c left };
+    ghost only_now = { λ told disk image left. past_only_now (steps_of disk) image left };
 
     fn read_at(&mut self, at: u64, into: &mut [u8]) -> DiskAnswer {
         match self.turns.next() {
@@ -158,8 +161,7 @@ impl Disk for MemDisk {
         DiskAnswer::Done
     }
 
-    /// A write that stops is carried out. One that is told to fail, or for which there is no memory, changes nothing, and no later
-    /// crash finds its range written.
+    /// A write that stops is carried out.
     fn write_at(&mut self, at: u64, piece: &[u8]) -> DiskAnswer {
         let turn = self.turns.next();
         if turn == Turn::Fails {
