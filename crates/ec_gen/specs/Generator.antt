@@ -1,5 +1,5 @@
 -- The scripts of the generator: numbers drawn from a start number on, and lines that are written with them.
-use Rattle.std.specs.Prelude.{◌==◌, ◌||◌, ◌+◌, ◌*◌, ◌/◌, ◌%◌, ◌^◌, ℕ, suc, if◌then◌else◌, Bool, List, [], ◌∷◌, ◌++◌, codes}
+use Rattle.std.specs.Prelude.{◌==◌, ◌||◌, ◌+◌, ◌*◌, ◌/◌, ◌%◌, ◌^◌, ℕ, zero, suc, if◌then◌else◌, Bool, List, [], ◌∷◌, ◌++◌, codes}
 use Rattle.std.specs.Fmt.{decimal}
 
 -- Drawing.
@@ -15,10 +15,10 @@ next state = (state * multiplier + increment) % 2 ^ 64
 
 -- the state that so many draws lead to from a start number on
 abbrev pub state_after : ℕ → ℕ → ℕ
-state_after 0 start = start
+state_after zero start = start
 state_after (suc draws) start = next (state_after draws start)
 
--- what a state shows of itself: its bits from the 33rd on
+-- what is drawn at a state: all but its lowest 33 bits
 abbrev pub drawn : ℕ → ℕ
 drawn state = state / 2 ^ 33
 
@@ -36,7 +36,7 @@ draws_of line = if is_write line || is_rename line then 4 else 3
 
 -- how many numbers the lines up to this one draw
 abbrev pub draws_to : ℕ → ℕ
-draws_to 0 = 0
+draws_to zero = 0
 draws_to (suc line) = draws_to line + draws_of (suc line)
 
 -- one of 4 clerks, from `A` on
@@ -77,5 +77,5 @@ line_of start before = line_text (suc before) (drawn_for start before 1) (drawn_
 
 -- the script of this number, of so many lines
 abbrev pub script_of : ℕ → ℕ → List ℕ
-script_of start 0 = []
+script_of start zero = []
 script_of start (suc before) = script_of start before ++ line_of start before

@@ -3,8 +3,8 @@
 
 mod draws;
 mod line;
-mod script;
 #[cfg(test)]
 mod tests;
+mod whole;
 
-pub use script::script;
+pub use whole::script;
