@@ -1,5 +1,5 @@
 -- What a cache notes of objects: the last number, and the mode down to which a token under recall counts.
-use Rattle.std.specs.Prelude.{ℕ, List, [], ◌∷◌, Option, None, Some}
+use Rattle.std.specs.Prelude.{ℕ, [], ◌∷◌, Option, None, Some}
 use Rattle.ec_base.specs.Tables.{Table}
 
 -- the chosen part of each note that has it

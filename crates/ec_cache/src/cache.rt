@@ -1,6 +1,8 @@
 // A clerk's tokens with their images, in the order of use.
-ghost use Rattle.std.specs.Prelude.{◌≡◌, ◌<◌, ◌+◌, Option, IfOk, OnErr, OnOk, option_copied, option_map, length, reverse};
-ghost use Rattle.ec_base.specs.Tables.{at};
+ghost use Rattle.std.specs.Prelude.{◌≡◌, ◌∷◌, true, None, is_some, nat_eq, ◌<◌, ◌+◌, Option, IfOk, OnErr, OnOk, option_copied, option_map, length, reverse};
+ghost use Rattle.std.specs.List.{IsDistinct};
+ghost use Rattle.std.specs.Map.{keys_of, remove_entry};
+ghost use Rattle.ec_base.specs.Tables.{at, renewed, without};
 ghost use Rattle.ec_cache.specs.Cache as cache;
 ghost use Rattle.ec_base.specs.Holds.{weaker};
 ghost use Rattle.ec_cache.specs.Held.{image_of, used_in};
@@ -88,14 +90,52 @@ impl Cache {
         }
     }
 
-    /// Marks a recall: from now on the token counts only down to this mode, until it's lowered, a new
-    /// number is taken or an epoch begins. Of several marks the lowest counts.
-    pub fn limit(&mut self, obj: ObjId, to: Hold) -> Result<(), NoMemory>
-        ensures ok { OnOk result (self.new ≡ cache.limit obj to self.old) }
+    /// Takes a token whose number is above the last one of the object: true. With any other number
+    /// nothing changes: false.
+    pub fn take(
+        &mut self,
+        obj: ObjId,
+        hold: Hold,
+        number: u64,
+        image: Image,
+    ) -> Result<bool, NoMemory>
+        ensures taken { IfOk result (λ taken. taken ≡ cache.is_new obj number self.old) }
+        ensures ok { OnOk result (self.new ≡ cache.take obj hold number image self.old) }
         ensures err { OnErr result (self.new ≡ self.old) }
     {
-        let before = self.limits.get(&obj).copied().unwrap_or(Hold::Write);
-        self.limits.insert(obj, weaker(to, before))
+        if number <= self.last(obj) {
+            return Ok(false);
+        }
+        let held = Held {
+            hold,
+            number,
+            image,
+        };
+        if held_at(&self.tokens, obj).is_some() {
+            self.lasts.insert(obj, number)?;
+            renew(&mut self.tokens, obj, held);
+        } else {
+            add(&mut self.tokens, obj, held)?;
+            if let Err(fault) = self.lasts.insert(obj, number) {
+                take_back(&mut self.tokens, obj);
+                return Err(fault);
+            }
+        }
+        self.limits.remove(&obj);
+        Ok(true)
+    }
+
+    /// Lowers the token to this mode, and forgets that it was under recall. Of a token that is lowered
+    /// to Free nothing stays. It takes no memory.
+    pub fn lower(&mut self, obj: ObjId, to: Hold)
+        ensures { self.new ≡ cache.lower obj to self.old }
+    {
+        if to == Hold::Free {
+            give_up(&mut self.tokens, obj);
+        } else {
+            weaken(&mut self.tokens, obj, to);
+        }
+        self.limits.remove(&obj);
     }
 
     /// Raises the last number of the object.
@@ -135,8 +175,74 @@ fn put_last(tokens: &mut LruCache<u32, Held>, obj: ObjId)
     }
 }
 
+// The bound of the map is raised before one more token would fill it.
+fn raise_bound(tokens: &mut LruCache<u32, Held>)
+    ensures order { tokens.new.entries ≡ tokens.old.entries }
+    ensures room { length tokens.new.entries + 1 < tokens.new.cap }
+    ensures apart { IsDistinct nat_eq (keys_of tokens.new.entries) }
+{
+    let wanted = tokens.len() + 2;
+    if tokens.cap().get() < wanted {
+        if let Some(bound) = NonZeroUsize::new(wanted.saturating_mul(2)) {
+            tokens.resize(bound);
+        }
+    }
+}
+
+// A token on an object that has none. It's the most recently used one.
+fn add(tokens: &mut LruCache<u32, Held>, obj: ObjId, held: Held) -> Result<(), NoMemory>
+    requires { at obj (reverse tokens.old.entries) ≡ None }
+    ensures ok { OnOk result (tokens.new.entries ≡ (obj, held) ∷ tokens.old.entries) }
+    ensures renewed { OnOk result (reverse tokens.new.entries ≡ renewed obj held (reverse tokens.old.entries)) }
+    ensures err { OnErr result (tokens.new.entries ≡ tokens.old.entries) }
+{
+    raise_bound(tokens);
+    tokens.put(obj.get(), held)?;
+    Ok(())
+}
+
+// Another token on an object that has one. It's the most recently used one.
+fn renew(tokens: &mut LruCache<u32, Held>, obj: ObjId, held: Held)
+    requires { is_some (at obj (reverse tokens.old.entries)) ≡ true }
+    ensures { reverse tokens.new.entries ≡ renewed obj held (reverse tokens.old.entries) }
+{
+    if tokens.len() > 0 {
+        let _replaced = tokens.put(obj.get(), held);
+    }
+}
+
+// The token is taken out that was just added.
+fn take_back(tokens: &mut LruCache<u32, Held>, obj: ObjId)
+    ensures { tokens.new.entries ≡ remove_entry (nat_eq obj) tokens.old.entries }
+{
+    tokens.pop(&obj.get());
+}
+
+fn give_up(tokens: &mut LruCache<u32, Held>, obj: ObjId)
+    ensures { reverse tokens.new.entries ≡ without obj (reverse tokens.old.entries) }
+{
+    if tokens.len() > 0 {
+        tokens.pop(&obj.get());
+    }
+}
+
+// The token has at most this mode, and keeps its place.
+fn weaken(tokens: &mut LruCache<u32, Held>, obj: ObjId, to: Hold)
+    ensures { reverse tokens.new.entries ≡ cache.lowered obj to (reverse tokens.old.entries) }
+{
+    if tokens.len() == 0 {
+        return;
+    }
+    if let Some(held) = tokens.peek_mut(&obj.get()) {
+        held.hold = weaker(to, held.hold);
+    }
+}
+
 fn weaker(a: Hold, b: Hold) -> Hold
     ensures { result ≡ weaker a b }
 {
     if a.is_below(&b) { a } else { b }
 }
+
+#[cfg(test)]
+mod tests;
