@@ -1,5 +1,5 @@
 -- Which images have a code: the sound ones, with fields in the ranges of their types and names that rise.
-use Rattle.std.proofs.Common.{◌≡◌, ℕ, zero, suc, ◌-◌, Bool, true, false, not, ◌&&◌, List, [], ◌∷◌, ◌++◌, map, length, Option, Some, None, Result, Ok, Err, refl, sym, ap, subst, ◌∙◌, append_assoc, arith}
+use Rattle.std.proofs.Common.{◌≡◌, ℕ, zero, suc, ◌-◌, Bool, true, false, not, ◌&&◌, ◌||◌, List, [], ◌∷◌, ◌++◌, map, length, Option, Some, None, Result, Ok, Err, refl, sym, ap, subst, ◌∙◌, append_assoc, arith}
 use Rattle.std.specs.Prelude.{IfOk, nat_le, T, slice_get}
 use Rattle.std.specs.List.{list_all, list_any}
 use Rattle.std.specs.Int.{w16, w32, w64}
@@ -13,6 +13,7 @@ use Rattle.std.proofs.lemmas.Bool.{and_parts, and_from}
 use Rattle.std.proofs.lemmas.List.{map_push, append-nil}
 use Rattle.ec_volume.specs.Entries.{Entries, by_bytes}
 use Rattle.ec_volume.specs.Held.{is_held}
+use Rattle.ec_volume.specs.Image.{is_gone, entries_of}
 use Rattle.ec_volume.specs.Update.{member, distinct}
 use Rattle.ec_volume.specs.declared.image.Image.{Image}
 use Rattle.ec_volume.specs.declared.image.Image.TheVariants.{Gone, File, Dir}
@@ -168,6 +169,18 @@ fits_old_image (Dir m s zero es) h =
     let e = entries_sound es b.1 in
     and_from _ _ (and_from _ _ (and_parts ((number w16).fits m) (nat_le m 4095) a.0).1 e.0) e.2
 fits_old_image (Dir m s (suc w) es) h = absurd cc
+
+-- what has a code and is live is within the limits, with its names rising, and with distinct ids
+pub fits_held : (i : Image) → image_code.fits i ≡ true → ((is_gone i || is_held i) ≡ true) × (distinct (map (λ e. e.1) (entries_of i)) ≡ true)
+unfolding image_code image_form dir_fields
+fits_held Gone h = (refl, refl)
+fits_held (File m s w bs) h = (fits_image (File m s w bs) h, refl)
+fits_held (Dir m s w es) h =
+    let limits = and_parts (nat_le m 4095 && nat_le (length es) max_entries) (distinct (ids_under es)) (fits_image (Dir m s w es) h) in
+    let a = and_parts (mode_field.fits m) _ h in
+    let b = and_parts ((number w64).fits s) _ a.1 in
+    let c = and_parts ((number w32).fits w) _ b.1 in
+    (and_from _ _ limits.0 (is_true _ (entries_sound es c.1).1), limits.1)
 
 pub found_image : (bytes : List ℕ) (at : ℕ) (r : Result (Image × ℕ) CodeFault) → IfOk r (λ x. Spells image_code bytes at x.0 x.1) → IfOk r (λ x. is_sound_image x.0 ≡ true)
 found_image bytes at (Ok x) h = fits_image x.0 h.fits
