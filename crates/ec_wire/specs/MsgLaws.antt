@@ -6,11 +6,12 @@ use Rattle.std.proofs.lemmas.Bool.{and_parts, and_from}
 use Rattle.ec_base.specs.Tables.{keys}
 use Rattle.ec_base.specs.Holds.{rank}
 use Rattle.ec_base.specs.declared.ids.Hold.{Hold}
+use Rattle.ec_base.specs.declared.ids.Hold.TheVariants as hold
 use Rattle.ec_volume.specs.Update.{is_sound as is_sound_update}
 use Rattle.ec_volume.specs.declared.image.Image.{Image}
 use Rattle.ec_volume.specs.declared.image.Image.TheVariants.{Gone, File, Dir}
 use Rattle.ec_volume.specs.declared.update.Update.{Update}
-use Rattle.ec_codes.specs.Formats.{byte, such}
+use Rattle.ec_codes.specs.Formats.{byte, such, rows_fit}
 use Rattle.ec_codes.specs.Fields.{word, long, id}
 use Rattle.ec_codes.specs.Updates.{update_code}
 use Rattle.ec_codes.specs.Images.{image_code}
@@ -115,3 +116,26 @@ fits_sound_msg (OldBoot asked greatest) f = refl
 pub found_sound : (bytes : List ℕ) (r : Result Msg WireFault) → IfOk r (λ m. (msg_code.fits m ≡ true) × (bytes ≡ msg_code.spell m)) → IfOk r (λ m. is_sound m ≡ true)
 found_sound bytes (Ok m) h = fits_sound_msg m h.0
 found_sound bytes (Err e) h = tt
+
+-- What is sound has a code.
+
+pub ops_fit : (ops : List (ℕ × Update)) → list_all (is_row long update_code) ops ≡ true → rises (keys ops) ≡ true → rows_fit op_after [] ops ≡ true
+unfolding op_after
+ops_fit ops f r = rows_rise long update_code [] ops ∙ and_from _ _ f (rises_all (keys ops) ∙ r)
+
+held_fits : (h : Hold) → is_held_mode h ≡ true → held_field.fits h ≡ true
+unfolding held_field
+held_fits hold.Free h = absurd cc
+held_fits hold.Read h = refl
+held_fits hold.Write h = refl
+
+tokens_each : (tokens : List (ℕ × Hold)) → list_all (λ t. id.fits t.0) tokens ≡ true → list_all (λ t. is_held_mode t.1) tokens ≡ true → list_all (is_row id held_field) tokens ≡ true
+tokens_each [] f h = refl
+tokens_each (e ∷ es) f h =
+    let a = and_parts (id.fits e.0) _ f in
+    let b = and_parts (is_held_mode e.1) _ h in
+    and_from _ _ (and_from _ _ a.0 (held_fits e.1 b.0)) (tokens_each es a.1 b.1)
+
+pub tokens_fit : (tokens : List (ℕ × Hold)) → list_all (λ t. id.fits t.0) tokens ≡ true → list_all (λ t. is_held_mode t.1) tokens ≡ true → rises (keys tokens) ≡ true → rows_fit token_after [] tokens ≡ true
+unfolding token_after
+tokens_fit tokens f h r = rows_rise id held_field [] tokens ∙ and_from _ _ (tokens_each tokens f h) (rises_all (keys tokens) ∙ r)
