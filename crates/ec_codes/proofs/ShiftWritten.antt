@@ -8,6 +8,7 @@ use Rattle.ec_volume.specs.Update.{Above, listed, member, distinct}
 use Rattle.ec_volume.specs.declared.image.Kind.{Kind}
 use Rattle.ec_codes.specs.Formats.{Format, number, standing, Writes}
 use Rattle.ec_codes.specs.Fields.{id, id_but, kind_field, or_zero, is_from_one, id_or_none, is_apart, victim_but, name}
+use Rattle.ec_codes.proofs.Written.{chain}
 use Rattle.ec_codes.specs.Updates.{way_fields, shift_fields}
 
 second : (a b c : ℕ) (v : Option ℕ) → distinct (a ∷ b ∷ c ∷ listed v) ≡ true → not (member b (a ∷ [])) ≡ true
@@ -21,9 +22,6 @@ third a b c (Some v) h = grind (arith, nat_tests)
 last : (a b c : ℕ) (v : Option ℕ) → distinct (a ∷ b ∷ c ∷ listed v) ≡ true → is_apart (a ∷ b ∷ c ∷ []) v ≡ true
 last a b c None h = refl
 last a b c (Some v) h = grind (arith, nat_tests)
-
-chain : (s t : List ℕ) (old mid new : List ℕ) → mid ≡ old ++ s → new ≡ mid ++ t → new ≡ old ++ (s ++ t)
-chain s t old mid new h i = i ∙ ap (λ xs. xs ++ t) h ∙ append_assoc old s t
 
 pub shift_written : (dir into obj : ℕ) (k : Kind) (v : Option ℕ) (from to : List ℕ) (up : Above) (b0 b1 b2 b3 b4 b5 b6 b7 b8 : List ℕ) → distinct (dir ∷ into ∷ obj ∷ listed v) ≡ true
     → Writes id dir b0 b1 → Writes id into b1 b2 → Writes id obj b2 b3 → Writes kind_field k b3 b4 → Writes (standing or_zero is_from_one id_or_none (number w32)) v b4 b5

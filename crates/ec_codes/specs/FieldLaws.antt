@@ -1,12 +1,21 @@
 -- The laws of the fields.
 use Rattle.std.proofs.Common.{◌≡◌, ℕ, zero, suc, ◌<◌, ◌≤◌, Bool, true, false, cond, eqb, List, [], ◌∷◌, length, Option, Some, None, refl, sym, ap, ◌∙◌, ◌⊎◌, inl, inr, arith}
+use Rattle.std.specs.Prelude.{nat_le}
 use Rattle.std.proofs.lemmas.Bool.{eqb-true, eqb-false, cases_Bool, leb-true, le-leb}
 use Rattle.std.specs.Int.{w16, w32, w64}
 use Rattle.ec_volume.specs.declared.image.Kind.{Kind}
 use Rattle.ec_volume.specs.declared.image.Kind.TheVariants as kind
 use Rattle.ec_codes.specs.Formats.{Format, byte, number, such, standing, text}
-use Rattle.ec_codes.specs.FormatLaws.{IsFormat, byte-is, number32-is, such_is, standing_is, text_is}
-use Rattle.ec_codes.specs.Fields.{id, id_but, kind_number, kind_of, kind_field, flag_number, flag_of, flag, or_zero, is_from_one, id_or_none, is_apart, victim_but, is_name_length, is_name, name}
+use Rattle.ec_codes.specs.FormatLaws.{IsFormat, byte-is, number16-is, number32-is, number64-is, such_is, standing_is, text_is}
+use Rattle.ec_codes.specs.Fields.{word, long, id, id_but, kind_number, kind_of, kind_field, flag_number, flag_of, flag, or_zero, is_from_one, id_or_none, is_apart, victim_but, mode_field, is_name_length, is_name, name}
+
+pub word-is : IsFormat word
+unfolding word
+word-is = number32-is
+
+pub long-is : IsFormat long
+unfolding long
+long-is = number64-is
 
 pub id-is : IsFormat id
 unfolding id
@@ -72,3 +81,7 @@ victim_but_is os = such_is (is_apart os) _ (standing_is or_zero is_from_one id_o
 pub name-is : IsFormat name
 unfolding name
 name-is = such_is is_name _ (text_is (such is_name_length byte) (λ n. omega arith) (such_is is_name_length byte byte-is))
+
+pub mode_field-is : IsFormat mode_field
+unfolding mode_field
+mode_field-is = such_is (λ m. nat_le m 4095) (number w16) number16-is

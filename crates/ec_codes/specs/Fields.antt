@@ -8,6 +8,14 @@ use Rattle.ec_volume.specs.declared.image.Kind.{Kind}
 use Rattle.ec_volume.specs.declared.image.Kind.TheVariants as kind
 use Rattle.ec_codes.specs.Formats.{Format, byte, number, such, standing, text}
 
+-- any u32
+unfoldable pub word : Format ℕ
+word = number w32
+
+-- any u64
+unfoldable pub long : Format ℕ
+long = number w64
+
 -- an object's id, from 1
 unfoldable pub id : Format ℕ
 id = such (λ n. nat_le 1 n) (number w32)
@@ -56,6 +64,10 @@ is_apart os (Some o) = not (member o os)
 -- 0 for none, or an id that isn't one of these
 abbrev pub victim_but : List ℕ → Format (Option ℕ)
 victim_but os = such (is_apart os) (standing or_zero is_from_one id_or_none (number w32))
+
+-- a mode, at most 0o7777
+unfoldable pub mode_field : Format ℕ
+mode_field = such (λ m. nat_le m 4095) (number w16)
 
 abbrev pub is_name_length : ℕ → Bool
 is_name_length n = nat_le 1 n && nat_le n max_name_bytes

@@ -8,7 +8,7 @@ use Rattle.std.proofs.lemmas.List.{append-nil, take_at, drop_at, take-append-dro
 use Rattle.std.proofs.lemmas.Nat.{be_bytes_2, be_bytes_4, be_bytes_8, from_be_bytes-to_be_bytes_2, from_be_bytes-to_be_bytes_4, from_be_bytes-to_be_bytes_8}
 use Rattle.ec_codes.specs.declared.fault.CodeFault.{CodeFault}
 use Rattle.ec_codes.specs.declared.fault.CodeFault.TheVariants.{Short, Field}
-use Rattle.ec_codes.specs.Formats.{Read, ◌>>=◌, Format, missing, byte, number, such, then_by, given, is_given, standing, text, rows_read, rows_fit, list, variant, nothing, tagged, StandsAt, Spells, Gives}
+use Rattle.ec_codes.specs.Formats.{Read, ◌>>=◌, Format, missing, byte, number, such, then_by, given, is_given, standing, text, rows_read, rows_fit, list, variant, nothing, empty, tagged, StandsAt, Spells, Gives}
 
 abbrev pub AreBytes : List ℕ → Type 0
 AreBytes bytes = (i : ℕ) → get_or bytes i 0 < 256
@@ -367,6 +367,13 @@ variant_is parts make F law forth back = record {
 
 pub nothing_is : {U : Type 0} → IsFormat {A = U} nothing
 nothing_is {U} = record { takes = λ bytes at u next ok e. absurd cc; again = λ bytes at u fits h. absurd cc }
+
+pub empty-is : IsFormat empty
+empty-is = record {
+  takes = λ bytes at u next ok e.
+      record { fits = refl; stands = (drop at bytes, refl); behind = omega (arith, ap (λ p. p.1) (ok_is (tt, at) (u, next) e)) };
+  again = λ bytes at u fits h. ap (λ m. Ok (u, m)) (omega arith);
+}
 
 pub choice_is : {U : Type 0} (b : Bool) (F G : Format U) → IsFormat F → IsFormat G → IsFormat (cond b F G)
 choice_is true F G f g = f

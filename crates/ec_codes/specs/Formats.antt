@@ -108,6 +108,10 @@ variant parts make F = record {
 abbrev pub nothing : {U : Type 0} → Format U
 nothing = record { spell = λ u. []; fits = λ u. false; read = λ bytes at. Err (Field at) }
 
+-- no bytes
+abbrev pub empty : Format (Unit {0})
+empty = record { spell = λ u. []; fits = λ u. true; read = λ bytes at. Ok (tt, at) }
+
 -- a tag, and behind it the value in the format of this tag
 abbrev pub tagged : {U : Type 0} → (ℕ → Bool) → (U → ℕ) → (ℕ → Format U) → Format U
 tagged known tag F = record {

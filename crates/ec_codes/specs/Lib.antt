@@ -5,4 +5,7 @@ pub mod FieldLaws
 pub mod Updates
 pub mod UpdateLaws
 pub mod SoundLaws
+pub mod Images
+pub mod ImageLaws
+pub mod EntryLaws
 pub mod Readers

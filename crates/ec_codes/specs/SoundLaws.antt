@@ -15,7 +15,7 @@ use Rattle.ec_volume.specs.declared.update.Update.{Update}
 use Rattle.ec_volume.specs.declared.update.Update.TheVariants.{Make, Drop, Move, Put, Len, Mode, Stamp, Order, Shift, Owner}
 use Rattle.ec_codes.specs.declared.fault.CodeFault.{CodeFault}
 use Rattle.ec_codes.specs.Formats.{Format, byte, number, such, rows_fit, Spells}
-use Rattle.ec_codes.specs.Fields.{id, id_but, flag, is_apart, victim_but, name}
+use Rattle.ec_codes.specs.Fields.{id, id_but, flag, mode_field, is_apart, victim_but, name}
 use Rattle.ec_codes.specs.Updates.{entry_fields, move_fields, put_fields, is_put_length, len_fields, mode_fields, stamp_fields, owner_fields, is_order_count, order_fields, is_way_count, begins_well, step_fields, way_fields, shift_fields, tag, is_tag, form, update_code}
 
 -- Ids, none of which repeats an earlier one.
@@ -187,7 +187,7 @@ shift_sound dir into obj k v from to up h =
     and_from _ _ (distinct_apart dir os (ids_of up) parts.1 ∙ and_from _ _ apart parts.0) (and_from _ _ parts.1 (way_sound k into up count rows.1))
 
 pub fits_sound : (u : Update) → update_code.fits u ≡ true → is_sound u ≡ true
-unfolding update_code form put_fields len_fields mode_fields
+unfolding update_code form put_fields len_fields mode_fields mode_field
 fits_sound (Make dir n obj k) h = and_from _ _ (entry_sound dir obj k n h) refl
 fits_sound (Drop dir n obj k) h = and_from _ _ (entry_sound dir obj k n h) refl
 fits_sound (Move dir from to obj k v) h = move_sound dir obj k v from to h

@@ -11,7 +11,7 @@ use Rattle.std.specs.Int.{w16, w32, w64}
 use Rattle.ec_codes.specs.Formats.{Format, byte, number, such, then_by, text, list, variant, nothing, tagged}
 use Rattle.ec_codes.specs.FormatLaws.{IsFormat, byte-is, number16-is, number32-is, number64-is, such_is, then_is, text_is, list_is, variant_is, nothing_is, choice_is, tagged_is}
 use Rattle.ec_codes.specs.Fields.{id, id_but, kind_field, flag, victim_but, name}
-use Rattle.ec_codes.specs.FieldLaws.{id-is, id_but_is, kind-is, flag-is, victim_but_is, name-is}
+use Rattle.ec_codes.specs.FieldLaws.{id-is, id_but_is, kind-is, flag-is, victim_but_is, mode_field-is, name-is}
 use Rattle.ec_codes.specs.Updates.{entry_fields, move_fields, is_put_length, put_fields, len_fields, mode_fields, stamp_fields, owner_fields, is_order_count, order_fields, is_way_count, begins_well, step_fields, step_spell, way_fields, shift_fields, tag, is_tag, made, dropped, moved, put, resized, with_mode, stamped, ordered, shifted, owned, to_make, to_drop, to_move, to_put, to_len, to_mode, to_stamp, to_order, to_shift, to_owner, form, update_code}
 
 -- The fields.
@@ -38,7 +38,7 @@ len-is = then_is id _ id-is (λ obj. such_is (λ n. nat_le n 65536) (number w32)
 
 mode-is : IsFormat mode_fields
 unfolding mode_fields
-mode-is = then_is id _ id-is (λ obj. such_is (λ m. nat_le m 4095) (number w16) number16-is)
+mode-is = then_is id _ id-is (λ obj. mode_field-is)
 
 stamp-is : IsFormat stamp_fields
 unfolding stamp_fields

@@ -8,7 +8,7 @@ use Rattle.ec_volume.specs.declared.image.Kind.TheVariants as kind
 use Rattle.ec_volume.specs.declared.update.Update.{Update}
 use Rattle.ec_volume.specs.declared.update.Update.TheVariants.{Make, Drop, Move, Put, Len, Mode, Stamp, Order, Shift, Owner}
 use Rattle.ec_codes.specs.Formats.{Format, byte, number, such, then_by, text, list, variant, nothing, tagged}
-use Rattle.ec_codes.specs.Fields.{id, id_but, kind_field, flag, victim_but, name}
+use Rattle.ec_codes.specs.Fields.{id, id_but, kind_field, flag, victim_but, mode_field, name}
 
 -- The fields of the forms.
 
@@ -34,7 +34,7 @@ unfoldable pub len_fields : Format (ℕ × ℕ)
 len_fields = then_by id (λ obj. such (λ n. nat_le n 65536) (number w32))
 
 unfoldable pub mode_fields : Format (ℕ × ℕ)
-mode_fields = then_by id (λ obj. such (λ m. nat_le m 4095) (number w16))
+mode_fields = then_by id (λ obj. mode_field)
 
 unfoldable pub stamp_fields : Format (ℕ × ℕ)
 stamp_fields = then_by id (λ obj. number w64)

@@ -2,11 +2,19 @@
 #![tactic(auto)]
 
 mod fault;
+mod limits;
+mod read_images;
 mod read_updates;
 mod reader;
+mod write_images;
 mod write_updates;
 mod writer;
 
 pub use fault::CodeFault;
+pub use limits::{MAX_ENTRIES, MAX_FILE_BYTES};
+pub use read_images::{get_image, get_image_v1};
 pub use read_updates::get_update;
+pub use reader::Reader;
+pub use write_images::put_image;
 pub use write_updates::put_update;
+pub use writer::{put_byte, put_id, put_long, put_word};

@@ -118,11 +118,7 @@ impl<'a> Reader<'a> {
         ensures { Reads (λ u. u) (variant with_mode to_mode mode_fields).read self.old result self.new }
     {
         let obj = self.id()?;
-        let start = self.place();
-        let mode = self.u16()?;
-        if mode > 4095 {
-            return Err(CodeFault::Field(start));
-        }
+        let mode = self.mode_field()?;
         Ok(Update::Mode { obj, mode })
     }
 
@@ -280,8 +276,9 @@ impl<'a> Reader<'a> {
         }
     }
 
+    /// An update.
     #[tactic(auto, unfolding(crate::specs::Updates::update_code))]
-    pub(crate) fn update(&mut self) -> Result<Update, CodeFault>
+    pub fn update(&mut self) -> Result<Update, CodeFault>
         ensures { Reads (λ u. u) update_code.read self.old result self.new }
     {
         let start = self.place();

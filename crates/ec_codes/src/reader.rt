@@ -4,7 +4,7 @@ ghost use Rattle.std.specs.Int.{w16, w32, w64};
 ghost use Rattle.ec_volume.specs.Entries.{same_name};
 ghost use Rattle.ec_volume.specs.Update.{member};
 ghost use Rattle.ec_codes.specs.Formats.{such, byte, number, missing};
-ghost use Rattle.ec_codes.specs.Fields.{id, id_but, kind_field, flag, victim_but, name};
+ghost use Rattle.ec_codes.specs.Fields.{word, long, id, id_but, kind_field, flag, victim_but, mode_field, name};
 ghost use Rattle.ec_codes.specs.Readers.{Reads};
 ghost use Rattle.ec_codes.specs.declared.fault.CodeFault.TheVariants as fault;
 
@@ -13,28 +13,30 @@ use ec_base::{MAX_NAME_BYTES, Name, NameFault, ObjId};
 use ec_volume::Kind;
 use std::alloc::Global;
 
-// The input, and the place that is read next.
+/// Bytes that are read from the left, and the place that is read next.
 #[derive(Clone, Copy, Debug, Drop)]
-pub(crate) struct Reader<'a> {
+pub struct Reader<'a> {
     alloc: Global,
     bytes: &'a [u8],
     at: usize,
 }
 
 impl<'a> Reader<'a> {
-    pub(crate) fn new(alloc: Global, bytes: &'a [u8], at: usize) -> Reader<'a>
+    /// Reads these bytes from a place on.
+    pub fn new(alloc: Global, bytes: &'a [u8], at: usize) -> Reader<'a>
         ensures bytes { result.bytes.now ≡ bytes.now }
         ensures at { result.at ≡ at }
     {
         Reader { alloc, bytes, at }
     }
 
-    pub(crate) fn alloc(&self) -> Global {
+    /// Where what is read finds its memory.
+    pub fn alloc(&self) -> Global {
         self.alloc
     }
 
-    // The place that is read next.
-    pub(crate) fn place(&self) -> usize
+    /// The place that is read next.
+    pub fn place(&self) -> usize
         ensures { result ≡ self.now.at }
     {
         self.at
@@ -54,7 +56,8 @@ impl<'a> Reader<'a> {
         Ok(part)
     }
 
-    pub(crate) fn byte(&mut self) -> Result<u8, CodeFault>
+    /// Any byte.
+    pub fn byte(&mut self) -> Result<u8, CodeFault>
         ensures { Reads (λ x. x) byte.read self.old result self.new }
     {
         if self.at >= self.bytes.len() {
@@ -88,8 +91,25 @@ impl<'a> Reader<'a> {
         ]))
     }
 
+    /// Any `u32`.
+    #[tactic(auto, unfolding(crate::specs::Fields::word))]
+    pub fn word(&mut self) -> Result<u32, CodeFault>
+        ensures { Reads (λ x. x) word.read self.old result self.new }
+    {
+        self.u32()
+    }
+
+    /// Any `u64`.
+    #[tactic(auto, unfolding(crate::specs::Fields::long))]
+    pub fn long(&mut self) -> Result<u64, CodeFault>
+        ensures { Reads (λ x. x) long.read self.old result self.new }
+    {
+        self.u64()
+    }
+
+    /// An id, from 1.
     #[tactic(auto, unfolding(crate::specs::Fields::id))]
-    pub(crate) fn id(&mut self) -> Result<ObjId, CodeFault>
+    pub fn id(&mut self) -> Result<ObjId, CodeFault>
         ensures { Reads (λ x. x) id.read self.old result self.new }
     {
         let start = self.at;
@@ -144,6 +164,19 @@ impl<'a> Reader<'a> {
             Some(id) if others.contains(&id) => Err(CodeFault::Field(start)),
             _ => Ok(victim),
         }
+    }
+
+    // A mode, at most 0o7777.
+    #[tactic(auto, unfolding(crate::specs::Fields::mode_field))]
+    pub(crate) fn mode_field(&mut self) -> Result<u16, CodeFault>
+        ensures { Reads (λ x. x) mode_field.read self.old result self.new }
+    {
+        let start = self.at;
+        let mode = self.u16()?;
+        if mode > 4095 {
+            return Err(CodeFault::Field(start));
+        }
+        Ok(mode)
     }
 
     #[tactic(auto, unfolding(crate::specs::Fields::name))]

@@ -9,7 +9,8 @@ ghost use Rattle.ec_codes.specs.Updates.{entry_fields, move_fields, is_put_lengt
 ghost use Rattle.ec_codes.specs.SoundLaws.{is_step, IsWay};
 
 use crate::writer::{
-    put_byte, put_flag, put_id, put_kind, put_name, put_u16, put_u32, put_u64, put_victim,
+    put_byte, put_flag, put_id, put_kind, put_mode_field, put_name, put_u16, put_u32, put_u64,
+    put_victim,
 };
 use ec_base::{Name, NoMemory, ObjId};
 use ec_volume::{Kind, Update};
@@ -179,7 +180,7 @@ fn put_mode(out: &mut Vec<u8>, obj: ObjId, mode: u16) -> Result<(), NoMemory>
     ensures { OnOk result (Writes mode_fields (obj, mode) out.old.items out.new.items) }
 {
     put_id(out, obj)?;
-    put_u16(out, mode)
+    put_mode_field(out, mode)
 }
 
 #[tactic(auto, unfolding(crate::specs::Updates::stamp_fields))]

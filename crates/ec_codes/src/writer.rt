@@ -1,13 +1,14 @@
 // Fields are written one behind the other.
-ghost use Rattle.std.specs.Prelude.{◌≡◌, ◌++◌, ◌≤◌, ◌<◌, ◌^◌, OnOk, List, ℕ, length, true, false};
+ghost use Rattle.std.specs.Prelude.{◌≡◌, ◌++◌, ◌≤◌, ◌<◌, ◌^◌, OnOk, nat_le, List, ℕ, length, true, false};
 ghost use Rattle.std.specs.Int.{w16, w32, w64};
 ghost use Rattle.ec_codes.specs.Formats.{Writes, byte, number, such, standing, text};
-ghost use Rattle.ec_codes.specs.Fields.{id, kind_field, flag, or_zero, is_from_one, id_or_none, name};
+ghost use Rattle.ec_codes.specs.Fields.{word, long, id, kind_field, flag, or_zero, is_from_one, id_or_none, mode_field, name};
 
 use ec_base::{Name, NoMemory, ObjId};
 use ec_volume::Kind;
 
-pub(crate) fn put_byte(out: &mut Vec<u8>, value: u8) -> Result<(), NoMemory>
+/// Adds a byte.
+pub fn put_byte(out: &mut Vec<u8>, value: u8) -> Result<(), NoMemory>
     ensures { OnOk result (Writes byte value out.old.items out.new.items) }
 {
     out.push(value)?;
@@ -35,8 +36,25 @@ pub(crate) fn put_u64(out: &mut Vec<u8>, value: u64) -> Result<(), NoMemory>
     Ok(())
 }
 
+/// Adds any `u32`.
+#[tactic(auto, unfolding(crate::specs::Fields::word))]
+pub fn put_word(out: &mut Vec<u8>, value: u32) -> Result<(), NoMemory>
+    ensures { OnOk result (Writes word value out.old.items out.new.items) }
+{
+    put_u32(out, value)
+}
+
+/// Adds any `u64`.
+#[tactic(auto, unfolding(crate::specs::Fields::long))]
+pub fn put_long(out: &mut Vec<u8>, value: u64) -> Result<(), NoMemory>
+    ensures { OnOk result (Writes long value out.old.items out.new.items) }
+{
+    put_u64(out, value)
+}
+
+/// Adds an id.
 #[tactic(auto, unfolding(crate::specs::Fields::id))]
-pub(crate) fn put_id(out: &mut Vec<u8>, object: ObjId) -> Result<(), NoMemory>
+pub fn put_id(out: &mut Vec<u8>, object: ObjId) -> Result<(), NoMemory>
     ensures { OnOk result (Writes id object out.old.items out.new.items) }
 {
     put_u32(out, object.get())
@@ -66,6 +84,14 @@ pub(crate) fn put_victim(out: &mut Vec<u8>, victim: Option<ObjId>) -> Result<(),
         Some(object) => put_u32(out, object.get()),
         None => put_u32(out, 0),
     }
+}
+
+#[tactic(auto, unfolding(crate::specs::Fields::mode_field))]
+pub(crate) fn put_mode_field(out: &mut Vec<u8>, mode: u16) -> Result<(), NoMemory>
+    requires { nat_le mode 4095 ≡ true }
+    ensures { OnOk result (Writes mode_field mode out.old.items out.new.items) }
+{
+    put_u16(out, mode)
 }
 
 #[tactic(auto, unfolding(crate::specs::Fields::name))]

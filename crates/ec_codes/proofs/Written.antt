@@ -1,0 +1,49 @@
+-- Fields written one behind the other.
+use Rattle.std.proofs.Common.{◌≡◌, ℕ, zero, suc, ◌+◌, Bool, true, List, [], ◌∷◌, ◌++◌, take, length, Option, Some, refl, sym, ap, ◌∙◌, append_assoc, arith}
+use Rattle.std.proofs.lemmas.List.{append-nil}
+use Rattle.std.specs.Prelude.{◌&&◌, slice_get}
+use Rattle.std.specs.List.{flat_map, list_all}
+use Rattle.std.specs.Int.{w32, w64}
+use Rattle.std.proofs.lemmas.Bool.{and_from, and_parts}
+use Rattle.ec_volume.specs.Entries.{Entries}
+use Rattle.ec_codes.specs.Formats.{Format, number, Writes}
+use Rattle.ec_codes.specs.Fields.{mode_field}
+use Rattle.ec_codes.specs.Images.{content, entries_field, file_fields, dir_fields}
+
+pub chain : (s t : List ℕ) (old mid new : List ℕ) → mid ≡ old ++ s → new ≡ mid ++ t → new ≡ old ++ (s ++ t)
+chain s t old mid new h i = i ∙ ap (λ xs. xs ++ t) h ∙ append_assoc old s t
+
+pub file_written : (m s w : ℕ) (bs b0 b1 b2 b3 b4 : List ℕ) → Writes mode_field m b0 b1 → Writes (number w64) s b1 b2 → Writes (number w32) w b2 b3 → Writes content bs b3 b4 → Writes file_fields (m, (s, (w, bs))) b0 b4
+unfolding file_fields
+file_written m s w bs b0 b1 b2 b3 b4 w0 w1 w2 w3 =
+    (chain _ _ b0 b1 b4 w0.0 (chain _ _ b1 b2 b4 w1.0 (chain _ _ b2 b3 b4 w2.0 w3.0)), and_from _ _ w0.1 (and_from _ _ w1.1 (and_from _ _ w2.1 w3.1)))
+
+pub dir_written : (m s w : ℕ) (es : Entries) (b0 b1 b2 b3 b4 : List ℕ) → Writes mode_field m b0 b1 → Writes (number w64) s b1 b2 → Writes (number w32) w b2 b3 → Writes entries_field es b3 b4 → Writes dir_fields (m, (s, (w, es))) b0 b4
+unfolding dir_fields
+dir_written m s w es b0 b1 b2 b3 b4 w0 w1 w2 w3 =
+    (chain _ _ b0 b1 b4 w0.0 (chain _ _ b1 b2 b4 w1.0 (chain _ _ b2 b3 b4 w2.0 w3.0)), and_from _ _ w0.1 (and_from _ _ w1.1 (and_from _ _ w2.1 w3.1)))
+
+-- One more of the rows.
+
+take_more : {X : Type 0} (xs : List X) (i : ℕ) (x : X) → slice_get xs i ≡ Some x → take (suc i) xs ≡ take i xs ++ x ∷ []
+take_more [] i x h = absurd cc
+take_more (y ∷ xs) zero x h = ap (λ z. z ∷ []) (let e : Some y ≡ Some x = h in cc)
+take_more (y ∷ xs) (suc i) x h = ap (λ zs. y ∷ zs) (take_more xs i x h)
+
+flat_last : {X : Type 0} (f : X → List ℕ) (xs : List X) (x : X) → flat_map f (xs ++ x ∷ []) ≡ flat_map f xs ++ f x
+flat_last f [] x = simp append-nil
+flat_last f (y ∷ xs) x = ap (λ zs. f y ++ zs) (flat_last f xs x) ∙ sym (append_assoc (f y) (flat_map f xs) (f x))
+
+all_last : {X : Type 0} (p : X → Bool) (xs : List X) (x : X) → list_all p xs ≡ true → p x ≡ true → list_all p (xs ++ x ∷ []) ≡ true
+all_last p [] x h k = and_from _ _ k refl
+all_last p (y ∷ xs) x h k = let a = and_parts (p y) _ h in and_from _ _ a.0 (all_last p xs x a.1 k)
+
+pub one_more : {X : Type 0} (f : X → List ℕ) (p : X → Bool) (xs : List X) (i : ℕ) (x : X) (old mid new : List ℕ) → slice_get xs i ≡ Some x
+    → (mid ≡ old ++ flat_map f (take i xs)) × (list_all p (take i xs) ≡ true) → new ≡ mid ++ f x → p x ≡ true
+    → (new ≡ old ++ flat_map f (take (i + 1) xs)) × (list_all p (take (i + 1) xs) ≡ true)
+one_more f p xs i x old mid new here so_far h k =
+    let n : i + 1 ≡ suc i = omega arith in
+    let e : take (i + 1) xs ≡ take i xs ++ x ∷ [] = ap (λ m. take m xs) n ∙ take_more xs i x here in (
+      h ∙ ap (λ ys. ys ++ f x) so_far.0 ∙ append_assoc old (flat_map f (take i xs)) (f x) ∙ ap (λ ys. old ++ ys) (sym (flat_last f (take i xs) x) ∙ ap (flat_map f) (sym e)),
+      ap (list_all p) e ∙ all_last p (take i xs) x so_far.1 k,
+    )
