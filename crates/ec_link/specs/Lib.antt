@@ -1,4 +1,5 @@
 pub mod Links
 pub mod Happenings
 pub mod Memory
+pub mod Nets
 pub mod Spawns

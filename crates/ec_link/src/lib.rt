@@ -5,6 +5,8 @@ mod around;
 mod happenings;
 mod link;
 mod memory;
+mod memory_net;
+mod net;
 mod spawn;
 #[cfg(test)]
 mod tests;
@@ -12,4 +14,6 @@ mod tests;
 pub use around::Around;
 pub use link::{Got, Link, Sent};
 pub use memory::{MemLink, mem_pair};
+pub use memory_net::{MemDoor, MemNet};
+pub use net::{Net, NetFault};
 pub use spawn::{FailSpawner, Job, Jobs, Spawned, Spawner, ThreadSpawner};

@@ -21,8 +21,7 @@ use std::time::Clock;
 #[derive(Drop)]
 pub struct MemLink {
     alloc: Global,
-    to: Sender<Vec<u8>>,
-    from: Receiver<Vec<u8>>,
+    line: Line,
     // What came and is not given yet.
     frames: Frames,
     // A piece that came when there was no memory for it.
@@ -33,26 +32,45 @@ pub struct MemLink {
     happened: Happenings,
 }
 
+// What joins one end of a pair to the other.
+#[derive(Drop)]
+pub struct Line {
+    to: Sender<Vec<u8>>,
+    from: Receiver<Vec<u8>>,
+}
+
+// Both lines of a new pair.
+pub fn lines(alloc: Global) -> Result<(Line, Line), NoMemory> {
+    let (to_right, from_left) = unbounded(alloc)?;
+    let (to_left, from_right) = unbounded(alloc)?;
+    let left = Line {
+        to: to_right,
+        from: from_right,
+    };
+    let right = Line {
+        to: to_left,
+        from: from_left,
+    };
+    Ok((left, right))
+}
+
 /// Two ends of a new link.
 pub fn mem_pair(alloc: Global) -> Result<(MemLink, MemLink), NoMemory>
     ensures { IfOk result (λ pair. IsNew pair.0 × IsNew pair.1) }
 {
-    let (to_right, from_left) = unbounded(alloc)?;
-    let (to_left, from_right) = unbounded(alloc)?;
-    let left = MemLink::new(alloc, to_right, from_right)?;
-    let right = MemLink::new(alloc, to_left, from_left)?;
-    Ok((left, right))
+    let (left, right) = lines(alloc)?;
+    Ok((MemLink::on(alloc, left)?, MemLink::on(alloc, right)?))
 }
 
 impl MemLink {
-    fn new(alloc: Global, to: Sender<Vec<u8>>, from: Receiver<Vec<u8>>) -> Result<MemLink, NoMemory>
+    // The end of this line.
+    pub fn on(alloc: Global, line: Line) -> Result<MemLink, NoMemory>
         ensures { IfOk result (λ link. IsNew link) }
     {
         let frames = Frames::new(alloc)?;
         Ok(MemLink {
             alloc,
-            to,
-            from,
+            line,
             frames,
             late: None,
             fails: Vec::new(alloc),
@@ -74,7 +92,7 @@ impl MemLink {
         ensures { self.new ≡ self.old }
     {
         let piece = Vec::from_slice(self.alloc, bytes)?;
-        match self.to.send(rt, piece) {
+        match self.line.to.send(rt, piece) {
             Err(refused) if refused.is_out_of_memory() => Err(NoMemory),
             _ => Ok(()),
         }
@@ -97,7 +115,7 @@ impl MemLink {
         ensures held { self.new.frames ≡ self.old.frames }
     {
         let copy = Snapshot::of(&bytes);
-        match self.to.send(rt, bytes) {
+        match self.line.to.send(rt, bytes) {
             Ok(()) => {
                 self.happened.got(copy);
                 Sent::Done
@@ -124,7 +142,7 @@ impl MemLink {
     {
         let piece = match self.late.take() {
             Some(piece) => piece,
-            None => match self.from.try_recv(rt) {
+            None => match self.line.from.try_recv(rt) {
                 Ok(piece) => piece,
                 Err(TryRecvError::Empty) => return Some(Got::Nothing),
                 Err(TryRecvError::Disconnected) => {
