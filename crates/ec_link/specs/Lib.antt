@@ -3,3 +3,4 @@ pub mod Happenings
 pub mod Memory
 pub mod Nets
 pub mod Spawns
+pub mod Tcp

@@ -8,6 +8,7 @@ mod memory;
 mod memory_net;
 mod net;
 mod spawn;
+mod tcp;
 #[cfg(test)]
 mod tests;
 
@@ -17,3 +18,4 @@ pub use memory::{MemLink, mem_pair};
 pub use memory_net::{MemDoor, MemNet};
 pub use net::{Net, NetFault};
 pub use spawn::{FailSpawner, Job, Jobs, Spawned, Spawner, ThreadSpawner};
+pub use tcp::TcpLink;
