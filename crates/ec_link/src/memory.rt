@@ -7,14 +7,18 @@ ghost use Rattle.ec_link.specs.Links.{failed, fault_of, close_of, heard, carried
 ghost use Rattle.ec_link.specs.Happenings.{More};
 ghost use Rattle.ec_link.specs.Memory.{is_due, IsNew};
 
+use crate::around::Around;
+use crate::bell::{Knocker, MemBell};
 use crate::happenings::Happenings;
 use crate::link::{Got, Link, Sent};
+use crate::net::NetFault;
 use crossbeam_channel::{Receiver, Sender, TryRecvError, unbounded};
 use ec_base::NoMemory;
 use ec_frame::{FrameFault, Frames, frame};
 use std::alloc::Global;
 use std::snapshot::Snapshot;
-use std::sync::Wait;
+use std::sync::atomic::AtomicU64;
+use std::sync::{Arc, Wait};
 use std::time::Clock;
 
 /// One end of a pair of links in memory.
@@ -37,19 +41,31 @@ pub struct MemLink {
 pub struct Line {
     to: Sender<Vec<u8>>,
     from: Receiver<Vec<u8>>,
+    here: Arc<AtomicU64>,
+    // It knocks behind the drop of `to`.
+    there: Knocker,
+}
+
+fn no_rings(alloc: Global) -> Result<Arc<AtomicU64>, NoMemory> {
+    Arc::new(alloc, AtomicU64::new(0)).ok().ok_or(NoMemory)
 }
 
 // Both lines of a new pair.
 pub fn lines(alloc: Global) -> Result<(Line, Line), NoMemory> {
     let (to_right, from_left) = unbounded(alloc)?;
     let (to_left, from_right) = unbounded(alloc)?;
+    let (at_left, at_right) = (no_rings(alloc)?, no_rings(alloc)?);
     let left = Line {
         to: to_right,
         from: from_right,
+        here: Arc::try_clone(&at_left)?,
+        there: Knocker::new(Arc::try_clone(&at_right)?),
     };
     let right = Line {
         to: to_left,
         from: from_left,
+        here: at_right,
+        there: Knocker::new(at_left),
     };
     Ok((left, right))
 }
@@ -94,7 +110,10 @@ impl MemLink {
         let piece = Vec::from_slice(self.alloc, bytes)?;
         match self.line.to.send(rt, piece) {
             Err(refused) if refused.is_out_of_memory() => Err(NoMemory),
-            _ => Ok(()),
+            _ => {
+                self.line.there.knock();
+                Ok(())
+            }
         }
     }
 
@@ -117,6 +136,7 @@ impl MemLink {
         let copy = Snapshot::of(&bytes);
         match self.line.to.send(rt, bytes) {
             Ok(()) => {
+                self.line.there.knock();
                 self.happened.got(copy);
                 Sent::Done
             }
@@ -179,6 +199,8 @@ impl MemLink {
 }
 
 impl Link for MemLink {
+    type Bell = MemBell;
+
     ghost use Rattle.std.specs.Prelude.{Some};
     ghost use Rattle.ec_link.specs.Happenings.{faults_in, closes_in, given_in, got_in};
 
@@ -214,5 +236,9 @@ impl Link for MemLink {
             }
         }
         unreachable!()
+    }
+
+    fn bell<R: Around>(&mut self, _rt: &R) -> Result<MemBell, NetFault> {
+        Ok(MemBell::new(Arc::try_clone(&self.line.here)?))
     }
 }

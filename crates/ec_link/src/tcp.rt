@@ -1,23 +1,21 @@
 // Links over TCP.
-ghost use Rattle.std.specs.Prelude.{◌≡◌, ◌+◌, ℕ, [], ◌++◌, List, drop, IfOk, IfSome, IfNone};
+ghost use Rattle.std.specs.Prelude.{◌≡◌, ℕ, [], ◌++◌, List, drop, IfOk, IfSome, IfNone};
 ghost use Rattle.ec_frame.specs.Frames.{BeginsNone};
 ghost use Rattle.ec_link.specs.declared.link.Sent.TheVariants as sent;
 ghost use Rattle.ec_link.specs.Links.{failed, fault_of, close_of, heard, carried, Reads};
-ghost use Rattle.ec_link.specs.Happenings.{faults_in, More};
-ghost use Rattle.ec_link.specs.Nets.{faulted};
+ghost use Rattle.ec_link.specs.Happenings.{More};
 ghost use Rattle.ec_link.specs.Tcp.{IsNewOver};
 
 use crate::around::Around;
 use crate::happenings::Happenings;
 use crate::link::{Got, Link, Sent};
-use crate::net::{Net, NetFault};
-use ec_base::NoMemory;
+use crate::net::NetFault;
+use crate::tcp_bell::TcpBell;
 use ec_frame::{FrameFault, Frames, frame};
-use ec_trace::Trace;
+use mio::Poll;
 use std::alloc::Global;
-use std::io;
 use std::io::{ErrorKind, Read, Write};
-use std::net::{TcpListener, TcpStream};
+use std::net::TcpStream;
 use std::snapshot::Snapshot;
 use std::sync::Wait;
 use std::time::{Clock, Duration, Instant};
@@ -48,7 +46,7 @@ pub struct TcpLink {
 
 impl TcpLink {
     // Takes a connected socket.
-    fn over(alloc: Global, stream: TcpStream) -> Result<TcpLink, NetFault>
+    pub(crate) fn over(alloc: Global, stream: TcpStream) -> Result<TcpLink, NetFault>
         ensures { IfOk result (λ link. IsNewOver link) }
     {
         if stream.set_nonblocking(true).is_err() || stream.set_nodelay(true).is_err() {
@@ -222,6 +220,8 @@ fn take_piece(stream: &mut TcpStream, into: &mut Vec<u8>) -> Piece {
 }
 
 impl Link for TcpLink {
+    type Bell = TcpBell;
+
     ghost use Rattle.std.specs.Prelude.{Some};
     ghost use Rattle.ec_link.specs.Happenings.{faults_in, closes_in, given_in, got_in};
 
@@ -254,5 +254,12 @@ impl Link for TcpLink {
             }
         }
         unreachable!()
+    }
+
+    fn bell<R: Around>(&mut self, rt: &R) -> Result<TcpBell, NetFault> {
+        let poll = Poll::new(rt).ok().ok_or(NetFault::Failed)?;
+        TcpBell::new(rt.alloc(), poll, &self.stream)
+            .ok()
+            .ok_or(NetFault::Failed)
     }
 }
