@@ -5,11 +5,11 @@ use Rattle.ec_link.specs.declared.happenings.Happenings.{Happenings}
 use Rattle.ec_link.specs.Links.{Heard}
 use Rattle.ec_link.specs.Happenings.{fault_at, close_at, given_at, got_at, total, each, More}
 
-total-push : {A : Type 0} (f : A → ℕ) (xs : List A) (x : A) → total f (xs ++ x ∷ []) ≡ total f xs + f x
+pub total-push : {A : Type 0} (f : A → ℕ) (xs : List A) (x : A) → total f (xs ++ x ∷ []) ≡ total f xs + f x
 total-push f [] x = omega arith
 total-push f (y ∷ ys) x = omega (arith, total-push f ys x)
 
-each-push : {A B : Type 0} (f : A → List B) (xs : List A) (x : A) → each f (xs ++ x ∷ []) ≡ each f xs ++ f x
+pub each-push : {A B : Type 0} (f : A → List B) (xs : List A) (x : A) → each f (xs ++ x ∷ []) ≡ each f xs ++ f x
 each-push f [] x = append-nil (f x)
 each-push f (y ∷ ys) x = ap (λ l. f y ++ l) (each-push f ys x) ∙ sym (append_assoc (f y) (each f ys) (f x))
 

@@ -2,14 +2,26 @@
 #![tactic(auto)]
 
 mod around;
+mod bell;
 mod happenings;
 mod link;
 mod memory;
+mod memory_net;
+mod net;
 mod spawn;
+mod tcp;
+mod tcp_bell;
+mod tcp_net;
 #[cfg(test)]
 mod tests;
 
 pub use around::Around;
+pub use bell::{Bell, MemBell};
 pub use link::{Got, Link, Sent};
 pub use memory::{MemLink, mem_pair};
+pub use memory_net::{MemDoor, MemNet};
+pub use net::{Net, NetFault};
 pub use spawn::{FailSpawner, Job, Jobs, Spawned, Spawner, ThreadSpawner};
+pub use tcp::TcpLink;
+pub use tcp_bell::TcpBell;
+pub use tcp_net::TcpNet;

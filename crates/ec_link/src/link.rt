@@ -4,6 +4,9 @@ ghost use Rattle.ec_frame.specs.Frames.{IsBody};
 ghost use Rattle.ec_link.specs.declared.link.Sent.TheVariants as sent;
 ghost use Rattle.ec_link.specs.Links.{Heard, failed, fault_of, close_of, heard, carried, added, Reads};
 
+use crate::around::Around;
+use crate::bell::Bell;
+use crate::net::NetFault;
 use std::sync::Wait;
 use std::time::Clock;
 
@@ -32,6 +35,8 @@ pub enum Got {
 
 /// One end of a link. Neither call waits for the other end.
 pub trait Link {
+    type Bell: Bell + Send + Sync + Drop;
+
     // How often it failed.
     ghost faults: { Self → ℕ };
 
@@ -63,4 +68,9 @@ pub trait Link {
         ensures given { given self.new ≡ added (given self.old) (heard result) }
         ensures got { got self.new ≡ got self.old }
         ensures read { Reads (held self.old) (held self.new) result };
+
+    /// What threads wait on for this link. It rings whenever `recv` may have something new.
+    fn bell<R: Around>(&mut self, rt: &R) -> Result<Self::Bell, NetFault>
+        ensures counts { (faults self.new ≡ faults self.old) × (closes self.new ≡ closes self.old) }
+        ensures bodies { (given self.new ≡ given self.old) × (got self.new ≡ got self.old) × (held self.new ≡ held self.old) };
 }

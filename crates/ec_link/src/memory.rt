@@ -7,22 +7,25 @@ ghost use Rattle.ec_link.specs.Links.{failed, fault_of, close_of, heard, carried
 ghost use Rattle.ec_link.specs.Happenings.{More};
 ghost use Rattle.ec_link.specs.Memory.{is_due, IsNew};
 
+use crate::around::Around;
+use crate::bell::{Knocker, MemBell};
 use crate::happenings::Happenings;
 use crate::link::{Got, Link, Sent};
+use crate::net::NetFault;
 use crossbeam_channel::{Receiver, Sender, TryRecvError, unbounded};
 use ec_base::NoMemory;
 use ec_frame::{FrameFault, Frames, frame};
 use std::alloc::Global;
 use std::snapshot::Snapshot;
-use std::sync::Wait;
+use std::sync::atomic::AtomicU64;
+use std::sync::{Arc, Wait};
 use std::time::Clock;
 
 /// One end of a pair of links in memory.
 #[derive(Drop)]
 pub struct MemLink {
     alloc: Global,
-    to: Sender<Vec<u8>>,
-    from: Receiver<Vec<u8>>,
+    line: Line,
     // What came and is not given yet.
     frames: Frames,
     // A piece that came when there was no memory for it.
@@ -33,26 +36,57 @@ pub struct MemLink {
     happened: Happenings,
 }
 
+// What joins one end of a pair to the other.
+#[derive(Drop)]
+pub struct Line {
+    to: Sender<Vec<u8>>,
+    from: Receiver<Vec<u8>>,
+    here: Arc<AtomicU64>,
+    // It knocks behind the drop of `to`.
+    there: Knocker,
+}
+
+fn no_rings(alloc: Global) -> Result<Arc<AtomicU64>, NoMemory> {
+    Arc::new(alloc, AtomicU64::new(0)).ok().ok_or(NoMemory)
+}
+
+// Both lines of a new pair.
+pub fn lines(alloc: Global) -> Result<(Line, Line), NoMemory> {
+    let (to_right, from_left) = unbounded(alloc)?;
+    let (to_left, from_right) = unbounded(alloc)?;
+    let (at_left, at_right) = (no_rings(alloc)?, no_rings(alloc)?);
+    let left = Line {
+        to: to_right,
+        from: from_right,
+        here: Arc::try_clone(&at_left)?,
+        there: Knocker::new(Arc::try_clone(&at_right)?),
+    };
+    let right = Line {
+        to: to_left,
+        from: from_left,
+        here: at_right,
+        there: Knocker::new(at_left),
+    };
+    Ok((left, right))
+}
+
 /// Two ends of a new link.
 pub fn mem_pair(alloc: Global) -> Result<(MemLink, MemLink), NoMemory>
     ensures { IfOk result (λ pair. IsNew pair.0 × IsNew pair.1) }
 {
-    let (to_right, from_left) = unbounded(alloc)?;
-    let (to_left, from_right) = unbounded(alloc)?;
-    let left = MemLink::new(alloc, to_right, from_right)?;
-    let right = MemLink::new(alloc, to_left, from_left)?;
-    Ok((left, right))
+    let (left, right) = lines(alloc)?;
+    Ok((MemLink::on(alloc, left)?, MemLink::on(alloc, right)?))
 }
 
 impl MemLink {
-    fn new(alloc: Global, to: Sender<Vec<u8>>, from: Receiver<Vec<u8>>) -> Result<MemLink, NoMemory>
+    // The end of this line.
+    pub fn on(alloc: Global, line: Line) -> Result<MemLink, NoMemory>
         ensures { IfOk result (λ link. IsNew link) }
     {
         let frames = Frames::new(alloc)?;
         Ok(MemLink {
             alloc,
-            to,
-            from,
+            line,
             frames,
             late: None,
             fails: Vec::new(alloc),
@@ -74,9 +108,12 @@ impl MemLink {
         ensures { self.new ≡ self.old }
     {
         let piece = Vec::from_slice(self.alloc, bytes)?;
-        match self.to.send(rt, piece) {
+        match self.line.to.send(rt, piece) {
             Err(refused) if refused.is_out_of_memory() => Err(NoMemory),
-            _ => Ok(()),
+            _ => {
+                self.line.there.knock();
+                Ok(())
+            }
         }
     }
 
@@ -97,8 +134,9 @@ impl MemLink {
         ensures held { self.new.frames ≡ self.old.frames }
     {
         let copy = Snapshot::of(&bytes);
-        match self.to.send(rt, bytes) {
+        match self.line.to.send(rt, bytes) {
             Ok(()) => {
+                self.line.there.knock();
                 self.happened.got(copy);
                 Sent::Done
             }
@@ -124,7 +162,7 @@ impl MemLink {
     {
         let piece = match self.late.take() {
             Some(piece) => piece,
-            None => match self.from.try_recv(rt) {
+            None => match self.line.from.try_recv(rt) {
                 Ok(piece) => piece,
                 Err(TryRecvError::Empty) => return Some(Got::Nothing),
                 Err(TryRecvError::Disconnected) => {
@@ -161,6 +199,8 @@ impl MemLink {
 }
 
 impl Link for MemLink {
+    type Bell = MemBell;
+
     ghost use Rattle.std.specs.Prelude.{Some};
     ghost use Rattle.ec_link.specs.Happenings.{faults_in, closes_in, given_in, got_in};
 
@@ -196,5 +236,9 @@ impl Link for MemLink {
             }
         }
         unreachable!()
+    }
+
+    fn bell<R: Around>(&mut self, _rt: &R) -> Result<MemBell, NetFault> {
+        Ok(MemBell::new(Arc::try_clone(&self.line.here)?))
     }
 }

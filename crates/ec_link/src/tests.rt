@@ -1,6 +1,6 @@
 //! A pair in memory, as its ends see it.
 
-use crate::{Got, Link, MemLink, Sent, mem_pair};
+use crate::{Got, Link, MemLink, MemNet, Net, NetFault, Sent, mem_pair};
 use std::test::*;
 
 fn pair(rt: &HostRuntime) -> Result<(MemLink, MemLink), Fail> {
@@ -44,5 +44,27 @@ fn raw_bytes_come_as_they_are(rt: HostRuntime) -> Result<(), Fail> {
     assert!(rt; matches!(right.recv(&rt), Got::Body(_)));
     assert!(rt; matches!(right.recv(&rt), Got::Long(1_048_577)));
     assert!(rt; matches!(right.recv(&rt), Got::Long(1_048_577)));
+    Ok(())
+}
+
+#[test]
+fn net_hands_out_a_pair(rt: HostRuntime) -> Result<(), Fail> {
+    let mut fails = Vec::new(rt.alloc());
+    fails.push(3)?;
+    let mut net = MemNet::new(rt.alloc(), fails).ok().ok_or("no memory")?;
+    assert!(rt; matches!(net.call(&rt, "a"), Err(NetFault::Failed)));
+    let mut door = net.listen(&rt, "a").ok().ok_or("a door")?;
+    assert!(rt; matches!(net.call(&rt, "a"), Err(NetFault::Failed)));
+    let mut other = net.share().ok().ok_or("no memory")?;
+    assert!(rt; other.listens(&rt, "a"));
+    assert!(rt; !other.listens(&rt, "b"));
+    let mut near = other.call(&rt, "a").ok().ok_or("a link")?;
+    let mut far = net.accept(&rt, &mut door).ok().ok_or("a link")?;
+    assert_eq!(rt; near.send(&rt, b"hi"), Sent::Done);
+    assert!(rt; matches!(far.recv(&rt), Got::Body(_)));
+    assert!(rt; net.back(far).is_ok());
+    assert!(rt; matches!(near.recv(&rt), Got::Closed));
+    drop(door);
+    assert!(rt; !other.listens(&rt, "a"));
     Ok(())
 }

@@ -1,0 +1,12 @@
+-- A link over TCP.
+use Rattle.std.specs.Prelude.{◌≡◌, []}
+use Rattle.ec_link.specs.declared.tcp.TcpLink.{TcpLink}
+use Rattle.ec_link.specs.Happenings.{faults_in, closes_in, given_in, got_in}
+
+-- nothing has happened at this end, and it holds no bytes
+pub record IsNewOver (link : TcpLink) : Type 0 where
+  pub faults : faults_in link.happened ≡ 0
+  pub closes : closes_in link.happened ≡ 0
+  pub given : given_in link.happened ≡ []
+  pub got : got_in link.happened ≡ []
+  pub held : link.frames ≡ []

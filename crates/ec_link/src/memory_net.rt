@@ -1,0 +1,216 @@
+// A net in memory, which hands out memory pairs by address.
+ghost use Rattle.std.specs.Prelude.{◌≡◌, ◌+◌, [], IfOk, nat_eq};
+ghost use Rattle.std.specs.List.{list_any};
+ghost use Rattle.ec_base.specs.Outside.{one_more};
+ghost use Rattle.ec_link.specs.Happenings.{faults_in};
+ghost use Rattle.ec_link.specs.Memory.{IsNew};
+ghost use Rattle.ec_link.specs.Nets.{faulted};
+
+use crate::around::Around;
+use crate::happenings::Happenings;
+use crate::memory::{Line, MemLink, lines};
+use crate::net::{Net, NetFault};
+use crossbeam_channel::{Receiver, Sender, unbounded};
+use ec_base::NoMemory;
+use ec_trace::Trace;
+use std::alloc::Global;
+use std::snapshot::Snapshot;
+use std::sync::atomic::{AtomicBool, Ordering};
+use std::sync::{Arc, Mutex, Wait};
+
+/// Where links that were called are waiting. It's open until it is dropped.
+pub struct MemDoor {
+    links: Receiver<Line>,
+    is_open: Arc<AtomicBool>,
+}
+
+impl Drop for MemDoor {
+    fn drop(self) {
+        let MemDoor { links, is_open } = self;
+        is_open.store(false, Ordering::SeqCst);
+        drop(is_open);
+        drop(links);
+    }
+}
+
+// A door, as the net knows it.
+#[derive(Drop)]
+struct Listener {
+    addr: String,
+    links: Sender<Line>,
+    is_open: Arc<AtomicBool>,
+}
+
+/// A net in memory. Its addresses are any text.
+#[derive(Drop)]
+pub struct MemNet {
+    alloc: Global,
+    listeners: Arc<Mutex<Vec<Listener>>>,
+    // The calls of `listen` and `call` that are to fail, by their number from 1 on.
+    fails: Vec<u64>,
+    calls: u64,
+    happened: Happenings,
+    came_back: Trace<Snapshot<MemLink>>,
+}
+
+impl MemNet {
+    /// A net on which nobody listens. The calls of `listen` and `call` whose number, from 1, is in the list fail.
+    pub fn new(alloc: Global, fails: Vec<u64>) -> Result<MemNet, NoMemory>
+        ensures { IfOk result (λ net. (faults_in net.happened ≡ 0) × (net.came_back.items ≡ []) × (net.fails ≡ fails) × (net.calls ≡ 0)) }
+    {
+        let Ok(listeners) = Arc::new(alloc, Mutex::new(Vec::new(alloc))) else {
+            return Err(NoMemory);
+        };
+        Ok(MemNet {
+            alloc,
+            listeners,
+            fails,
+            calls: 0,
+            happened: Happenings::new(),
+            came_back: Trace::new(),
+        })
+    }
+
+    /// A second net of the same addresses, for another thread. None of its calls is to fail.
+    pub fn share(&self) -> Result<MemNet, NoMemory>
+        ensures { IfOk result (λ net. (faults_in net.happened ≡ 0) × (net.came_back.items ≡ []) × (net.fails.items ≡ [])) }
+    {
+        let listeners = Arc::try_clone(&self.listeners)?;
+        Ok(MemNet {
+            alloc: self.alloc,
+            listeners,
+            fails: Vec::new(self.alloc),
+            calls: 0,
+            happened: Happenings::new(),
+            came_back: Trace::new(),
+        })
+    }
+
+    /// Whether somebody listens at the address.
+    pub fn listens<R: Wait>(&self, rt: &R, addr: &str) -> bool {
+        let listeners = self.listeners.lock(rt);
+        find(&listeners, addr).is_some()
+    }
+}
+
+// Who listens at the address.
+fn find<'a>(listeners: &'a [Listener], addr: &str) -> Option<&'a Listener> {
+    for listener in listeners {
+        if listener.addr.as_str() == addr && listener.is_open.load(Ordering::SeqCst) {
+            return Some(listener);
+        }
+    }
+    None
+}
+
+impl MemNet {
+    // Counts a call, and tells whether it is to fail.
+    fn fails_now(&mut self) -> bool
+        ensures others { self.new ≡ record self.old { calls = one_more self.old.calls } }
+        ensures due { result ≡ list_any (λ n. nat_eq n (one_more self.old.calls)) self.old.fails.items }
+    {
+        self.calls = self.calls.saturating_add(1);
+        self.fails.contains(&self.calls)
+    }
+
+    // Counts a fault, where it is one.
+    fn counted<T>(&mut self, answer: Result<T, NetFault>) -> Result<T, NetFault>
+        ensures answer { result ≡ answer }
+        ensures faults { faults_in self.new.happened ≡ faults_in self.old.happened + faulted answer }
+        ensures others { self.new ≡ record self.old { happened = self.new.happened } }
+    {
+        if let Err(NetFault::Failed) = &answer {
+            self.happened.fault();
+        }
+        answer
+    }
+
+    // Opens a door, where nobody listens at the address.
+    fn open<R: Wait>(&self, rt: &R, addr: &str) -> Result<MemDoor, NetFault> {
+        let mut listeners = self.listeners.lock(rt);
+        if find(&listeners, addr).is_some() {
+            return Err(NetFault::Failed);
+        }
+        let (to_door, links) = unbounded(self.alloc)?;
+        let open = Arc::new(self.alloc, AtomicBool::new(true))
+            .ok()
+            .ok_or(NetFault::NoMemory)?;
+        let is_open = Arc::try_clone(&open)?;
+        let listener = Listener {
+            addr: String::from_str(self.alloc, addr)?,
+            links: to_door,
+            is_open: open,
+        };
+        if listeners.push(listener).is_err() {
+            return Err(NetFault::NoMemory);
+        }
+        Ok(MemDoor { links, is_open })
+    }
+
+    // Hands one end of a pair to who listens at the address.
+    fn reach<R: Wait>(&self, rt: &R, addr: &str) -> Result<MemLink, NetFault>
+        ensures { IfOk result (λ link. IsNew link) }
+    {
+        let (mine, theirs) = lines(self.alloc)?;
+        let link = MemLink::on(self.alloc, mine)?;
+        let listeners = self.listeners.lock(rt);
+        let Some(listener) = find(&listeners, addr) else {
+            return Err(NetFault::Failed);
+        };
+        match listener.links.send(rt, theirs) {
+            Ok(()) => Ok(link),
+            Err(refused) if refused.is_out_of_memory() => Err(NetFault::NoMemory),
+            Err(_) => Err(NetFault::Failed),
+        }
+    }
+
+    // Waits for a line at the door.
+    fn take<R: Wait>(&self, rt: &R, door: &MemDoor) -> Result<MemLink, NetFault>
+        ensures { IfOk result (λ link. IsNew link) }
+    {
+        let line = door.links.recv(rt).ok().ok_or(NetFault::Failed)?;
+        Ok(MemLink::on(self.alloc, line)?)
+    }
+}
+
+impl Net for MemNet {
+    ghost use Rattle.std.specs.Prelude.{Some, map};
+    ghost use Rattle.ec_link.specs.Happenings.{faults_in, closes_in, given_in, got_in, total};
+    ghost use Rattle.ec_link.specs.Nets.{is_bad};
+
+    type Link = MemLink;
+
+    type Door = MemDoor;
+
+    ghost faults = { λ net. faults_in net.happened };
+
+    ghost bad = { λ net. total (λ link. is_bad (faults_in link.value.happened) (closes_in link.value.happened)) net.came_back.items };
+
+    ghost ended = { λ net. map (λ link. (Some (given_in link.value.happened), Some (got_in link.value.happened))) net.came_back.items };
+
+    fn listen<R: Around>(&mut self, rt: &R, addr: &str) -> Result<MemDoor, NetFault> {
+        if self.fails_now() {
+            return self.counted(Err(NetFault::Failed));
+        }
+        let opened = self.open(rt, addr);
+        self.counted(opened)
+    }
+
+    fn accept<R: Around>(&mut self, rt: &R, door: &mut MemDoor) -> Result<MemLink, NetFault> {
+        let taken = self.take(rt, door);
+        self.counted(taken)
+    }
+
+    fn call<R: Around>(&mut self, rt: &R, addr: &str) -> Result<MemLink, NetFault> {
+        if self.fails_now() {
+            return self.counted(Err(NetFault::Failed));
+        }
+        let reached = self.reach(rt, addr);
+        self.counted(reached)
+    }
+
+    fn back(&mut self, link: MemLink) -> Result<(), NoMemory> {
+        self.came_back = self.came_back.and(&Snapshot::of(&link));
+        Ok(())
+    }
+}

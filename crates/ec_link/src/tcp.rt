@@ -1,0 +1,265 @@
+// Links over TCP.
+ghost use Rattle.std.specs.Prelude.{◌≡◌, ℕ, [], ◌++◌, List, drop, IfOk, IfSome, IfNone};
+ghost use Rattle.ec_frame.specs.Frames.{BeginsNone};
+ghost use Rattle.ec_link.specs.declared.link.Sent.TheVariants as sent;
+ghost use Rattle.ec_link.specs.Links.{failed, fault_of, close_of, heard, carried, Reads};
+ghost use Rattle.ec_link.specs.Happenings.{More};
+ghost use Rattle.ec_link.specs.Tcp.{IsNewOver};
+
+use crate::around::Around;
+use crate::happenings::Happenings;
+use crate::link::{Got, Link, Sent};
+use crate::net::NetFault;
+use crate::tcp_bell::TcpBell;
+use ec_frame::{FrameFault, Frames, frame};
+use mio::Poll;
+use std::alloc::Global;
+use std::io::{ErrorKind, Read, Write};
+use std::net::TcpStream;
+use std::snapshot::Snapshot;
+use std::sync::Wait;
+use std::time::{Clock, Duration, Instant};
+
+// A link keeps at most this many bytes that the socket hasn't taken: two frames.
+const MAX_UNSENT: usize = 2 * (4 + 1_048_576);
+
+// A peer that has taken nothing for so many seconds has failed.
+const MAX_SILENCE: u64 = 10;
+
+// So many bytes are read at once.
+const PIECE: usize = 4096;
+
+/// One end of a link over TCP. No call waits for the peer.
+#[derive(Drop)]
+pub struct TcpLink {
+    alloc: Global,
+    stream: TcpStream,
+    // What came and is not given yet.
+    frames: Frames,
+    // What was read when there was no memory for it.
+    late: Vec<u8>,
+    // What the socket hasn't taken yet, and since when it takes nothing.
+    unsent: Vec<u8>,
+    stuck: Option<Instant>,
+    happened: Happenings,
+}
+
+impl TcpLink {
+    // Takes a connected socket.
+    pub(crate) fn over(alloc: Global, stream: TcpStream) -> Result<TcpLink, NetFault>
+        ensures { IfOk result (λ link. IsNewOver link) }
+    {
+        if stream.set_nonblocking(true).is_err() || stream.set_nodelay(true).is_err() {
+            return Err(NetFault::Failed);
+        }
+        let frames = Frames::new(alloc)?;
+        Ok(TcpLink {
+            alloc,
+            stream,
+            frames,
+            late: Vec::new(alloc),
+            unsent: Vec::new(alloc),
+            stuck: None,
+            happened: Happenings::new(),
+        })
+    }
+
+    // Puts a frame behind what is unsent, and hands the socket what it takes.
+    fn carry<R: Wait + Clock>(&mut self, rt: &R, bytes: Vec<u8>) -> Sent
+        ensures happened { More self.old.happened self.new.happened (failed result) 0 [] (carried result (drop 4 bytes.items)) }
+        ensures held { self.new.frames ≡ self.old.frames }
+    {
+        if self.is_silent(rt) || self.unsent.len().saturating_add(bytes.len()) > MAX_UNSENT {
+            return self.fail();
+        }
+        if self.unsent.extend_from_slice(&bytes).is_err() {
+            return Sent::NoMemory;
+        }
+        if !self.flush(rt) {
+            return self.fail();
+        }
+        self.happened.got(Snapshot::of(&bytes));
+        Sent::Done
+    }
+
+    fn fail(&mut self) -> Sent
+        ensures happened { More self.old.happened self.new.happened 1 0 [] [] }
+        ensures others { self.new ≡ record self.old { happened = self.new.happened } }
+        ensures result { result ≡ sent.Failed }
+    {
+        self.happened.fault();
+        Sent::Failed
+    }
+
+    // Whether the peer has taken nothing for too long.
+    fn is_silent<R: Clock>(&self, rt: &R) -> bool {
+        let Some(start) = &self.stuck else {
+            return false;
+        };
+        match start.elapsed(rt) {
+            Ok(silence) => silence >= Duration::from_secs(MAX_SILENCE),
+            Err(_) => false,
+        }
+    }
+
+    // Hands the socket what is unsent, as far as it takes it. False where the socket failed.
+    fn flush<R: Wait + Clock>(&mut self, rt: &R) -> bool
+        ensures same { (self.new.happened ≡ self.old.happened) × (self.new.frames ≡ self.old.frames) }
+    {
+        for _ in rt.forever() {
+            if self.unsent.is_empty() {
+                self.stuck = None;
+                return true;
+            }
+            match hand_over(&mut self.stream, &mut self.unsent) {
+                Handed::Some => self.stuck = None,
+                Handed::Nothing => {
+                    if self.stuck.is_none() {
+                        self.stuck = Instant::now(rt).ok();
+                    }
+                    return true;
+                }
+                Handed::Failed => return false,
+            }
+        }
+        unreachable!()
+    }
+
+    // Reads a piece, where no whole frame is there yet.
+    fn read<R: Wait + Clock>(&mut self, rt: &R) -> Option<Got>
+        requires { BeginsNone self.old.frames }
+        ensures some { IfSome result (λ got. More self.old.happened self.new.happened (fault_of got) (close_of got) (heard got) [] × Reads self.old.frames self.new.frames got) }
+        ensures none { IfNone result ((self.new.happened ≡ self.old.happened) × ((more : List ℕ) × (self.new.frames ≡ self.old.frames ++ more))) }
+    {
+        if self.late.is_empty() {
+            match take_piece(&mut self.stream, &mut self.late) {
+                Piece::Some => {}
+                Piece::Nothing => return Some(Got::Nothing),
+                Piece::End => {
+                    self.happened.close();
+                    return Some(Got::Closed);
+                }
+                Piece::Failed => {
+                    self.happened.fault();
+                    return Some(Got::Failed);
+                }
+                Piece::NoMemory => return Some(Got::NoMemory),
+            }
+        }
+        if self.frames.feed(&self.late).is_err() {
+            return Some(Got::NoMemory);
+        }
+        self.late.clear();
+        None
+    }
+
+    // Takes the next body off what came, or reads a piece.
+    fn turn<R: Wait + Clock>(&mut self, rt: &R) -> Option<Got>
+        ensures some { IfSome result (λ got. More self.old.happened self.new.happened (fault_of got) (close_of got) (heard got) [] × Reads self.old.frames self.new.frames got) }
+        ensures none { IfNone result ((self.new.happened ≡ self.old.happened) × ((more : List ℕ) × (self.new.frames ≡ self.old.frames ++ more))) }
+    {
+        match self.frames.next() {
+            Ok(Some(body)) => {
+                self.happened.gave(&body);
+                Some(Got::Body(body))
+            }
+            Ok(None) => self.read(rt),
+            Err(FrameFault::LongFrame(length)) => {
+                self.happened.long(length);
+                Some(Got::Long(length))
+            }
+            Err(FrameFault::NoMemory) => Some(Got::NoMemory),
+        }
+    }
+}
+
+// How a write ended.
+enum Handed {
+    Some,
+    Nothing,
+    Failed,
+}
+
+// Hands the socket bytes off the front.
+fn hand_over(stream: &mut TcpStream, unsent: &mut Vec<u8>) -> Handed {
+    match stream.write(unsent) {
+        Ok(0) => Handed::Failed,
+        Ok(count) => {
+            unsent.drain(..count);
+            Handed::Some
+        }
+        Err(fault) if fault.kind() == ErrorKind::WouldBlock => Handed::Nothing,
+        Err(_) => Handed::Failed,
+    }
+}
+
+// How a read ended.
+enum Piece {
+    Some,
+    Nothing,
+    End,
+    Failed,
+    NoMemory,
+}
+
+// Reads what is there, up to a piece. There is room for it before it's read.
+fn take_piece(stream: &mut TcpStream, into: &mut Vec<u8>) -> Piece {
+    if into.reserve(PIECE).is_err() {
+        return Piece::NoMemory;
+    }
+    let mut buffer = [0u8; PIECE];
+    match stream.read(&mut buffer) {
+        Ok(0) => Piece::End,
+        Ok(count) => match into.extend_from_slice(&buffer[..count]) {
+            Ok(()) => Piece::Some,
+            Err(_) => Piece::NoMemory,
+        },
+        Err(fault) if fault.kind() == ErrorKind::WouldBlock => Piece::Nothing,
+        Err(_) => Piece::Failed,
+    }
+}
+
+impl Link for TcpLink {
+    type Bell = TcpBell;
+
+    ghost use Rattle.std.specs.Prelude.{Some};
+    ghost use Rattle.ec_link.specs.Happenings.{faults_in, closes_in, given_in, got_in};
+
+    ghost faults = { λ link. faults_in link.happened };
+
+    ghost closes = { λ link. closes_in link.happened };
+
+    ghost given = { λ link. Some (given_in link.happened) };
+
+    ghost got = { λ link. Some (got_in link.happened) };
+
+    ghost held = { λ link. link.frames };
+
+    fn send<R: Wait + Clock>(&mut self, rt: &R, body: &[u8]) -> Sent {
+        match frame(self.alloc, body) {
+            Ok(bytes) => self.carry(rt, bytes),
+            Err(FrameFault::LongFrame(_)) => self.fail(),
+            Err(FrameFault::NoMemory) => Sent::NoMemory,
+        }
+    }
+
+    fn recv<R: Wait + Clock>(&mut self, rt: &R) -> Got {
+        if !self.flush(rt) {
+            self.happened.fault();
+            return Got::Failed;
+        }
+        for _ in rt.forever() {
+            if let Some(got) = self.turn(rt) {
+                return got;
+            }
+        }
+        unreachable!()
+    }
+
+    fn bell<R: Around>(&mut self, rt: &R) -> Result<TcpBell, NetFault> {
+        let poll = Poll::new(rt).ok().ok_or(NetFault::Failed)?;
+        TcpBell::new(rt.alloc(), poll, &self.stream)
+            .ok()
+            .ok_or(NetFault::Failed)
+    }
+}
