@@ -9,4 +9,4 @@ pub record IsNewOver (link : TcpLink) : Type 0 where
   pub closes : closes_in link.happened ≡ 0
   pub given : given_in link.happened ≡ []
   pub got : got_in link.happened ≡ []
-  pub held : link.frames ≡ []
+  pub held : link.frames.left ≡ []

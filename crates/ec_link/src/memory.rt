@@ -131,7 +131,7 @@ impl MemLink {
     // Hands a frame over.
     fn carry<R: Wait + Clock>(&mut self, rt: &R, bytes: Vec<u8>) -> Sent
         ensures happened { More self.old.happened self.new.happened (failed result) 0 [] (carried result (drop 4 bytes.items)) }
-        ensures held { self.new.frames ≡ self.old.frames }
+        ensures held { self.new.frames.left ≡ self.old.frames.left }
     {
         let copy = Snapshot::of(&bytes);
         match self.line.to.send(rt, bytes) {
@@ -156,9 +156,9 @@ impl MemLink {
 
     // Reads a piece of what the other end sent, where no whole frame is there yet.
     fn read<R: Wait + Clock>(&mut self, rt: &R) -> Option<Got>
-        requires { BeginsNone self.old.frames }
-        ensures some { IfSome result (λ got. More self.old.happened self.new.happened (fault_of got) (close_of got) (heard got) [] × Reads self.old.frames self.new.frames got) }
-        ensures none { IfNone result ((self.new.happened ≡ self.old.happened) × ((more : List ℕ) × (self.new.frames ≡ self.old.frames ++ more))) }
+        requires { BeginsNone self.old.frames.left }
+        ensures some { IfSome result (λ got. More self.old.happened self.new.happened (fault_of got) (close_of got) (heard got) [] × Reads self.old.frames.left self.new.frames.left got) }
+        ensures none { IfNone result ((self.new.happened ≡ self.old.happened) × ((more : List ℕ) × (self.new.frames.left ≡ self.old.frames.left ++ more))) }
     {
         let piece = match self.late.take() {
             Some(piece) => piece,
@@ -180,8 +180,8 @@ impl MemLink {
 
     // Takes the next body off what came, or a piece of what the other end sent.
     fn turn<R: Wait + Clock>(&mut self, rt: &R) -> Option<Got>
-        ensures some { IfSome result (λ got. More self.old.happened self.new.happened (fault_of got) (close_of got) (heard got) [] × Reads self.old.frames self.new.frames got) }
-        ensures none { IfNone result ((self.new.happened ≡ self.old.happened) × ((more : List ℕ) × (self.new.frames ≡ self.old.frames ++ more))) }
+        ensures some { IfSome result (λ got. More self.old.happened self.new.happened (fault_of got) (close_of got) (heard got) [] × Reads self.old.frames.left self.new.frames.left got) }
+        ensures none { IfNone result ((self.new.happened ≡ self.old.happened) × ((more : List ℕ) × (self.new.frames.left ≡ self.old.frames.left ++ more))) }
     {
         match self.frames.next() {
             Ok(Some(body)) => {
@@ -212,7 +212,7 @@ impl Link for MemLink {
 
     ghost got = { λ link. Some (got_in link.happened) };
 
-    ghost held = { λ link. link.frames };
+    ghost held = { λ link. link.frames.left };
 
     fn send<R: Wait + Clock>(&mut self, rt: &R, body: &[u8]) -> Sent {
         if self.fails_now() {

@@ -67,7 +67,7 @@ impl TcpLink {
     // Puts a frame behind what is unsent, and hands the socket what it takes.
     fn carry<R: Wait + Clock>(&mut self, rt: &R, bytes: Vec<u8>) -> Sent
         ensures happened { More self.old.happened self.new.happened (failed result) 0 [] (carried result (drop 4 bytes.items)) }
-        ensures held { self.new.frames ≡ self.old.frames }
+        ensures held { self.new.frames.left ≡ self.old.frames.left }
     {
         if self.is_silent(rt) || self.unsent.len().saturating_add(bytes.len()) > MAX_UNSENT {
             return self.fail();
@@ -104,7 +104,7 @@ impl TcpLink {
 
     // Hands the socket what is unsent, as far as it takes it. False where the socket failed.
     fn flush<R: Wait + Clock>(&mut self, rt: &R) -> bool
-        ensures same { (self.new.happened ≡ self.old.happened) × (self.new.frames ≡ self.old.frames) }
+        ensures same { (self.new.happened ≡ self.old.happened) × (self.new.frames.left ≡ self.old.frames.left) }
     {
         for _ in rt.forever() {
             if self.unsent.is_empty() {
@@ -127,9 +127,9 @@ impl TcpLink {
 
     // Reads a piece, where no whole frame is there yet.
     fn read<R: Wait + Clock>(&mut self, rt: &R) -> Option<Got>
-        requires { BeginsNone self.old.frames }
-        ensures some { IfSome result (λ got. More self.old.happened self.new.happened (fault_of got) (close_of got) (heard got) [] × Reads self.old.frames self.new.frames got) }
-        ensures none { IfNone result ((self.new.happened ≡ self.old.happened) × ((more : List ℕ) × (self.new.frames ≡ self.old.frames ++ more))) }
+        requires { BeginsNone self.old.frames.left }
+        ensures some { IfSome result (λ got. More self.old.happened self.new.happened (fault_of got) (close_of got) (heard got) [] × Reads self.old.frames.left self.new.frames.left got) }
+        ensures none { IfNone result ((self.new.happened ≡ self.old.happened) × ((more : List ℕ) × (self.new.frames.left ≡ self.old.frames.left ++ more))) }
     {
         if self.late.is_empty() {
             match take_piece(&mut self.stream, &mut self.late) {
@@ -155,8 +155,8 @@ impl TcpLink {
 
     // Takes the next body off what came, or reads a piece.
     fn turn<R: Wait + Clock>(&mut self, rt: &R) -> Option<Got>
-        ensures some { IfSome result (λ got. More self.old.happened self.new.happened (fault_of got) (close_of got) (heard got) [] × Reads self.old.frames self.new.frames got) }
-        ensures none { IfNone result ((self.new.happened ≡ self.old.happened) × ((more : List ℕ) × (self.new.frames ≡ self.old.frames ++ more))) }
+        ensures some { IfSome result (λ got. More self.old.happened self.new.happened (fault_of got) (close_of got) (heard got) [] × Reads self.old.frames.left self.new.frames.left got) }
+        ensures none { IfNone result ((self.new.happened ≡ self.old.happened) × ((more : List ℕ) × (self.new.frames.left ≡ self.old.frames.left ++ more))) }
     {
         match self.frames.next() {
             Ok(Some(body)) => {
@@ -233,7 +233,7 @@ impl Link for TcpLink {
 
     ghost got = { λ link. Some (got_in link.happened) };
 
-    ghost held = { λ link. link.frames };
+    ghost held = { λ link. link.frames.left };
 
     fn send<R: Wait + Clock>(&mut self, rt: &R, body: &[u8]) -> Sent {
         match frame(self.alloc, body) {
