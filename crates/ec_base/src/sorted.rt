@@ -66,6 +66,11 @@ impl<K: Ord, V> SortedMap<K, V> {
         self.items
     }
 
+    /// What the pairs' memory comes from.
+    pub fn allocator(&self) -> &Global {
+        self.items.allocator()
+    }
+
     /// The number of keys.
     pub fn len(&self) -> usize
         ensures { result ≡ length self.now }

@@ -142,14 +142,14 @@ impl OneClerk {
             unreachable!();
         };
         let Outcome { reply, update, .. } = plain(alloc, &self.volume, &call, fresh)?;
-        let op = self.take(alloc, update)?;
+        let op = self.take(update)?;
         self.places += 1;
         self.state = State::Running;
         Ok(Shown::Answered(number, clerk, call, Answer::Reply(reply), op))
     }
 
     // Carries out a call's update, if any, and gives it the next number.
-    fn take(&mut self, alloc: Global, update: Option<Update>) -> Result<Option<OpNo>, NoMemory>
+    fn take(&mut self, update: Option<Update>) -> Result<Option<OpNo>, NoMemory>
         requires few { self.old.ops < 2 ^ 31 }
         requires fitting { Fitting update (images self.old.volume) }
         ensures ok { IfOk result (λ op. Takes update op self.old self.new) }
@@ -159,7 +159,7 @@ impl OneClerk {
         let Some(update) = update else {
             return Ok(None);
         };
-        match self.volume.apply(alloc, &update) {
+        match self.volume.apply(&update) {
             Ok(()) => {
                 self.ops += 1;
                 Ok(Some(OpNo(self.ops)))

@@ -12,7 +12,7 @@ use Rattle.ec_volume.specs.declared.image.Kind.{Kind}
 use Rattle.ec_volume.specs.declared.image.Kind.TheVariants as kind
 use Rattle.ec_volume.specs.declared.update.Update.{Update}
 use Rattle.ec_volume.specs.declared.update.Update.TheVariants.{Make, Drop, Move, Put, Len, Mode, Stamp, Order, Shift, Owner}
-use Rattle.ec_volume.proofs.Limits.{effect_held}
+use Rattle.ec_volume.proofs.Within.{effect_held}
 use Rattle.ec_laws.proofs.Objects.{holds, is-true}
 use Rattle.ec_laws.proofs.Removed.{left, right, both}
 use Rattle.ec_formed.proofs.Change.{change_formed, New, Stay}

@@ -5,7 +5,7 @@ use Rattle.ec_volume.specs.Update.{operands, has_operand, member}
 use Rattle.ec_volume.specs.Volume.{Images, after}
 use Rattle.ec_volume.specs.declared.update.Update.{Update}
 use Rattle.ec_plain.specs.Walk.{walk, At, Not}
-use Rattle.ec_plain.specs.Plain.{plain}
+use Rattle.ec_plain.specs.Plain.{plain, is_sync}
 use Rattle.ec_plain.specs.declared.call.Call.{Call}
 use Rattle.ec_plain.specs.declared.call.Call.TheVariants as call
 use Rattle.ec_plain.specs.declared.call.Reply.TheVariants as reply
@@ -137,10 +137,6 @@ pub record Covers (base : Base) (past : History) (e : ℕ × Entry) (c b n : ℕ
 
 abbrev pub Owed : Type 0
 Owed = List (ℕ × ℕ)
-
-abbrev pub is_sync : Call → Bool
-is_sync call.Sync = true
-is_sync _ = false
 
 abbrev pub pairs_of : List Op → Owed
 pairs_of [] = []

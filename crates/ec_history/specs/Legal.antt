@@ -1,10 +1,9 @@
 -- Which histories are legal: each answer that of the plain volume, each report exact, each loss lawful.
 use Rattle.std.specs.Prelude.{◌≡◌, ◌==◌, ◌+◌, ℕ, T, Bool, true, false, not, ◌&&◌, ◌||◌, nat_lt, List, [], ◌∷◌, length, Option, None, Some, is_some, ⊤}
 use Rattle.std.specs.List.{filter, list_any, list_all}
-use Rattle.ec_volume.specs.Update.{operands, member}
+use Rattle.ec_volume.specs.Update.{operands, member, is_make}
 use Rattle.ec_volume.specs.Volume.{Fits, formatted}
 use Rattle.ec_volume.specs.declared.update.Update.{Update}
-use Rattle.ec_volume.specs.declared.update.Update.TheVariants as update
 use Rattle.ec_plain.specs.declared.call.Call.{Call}
 use Rattle.ec_plain.specs.declared.call.Outcome.{Outcome}
 use Rattle.ec_order.specs.Order as order
@@ -32,13 +31,13 @@ IsReported ns (answer.Lost ms) = (ms ≡ ns) × T (nat_lt 0 (length ns))
 IsReported ns (answer.Reply r) = ns ≡ []
 IsReported ns (answer.NoRoom live reserved) = ns ≡ []
 
-abbrev pub is_make : Option Update → Bool
-is_make (Some (update.Make d n o k)) = true
-is_make _ = false
+abbrev pub is_making : Option Update → Bool
+is_making (Some u) = is_make u
+is_making None = false
 
 -- No room: for a new object alone, and where 16 ids more are too many.
 abbrev pub IsFull : ℕ → Outcome → Answer → Type 0
-IsFull most out (answer.NoRoom live reserved) = T (is_make out.update) × T (nat_lt most (live + reserved + 16))
+IsFull most out (answer.NoRoom live reserved) = T (is_making out.update) × T (nat_lt most (live + reserved + 16))
 IsFull most out (answer.Reply r) = ⊤
 IsFull most out (answer.Lost ns) = ⊤
 

@@ -1,5 +1,6 @@
 -- What a call comes to on one plain volume.
-use Rattle.std.specs.Prelude.{◌==◌, ◌+◌, ◌-◌, ℕ, Bool, not, ◌&&◌, if◌then◌else◌, nat_lt, nat_le, List, [], ◌∷◌, ◌++◌, map, length, take, drop, Option, None, Some, is_some}
+use Rattle.std.specs.Prelude.{◌==◌, ◌+◌, ◌-◌, ℕ, Bool, true, false, not, ◌&&◌, if◌then◌else◌, nat_lt, nat_le, List, [], ◌∷◌, ◌++◌, map, length, take, drop, Option, None, Some, is_some}
+use Rattle.ec_volume.specs.Limits.{max_file_bytes, max_entries}
 use Rattle.ec_volume.specs.Entries.{Entries, entry}
 use Rattle.ec_volume.specs.Image.{entries_of, bytes_of, is_gone, is_dir}
 use Rattle.ec_volume.specs.Update.{Above, member}
@@ -55,7 +56,7 @@ on_entry v p f =
 abbrev pub make_in : Kind → List ℕ → ℕ → ℕ → Entries → List ℕ → Outcome
 make_in k n fresh d es os =
     if is_some (entry es n) then refuses no.Exists os
-    else if nat_le 128 (length es) then refuses no.DirFull os
+    else if nat_le max_entries (length es) then refuses no.DirFull os
     else issues (Make d n fresh k) (os ++ fresh ∷ [])
 
 abbrev pub plain_make : Images → Kind → Path → ℕ → Outcome
@@ -115,7 +116,7 @@ move_into v p q d o e fs ps os =
     let k = kind_of (v o) in
     let up = above k ps (parent_of q) in
     elim (entry fs (last_of q)) [
-      | None ↦ if not (d == e) && nat_le 128 (length fs) then refuses no.DirFull os else renames d (last_of p) e (last_of q) o k None up os
+      | None ↦ if not (d == e) && nat_le max_entries (length fs) then refuses no.DirFull os else renames d (last_of p) e (last_of q) o k None up os
       | Some t ↦ elim (blocked k (v t) (length q)) [
         | Some r ↦ refuses r (os ++ t ∷ [])
         | None ↦ renames d (last_of p) e (last_of q) o k (Some t) up (os ++ t ∷ [])
@@ -166,13 +167,13 @@ stat_of Gone = reply.Stat kind.File 0 0 0 0
 abbrev pub write_in : Images → ℕ → List ℕ → ℕ → List ℕ → Outcome
 write_in v at bytes o os =
     if is_dir (v o) then refuses no.IsDir os
-    else if nat_lt 65536 (at + length bytes) then refuses no.TooLong os
+    else if nat_lt max_file_bytes (at + length bytes) then refuses no.TooLong os
     else issues (Put o at bytes (nat_le (at + length bytes) (length (bytes_of (v o))))) os
 
 abbrev pub len_in : Images → ℕ → ℕ → List ℕ → Outcome
 len_in v len o os =
     if is_dir (v o) then refuses no.IsDir os
-    else if nat_lt 65536 len then refuses no.TooLong os
+    else if nat_lt max_file_bytes len then refuses no.TooLong os
     else issues (Len o len) os
 
 abbrev pub read_in : Images → ℕ → ℕ → ℕ → List ℕ → Outcome
@@ -203,3 +204,7 @@ plain v (call.Fsync p) fresh = on_reached (walk v p) λ o os. answers reply.Ok o
 plain v (call.Forder ps) fresh = plain_forder v ps [] []
 plain v call.Sync fresh = answers reply.Ok []
 plain v (call.Chown p owner) fresh = on_reached (walk v p) λ o os. issues (Owner o owner) os
+
+abbrev pub is_sync : Call → Bool
+is_sync call.Sync = true
+is_sync _ = false

@@ -2,8 +2,11 @@
 use ec_base::{Duplicate, List, Name, NoMemory, ObjId, Path};
 use ec_volume::{Kind, Update};
 
-/// A call. A write has 1 to 4,096 bytes, a read asks for at most 4,096, a mode is at most 0o7777
-/// and a `Forder` has 1 to 8 paths.
+/// A read asks for at most this many bytes.
+pub const MAX_READ_BYTES: u32 = 4_096;
+
+/// A call. A write has from 1 to `MAX_WRITE_BYTES` bytes, a read asks for at most `MAX_READ_BYTES`,
+/// a mode is at most `MAX_MODE` and a `Forder` has from 1 to `MAX_ORDERED` paths.
 #[derive(Debug, Drop)]
 pub enum Call {
     Mkdir(Path),

@@ -1,7 +1,6 @@
 // What is done at the object that a walk reached.
 ghost use Rattle.std.specs.Prelude.{◌≡◌, length, map, take, drop, IfOk};
 ghost use Rattle.ec_volume.specs.Image.{bytes_of, entries_of};
-ghost use Rattle.ec_volume.specs.Volume.{images};
 ghost use Rattle.ec_plain.specs.Walk.{Path};
 ghost use Rattle.ec_plain.specs.Plain.{write_in, len_in, read_in, list_in, stat_of};
 
@@ -9,26 +8,26 @@ use crate::call::{Outcome, Refusal, Reply};
 use crate::object::{bytes_of, entries_of, is_dir};
 use crate::outcome::{answers, issues, refuses};
 use ec_base::{Duplicate, List, Name, NoMemory, ObjId};
-use ec_volume::{Entries, Image, Kind, Update, Volume};
+use ec_volume::{Entries, Image, Kind, Look, MAX_FILE_BYTES, Update};
 use std::alloc::Global;
 
-pub(crate) fn write_in(
-    v: &Volume,
+pub(crate) fn write_in<V: Look>(
+    volume: &V,
     at: u32,
     bytes: &List<u8>,
     obj: ObjId,
     read: Vec<ObjId>,
 ) -> Result<Outcome, NoMemory>
-    ensures { IfOk result (λ o. o ≡ write_in (images v.now) at bytes.now obj read.items) }
+    ensures { IfOk result (λ outcome. outcome ≡ write_in (V.images volume.now) at bytes.now obj read.items) }
 {
-    if is_dir(v, obj) {
+    if is_dir(volume, obj) {
         return Ok(refuses(Refusal::IsDir, read));
     }
     let end = at as usize + bytes.as_slice().len();
-    if end > 65536 {
+    if end > MAX_FILE_BYTES {
         return Ok(refuses(Refusal::TooLong, read));
     }
-    let inside = end <= bytes_of(v, obj).len();
+    let inside = end <= bytes_of(volume, obj).len();
     let bytes = bytes.duplicate()?;
     Ok(issues(
         Update::Put {
@@ -41,32 +40,35 @@ pub(crate) fn write_in(
     ))
 }
 
-pub(crate) fn len_in(v: &Volume, len: u32, obj: ObjId, read: Vec<ObjId>) -> Outcome
-    ensures { result ≡ len_in (images v.now) len obj read.items }
+pub(crate) fn len_in<V: Look>(volume: &V, len: u32, obj: ObjId, read: Vec<ObjId>) -> Outcome
+    ensures { result ≡ len_in (V.images volume.now) len obj read.items }
 {
-    if is_dir(v, obj) {
+    if is_dir(volume, obj) {
         return refuses(Refusal::IsDir, read);
     }
-    if len > 65536 {
+    if len as usize > MAX_FILE_BYTES {
         return refuses(Refusal::TooLong, read);
     }
     issues(Update::Len { obj, len }, read)
 }
 
-pub(crate) fn read_in(
+pub(crate) fn read_in<V: Look>(
     alloc: Global,
-    v: &Volume,
+    volume: &V,
     at: u32,
     count: u32,
     obj: ObjId,
     read: Vec<ObjId>,
 ) -> Result<Outcome, NoMemory>
-    ensures { IfOk result (λ o. o ≡ read_in (images v.now) at count obj read.items) }
+    ensures { IfOk result (λ outcome. outcome ≡ read_in (V.images volume.now) at count obj read.items) }
 {
-    if is_dir(v, obj) {
+    if is_dir(volume, obj) {
         return Ok(refuses(Refusal::IsDir, read));
     }
-    let bytes = Vec::from_slice(alloc, part(bytes_of(v, obj), at as usize, count as usize))?;
+    let bytes = Vec::from_slice(
+        alloc,
+        part(bytes_of(volume, obj), at as usize, count as usize),
+    )?;
     Ok(answers(Reply::Data(List::of(bytes)), read))
 }
 
@@ -78,16 +80,16 @@ fn part(bytes: &[u8], at: usize, count: usize) -> &[u8]
     &rest[..count.min(rest.len())]
 }
 
-pub(crate) fn list_in(
+pub(crate) fn list_in<V: Look>(
     alloc: Global,
-    v: &Volume,
+    volume: &V,
     place: u8,
     obj: ObjId,
     read: Vec<ObjId>,
 ) -> Result<Outcome, NoMemory>
-    ensures { IfOk result (λ o. (p : Path) → length p ≡ place → o ≡ list_in (images v.now) p obj read.items) }
+    ensures { IfOk result (λ outcome. (path : Path) → length path ≡ place → outcome ≡ list_in (V.images volume.now) path obj read.items) }
 {
-    match entries_of(v, obj) {
+    match entries_of(volume, obj) {
         None => Ok(refuses(Refusal::NotDir(place), read)),
         Some(entries) => {
             let names = names_of(alloc, entries)?;
@@ -107,10 +109,10 @@ fn names_of(alloc: Global, entries: &Entries) -> Result<Vec<Name>, NoMemory>
 }
 
 // What the object shows.
-pub(crate) fn stat_of(v: &Volume, obj: ObjId) -> Reply
-    ensures { result ≡ stat_of (images v.now obj) }
+pub(crate) fn stat_of<V: Look>(volume: &V, obj: ObjId) -> Reply
+    ensures { result ≡ stat_of (V.images volume.now obj) }
 {
-    match v.look(obj) {
+    match volume.look(obj) {
         Some(
             Image::File {
                 mode,

@@ -1,22 +1,25 @@
 // Orders of the objects of paths.
 ghost use Rattle.std.specs.Prelude.{◌≡◌, ◌++◌, [], IfOk, OnOk};
-ghost use Rattle.ec_volume.specs.Volume.{images};
 ghost use Rattle.ec_plain.specs.Plain.{once_more, plain_forder};
 
 use crate::call::Outcome;
 use crate::outcome::{issues, refuses};
 use crate::walk::{Walked, walk};
 use ec_base::{List, NoMemory, ObjId, Path};
-use ec_volume::{Update, Volume};
+use ec_volume::{Look, Update};
 use std::alloc::Global;
 
-pub(crate) fn plain_forder(alloc: Global, v: &Volume, paths: &[Path]) -> Result<Outcome, NoMemory>
-    ensures { IfOk result (λ o. o ≡ plain_forder (images v.now) paths.now [] []) }
+pub(crate) fn plain_forder<V: Look>(
+    alloc: Global,
+    volume: &V,
+    paths: &[Path],
+) -> Result<Outcome, NoMemory>
+    ensures { IfOk result (λ outcome. outcome ≡ plain_forder (V.images volume.now) paths.now [] []) }
 {
     let mut objs = Vec::new(alloc);
     let mut touched = Vec::new(alloc);
     'paths: for path in paths {
-        let Walked { to, read } = walk(alloc, v, path.names())?;
+        let Walked { to, read } = walk(alloc, volume, path.names())?;
         touched.extend_from_slice(&read)?;
         match to {
             Ok(obj) => once_more(obj, &mut objs)?,

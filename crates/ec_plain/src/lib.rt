@@ -10,9 +10,10 @@ mod object;
 mod outcome;
 mod remove;
 mod rename;
+mod step;
 #[cfg(test)]
 mod tests;
 mod walk;
 
 pub use answer::plain;
-pub use call::{Call, Outcome, Refusal, Reply};
+pub use call::{Call, MAX_READ_BYTES, Outcome, Refusal, Reply};

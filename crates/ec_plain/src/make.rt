@@ -1,6 +1,6 @@
 // New objects.
 ghost use Rattle.std.specs.Prelude.{◌≡◌, ◌≤◌, length, IfOk};
-ghost use Rattle.ec_volume.specs.Volume.{images};
+ghost use Rattle.ec_base.specs.Limits.{max_path_names};
 ghost use Rattle.ec_plain.specs.Walk.{last_of};
 ghost use Rattle.ec_plain.specs.Plain.{on_parent, make_in, plain_make};
 
@@ -9,40 +9,40 @@ use crate::object::entries_of;
 use crate::outcome::{issues, refuses};
 use crate::walk::{Walked, last_of, parent_of, walk};
 use ec_base::{Duplicate, Name, NoMemory, ObjId};
-use ec_volume::{Entries, Kind, Update, Volume};
+use ec_volume::{Entries, Kind, Look, MAX_ENTRIES, Update};
 use std::alloc::Global;
 
-pub(crate) fn plain_make(
+pub(crate) fn plain_make<V: Look>(
     alloc: Global,
-    v: &Volume,
+    volume: &V,
     kind: Kind,
     names: &[Name],
     fresh: ObjId,
 ) -> Result<Outcome, NoMemory>
-    requires { length names.now ≤ 16 }
-    ensures { IfOk result (λ o. o ≡ plain_make (images v.now) kind names.now fresh) }
+    requires { length names.now ≤ max_path_names }
+    ensures { IfOk result (λ outcome. outcome ≡ plain_make (V.images volume.now) kind names.now fresh) }
 {
     match names {
         [] => Ok(refuses(Refusal::Root, Vec::new(alloc))),
-        [_, ..] => make_below(alloc, v, kind, names, fresh),
+        [_, ..] => make_below(alloc, volume, kind, names, fresh),
     }
 }
 
-fn make_below(
+fn make_below<V: Look>(
     alloc: Global,
-    v: &Volume,
+    volume: &V,
     kind: Kind,
     names: &[Name],
     fresh: ObjId,
 ) -> Result<Outcome, NoMemory>
     requires some { 1 ≤ length names.now }
-    requires few { length names.now ≤ 16 }
-    ensures { IfOk result (λ o. o ≡ on_parent (images v.now) names.now (make_in kind (last_of names.now) fresh)) }
+    requires few { length names.now ≤ max_path_names }
+    ensures { IfOk result (λ outcome. outcome ≡ on_parent (V.images volume.now) names.now (make_in kind (last_of names.now) fresh)) }
 {
-    let Walked { to, read } = walk(alloc, v, parent_of(names))?;
+    let Walked { to, read } = walk(alloc, volume, parent_of(names))?;
     match to {
         Err(refusal) => Ok(refuses(refusal, read)),
-        Ok(dir) => match entries_of(v, dir) {
+        Ok(dir) => match entries_of(volume, dir) {
             None => Ok(refuses(Refusal::NotDir(names.len() as u8 - 1), read)),
             Some(entries) => make_in(kind, last_of(names), fresh, dir, entries, read),
         },
@@ -58,12 +58,12 @@ fn make_in(
     entries: &Entries,
     mut read: Vec<ObjId>,
 ) -> Result<Outcome, NoMemory>
-    ensures { IfOk result (λ o. o ≡ make_in kind name.now fresh dir entries.now read.items) }
+    ensures { IfOk result (λ outcome. outcome ≡ make_in kind name.now fresh dir entries.now read.items) }
 {
     if entries.get(name).is_some() {
         return Ok(refuses(Refusal::Exists, read));
     }
-    if entries.len() >= 128 {
+    if entries.len() >= MAX_ENTRIES {
         return Ok(refuses(Refusal::DirFull, read));
     }
     read.push(fresh)?;

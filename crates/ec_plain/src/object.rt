@@ -1,38 +1,37 @@
 // The parts of an object's image.
 ghost use Rattle.std.specs.Prelude.{◌≡◌, true, false, MatchOption};
 ghost use Rattle.ec_volume.specs.Image.{is_gone, is_dir, bytes_of, entries_of};
-ghost use Rattle.ec_volume.specs.Volume.{images};
 
 use ec_base::ObjId;
-use ec_volume::{Entries, Image, Volume};
+use ec_volume::{Entries, Image, Look};
 
-pub(crate) fn is_gone(v: &Volume, o: ObjId) -> bool
-    ensures { result ≡ is_gone (images v.now o) }
+pub(crate) fn is_gone<V: Look>(volume: &V, id: ObjId) -> bool
+    ensures { result ≡ is_gone (V.images volume.now id) }
 {
-    v.look(o).is_none()
+    volume.look(id).is_none()
 }
 
-pub(crate) fn is_dir(v: &Volume, o: ObjId) -> bool
-    ensures { result ≡ is_dir (images v.now o) }
+pub(crate) fn is_dir<V: Look>(volume: &V, id: ObjId) -> bool
+    ensures { result ≡ is_dir (V.images volume.now id) }
 {
-    matches!(v.look(o), Some(Image::Dir { .. }))
+    matches!(volume.look(id), Some(Image::Dir { .. }))
 }
 
 // The bytes of a file, and none of another object.
-pub(crate) fn bytes_of(v: &Volume, o: ObjId) -> &[u8]
-    ensures { result.now ≡ bytes_of (images v.now o) }
+pub(crate) fn bytes_of<V: Look>(volume: &V, id: ObjId) -> &[u8]
+    ensures { result.now ≡ bytes_of (V.images volume.now id) }
 {
-    match v.look(o) {
+    match volume.look(id) {
         Some(Image::File { bytes, .. }) => bytes.as_slice(),
         _ => &[],
     }
 }
 
 // The entries of a directory.
-pub(crate) fn entries_of(v: &Volume, o: ObjId) -> Option<&Entries>
-    ensures { MatchOption result (is_dir (images v.now o) ≡ false) (λ es. (is_dir (images v.now o) ≡ true) × (es.now ≡ entries_of (images v.now o))) }
+pub(crate) fn entries_of<V: Look>(volume: &V, id: ObjId) -> Option<&Entries>
+    ensures { MatchOption result (is_dir (V.images volume.now id) ≡ false) (λ es. (is_dir (V.images volume.now id) ≡ true) × (es.now ≡ entries_of (V.images volume.now id))) }
 {
-    match v.look(o) {
+    match volume.look(id) {
         Some(Image::Dir { entries, .. }) => Some(entries),
         _ => None,
     }

@@ -1,76 +1,76 @@
 // Renames.
 ghost use Rattle.std.specs.Prelude.{◌≡◌, ◌≤◌, ◌++◌, ℕ, List as Listed, length, IfOk, OnOk};
+ghost use Rattle.ec_base.specs.Limits.{max_path_names};
 ghost use Rattle.ec_volume.specs.Image.{entries_of};
 ghost use Rattle.ec_volume.specs.Update.{member};
-ghost use Rattle.ec_volume.specs.Volume.{images};
 ghost use Rattle.ec_plain.specs.Walk.{parent_of, last_of, same_path};
 ghost use Rattle.ec_plain.specs.Plain.{kind_of, blocked, with_names, above, renames, move_into, loops, rename_in, plain_rename};
 
 use crate::call::{Outcome, Refusal, Reply};
 use crate::object::{entries_of, is_dir};
 use crate::outcome::{answers, issues, refuses};
-use crate::remove::{Found, entry_at};
+use crate::step::{Found, Step, entry_at};
 use crate::walk::{Walked, last_of, parent_of, walk};
 use ec_base::{Duplicate, List, Name, NoMemory, ObjId};
-use ec_volume::{Entries, Image, Kind, Update, Volume};
+use ec_volume::{Entries, Image, Kind, Look, MAX_ENTRIES, Update};
 use std::alloc::Global;
 
-pub(crate) fn plain_rename(
+pub(crate) fn plain_rename<V: Look>(
     alloc: Global,
-    v: &Volume,
-    p: &[Name],
-    q: &[Name],
+    volume: &V,
+    path: &[Name],
+    target: &[Name],
 ) -> Result<Outcome, NoMemory>
-    requires first { length p.now ≤ 16 }
-    requires second { length q.now ≤ 16 }
-    ensures { IfOk result (λ o. o ≡ plain_rename (images v.now) p.now q.now) }
+    requires first { length path.now ≤ max_path_names }
+    requires second { length target.now ≤ max_path_names }
+    ensures { IfOk result (λ outcome. outcome ≡ plain_rename (V.images volume.now) path.now target.now) }
 {
-    if p.is_empty() || q.is_empty() {
+    if path.is_empty() || target.is_empty() {
         return Ok(refuses(Refusal::Root, Vec::new(alloc)));
     }
-    match entry_at(alloc, v, p)? {
-        Err(outcome) => Ok(outcome),
-        Ok(found) => rename_in(alloc, v, p, q, found),
+    match entry_at(alloc, volume, path)? {
+        Step::Ends(outcome) => Ok(outcome),
+        Step::Goes(found) => rename_in(alloc, volume, path, target, found),
     }
 }
 
 // The rest of the rename of an object of the directory.
-fn rename_in(
+fn rename_in<V: Look>(
     alloc: Global,
-    v: &Volume,
-    p: &[Name],
-    q: &[Name],
+    volume: &V,
+    path: &[Name],
+    target: &[Name],
     found: Found,
 ) -> Result<Outcome, NoMemory>
-    requires first { 1 ≤ length p.now }
-    requires second { 1 ≤ length q.now }
-    requires few { length q.now ≤ 16 }
-    ensures { IfOk result (λ o. o ≡ rename_in (images v.now) p.now q.now found.dir (entries_of (images v.now found.dir)) found.obj found.read.items) }
+    requires first { 1 ≤ length path.now }
+    requires second { 1 ≤ length target.now }
+    requires few { length target.now ≤ max_path_names }
+    ensures { IfOk result (λ outcome. outcome ≡ rename_in (V.images volume.now) path.now target.now found.dir (entries_of (V.images volume.now found.dir)) found.obj found.read.items) }
 {
     let Found { dir, obj, mut read } = found;
-    if same_path(p, q) {
+    if same_path(path, target) {
         return Ok(answers(Reply::Ok, read));
     }
-    let Walked { to, read: passed } = walk(alloc, v, parent_of(q))?;
+    let Walked { to, read: passed } = walk(alloc, volume, parent_of(target))?;
     read.extend_from_slice(&passed)?;
     let into = match to {
         Err(refusal) => return Ok(refuses(refusal, read)),
         Ok(into) => into,
     };
-    let Some(entries) = entries_of(v, into) else {
-        return Ok(refuses(Refusal::NotDir(q.len() as u8 - 1), read));
+    let Some(entries) = entries_of(volume, into) else {
+        return Ok(refuses(Refusal::NotDir(target.len() as u8 - 1), read));
     };
-    if loops(v, obj, &passed) {
+    if loops(volume, obj, &passed) {
         return Ok(refuses(Refusal::Loop, read));
     }
-    let up = above(alloc, kind_of(v, obj), &passed, parent_of(q))?;
+    let up = above(alloc, kind_of(volume, obj), &passed, parent_of(target))?;
     let mover = Mover {
         dir,
         obj,
-        kind: kind_of(v, obj),
+        kind: kind_of(volume, obj),
         up,
     };
-    move_into(v, p, q, mover, into, entries, read)
+    move_into(volume, path, target, mover, into, entries, read)
 }
 
 // An object that moves from a directory, and the directories above its new one.
@@ -83,33 +83,40 @@ struct Mover {
 }
 
 // The object moves to the second path, whose parent `into` has these entries.
-fn move_into(
-    v: &Volume,
-    p: &[Name],
-    q: &[Name],
+fn move_into<V: Look>(
+    volume: &V,
+    path: &[Name],
+    target: &[Name],
     mover: Mover,
     into: ObjId,
     entries: &Entries,
     mut read: Vec<ObjId>,
 ) -> Result<Outcome, NoMemory>
-    requires first { 1 ≤ length p.now }
-    requires second { 1 ≤ length q.now }
-    requires few { length q.now ≤ 16 }
-    ensures { IfOk result (λ o. (passed : Listed ℕ) → mover.kind ≡ kind_of (images v.now mover.obj) → mover.up ≡ above mover.kind passed (parent_of q.now)
-        → o ≡ move_into (images v.now) p.now q.now mover.dir mover.obj into entries.now passed read.items) }
+    requires first { 1 ≤ length path.now }
+    requires second { 1 ≤ length target.now }
+    requires few { length target.now ≤ max_path_names }
+    ensures { IfOk result (λ outcome. (passed : Listed ℕ) → mover.kind ≡ kind_of (V.images volume.now mover.obj) → mover.up ≡ above mover.kind passed (parent_of target.now)
+        → outcome ≡ move_into (V.images volume.now) path.now target.now mover.dir mover.obj into entries.now passed read.items) }
 {
-    match entries.get(last_of(q)) {
+    match entries.get(last_of(target)) {
         None => {
-            if mover.dir != into && entries.len() >= 128 {
+            if mover.dir != into && entries.len() >= MAX_ENTRIES {
                 return Ok(refuses(Refusal::DirFull, read));
             }
-            renames(mover, last_of(p), into, last_of(q), None, read)
+            renames(mover, last_of(path), into, last_of(target), None, read)
         }
         Some(victim) => {
             read.push(victim)?;
-            match blocked(mover.kind, v, victim, q.len() as u8) {
+            match blocked(mover.kind, volume, victim, target.len() as u8) {
                 Some(refusal) => Ok(refuses(refusal, read)),
-                None => renames(mover, last_of(p), into, last_of(q), Some(victim), read),
+                None => renames(
+                    mover,
+                    last_of(path),
+                    into,
+                    last_of(target),
+                    Some(victim),
+                    read,
+                ),
             }
         }
     }
@@ -124,7 +131,7 @@ fn renames(
     victim: Option<ObjId>,
     read: Vec<ObjId>,
 ) -> Result<Outcome, NoMemory>
-    ensures { IfOk result (λ o. o ≡ renames mover.dir from.now into to.now mover.obj mover.kind victim mover.up read.items) }
+    ensures { IfOk result (λ outcome. outcome ≡ renames mover.dir from.now into to.now mover.obj mover.kind victim mover.up read.items) }
 {
     let Mover { dir, obj, kind, up } = mover;
     let from = from.duplicate()?;
@@ -157,17 +164,21 @@ fn renames(
     ))
 }
 
-fn kind_of(v: &Volume, o: ObjId) -> Kind
-    ensures { result ≡ kind_of (images v.now o) }
+fn kind_of<V: Look>(volume: &V, id: ObjId) -> Kind
+    ensures { result ≡ kind_of (V.images volume.now id) }
 {
-    if is_dir(v, o) { Kind::Dir } else { Kind::File }
+    if is_dir(volume, id) {
+        Kind::Dir
+    } else {
+        Kind::File
+    }
 }
 
 // Whether an object of the kind may not take the place of this one, which so many names lead to.
-fn blocked(kind: Kind, v: &Volume, victim: ObjId, place: u8) -> Option<Refusal>
-    ensures { result ≡ blocked kind (images v.now victim) place }
+fn blocked<V: Look>(kind: Kind, volume: &V, victim: ObjId, place: u8) -> Option<Refusal>
+    ensures { result ≡ blocked kind (V.images volume.now victim) place }
 {
-    match (kind, v.look(victim)) {
+    match (kind, volume.look(victim)) {
         (Kind::File, Some(Image::Dir { .. })) => Some(Refusal::IsDir),
         (Kind::Dir, Some(Image::File { .. })) => Some(Refusal::NotDir(place)),
         (Kind::Dir, Some(Image::Dir { entries, .. })) if entries.len() > 0 => {
@@ -178,10 +189,10 @@ fn blocked(kind: Kind, v: &Volume, victim: ObjId, place: u8) -> Option<Refusal>
 }
 
 // No directory moves into itself or below itself.
-fn loops(v: &Volume, obj: ObjId, passed: &[ObjId]) -> bool
-    ensures { result ≡ loops (images v.now) obj passed.now }
+fn loops<V: Look>(volume: &V, obj: ObjId, passed: &[ObjId]) -> bool
+    ensures { result ≡ loops (V.images volume.now) obj passed.now }
 {
-    is_dir(v, obj) && passed.contains(&obj)
+    is_dir(volume, obj) && passed.contains(&obj)
 }
 
 // The directories that a walk of these names read, of a directory that moves.
@@ -216,14 +227,14 @@ fn with_names(up: &mut Vec<(ObjId, Name)>, dirs: &[ObjId], names: &[Name]) -> Re
     }
 }
 
-fn same_path(p: &[Name], q: &[Name]) -> bool
-    ensures { result ≡ same_path p.now q.now }
+fn same_path(path: &[Name], other: &[Name]) -> bool
+    ensures { result ≡ same_path path.now other.now }
 {
-    match p {
-        [] => q.is_empty(),
-        [m, p @ ..] => match q {
+    match path {
+        [] => other.is_empty(),
+        [m, path @ ..] => match other {
             [] => false,
-            [n, q @ ..] => m.cmp(n).is_eq() && same_path(p, q),
+            [n, other @ ..] => m.cmp(n).is_eq() && same_path(path, other),
         },
     }
 }

@@ -6,12 +6,12 @@ use std::alloc::Global;
 use std::test::Fail;
 
 // The reply of a call, whose update, if any, is carried out.
-fn reply(alloc: Global, v: &mut Volume, call: &Call) -> Result<Reply, Fail> {
+fn reply(alloc: Global, volume: &mut Volume, call: &Call) -> Result<Reply, Fail> {
     let fresh = ObjId::new(2).unwrap();
-    let Outcome { reply, update, .. } = plain(alloc, v, &call.duplicate()?, fresh)?;
+    let Outcome { reply, update, .. } = plain(alloc, volume, &call.duplicate()?, fresh)?;
     if let Some(update) = update {
         if update.sound() {
-            v.apply(alloc, &update)?;
+            volume.apply(&update)?;
         }
     }
     Ok(reply.duplicate()?)
@@ -20,21 +20,21 @@ fn reply(alloc: Global, v: &mut Volume, call: &Call) -> Result<Reply, Fail> {
 #[test]
 fn creates_writes_and_reads(rt: HostRuntime) -> Result<(), Fail> {
     let alloc = rt.alloc();
-    let mut v = Volume::formatted(alloc)?;
+    let mut volume = Volume::formatted(alloc)?;
     let path = || Path::read(alloc, b"/f");
     let create = Call::Create(path()?);
-    assert!(rt; matches!(reply(alloc, &mut v, &create)?, Reply::Ok));
-    let again = reply(alloc, &mut v, &create)?;
+    assert!(rt; matches!(reply(alloc, &mut volume, &create)?, Reply::Ok));
+    let again = reply(alloc, &mut volume, &create)?;
     assert!(rt; matches!(again, Reply::Refused(Refusal::Exists)));
     let bytes = List::of(vec![in alloc; 104u8, 105]?);
     let write = Call::Write(path()?, 1, bytes);
-    assert!(rt; matches!(reply(alloc, &mut v, &write)?, Reply::Ok));
-    let Reply::Data(bytes) = reply(alloc, &mut v, &Call::Read(path()?, 0, 9))? else {
+    assert!(rt; matches!(reply(alloc, &mut volume, &write)?, Reply::Ok));
+    let Reply::Data(bytes) = reply(alloc, &mut volume, &Call::Read(path()?, 0, 9))? else {
         assert!(rt; false);
         return Ok(());
     };
     assert!(rt; bytes.as_slice() == [0, 104, 105].as_slice());
-    let stat = reply(alloc, &mut v, &Call::Stat(path()?))?;
+    let stat = reply(alloc, &mut volume, &Call::Stat(path()?))?;
     assert!(rt;
         matches!(
             stat,

@@ -7,7 +7,7 @@ use Rattle.ec_base.specs.declared.counter.Counter.TheVariants as counter
 use Rattle.ec_base.specs.declared.ids.Age.{Age}
 use Rattle.ec_base.specs.declared.ids.Hold.{Hold}
 use Rattle.ec_base.specs.declared.ids.Hold.TheVariants.{Free, Write}
-use Rattle.ec_volume.specs.Update.{operands, fits, is_sound}
+use Rattle.ec_volume.specs.Update.{operands, fits, is_sound, is_make}
 use Rattle.ec_volume.specs.declared.image.Image.TheVariants as image
 use Rattle.ec_volume.specs.declared.update.Update.{Update}
 use Rattle.ec_plain.specs.declared.call.Call.{Call}
@@ -33,7 +33,7 @@ use Rattle.ec_log.specs.declared.state.Pick.{Pick}
 use Rattle.ec_log.specs.declared.state.Pick.TheVariants as pick_of
 use Rattle.ec_log.specs.declared.state.LogState.{LogState}
 use Rattle.ec_report.specs.Report.{owe, clear}
-use Rattle.ec_resolve.specs.Resolve.{evaluate, is_make}
+use Rattle.ec_resolve.specs.Resolve.{evaluate}
 use Rattle.ec_resolve.specs.declared.verdict.Verdict.{Verdict}
 use Rattle.ec_resolve.specs.declared.verdict.Verdict.TheVariants.{Need, Lost, NeedIds, Done}
 use Rattle.ec_protocol.specs.declared.clerk.Clerk.{Clerk}

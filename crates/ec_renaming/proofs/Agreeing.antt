@@ -9,7 +9,7 @@ use Rattle.ec_volume.specs.declared.update.Update.TheVariants.{Make, Drop, Move,
 use Rattle.ec_plain.specs.declared.call.Outcome.{Outcome}
 use Rattle.ec_order.specs.Order.{before}
 use Rattle.ec_history.specs.History.{Base, History, Op, updates, of_start, is_one_of, outcome, kept, without, touched}
-use Rattle.ec_history.specs.Legal.{is_make, is_call_of_other, leaves, is_closed}
+use Rattle.ec_history.specs.Legal.{is_making, is_call_of_other, leaves, is_closed}
 use Rattle.ec_history.specs.Lines.{durable, durable_ops}
 use Rattle.ec_history.specs.Placing.{place}
 use Rattle.ec_history.specs.declared.entry.Entry.{Entry}
@@ -29,7 +29,7 @@ module _ (r : ℕ → ℕ) (ren : IsRenaming r) where
   some-at None = refl
   some-at (Some u) = refl
 
-  make-at : (u : Option Update) → is_make (issued_update_by r u) ≡ is_make u
+  make-at : (u : Option Update) → is_making (issued_update_by r u) ≡ is_making u
   make-at None = refl
   make-at (Some (Make d n o k)) = refl
   make-at (Some (Drop d n o k)) = refl
@@ -47,7 +47,7 @@ module _ (r : ℕ → ℕ) (ren : IsRenaming r) where
       record {
         reply = ap (λ x. x.reply) e;
         issues = ap (λ x. is_some x.update) e ∙ some-at out.update;
-        makes = ap (λ x. is_make x.update) e ∙ make-at out.update;
+        makes = ap (λ x. is_making x.update) e ∙ make-at out.update;
       }
 
   -- an operation's operands were touched where the renamed ones were

@@ -6,7 +6,7 @@ use Rattle.ec_volume.specs.Volume.{Images, Fits, HaveOneShape, after}
 use Rattle.ec_plain.specs.declared.call.Call.{Call}
 use Rattle.ec_plain.specs.declared.call.Outcome.{Outcome}
 use Rattle.ec_history.specs.History.{Base, History, updates, of_start, is_one_of, outcome, kept, without, Throughout, Each, Covers, due}
-use Rattle.ec_history.specs.Legal.{is_make, IsFull, IsReply, IsReported, leaves, is_closed, IsLawful, IsLegalNext, IsLegal}
+use Rattle.ec_history.specs.Legal.{is_making, IsFull, IsReply, IsReported, leaves, is_closed, IsLawful, IsLegalNext, IsLegal}
 use Rattle.ec_history.specs.Lines.{IsCovered, AreCovered, durable_ops, IsStored}
 use Rattle.ec_history.specs.Placing.{place}
 use Rattle.ec_history.specs.declared.entry.Answer.{Answer}
@@ -29,7 +29,7 @@ each-map P Q f (x ∷ xs) h = (f x h.0, each-map P Q f xs h.1)
 pub record OutcomesAgree (out now : Outcome) : Type 0 where
   pub reply : now.reply ≡ out.reply
   pub issues : is_some now.update ≡ is_some out.update
-  pub makes : is_make now.update ≡ is_make out.update
+  pub makes : is_making now.update ≡ is_making out.update
 
 full-as : (most : ℕ) (out now : Outcome) (a : Answer) → OutcomesAgree out now → IsFull most out a → IsFull most now a
 full-as most out now (answer.NoRoom l m) like h = (subst T (sym like.makes) h.0, h.1)

@@ -4,9 +4,10 @@ use Rattle.std.specs.Prelude.{◌==◌}
 use Rattle.std.specs.List.{filter}
 use Rattle.std.proofs.lemmas.List.{map-append}
 use Rattle.ec_volume.specs.Update.{operands}
+use Rattle.ec_plain.specs.Plain.{is_sync}
 use Rattle.ec_plain.specs.declared.call.Call.{Call}
 use Rattle.ec_plain.specs.declared.call.Outcome.{Outcome}
-use Rattle.ec_history.specs.History.{Base, History, Op, same_start, is_one_of, outcome, kept_next, kept, Owed, is_sync, pairs_of, meets, owed_next, owed_from, owed, distinct_numbers, due}
+use Rattle.ec_history.specs.History.{Base, History, Op, same_start, is_one_of, outcome, kept_next, kept, Owed, pairs_of, meets, owed_next, owed_from, owed, distinct_numbers, due}
 use Rattle.ec_history.specs.declared.entry.Entry.{Entry}
 use Rattle.ec_history.specs.declared.entry.Entry.TheVariants as entry
 use Rattle.ec_renaming.specs.Renaming.{IsRenaming, AreRenamed, outcome_by, op_by, owed_by}

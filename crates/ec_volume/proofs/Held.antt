@@ -12,7 +12,8 @@ use Rattle.ec_base.specs.Sorted.{without}
 use Rattle.ec_volume.specs.Entries.{Entries}
 use Rattle.ec_volume.specs.Image.{is_gone, with_entries}
 use Rattle.ec_volume.specs.Volume.{images}
-use Rattle.ec_volume.specs.Held.{IsVolume, is_held, instead, cleared}
+use Rattle.ec_volume.specs.Held.{IsVolume, is_held}
+use Rattle.ec_volume.specs.Carry.{instead, cleared}
 use Rattle.ec_volume.specs.declared.image.Image.{Image}
 use Rattle.ec_volume.specs.declared.image.Image.TheVariants.{Gone, File, Dir}
 use Rattle.ec_base.specs.SortedLaws.{first, second, both, find-without, put-put, put-found, without-put_new}
@@ -48,7 +49,7 @@ images-without k es p =
 -- Images that a volume holds.
 
 module _ (test : (ℕ × Image) → Bool) where
-  all-put : (k : ℕ) (i : Image) (es : List (ℕ × Image)) → ((o : ℕ) → T (test (o, i))) → T (list_all test es) → T (list_all test (put nat_cmp k i es))
+  pub all-put : (k : ℕ) (i : Image) (es : List (ℕ × Image)) → ((o : ℕ) → T (test (o, i))) → T (list_all test es) → T (list_all test (put nat_cmp k i es))
   all-put k i [] h a = both _ _ (h k) tt
   all-put k i (e ∷ es) h a =
       elim (nat_cmp k e.0) as (λ r. T (list_all test (by_order r ((k, i) ∷ e ∷ es) ((e.0, i) ∷ es) (e ∷ put nat_cmp k i es)))) [
@@ -57,7 +58,7 @@ module _ (test : (ℕ × Image) → Bool) where
         | Greater ↦ both _ _ (first _ _ a) (all-put k i es h (second _ _ a))
       ]
 
-  all-where_key : (p : ℕ → Bool) (es : List (ℕ × Image)) → T (list_all test es) → T (list_all test (where_key nat_cmp p es))
+  pub all-where_key : (p : ℕ → Bool) (es : List (ℕ × Image)) → T (list_all test es) → T (list_all test (where_key nat_cmp p es))
   all-where_key p [] a = a
   all-where_key p (e ∷ es) a =
       let rest = all-where_key p es (second _ _ a) in

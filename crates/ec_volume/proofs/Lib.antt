@@ -3,4 +3,6 @@ pub mod Bytes
 pub mod Distinct
 pub mod Held
 pub mod Shift
-pub mod Limits
+pub mod Within
+pub mod Changed
+pub mod Fitting

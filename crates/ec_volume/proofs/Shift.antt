@@ -7,7 +7,7 @@ use Rattle.ec_volume.specs.Entries.{without_entry, with_entry}
 use Rattle.ec_volume.specs.Image.{is_gone, is_dir, is_id, gives, yields, with_entries}
 use Rattle.ec_volume.specs.Update.{Above, operands, first_unfit, fits, effect, leads, has_room, has_operand, member, distinct, listed, ids_of, is_within, is_sound}
 use Rattle.ec_volume.specs.Volume.{Images, image_next}
-use Rattle.ec_volume.specs.Held.{instead, cleared}
+use Rattle.ec_volume.specs.Carry.{instead, cleared}
 use Rattle.ec_volume.specs.declared.image.Kind.{Kind}
 use Rattle.ec_volume.specs.declared.image.Image.{Image}
 use Rattle.ec_volume.specs.declared.image.Image.TheVariants.{Gone, File, Dir}

@@ -1,11 +1,14 @@
--- The list of ids and images that a volume holds, and faults of its changes.
-use Rattle.std.specs.Prelude.{◌≡◌, ◌==◌, ◌&&◌, if◌then◌else◌, ℕ, Bool, false, nat_le, T, List, length, Option, None, Some}
+-- The list of ids and images that a volume holds, what an update leaves of it, and faults of its changes.
+use Rattle.std.specs.Prelude.{◌≡◌, ◌==◌, ◌&&◌, if◌then◌else◌, ℕ, Bool, false, nat_le, T, List, [], ◌∷◌, length, Option, None, Some}
 use Rattle.std.specs.List.{list_all}
 use Rattle.std.specs.Ordering.{nat_cmp}
 use Rattle.std.specs.FinMap.{is_sorted}
+use Rattle.ec_base.specs.Tables.{Table, put, without}
+use Rattle.ec_volume.specs.Limits.{max_file_bytes, max_entries, max_mode}
 use Rattle.ec_volume.specs.Entries.{by_bytes}
-use Rattle.ec_volume.specs.Update.{operands, first_unfit}
-use Rattle.ec_volume.specs.Volume.{Images}
+use Rattle.ec_volume.specs.Image.{is_gone}
+use Rattle.ec_volume.specs.Update.{operands, effect, first_unfit}
+use Rattle.ec_volume.specs.Volume.{Images, images}
 use Rattle.ec_volume.specs.declared.image.Image.{Image}
 use Rattle.ec_volume.specs.declared.image.Image.TheVariants.{Gone, File, Dir}
 use Rattle.ec_volume.specs.declared.update.Update.{Update}
@@ -15,24 +18,29 @@ use Rattle.ec_volume.specs.declared.volume.ApplyFault.TheVariants as fault
 -- live, and within the limits of modes, bytes and entries
 abbrev pub is_held : Image → Bool
 is_held Gone = false
-is_held (File m s w bs) = nat_le m 4095 && nat_le (length bs) 65536
-is_held (Dir m s w es) = nat_le m 4095 && nat_le (length es) 128 && is_sorted by_bytes es
+is_held (File m s w bs) = nat_le m max_mode && nat_le (length bs) max_file_bytes
+is_held (Dir m s w es) = nat_le m max_mode && nat_le (length es) max_entries && is_sorted by_bytes es
 
 -- The ids rise, no image is Gone, and each one is within the limits.
 pub record IsVolume (es : List (ℕ × Image)) : Type 0 where
   pub sorted : T (is_sorted nat_cmp es)
   pub held : T (list_all (λ e. is_held e.1) es)
 
+-- The list behind an update.
+
+-- the image of a live object, or none
+abbrev pub with_image : ℕ → Image → Table Image → Table Image
+with_image o i es = if is_gone i then without o es else put o i es
+
+abbrev pub changed_at : Update → List ℕ → Table Image → Table Image
+changed_at u [] es = es
+changed_at u (o ∷ os) es = changed_at u os (with_image o (effect u o (images es o)) es)
+
+-- the volume behind an update of distinct operands
+abbrev pub changed : Update → Table Image → Table Image
+changed u es = changed_at u (operands u) es
+
 -- a fault that names an object names the first operand at which the update doesn't fit
 abbrev pub Unfits : ApplyFault → Update → Images → Type 0
 Unfits (fault.Unfit o) u v = first_unfit u v (operands u) ≡ Some o
 Unfits fault.NoMemory u v = Unit {0}
-
--- the volume with another image of the object
-abbrev pub instead : ℕ → Image → Images → Images
-instead o i v p = if p == o then i else v p
-
--- the volume without an object that goes, if any
-abbrev pub cleared : Option ℕ → Images → Images
-cleared None v p = v p
-cleared (Some o) v p = if p == o then Gone else v p

@@ -1,6 +1,7 @@
 -- What an update tests and changes, at each operand by itself.
-use Rattle.std.specs.Prelude.{◌==◌, ◌+◌, ℕ, Bool, true, not, ◌&&◌, ◌||◌, if◌then◌else◌, nat_lt, nat_le, List, [], ◌∷◌, ◌++◌, map, length, Option, None, Some, is_some}
+use Rattle.std.specs.Prelude.{◌==◌, ◌+◌, ℕ, Bool, true, false, not, ◌&&◌, ◌||◌, if◌then◌else◌, nat_lt, nat_le, List, [], ◌∷◌, ◌++◌, map, length, Option, None, Some, is_some}
 use Rattle.std.specs.List.{filter, list_any}
+use Rattle.ec_volume.specs.Limits.{max_file_bytes, max_entries, max_mode, max_write_bytes, max_ordered, max_above}
 use Rattle.ec_volume.specs.Entries.{with_entry, without_entry, same_name}
 use Rattle.ec_volume.specs.Image.{entries_of, bytes_of, is_gone, is_file, is_kind, is_id, lacks, gives, is_bare, yields, resized, overwritten, with_bytes, with_entries, with_mode, with_stamp, with_owner, new_object}
 use Rattle.ec_volume.specs.declared.image.Kind.{Kind}
@@ -42,6 +43,10 @@ operands (Order objs) = objs
 operands (Shift dir from into to obj k victim up) = dir ∷ into ∷ obj ∷ listed victim ++ filter (λ o. not (o == dir)) (ids_of up)
 operands (Owner obj owner) = obj ∷ []
 
+abbrev pub is_make : Update → Bool
+is_make (Make dir name obj k) = true
+is_make _ = false
+
 abbrev pub has_operand : ℕ → Update → Bool
 has_operand o u = member o (operands u)
 
@@ -57,13 +62,13 @@ abbrev pub leads : Above → ℕ → ℕ → Image → Bool
 leads [] into o i = true
 leads (e ∷ up) into o i = (not (o == e.0) || gives e.1 (first_of up into) i) && leads up into o i
 
--- room for the new name: there is a victim, or fewer than 128 entries
+-- room for the new name: there is a victim, or fewer entries than a directory may have
 abbrev pub has_room : Option ℕ → Image → Bool
-has_room victim i = is_some victim || nat_lt (length (entries_of i)) 128
+has_room victim i = is_some victim || nat_lt (length (entries_of i)) max_entries
 
 -- Whether the update fits the image i of its operand o.
 abbrev pub fits : Update → ℕ → Image → Bool
-fits (Make dir name obj k) o i = if o == dir then lacks name i && nat_lt (length (entries_of i)) 128 else is_gone i
+fits (Make dir name obj k) o i = if o == dir then lacks name i && nat_lt (length (entries_of i)) max_entries else is_gone i
 fits (Drop dir name obj k) o i = if o == dir then gives name obj i else is_bare k i
 fits (Move dir from to obj k victim) o i = if o == dir then gives from obj i && yields to victim i else (if o == obj then is_kind k i else is_bare k i)
 fits (Put obj at bytes inside) o i = is_file i && (not inside || nat_le (at + length bytes) (length (bytes_of i)))
@@ -112,17 +117,17 @@ abbrev pub is_way : Kind → ℕ → Above → Bool
 is_way kind.File into up = length up == 0
 is_way kind.Dir into up =
     if into == root then length up == 0
-    else nat_le 1 (length up) && nat_le (length up) 15 && (first_of up into == root)
+    else nat_le 1 (length up) && nat_le (length up) max_above && (first_of up into == root)
 
 abbrev pub is_within : Update → Bool
 is_within (Make dir name obj k) = true
 is_within (Drop dir name obj k) = true
 is_within (Move dir from to obj k victim) = not (same_name from to)
-is_within (Put obj at bytes inside) = nat_le 1 (length bytes) && nat_le (length bytes) 4096 && nat_le (at + length bytes) 65536
-is_within (Len obj len) = nat_le len 65536
-is_within (Mode obj mode) = nat_le mode 4095
+is_within (Put obj at bytes inside) = nat_le 1 (length bytes) && nat_le (length bytes) max_write_bytes && nat_le (at + length bytes) max_file_bytes
+is_within (Len obj len) = nat_le len max_file_bytes
+is_within (Mode obj mode) = nat_le mode max_mode
 is_within (Stamp obj stamp) = true
-is_within (Order objs) = nat_le 1 (length objs) && nat_le (length objs) 8
+is_within (Order objs) = nat_le 1 (length objs) && nat_le (length objs) max_ordered
 is_within (Shift dir from into to obj k victim up) = distinct (ids_of up) && is_way k into up
 is_within (Owner obj owner) = true
 

@@ -2,7 +2,7 @@
 use Rattle.std.specs.Prelude.{◌≡◌, ◌≢◌, ◌==◌, ℕ, T, Bool, true, not, ◌&&◌, ◌||◌, if◌then◌else◌, List, [], ◌∷◌, Option, None, Some}
 use Rattle.std.specs.FinMap.{is_sorted}
 use Rattle.ec_volume.specs.Entries.{by_bytes, entry}
-use Rattle.ec_volume.specs.Image.{is_gone, is_dir, entries_of}
+use Rattle.ec_volume.specs.Image.{is_gone, is_dir, entries_of, new_object}
 use Rattle.ec_volume.specs.Update.{root, has_operand, fits, effect}
 use Rattle.ec_volume.specs.declared.image.Kind.{Kind}
 use Rattle.ec_volume.specs.declared.image.Kind.TheVariants as kind
@@ -21,7 +21,7 @@ images (e ∷ es) o = if o == e.0 then e.1 else images es o
 
 -- the formatted volume: the root alone, an empty directory
 abbrev pub formatted : Images
-formatted o = if o == root then Dir 493 0 0 [] else Gone
+formatted o = if o == root then new_object kind.Dir else Gone
 
 -- The image of the object o behind one more update, and behind a list of them.
 

@@ -6,19 +6,15 @@ ghost use Rattle.ec_volume.specs.Entries.{without_entry};
 ghost use Rattle.ec_volume.specs.Image.{is_gone, with_entries, new_object};
 ghost use Rattle.ec_volume.specs.Update.{is_sound, operands, first_unfit, fits, effect};
 ghost use Rattle.ec_volume.specs.Volume.{images, after};
-ghost use Rattle.ec_volume.specs.Held.{IsVolume, is_held, instead, cleared};
+ghost use Rattle.ec_volume.specs.Held.{IsVolume, is_held};
+ghost use Rattle.ec_volume.specs.Carry.{instead, cleared};
 
 use crate::image::{Image, Kind};
 use crate::update::Update;
 use ec_base::{Name, NoMemory, ObjId, SortedMap};
-use std::alloc::Global;
 
 /// Carries out an update that fits. What may want memory comes first.
-pub(crate) fn carry_out(
-    map: &mut SortedMap<ObjId, Image>,
-    alloc: Global,
-    update: &Update,
-) -> Result<(), NoMemory>
+pub(crate) fn carry_out(map: &mut SortedMap<ObjId, Image>, update: &Update) -> Result<(), NoMemory>
     requires volume { IsVolume map.old }
     requires sound { T (is_sound update.now) }
     requires fits { first_unfit update.now (images map.old) (operands update.now) ≡ None }
@@ -27,14 +23,14 @@ pub(crate) fn carry_out(
     ensures err { OnErr result (map.new ≡ map.old) }
 {
     match update {
-        Update::Make { dir, obj, kind, .. } => make(map, alloc, update, *dir, *obj, *kind),
+        Update::Make { dir, obj, kind, .. } => make(map, update, *dir, *obj, *kind),
         Update::Drop { dir, name, obj, .. } => {
             unlink(map, *dir, name);
             clear(map, Some(*obj));
             Ok(())
         }
         Update::Move { dir, victim, .. } => {
-            change(map, alloc, update, *dir)?;
+            change(map, update, *dir)?;
             clear(map, *victim);
             Ok(())
         }
@@ -42,7 +38,7 @@ pub(crate) fn carry_out(
         | Update::Len { obj, .. }
         | Update::Mode { obj, .. }
         | Update::Stamp { obj, .. }
-        | Update::Owner { obj, .. } => change(map, alloc, update, *obj),
+        | Update::Owner { obj, .. } => change(map, update, *obj),
         Update::Order { .. } => Ok(()),
         Update::Shift {
             dir,
@@ -51,7 +47,7 @@ pub(crate) fn carry_out(
             victim,
             ..
         } => {
-            change(map, alloc, update, *into)?;
+            change(map, update, *into)?;
             unlink(map, *dir, from);
             clear(map, *victim);
             Ok(())
@@ -62,7 +58,6 @@ pub(crate) fn carry_out(
 // A new object, and what the update makes of its directory.
 fn make(
     map: &mut SortedMap<ObjId, Image>,
-    alloc: Global,
     update: &Update,
     dir: ObjId,
     obj: ObjId,
@@ -79,8 +74,9 @@ fn make(
     ensures volume { IsVolume map.new }
     ensures err { OnErr result (map.new ≡ map.old) }
 {
+    let alloc = *map.allocator();
     add(map, obj, Image::new_object(alloc, kind))?;
-    let done = change(map, alloc, update, dir);
+    let done = change(map, update, dir);
     if done.is_err() {
         map.remove(&obj);
     }
@@ -99,12 +95,7 @@ fn add(map: &mut SortedMap<ObjId, Image>, obj: ObjId, image: Image) -> Result<()
 }
 
 // What the update makes of an object that neither comes nor goes.
-fn change(
-    map: &mut SortedMap<ObjId, Image>,
-    alloc: Global,
-    update: &Update,
-    id: ObjId,
-) -> Result<(), NoMemory>
+fn change(map: &mut SortedMap<ObjId, Image>, update: &Update, id: ObjId) -> Result<(), NoMemory>
     requires volume { IsVolume map.old }
     requires sound { T (is_sound update.now) }
     requires fits { fits update.now id (images map.old id) ≡ true }
@@ -114,6 +105,7 @@ fn change(
     ensures volume { IsVolume map.new }
     ensures err { OnErr result (map.new ≡ map.old) }
 {
+    let alloc = *map.allocator();
     let mut image = take(map, id);
     let done = image.effect(alloc, update, id);
     give(map, id, image);

@@ -1,8 +1,10 @@
 // What an update makes of the image of one of its operands.
-ghost use Rattle.std.specs.Prelude.{◌≡◌, ◌+◌, ◌-◌, ◌≤◌, ◌++◌, T, false, length, take, drop, replicate, OnOk, OnErr};
+ghost use Rattle.std.specs.Prelude.{◌≡◌, ◌+◌, ◌-◌, ◌≤◌, ◌++◌, ℕ, T, false, length, take, drop, replicate, OnOk, OnErr};
 ghost use Rattle.ec_volume.specs.Entries.{same_name, with_entry, without_entry};
 ghost use Rattle.ec_volume.specs.Image.{resized, overwritten, with_bytes, with_entries, with_mode, with_stamp, with_owner};
+ghost use Rattle.ec_volume.specs.Limits.{max_file_bytes};
 ghost use Rattle.ec_volume.specs.Update.{is_sound, effect};
+ghost use Rattle.ec_volume.specs.Carry.{renames};
 
 use crate::image::{Image, is_id};
 use crate::update::Update;
@@ -50,15 +52,6 @@ impl Image {
                     *self = Image::Gone;
                 }
             }
-            Update::Put {
-                at: place,
-                bytes,
-                ..
-            } => return self.overwrite(alloc, *place as usize, bytes.as_slice()),
-            Update::Len { len, .. } => return self.resize(alloc, *len as usize),
-            Update::Mode { mode, .. } => self.set_mode(*mode),
-            Update::Stamp { stamp, .. } => self.set_stamp(*stamp),
-            Update::Order { .. } => {}
             Update::Shift {
                 dir,
                 from,
@@ -76,7 +69,27 @@ impl Image {
                     *self = Image::Gone;
                 }
             }
+            _ => return self.change_itself(alloc, update),
+        }
+        Ok(())
+    }
+
+    // What an update of the object's own parts makes of its image.
+    fn change_itself(&mut self, alloc: Global, update: &Update) -> Result<(), NoMemory>
+        requires sound { T (is_sound update.now) }
+        requires itself { renames update.now ≡ false }
+        ensures ok { OnOk result ((id : ℕ) → self.new ≡ effect update.now id self.old) }
+        ensures err { OnErr result (self.new ≡ self.old) }
+    {
+        match update {
+            Update::Put { at, bytes, .. } => {
+                return self.overwrite(alloc, *at as usize, bytes.as_slice());
+            }
+            Update::Len { len, .. } => return self.resize(alloc, *len as usize),
+            Update::Mode { mode, .. } => self.set_mode(*mode),
+            Update::Stamp { stamp, .. } => self.set_stamp(*stamp),
             Update::Owner { owner, .. } => self.set_owner(*owner),
+            _ => {}
         }
         Ok(())
     }
@@ -112,7 +125,7 @@ impl Image {
     }
 
     fn overwrite(&mut self, alloc: Global, at: usize, new: &[u8]) -> Result<(), NoMemory>
-        requires { at + length new.now ≤ 65536 }
+        requires { at + length new.now ≤ max_file_bytes }
         ensures ok { OnOk result (self.new ≡ with_bytes (overwritten at new.now) self.old) }
         ensures err { OnErr result (self.new ≡ self.old) }
     {
@@ -184,7 +197,7 @@ fn resize(bytes: &mut Vec<u8>, len: usize) -> Result<(), NoMemory>
 
 // New bytes at a place, in the place of those that stand there.
 fn overwrite(bytes: &mut Vec<u8>, at: usize, new: &[u8]) -> Result<(), NoMemory>
-    requires { at + length new.now ≤ 65536 }
+    requires { at + length new.now ≤ max_file_bytes }
     ensures ok { OnOk result (bytes.new.items ≡ overwritten at new.now bytes.old.items) }
     ensures err { OnErr result (bytes.new.items ≡ bytes.old.items) }
 {

@@ -1,9 +1,11 @@
 // Whether an update fits the image of one of its operands.
-ghost use Rattle.std.specs.Prelude.{◌≡◌, ◌==◌, ◌&&◌, ◌||◌, not, if◌then◌else◌};
+ghost use Rattle.std.specs.Prelude.{false, ◌≡◌, ◌==◌, ◌&&◌, ◌||◌, not, if◌then◌else◌};
 ghost use Rattle.ec_volume.specs.Image.{is_kind, is_bare, is_id, yields};
 ghost use Rattle.ec_volume.specs.Update.{fits, first_of, leads, has_room};
+ghost use Rattle.ec_volume.specs.Carry.{renames};
 
 use crate::image::{Image, Kind, is_id};
+use crate::limits::MAX_ENTRIES;
 use crate::update::Update;
 use ec_base::{Name, ObjId};
 
@@ -15,7 +17,7 @@ impl Image {
         match update {
             Update::Make { dir, name, .. } => {
                 if at == *dir {
-                    self.lacks(name) && self.entry_count() < 128
+                    self.lacks(name) && self.entry_count() < MAX_ENTRIES
                 } else {
                     self.is_gone()
                 }
@@ -48,20 +50,6 @@ impl Image {
                     self.is_bare(*kind)
                 }
             }
-            Update::Put {
-                at: place,
-                bytes,
-                inside,
-                ..
-            } => {
-                self.is_file()
-                    && (!*inside || *place as usize + bytes.as_slice().len() <= self.byte_count())
-            }
-            Update::Len { .. } => self.is_file(),
-            Update::Mode { .. }
-            | Update::Stamp { .. }
-            | Update::Order { .. }
-            | Update::Owner { .. } => !self.is_gone(),
             Update::Shift {
                 dir,
                 from,
@@ -82,6 +70,27 @@ impl Image {
                     self.moves(at, *obj, *kind, *victim)
                 }
             }
+            _ => self.fits_itself(update, at),
+        }
+    }
+
+    // Whether the update of an object's own parts fits this image of it.
+    fn fits_itself(&self, update: &Update, at: ObjId) -> bool
+        requires { renames update.now ≡ false }
+        ensures { result ≡ fits update.now at self.now }
+    {
+        match update {
+            Update::Put {
+                at: place,
+                bytes,
+                inside,
+                ..
+            } => {
+                self.is_file()
+                    && (!*inside || *place as usize + bytes.as_slice().len() <= self.byte_count())
+            }
+            Update::Len { .. } => self.is_file(),
+            _ => !self.is_gone(),
         }
     }
 
@@ -102,7 +111,7 @@ impl Image {
     fn has_room(&self, victim: Option<ObjId>) -> bool
         ensures { result ≡ has_room victim self.now }
     {
-        victim.is_some() || self.entry_count() < 128
+        victim.is_some() || self.entry_count() < MAX_ENTRIES
     }
 
     // The object that moves, or its victim.

@@ -4,6 +4,7 @@ ghost use Rattle.ec_volume.specs.Entries.{entry};
 ghost use Rattle.ec_volume.specs.Image.{is_gone, is_file, is_dir, is_kind, entries_of, bytes_of, is_id, lacks, gives, is_bare, yields, new_object};
 
 use crate::entries::Entries;
+use crate::limits::{DIR_MODE, FILE_MODE};
 use ec_base::{Duplicate, List, Name, NoMemory, ObjId};
 use std::alloc::Global;
 
@@ -14,8 +15,8 @@ pub enum Kind {
     Dir,
 }
 
-/// What stands under an id. A mode is at most 0o7777, a file has at most 65,536 bytes, a
-/// directory at most 128 entries.
+/// What stands under an id. A mode is at most `MAX_MODE`, a file has at most `MAX_FILE_BYTES` bytes
+/// and a directory at most `MAX_ENTRIES` entries.
 #[derive(Debug, Drop)]
 pub enum Image {
     Gone,
@@ -40,13 +41,13 @@ impl Image {
     {
         match kind {
             Kind::File => Image::File {
-                mode: 0o644,
+                mode: FILE_MODE,
                 stamp: 0,
                 owner: 0,
                 bytes: List::of(Vec::new(alloc)),
             },
             Kind::Dir => Image::Dir {
-                mode: 0o755,
+                mode: DIR_MODE,
                 stamp: 0,
                 owner: 0,
                 entries: Entries::new(alloc),

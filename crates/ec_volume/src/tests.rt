@@ -2,7 +2,7 @@
 ghost use Rattle.std.specs.Prelude.{T, IfOk};
 ghost use Rattle.ec_volume.specs.Update.{is_sound};
 
-use crate::{ApplyFault, Entries, Image, Kind, Update, Volume, operands};
+use crate::{ApplyFault, Entries, Image, Kind, Look, Update, Volume, operands};
 use ec_base::{Duplicate, Name, ObjId};
 use std::alloc::Global;
 use std::test::Fail;
@@ -18,6 +18,10 @@ fn make(alloc: Global) -> Result<Update, Fail>
     })
 }
 
+fn is_live<V: Look>(volume: &V, id: ObjId) -> bool {
+    volume.look(id).is_some()
+}
+
 #[test]
 fn applies_once(rt: HostRuntime) -> Result<(), Fail> {
     let alloc = rt.alloc();
@@ -26,9 +30,9 @@ fn applies_once(rt: HostRuntime) -> Result<(), Fail> {
     let update = make(alloc)?;
     assert!(rt; update.sound());
     assert!(rt; operands(alloc, &update)?.len() == 2);
-    assert!(rt; volume.apply(alloc, &update).is_ok());
-    assert!(rt; volume.live() == 2);
-    assert!(rt; volume.apply(alloc, &update.duplicate()?) == Err(ApplyFault::Unfit(root)));
+    assert!(rt; volume.apply(&update).is_ok());
+    assert!(rt; volume.live() == 2 && is_live(&volume, root));
+    assert!(rt; volume.apply(&update.duplicate()?) == Err(ApplyFault::Unfit(root)));
     let volume = volume.duplicate()?;
     assert!(rt; volume.live() == 2);
     assert!(rt; matches!(volume.look(root), Some(Image::Dir { mode: 0o755, .. })));

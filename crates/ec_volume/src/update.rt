@@ -1,10 +1,12 @@
 // Changes of objects.
-ghost use Rattle.std.specs.Prelude.{◌≡◌, ◌==◌, ◌&&◌, true, not, [], ◌∷◌, ◌++◌, IfOk, OnOk};
+ghost use Rattle.std.specs.Prelude.{◌≡◌, ◌==◌, ◌&&◌, true, false, not, [], ◌∷◌, ◌++◌, IfOk, OnOk};
 ghost use Rattle.std.specs.List.{filter, list_any};
 ghost use Rattle.ec_volume.specs.Entries.{same_name};
 ghost use Rattle.ec_volume.specs.Update.{listed, member, ids_of, operands, first_of, distinct, is_way, is_within, is_sound};
+ghost use Rattle.ec_volume.specs.Carry.{renames};
 
 use crate::image::Kind;
+use crate::limits::{MAX_ABOVE, MAX_FILE_BYTES, MAX_MODE, MAX_ORDERED, MAX_WRITE_BYTES};
 use ec_base::{Duplicate, List, Name, NoMemory, ObjId};
 use std::alloc::Global;
 
@@ -103,14 +105,14 @@ impl Update {
             }
             Update::Put { at, bytes, .. } => {
                 let len = bytes.as_slice().len();
-                1 <= len && len <= 4096 && *at as usize + len <= 65536
+                1 <= len && len <= MAX_WRITE_BYTES && *at as usize + len <= MAX_FILE_BYTES
             }
-            Update::Len { len, .. } => *len <= 65536,
-            Update::Mode { mode, .. } => *mode <= 4095,
+            Update::Len { len, .. } => *len as usize <= MAX_FILE_BYTES,
+            Update::Mode { mode, .. } => *mode <= MAX_MODE,
             Update::Stamp { .. } | Update::Owner { .. } => true,
             Update::Order { objs } => {
                 let objs = objs.as_slice();
-                distinct(objs) && 1 <= objs.len() && objs.len() <= 8
+                distinct(objs) && 1 <= objs.len() && objs.len() <= MAX_ORDERED
             }
             Update::Shift {
                 dir,
@@ -218,7 +220,7 @@ fn is_way(kind: Kind, into: ObjId, up: &[(ObjId, Name)]) -> bool
         Kind::Dir if into == ObjId::root() => up.is_empty(),
         Kind::Dir => match up {
             [] => false,
-            [(first, _), ..] => up.len() <= 15 && *first == ObjId::root(),
+            [(first, _), ..] => up.len() <= MAX_ABOVE && *first == ObjId::root(),
         },
     }
 }
@@ -324,32 +326,6 @@ impl Duplicate for Update {
                 kind: *kind,
                 victim: *victim,
             },
-            Update::Put {
-                obj,
-                at,
-                bytes,
-                inside,
-            } => Update::Put {
-                obj: *obj,
-                at: *at,
-                bytes: bytes.duplicate()?,
-                inside: *inside,
-            },
-            Update::Len { obj, len } => Update::Len {
-                obj: *obj,
-                len: *len,
-            },
-            Update::Mode { obj, mode } => Update::Mode {
-                obj: *obj,
-                mode: *mode,
-            },
-            Update::Stamp { obj, stamp } => Update::Stamp {
-                obj: *obj,
-                stamp: *stamp,
-            },
-            Update::Order { objs } => Update::Order {
-                objs: objs.duplicate()?,
-            },
             Update::Shift {
                 dir,
                 from,
@@ -369,10 +345,47 @@ impl Duplicate for Update {
                 victim: *victim,
                 up: up.duplicate()?,
             },
-            Update::Owner { obj, owner } => Update::Owner {
-                obj: *obj,
-                owner: *owner,
-            },
+            _ => return duplicate_itself(self),
         })
     }
+}
+
+// The copy of an update of an object's own parts.
+fn duplicate_itself(update: &Update) -> Result<Update, NoMemory>
+    requires { renames update.now ≡ false }
+    ensures { IfOk result (λ copy. copy ≡ update.now) }
+{
+    Ok(match update {
+        Update::Put {
+            obj,
+            at,
+            bytes,
+            inside,
+        } => Update::Put {
+            obj: *obj,
+            at: *at,
+            bytes: bytes.duplicate()?,
+            inside: *inside,
+        },
+        Update::Len { obj, len } => Update::Len {
+            obj: *obj,
+            len: *len,
+        },
+        Update::Mode { obj, mode } => Update::Mode {
+            obj: *obj,
+            mode: *mode,
+        },
+        Update::Stamp { obj, stamp } => Update::Stamp {
+            obj: *obj,
+            stamp: *stamp,
+        },
+        Update::Order { objs } => Update::Order {
+            objs: objs.duplicate()?,
+        },
+        Update::Owner { obj, owner } => Update::Owner {
+            obj: *obj,
+            owner: *owner,
+        },
+        _ => unreachable!(),
+    })
 }

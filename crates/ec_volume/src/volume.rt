@@ -1,18 +1,18 @@
 // All objects by their ids.
 ghost use Rattle.std.specs.Prelude.{◌≡◌, ◌≤◌, ℕ, T, true, false, None, Some, [], ◌∷◌, length, not, MatchOption, IfOk, OnOk, OnErr, IfErr, slice_get, IfSome};
 ghost use Rattle.std.specs.Ordering.{nat_cmp};
-ghost use Rattle.std.specs.FinMap.{is_sorted, put};
-ghost use Rattle.ec_base.specs.Sorted.{without};
-ghost use Rattle.ec_volume.specs.Entries.{without_entry};
-ghost use Rattle.ec_volume.specs.Image.{is_gone, with_entries};
-ghost use Rattle.ec_volume.specs.Update.{is_sound, operands, first_unfit, fits, effect};
+ghost use Rattle.std.specs.FinMap.{is_sorted};
+ghost use Rattle.ec_volume.specs.Image.{is_gone, new_object};
+ghost use Rattle.ec_volume.specs.Update.{root, is_sound, operands, first_unfit, fits};
 ghost use Rattle.ec_volume.specs.Volume.{images, formatted, after};
-ghost use Rattle.ec_volume.specs.Held.{IsVolume, is_held, Unfits};
+ghost use Rattle.ec_volume.specs.declared.image.Kind.TheVariants as kind;
+ghost use Rattle.ec_volume.specs.Held.{IsVolume, is_held, changed, Unfits};
 
 use crate::carry::carry_out;
 use crate::image::{Image, Kind};
+use crate::look::Look;
 use crate::update::{Update, operands};
-use ec_base::{Duplicate, Name, NoMemory, ObjId, SortedMap};
+use ec_base::{Duplicate, NoMemory, ObjId, SortedMap};
 use std::alloc::Global;
 use std::marker::Model;
 use thiserror::Error;
@@ -59,7 +59,8 @@ impl Model for Volume {
 impl Volume {
     /// The root alone, an empty directory.
     pub fn formatted(alloc: Global) -> Result<Volume, NoMemory>
-        ensures { IfOk result (λ volume. (o : ℕ) → images volume o ≡ formatted o) }
+        ensures images { IfOk result (λ volume. (o : ℕ) → images volume o ≡ formatted o) }
+        ensures list { IfOk result (λ volume. volume ≡ (root, new_object kind.Dir) ∷ []) }
     {
         let mut map = SortedMap::new(alloc);
         map.insert(ObjId::root(), Image::new_object(alloc, Kind::Dir))?;
@@ -91,18 +92,19 @@ impl Volume {
     }
 
     /// Carries out an update where it fits each of its operands.
-    pub fn apply(&mut self, alloc: Global, update: &Update) -> Result<(), ApplyFault>
+    pub fn apply(&mut self, update: &Update) -> Result<(), ApplyFault>
         requires { T (is_sound update.now) }
         ensures ok { OnOk result ((o : ℕ) → images self.new o ≡ after (images self.old) (update.now ∷ []) o) }
+        ensures changed { OnOk result (self.new ≡ changed update.now self.old) }
         ensures fits { OnOk result (first_unfit update.now (images self.old) (operands update.now) ≡ None) }
         ensures unfit { IfErr result (λ fault. Unfits fault update.now (images self.old)) }
         ensures err { OnErr result (self.new ≡ self.old) }
     {
-        let ids = operands(alloc, update)?;
+        let ids = operands(*self.map.allocator(), update)?;
         if let Some(id) = self.first_unfit(update, &ids) {
             return Err(ApplyFault::Unfit(id));
         }
-        Ok(carry_out(&mut self.map, alloc, update)?)
+        Ok(carry_out(&mut self.map, update)?)
     }
 
     // The first of the operands at which the update doesn't fit.
@@ -124,6 +126,14 @@ impl Volume {
             Some(image) => image.fits(update, id),
             None => Image::Gone.fits(update, id),
         }
+    }
+}
+
+impl Look for Volume {
+    ghost images = { images };
+
+    fn look(&self, id: ObjId) -> Option<&Image> {
+        Volume::look(self, id)
     }
 }
 

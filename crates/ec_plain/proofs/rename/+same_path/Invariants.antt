@@ -2,4 +2,4 @@ use Rattle.std.proofs.Common.{length}
 use Rattle.ec_plain.proofs.rename.+same_path.Given as goal
 
 abbrev pub decreases-same_path : goal.decreases-same_path
-decreases-same_path l = length l.p.now
+decreases-same_path l = length l.path.now

@@ -3,10 +3,10 @@ use Rattle.std.specs.Ordering.{nat_cmp}
 use Rattle.std.specs.FinMap.{put}
 use Rattle.ec_volume.specs.Update.{effect}
 use Rattle.ec_volume.specs.Volume.{images}
-use Rattle.ec_volume.specs.Held.{instead}
+use Rattle.ec_volume.specs.Carry.{instead}
 use Rattle.ec_volume.specs.declared.image.Image.TheVariants.{Gone}
 use Rattle.ec_volume.proofs.Held.{found-put, given, given_back, changed, volume_on_ok, then_ok, then_err, image_held}
-use Rattle.ec_volume.proofs.Limits.{effect_held}
+use Rattle.ec_volume.proofs.Within.{effect_held}
 use Rattle.ec_volume.proofs.carry.change.Goals as goal
 
 pub give-requires : goal.give-requires

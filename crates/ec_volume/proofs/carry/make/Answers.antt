@@ -2,7 +2,7 @@ use Rattle.std.proofs.Common.{◌≡◌, ◌∙◌, ℕ, ap, sym}
 use Rattle.ec_volume.specs.Image.{is_gone, new_object}
 use Rattle.ec_volume.specs.Update.{fits, effect}
 use Rattle.ec_volume.specs.Volume.{images}
-use Rattle.ec_volume.specs.Held.{instead}
+use Rattle.ec_volume.specs.Carry.{instead}
 use Rattle.ec_volume.proofs.Held.{added_removed, changed, image_stays, volume_same, then_ok, then_err, on_err}
 use Rattle.ec_volume.proofs.carry.make.Goals as goal
 

@@ -6,7 +6,7 @@ use Rattle.ec_volume.specs.Image.{with_entries}
 use Rattle.ec_volume.specs.Volume.{images}
 use Rattle.ec_volume.specs.declared.image.Image.TheVariants.{Gone}
 use Rattle.ec_volume.proofs.Held.{found-put, given, changed, volume_put, image_held}
-use Rattle.ec_volume.proofs.Limits.{without_held}
+use Rattle.ec_volume.proofs.Within.{without_held}
 use Rattle.ec_volume.proofs.carry.unlink.Goals as goal
 
 pub give-requires : goal.give-requires

@@ -12,4 +12,4 @@ pub returns-clause-ok : goal.returns-clause-ok
 returns-clause-ok c = λ n ss t.
     let m' : OneClerk = record { volume = c.in_ok-self.field-0; places = c.args.self.now.places + 1; ops = 0; state = state.New } in
     let is : shown.Ended c.args.clerk c.of.result ≡ shown.Ended 0 (numbers_to c.args.self.now.ops) = λ i. shown.Ended (c.requires.clerk i) ((c.of.ensures ∙ c.in_ok-ops.ensures) i) in
-    (is, subst (λ s. IsTranscript m' n (ss ++ s ∷ [])) (sym is) (ended_step c.laws.ensures c.args.self.now m' n ss t (state_crashed c.args.self.now.state c.requires.crashed) refl c.in_ok-self.ensures refl refl))
+    (is, subst (λ s. IsTranscript m' n (ss ++ s ∷ [])) (sym is) (ended_step c.laws.ensures c.args.self.now m' n ss t (state_crashed c.args.self.now.state c.requires.crashed) refl c.in_ok-self.ensures.images refl refl))
