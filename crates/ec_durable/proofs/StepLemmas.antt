@@ -1,6 +1,6 @@
 -- Operations one by one, and slots.
 use Rattle.std.proofs.Common.{◌≡◌, ◌<◌, ◌≤◌, ◌+◌, refl, sym, ap, subst, ◌∙◌, arith, ℕ, zero, suc, Bool, true, false, ◌&&◌, cond, T, List, [], ◌∷◌, ◌++◌, length, drop, get_or, drop-cons, add-one, Option, None, Some, Result, Ok, Err}
-use Rattle.std.specs.Prelude.{◌==◌, nat_lt, nat_le}
+use Rattle.std.specs.Prelude.{◌==◌, OnOk, OnErr}
 use Rattle.ec_volume.specs.Update.{is_sound}
 use Rattle.ec_volume.specs.declared.update.Update.{Update}
 use Rattle.ec_sessions.specs.declared.slot.Slot.{Slot}
@@ -10,7 +10,9 @@ use Rattle.std.proofs.lemmas.Bool.{eqb-true, ne_eqb}
 use Rattle.ec_durable.specs.declared.state.Durable.{Durable}
 use Rattle.ec_durable.specs.declared.record.RecordFault.{RecordFault}
 use Rattle.ec_durable.specs.declared.record.RecordFault.TheVariants.{NoSession, Done, Beyond, Unfit, NotReserved, BadAge, BadNumber, NoRoom, NoMemory}
-use Rattle.ec_durable.specs.Durable.{operations, op_fault, carried_out, slot, is_next_grant, grants}
+use Rattle.ec_durable.specs.declared.record.Record.{Record}
+use Rattle.ec_durable.specs.StepLaws.{ids_stay_below}
+use Rattle.ec_durable.specs.Durable.{step, operations, op_fault, carried_out, slot, is_next_grant, grants}
 use Rattle.ec_durable.specs.Steps.{Refuses, RefusesOp, AreSoundOps, AllBelow, IdsAreBelow}
 
 pub sound_at : (ops : List (ℕ × Update)) (i : ℕ) (op : ℕ × Update) → AreSoundOps ops → i < length ops → op ≡ get_or ops i op → T (is_sound op.1)
@@ -52,14 +54,12 @@ with_slot-same clerk [] = refl
 with_slot-same zero (s ∷ table) = refl
 with_slot-same (suc clerk) (s ∷ table) = ap (λ l. s ∷ l) (with_slot-same clerk table)
 
-pub first_next : (c got first : ℕ) (d : Durable) → is_next_grant c got first d ≡ true → first ≡ d.next_id
-first_next c got first d h = eqb-true first d.next_id (go (got == grants (slot d c)) (nat_lt got 4294967295) (first == d.next_id) (nat_le first 4294967279) h)
-  where
-    go : (a b e f : Bool) → (a && b && e && f) ≡ true → e ≡ true
-    go a b e f h = grind (arith, h)
-
 pub none_unspent : (n : ℕ) (os : List ℕ) → AllBelow n os → (id : ℕ) → n ≤ id → times id os ≡ 0
 none_unspent n [] h id le = refl
 none_unspent n (o ∷ os) h id le =
     let head : times id (o ∷ os) ≡ 0 + times id os = ap (λ b. cond b 1 0 + times id os) (ne_eqb o id (λ e. absurd (omega (arith, h.0, le, e)))) in
     omega (arith, head, none_unspent n os h.1 id le)
+
+pub kept_below : (r : Result (Unit {0}) RecordFault) (change : Record) (old new : Durable) → OnOk r (step change old ≡ Ok new) → OnErr r (new ≡ old) → IdsAreBelow old → IdsAreBelow new
+kept_below (Ok v) change old new ok err h = ids_stay_below change old new h ok
+kept_below (Err f) change old new ok err h = subst IdsAreBelow (sym err) h

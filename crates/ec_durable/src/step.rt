@@ -18,6 +18,7 @@ impl Durable {
         ensures ok { OnOk result (durable.step change.now self.old ≡ Ok self.new) }
         ensures refused { IfErr result (λ fault. Refuses fault (durable.step change.now self.old)) }
         ensures err { OnErr result (self.new ≡ self.old) }
+        ensures below { IdsAreBelow self.new }
     {
         match change {
             Record::Batch(clerk, session, batch, ops) => {
@@ -101,10 +102,7 @@ impl Durable {
             return Err(RecordFault::BadNumber);
         }
         if self.is_full() {
-            return Err(RecordFault::NoRoom(
-                self.volume.live(),
-                self.sessions.reserved(),
-            ));
+            return Err(RecordFault::NoRoom(self.volume.live(), self.sessions.reserved()));
         }
         self.sessions.reserve(clerk, first)?;
         self.next_id = first.get() + 16;
@@ -220,3 +218,6 @@ fn made(update: &Update) -> Option<ObjId>
         _ => None,
     }
 }
+
+#[cfg(test)]
+mod tests;

@@ -1,7 +1,8 @@
 use Rattle.std.proofs.Common.{◌≡◌, ◌≤◌, arith, true, sym}
 use Rattle.ec_sessions.specs.Slots.{all_unspent}
 use Rattle.ec_durable.specs.Durable.{is_next_grant}
-use Rattle.ec_durable.proofs.StepLemmas.{first_next, none_unspent}
+use Rattle.ec_durable.specs.StepLaws.{first_next}
+use Rattle.ec_durable.proofs.StepLemmas.{none_unspent}
 use Rattle.ec_durable.proofs.state.Durable.grant_ids.Goals as goal
 
 pub reserve-requires-clause-new : goal.reserve-requires-clause-new
