@@ -45,7 +45,10 @@ fn carry_out<R: Abort>(
         Back(s, obj, number, to) => {
             assert!(rt; tokens.give_back(SessionNo(*s), object(rt, *obj), *number, *to));
         }
-        Wants(s, obj, hold) => recalls.want(SessionNo(*s), object(rt, *obj), *hold)?,
+        Wants(s, obj, hold) => {
+            assert!(rt; *hold != Free);
+            recalls.want(SessionNo(*s), object(rt, *obj), *hold)?
+        }
         Drop(s) => recalls.drop_session(SessionNo(*s)),
         Due(rows) => {
             let actions = recalls.due(tokens)?;
