@@ -1,5 +1,5 @@
 -- Owed mentions by operation, and by object.
-use Rattle.std.specs.Prelude.{◌≡◌, ◌==◌, ℕ, Bool, true, T, not, if◌then◌else◌, nat_lt, List, [], ◌∷◌, ◌++◌, map, filter, Option, None, Some, is_some}
+use Rattle.std.specs.Prelude.{◌≡◌, ◌==◌, ℕ, Bool, T, not, if◌then◌else◌, nat_lt, List, [], ◌∷◌, ◌++◌, filter, Option, None, Some, is_some}
 use Rattle.std.specs.List.{list_all}
 use Rattle.std.specs.List.Sorted.{IsStrictlyIncreasing}
 use Rattle.std.specs.Ordering.{nat_cmp}

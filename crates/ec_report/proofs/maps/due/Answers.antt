@@ -1,4 +1,4 @@
-use Rattle.std.proofs.Common.{◌≡◌, ◌++◌, ap, ◌∙◌, sym, append-nil, Some, None}
+use Rattle.std.proofs.Common.{◌++◌, ap, ◌∙◌, sym, append-nil, Some, None}
 use Rattle.std.proofs.lemmas.List.Filters.{dedup_is}
 use Rattle.ec_report.specs.Index.{gathered}
 use Rattle.ec_report.proofs.Rows.{gathered_step, gathered_all, due_sorted}

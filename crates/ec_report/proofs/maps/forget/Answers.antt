@@ -1,6 +1,6 @@
-use Rattle.std.proofs.Common.{◌≡◌, ap, sym, ◌∙◌, subst}
+use Rattle.std.proofs.Common.{ap, sym, ◌∙◌, subst}
 use Rattle.std.proofs.lemmas.List.{take_all}
-use Rattle.ec_report.specs.Index.{ops_of, having, stripped}
+use Rattle.ec_report.specs.Index.{ops_of}
 use Rattle.ec_report.proofs.Rows.{Stripping, stripping_none, stripping_next, all_stripped, agrees_stripped, strips_nothing}
 use Rattle.ec_report.proofs.maps.forget.Goals as goal
 

@@ -1,4 +1,4 @@
-use Rattle.std.proofs.Common.{◌≡◌, ◌==◌, ap, ◌∙◌, not, rules}
+use Rattle.std.proofs.Common.{◌==◌, ap, ◌∙◌, not, rules}
 use Rattle.std.proofs.lemmas.Fn.{filter_same}
 use Rattle.ec_report.specs.Index.{without}
 use Rattle.ec_report.proofs.Rows.{strip_one}

@@ -1,4 +1,4 @@
-use Rattle.ec_report.proofs.Rows.{owe_step, is_next_above}
+use Rattle.ec_report.proofs.Rows.{owe_step}
 use Rattle.ec_report.proofs.report.Report.owe.Goals as goal
 
 pub loop-op-preserved : goal.loop-op-preserved
