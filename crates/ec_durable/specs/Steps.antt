@@ -1,0 +1,42 @@
+-- Conditions of a step, and what a refusal shows.
+use Rattle.std.specs.Prelude.{◌≡◌, ◌<◌, ℕ, T, List, [], ◌∷◌, Option, None, Some, Result, Ok, Err}
+use Rattle.ec_volume.specs.Update.{is_sound}
+use Rattle.ec_volume.specs.declared.update.Update.{Update}
+use Rattle.ec_sessions.specs.Slots.{all_unspent}
+use Rattle.ec_durable.specs.declared.state.Durable.{Durable}
+use Rattle.ec_durable.specs.declared.record.Record.{Record}
+use Rattle.ec_durable.specs.declared.record.Record.TheVariants.{Batch, Open, End, Ids, Epoch}
+use Rattle.ec_durable.specs.declared.record.RecordFault.{RecordFault}
+use Rattle.ec_durable.specs.declared.record.RecordFault.TheVariants.{NoMemory, Unfit}
+use Rattle.ec_volume.specs.declared.volume.ApplyFault.{ApplyFault}
+use Rattle.ec_volume.specs.declared.volume.ApplyFault.TheVariants as apply
+
+-- each update of a batch is sound
+abbrev pub AreSoundOps : List (ℕ × Update) → Type 0
+AreSoundOps [] = Unit {0}
+AreSoundOps (op ∷ ops) = T (is_sound op.1) × AreSoundOps ops
+
+abbrev pub AreSound : Record → Type 0
+AreSound (Batch c s b ops) = AreSoundOps ops
+AreSound _ = Unit {0}
+
+-- each unspent id is below the next one
+abbrev pub AllBelow : ℕ → List ℕ → Type 0
+AllBelow n [] = Unit {0}
+AllBelow n (o ∷ os) = (o < n) × AllBelow n os
+
+abbrev pub IdsAreBelow : Durable → Type 0
+IdsAreBelow d = AllBelow d.next_id (all_unspent d.sessions)
+
+-- a fault is that of the definition, or want of memory
+abbrev pub Refuses : RecordFault → Result Durable RecordFault → Type 0
+Refuses NoMemory r = Unit {0}
+Refuses fault r = r ≡ Err fault
+
+abbrev pub RefusesOp : RecordFault → Option RecordFault → Type 0
+RefusesOp NoMemory f = Unit {0}
+RefusesOp fault f = f ≡ Some fault
+
+abbrev pub fault_of : ℕ → ApplyFault → RecordFault
+fault_of n (apply.Unfit o) = Unfit n o
+fault_of n apply.NoMemory = NoMemory
