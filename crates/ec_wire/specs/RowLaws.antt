@@ -1,5 +1,5 @@
 -- Rows whose numbers rise.
-use Rattle.std.proofs.Common.{◌≡◌, ℕ, suc, ◌-◌, Bool, true, false, ◌&&◌, List, [], ◌∷◌, ◌++◌, map, length, Option, Some, None, refl, sym, ap, ◌∙◌, arith}
+use Rattle.std.proofs.Common.{◌≡◌, ℕ, zero, suc, ◌+◌, ◌-◌, ◌≤◌, drop, Bool, true, false, ◌&&◌, List, [], ◌∷◌, ◌++◌, map, length, Option, Some, None, refl, sym, ap, ◌∙◌, arith}
 use Rattle.std.specs.Prelude.{slice_get, nat_lt}
 use Rattle.std.specs.List.{list_all}
 use Rattle.ec_base.specs.Tables.{keys}
@@ -71,3 +71,30 @@ rows_rise K V before (e ∷ es) =
     (rows_rise K V (before ++ e ∷ []) es ∙ ap (λ o. list_all (is_row K V) es && rises_over (key_of o) (keys es)) (last_pushed before e))
     ∙ row_group (K.fits e.0) (is_over (last_of before) e.0) (V.fits e.1) (list_all (is_row K V) es) (rises_over (Some e.0) (keys es))
     ∙ ap (λ r. ((K.fits e.0 && V.fits e.1) && list_all (is_row K V) es) && r) (sym (over_more (last_of before) e.0 (keys es)))
+
+-- A number behind the last one.
+
+abbrev pub is_next : Option ℕ → ℕ → Bool
+is_next None n = true
+is_next (Some m) n = nat_lt m n
+
+pub next_more : (o : Option ℕ) (n : ℕ) (ns : List ℕ) → rises_over o (n ∷ ns) ≡ (is_next o n && rises_over (Some n) ns)
+next_more None n ns = refl
+next_more (Some m) n ns = refl
+
+pub next_none : (o : Option ℕ) → rises_over o [] ≡ true
+next_none None = refl
+next_none (Some m) = refl
+
+-- The rows from a place on.
+
+pub drop_here : {X : Type 0} (xs : List X) (i : ℕ) (x : X) → slice_get xs i ≡ Some x → drop i xs ≡ x ∷ drop (i + 1) xs
+drop_here [] i x h = absurd cc
+drop_here (y ∷ xs) zero x h = ap (λ z. z ∷ xs) (let e : Some y ≡ Some x = h in cc)
+drop_here (y ∷ xs) (suc i) x h = let k : suc i + 1 ≡ suc (i + 1) = omega arith in drop_here xs i x h ∙ ap (λ n. x ∷ drop n (y ∷ xs)) (sym k)
+
+pub drop_past : {X : Type 0} (xs : List X) (i : ℕ) → length xs ≤ i → drop i xs ≡ []
+drop_past [] zero h = refl
+drop_past [] (suc i) h = refl
+drop_past (y ∷ xs) zero h = absurd (omega arith)
+drop_past (y ∷ xs) (suc i) h = drop_past xs i (omega arith)
