@@ -1,6 +1,6 @@
 //! A pair in memory, as its ends see it.
 
-use crate::{Got, Link, MemLink, MemNet, Net, NetFault, Sent, mem_pair};
+use crate::{Bell, Got, Link, MemLink, Net, Sent, TcpNet, mem_pair};
 use std::test::*;
 
 fn pair(rt: &HostRuntime) -> Result<(MemLink, MemLink), Fail> {
@@ -48,23 +48,18 @@ fn raw_bytes_come_as_they_are(rt: HostRuntime) -> Result<(), Fail> {
 }
 
 #[test]
-fn net_hands_out_a_pair(rt: HostRuntime) -> Result<(), Fail> {
-    let mut fails = Vec::new(rt.alloc());
-    fails.push(3)?;
-    let mut net = MemNet::new(rt.alloc(), fails).ok().ok_or("no memory")?;
-    assert!(rt; matches!(net.call(&rt, "a"), Err(NetFault::Failed)));
-    let mut door = net.listen(&rt, "a").ok().ok_or("a door")?;
-    assert!(rt; matches!(net.call(&rt, "a"), Err(NetFault::Failed)));
-    let mut other = net.share().ok().ok_or("no memory")?;
-    assert!(rt; other.listens(&rt, "a"));
-    assert!(rt; !other.listens(&rt, "b"));
-    let mut near = other.call(&rt, "a").ok().ok_or("a link")?;
+fn body_over_loopback(rt: HostRuntime) -> Result<(), Fail> {
+    let mut net = TcpNet::new();
+    let mut door = net.listen(&rt, "127.0.0.1:4712").ok().ok_or("a door")?;
+    let mut near = net.call(&rt, "127.0.0.1:4712").ok().ok_or("a link")?;
     let mut far = net.accept(&rt, &mut door).ok().ok_or("a link")?;
+    let bell = far.bell(&rt).ok().ok_or("a bell")?;
+    let seen = bell.rings();
+    assert!(rt; matches!(far.recv(&rt), Got::Nothing));
     assert_eq!(rt; near.send(&rt, b"hi"), Sent::Done);
+    bell.wait(&rt, seen);
     assert!(rt; matches!(far.recv(&rt), Got::Body(_)));
+    drop(near);
     assert!(rt; net.back(far).is_ok());
-    assert!(rt; matches!(near.recv(&rt), Got::Closed));
-    drop(door);
-    assert!(rt; !other.listens(&rt, "a"));
     Ok(())
 }
