@@ -1,10 +1,22 @@
+ghost use Rattle.std.specs.Prelude.{◌≡◌, true};
+ghost use Rattle.ec_volume.specs.Update.{is_sound};
+
 use super::*;
 use ec_base::{List, Name, ObjId};
 use ec_volume::{Image, Kind, Update};
+use std::alloc::Global;
 use std::test::*;
 
 fn id(number: u32) -> Result<ObjId, Fail> {
     Ok(ObjId::new(number).ok_or("an id")?)
+}
+
+fn code_of(alloc: Global, update: &Update) -> Result<Vec<u8>, Fail>
+    requires { is_sound update.now ≡ true }
+{
+    let mut bytes = Vec::new(alloc);
+    put_update(update, &mut bytes).ok().ok_or("memory")?;
+    Ok(bytes)
 }
 
 // The code of a new file in the root.
@@ -16,16 +28,16 @@ fn a_make(rt: HostRuntime) -> Result<(), Fail> {
         obj: id(2)?,
         kind: Kind::File,
     };
-    let mut bytes = Vec::new(rt.alloc());
-    put_update(&make, &mut bytes).ok().ok_or("memory")?;
+    assert!(rt; make.sound());
+    let bytes = code_of(rt.alloc(), &make)?;
     assert_eq!(rt;
         bytes.as_slice(),
         [1, 0, 0, 0, 1, 0, 0, 0, 2, 1, 1, 102].as_slice()
     );
     let (read, place) = get_update(rt.alloc(), &bytes, 0).ok().ok_or("an update")?;
     assert_eq!(rt; place, 12);
-    let mut again = Vec::new(rt.alloc());
-    put_update(&read, &mut again).ok().ok_or("memory")?;
+    assert!(rt; read.sound());
+    let again = code_of(rt.alloc(), &read)?;
     assert_eq!(rt; again.as_slice(), bytes.as_slice());
     Ok(())
 }
