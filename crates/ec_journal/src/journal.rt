@@ -231,15 +231,15 @@ mod tests {
             };
             assert_eq!(rt; answer, want, "at call {number}");
         }
-        // The one call of an opening has the number 3.
-        for (number, want) in [(3, Some(JournalFault::DiskFailed)), (4, None)] {
+        // The question for the length has the number 3, and the one call of an opening the number 4.
+        for (number, want) in [(4, Some(JournalFault::DiskFailed)), (5, None)] {
             let mut disk = zeros_failing(rt.alloc(), &[number]).expect(&rt, "disk");
-            let answer = Journal::open(rt.alloc(), &mut disk, 0, 20).err();
+            let answer = bodies_on(rt.alloc(), &mut disk).err();
             assert_eq!(rt; answer, want, "at call {number}");
         }
         let mut disk = zeros(rt.alloc()).expect(&rt, "disk");
         disk.arm(1);
-        let answer = Journal::open(rt.alloc(), &mut disk, 0, 20).err();
+        let answer = bodies_on(rt.alloc(), &mut disk).err();
         assert_eq!(rt; answer, Some(JournalFault::DiskStopped));
     }
 }
