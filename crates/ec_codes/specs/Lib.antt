@@ -9,3 +9,7 @@ pub mod Images
 pub mod ImageLaws
 pub mod EntryLaws
 pub mod Readers
+pub mod Clerks
+pub mod ClerkLaws
+pub mod Lengths
+pub mod LengthLaws

@@ -1,7 +1,9 @@
 //! The bytes of updates and images.
 #![tactic(auto)]
 
+mod clerks;
 mod fault;
+mod laws;
 mod limits;
 mod read_images;
 mod read_updates;
@@ -12,7 +14,9 @@ mod write_images;
 mod write_updates;
 mod writer;
 
+pub use clerks::{put_age, put_clerk};
 pub use fault::CodeFault;
+pub use laws::codes_are_short;
 pub use limits::{MAX_ENTRIES, MAX_FILE_BYTES};
 pub use read_images::{get_image, get_image_v1};
 pub use read_updates::get_update;

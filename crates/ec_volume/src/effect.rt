@@ -1,9 +1,9 @@
 // What an update makes of the image of one of its operands.
-ghost use Rattle.std.specs.Prelude.{◌≡◌, ◌+◌, ◌-◌, ◌≤◌, ◌++◌, ℕ, T, false, length, take, drop, replicate, OnOk, OnErr};
+ghost use Rattle.std.specs.Prelude.{◌≡◌, ◌+◌, ◌-◌, ◌≤◌, ◌++◌, ℕ, T, true, false, length, take, drop, replicate, OnOk, OnErr};
 ghost use Rattle.ec_volume.specs.Entries.{same_name, with_entry, without_entry};
 ghost use Rattle.ec_volume.specs.Image.{resized, overwritten, with_bytes, with_entries, with_mode, with_stamp, with_owner};
 ghost use Rattle.ec_volume.specs.Limits.{max_file_bytes};
-ghost use Rattle.ec_volume.specs.Update.{is_sound, effect};
+ghost use Rattle.ec_volume.specs.Update.{is_sound, effect, wants_room};
 ghost use Rattle.ec_volume.specs.Carry.{renames};
 
 use crate::image::{Image, is_id};
@@ -13,11 +13,13 @@ use std::alloc::Global;
 use std::mem;
 
 impl Image {
-    /// Makes of the image of the operand `at` what the update makes of it.
+    /// Makes of the image of the operand `at` what the update makes of it. It takes no memory but for
+    /// a directory that gets an entry and a file that gets bytes.
     pub fn effect(&mut self, alloc: Global, update: &Update, at: ObjId) -> Result<(), NoMemory>
         requires { T (is_sound update.now) }
         ensures ok { OnOk result (self.new ≡ effect update.now at self.old) }
         ensures err { OnErr result (self.new ≡ self.old) }
+        ensures room { OnErr result (wants_room update.now at ≡ true) }
     {
         match update {
             Update::Make {
@@ -80,6 +82,7 @@ impl Image {
         requires itself { renames update.now ≡ false }
         ensures ok { OnOk result ((id : ℕ) → self.new ≡ effect update.now id self.old) }
         ensures err { OnErr result (self.new ≡ self.old) }
+        ensures room { OnErr result ((id : ℕ) → wants_room update.now id ≡ true) }
     {
         match update {
             Update::Put { at, bytes, .. } => {
