@@ -1,15 +1,14 @@
 // A clerk's tokens with their images, in the order of use.
-ghost use Rattle.std.specs.Prelude.{◌≡◌, ◌∷◌, true, None, is_some, nat_eq, ◌<◌, ◌+◌, Option, IfOk, OnErr, OnOk, option_copied, option_map, length, reverse};
-ghost use Rattle.std.specs.List.{IsDistinct};
-ghost use Rattle.std.specs.Map.{keys_of, remove_entry};
-ghost use Rattle.ec_base.specs.Tables.{at, renewed, without};
+ghost use Rattle.std.specs.Prelude.{◌≡◌, ◌≤◌, T, true, None, is_some, IfOk, IfSome, OnErr, OnOk, option_copied, option_map, reverse};
+ghost use Rattle.ec_base.specs.Tables.{at, keys, put, renewed};
+ghost use Rattle.ec_volume.specs.Update.{is_sound, operands, first_unfit};
 ghost use Rattle.ec_cache.specs.Cache as cache;
-ghost use Rattle.ec_base.specs.Holds.{weaker};
-ghost use Rattle.ec_cache.specs.Held.{image_of, used_in};
+ghost use Rattle.ec_cache.specs.Held.{apart_from, image_of, is_within};
 
 use crate::state::Held;
+use crate::{slots, tokens};
 use ec_base::{Hold, NoMemory, ObjId, SortedMap};
-use ec_volume::Image;
+use ec_volume::{Image, Look, Update, operands};
 use lru::LruCache;
 use std::alloc::Global;
 use std::marker::Model;
@@ -22,16 +21,21 @@ pub struct Cache {
     // by object, the most recently used one first
     tokens: LruCache<u32, Held>,
     lasts: SortedMap<ObjId, u64>,
-    limits: SortedMap<ObjId, Hold>,
+    // for each held object the mode down to which its token counts, if it's under recall
+    slots: SortedMap<ObjId, Option<Hold>>,
 }
 
 impl Model for Cache {
     ghost use Rattle.std.specs.Prelude.{reverse};
     ghost use Rattle.ec_cache.specs.declared.state.CacheState.{CacheState};
+    ghost use Rattle.ec_cache.specs.Held.{IsCache};
+    ghost use Rattle.ec_cache.specs.Marks.{marks};
 
     ghost Value = { CacheState };
 
-    ghost view = { λ c. record { capacity = c.capacity; held = reverse c.tokens.entries; lasts = c.lasts; limits = c.limits } };
+    ghost view = { λ c. record { capacity = c.capacity; held = reverse c.tokens.entries; lasts = c.lasts; limits = marks c.slots } };
+
+    ghost invariant = { λ c. IsCache (reverse c.tokens.entries) c.slots };
 }
 
 impl Cache {
@@ -43,7 +47,7 @@ impl Cache {
             capacity,
             tokens: LruCache::sparse(alloc, NonZeroUsize::MIN)?,
             lasts: SortedMap::new(alloc),
-            limits: SortedMap::new(alloc),
+            slots: SortedMap::new(alloc),
         })
     }
 
@@ -66,15 +70,14 @@ impl Cache {
     fn counted(&self, obj: ObjId) -> Hold
         ensures { result ≡ cache.counted obj self.now }
     {
-        let limit = self.limits.get(&obj).copied().unwrap_or(Hold::Write);
-        weaker(self.mode(obj), limit)
+        tokens::weaker(self.mode(obj), slots::counts_to(&self.slots, obj))
     }
 
     // The whole mode of the token.
     fn mode(&self, obj: ObjId) -> Hold
         ensures { result ≡ cache.mode obj self.now }
     {
-        match held_at(&self.tokens, obj) {
+        match tokens::held_at(&self.tokens, obj) {
             Some(held) => held.hold,
             None => Hold::Free,
         }
@@ -82,9 +85,10 @@ impl Cache {
 
     /// The image of the object, where a token is held.
     pub fn image(&self, obj: ObjId) -> Option<&Image>
-        ensures { option_copied result ≡ option_map image_of (at obj self.now.held) }
+        ensures image { option_copied result ≡ option_map image_of (at obj self.now.held) }
+        ensures within { IfSome result (λ image. is_within image.now ≡ true) }
     {
-        match held_at(&self.tokens, obj) {
+        match tokens::held_at(&self.tokens, obj) {
             Some(held) => Some(&held.image),
             None => None,
         }
@@ -99,6 +103,7 @@ impl Cache {
         number: u64,
         image: Image,
     ) -> Result<bool, NoMemory>
+        requires { is_within image ≡ true }
         ensures taken { IfOk result (λ taken. taken ≡ cache.is_new obj number self.old) }
         ensures ok { OnOk result (self.new ≡ cache.take obj hold number image self.old) }
         ensures err { OnErr result (self.new ≡ self.old) }
@@ -111,18 +116,31 @@ impl Cache {
             number,
             image,
         };
-        if held_at(&self.tokens, obj).is_some() {
+        if tokens::held_at(&self.tokens, obj).is_some() {
             self.lasts.insert(obj, number)?;
-            renew(&mut self.tokens, obj, held);
+            tokens::renew(&mut self.tokens, obj, held);
+            slots::clear(&mut self.slots, obj);
         } else {
-            add(&mut self.tokens, obj, held)?;
-            if let Err(fault) = self.lasts.insert(obj, number) {
-                take_back(&mut self.tokens, obj);
+            slots::add(&mut self.slots, obj)?;
+            if let Err(fault) = add_with_number(&mut self.tokens, &mut self.lasts, obj, held) {
+                slots::remove(&mut self.slots, obj);
                 return Err(fault);
             }
         }
-        self.limits.remove(&obj);
         Ok(true)
+    }
+
+    /// Carries out an update that fits the held images of its operands. These become the most
+    /// recently used objects, in their order.
+    pub fn change(&mut self, update: &Update) -> Result<(), NoMemory>
+        requires sound { T (is_sound update.now) }
+        requires fits { first_unfit update.now (cache.images_held self.old) (operands update.now) ≡ None }
+        ensures ok { OnOk result (self.new ≡ cache.change update.now (operands update.now) self.old) }
+        ensures err { OnErr result (self.new ≡ self.old) }
+    {
+        let alloc = *self.lasts.allocator();
+        let ids = operands(alloc, update)?;
+        tokens::change(&mut self.tokens, alloc, update, &ids)
     }
 
     /// Lowers the token to this mode, and forgets that it was under recall. Of a token that is lowered
@@ -131,11 +149,22 @@ impl Cache {
         ensures { self.new ≡ cache.lower obj to self.old }
     {
         if to == Hold::Free {
-            give_up(&mut self.tokens, obj);
+            tokens::give_up(&mut self.tokens, obj);
+            slots::remove(&mut self.slots, obj);
         } else {
-            weaken(&mut self.tokens, obj, to);
+            tokens::weaken(&mut self.tokens, obj, to);
+            slots::clear(&mut self.slots, obj);
         }
-        self.limits.remove(&obj);
+    }
+
+    /// A held token is under recall: it counts only down to this mode, until it's lowered or a new
+    /// number is taken. Of several such modes the lowest counts. It takes no memory.
+    pub fn limit(&mut self, obj: ObjId, to: Hold)
+        requires { is_some (at obj self.old.held) ≡ true }
+        ensures { self.new ≡ cache.limit obj to self.old }
+    {
+        let limit = tokens::weaker(to, slots::counts_to(&self.slots, obj));
+        slots::mark(&mut self.slots, obj, limit);
     }
 
     /// Raises the last number of the object.
@@ -151,97 +180,93 @@ impl Cache {
     pub fn used(&mut self, obj: ObjId)
         ensures { self.new ≡ cache.used obj self.old }
     {
-        put_last(&mut self.tokens, obj);
+        tokens::put_last(&mut self.tokens, obj);
+    }
+
+    /// Gives tokens up until at most `capacity` stay, the least recently used ones first, but none
+    /// of the pinned objects. It shows the objects with their numbers, in that order.
+    pub fn evict(&mut self, pinned: &[ObjId]) -> Result<Vec<(ObjId, u64)>, NoMemory>
+        ensures gone { IfOk result (λ gone. gone.items ≡ cache.numbers (cache.evicted pinned.now self.old)) }
+        ensures ok { OnOk result (self.new ≡ cache.evict pinned.now self.old) }
+        ensures err { OnErr result (self.new ≡ self.old) }
+    {
+        let excess = self.tokens.len().saturating_sub(self.capacity);
+        let alloc = *self.lasts.allocator();
+        let gone = tokens::least_used(alloc, &self.tokens, pinned, excess)?;
+        give_all_up(&mut self.tokens, &mut self.slots, &gone);
+        Ok(gone)
+    }
+
+    /// The tokens that are held, by rising id, each with its whole mode.
+    pub fn tokens(&self) -> Result<Vec<(ObjId, Hold)>, NoMemory>
+        ensures { IfOk result (λ held. held.items ≡ cache.tokens self.now) }
+    {
+        tokens::holds_by(*self.lasts.allocator(), self.slots.items(), &self.tokens)
+    }
+
+    /// A new epoch: the tokens stay, and have the number 0; no number was taken in it yet, and no
+    /// token is under recall. It shows the tokens, by rising id.
+    pub fn new_epoch(&mut self) -> Result<Vec<(ObjId, Hold)>, NoMemory>
+        ensures tokens { IfOk result (λ held. held.items ≡ cache.tokens self.old) }
+        ensures ok { OnOk result (self.new ≡ cache.new_epoch self.old) }
+        ensures err { OnErr result (self.new ≡ self.old) }
+    {
+        let held = self.tokens()?;
+        let slots = slots::emptied(&self.slots)?;
+        tokens::unnumber(&mut self.tokens, &held);
+        self.lasts = SortedMap::new(*slots.allocator());
+        self.slots = slots;
+        Ok(held)
     }
 }
 
-// The token on the object.
-fn held_at<'a>(tokens: &'a LruCache<u32, Held>, obj: ObjId) -> Option<&'a Held>
-    ensures { option_copied result ≡ at obj (reverse tokens.now.entries) }
-{
-    if tokens.len() == 0 {
-        return None;
-    }
-    tokens.peek(&obj.get())
-}
+impl Look for Cache {
+    ghost images = { cache.images_held };
 
-// The object is the most recently used one.
-fn put_last(tokens: &mut LruCache<u32, Held>, obj: ObjId)
-    ensures order { reverse tokens.new.entries ≡ used_in obj (reverse tokens.old.entries) (at obj (reverse tokens.old.entries)) }
-    ensures cap { tokens.new.cap ≡ tokens.old.cap }
-{
-    if tokens.len() > 0 {
-        tokens.promote(&obj.get());
-    }
-}
-
-// The bound of the map is raised before one more token would fill it.
-fn raise_bound(tokens: &mut LruCache<u32, Held>)
-    ensures order { tokens.new.entries ≡ tokens.old.entries }
-    ensures room { length tokens.new.entries + 1 < tokens.new.cap }
-    ensures apart { IsDistinct nat_eq (keys_of tokens.new.entries) }
-{
-    let wanted = tokens.len() + 2;
-    if tokens.cap().get() < wanted {
-        if let Some(bound) = NonZeroUsize::new(wanted.saturating_mul(2)) {
-            tokens.resize(bound);
+    fn look(&self, id: ObjId) -> Option<&Image> {
+        match self.image(id)? {
+            Image::Gone => None,
+            image => Some(image),
         }
     }
 }
 
-// A token on an object that has none. It's the most recently used one.
-fn add(tokens: &mut LruCache<u32, Held>, obj: ObjId, held: Held) -> Result<(), NoMemory>
+// A new token, and its number as the object's last one.
+fn add_with_number(
+    tokens: &mut LruCache<u32, Held>,
+    lasts: &mut SortedMap<ObjId, u64>,
+    obj: ObjId,
+    held: Held,
+) -> Result<(), NoMemory>
     requires { at obj (reverse tokens.old.entries) ≡ None }
-    ensures ok { OnOk result (tokens.new.entries ≡ (obj, held) ∷ tokens.old.entries) }
-    ensures renewed { OnOk result (reverse tokens.new.entries ≡ renewed obj held (reverse tokens.old.entries)) }
+    ensures ok { OnOk result (reverse tokens.new.entries ≡ renewed obj held (reverse tokens.old.entries)) }
+    ensures lasts { OnOk result (lasts.new ≡ put obj held.number lasts.old) }
     ensures err { OnErr result (tokens.new.entries ≡ tokens.old.entries) }
+    ensures kept { OnErr result (lasts.new ≡ lasts.old) }
+    ensures id { 1 ≤ obj }
 {
-    raise_bound(tokens);
-    tokens.put(obj.get(), held)?;
+    let number = held.number;
+    tokens::add(tokens, obj, held)?;
+    if let Err(fault) = lasts.insert(obj, number) {
+        tokens::take_back(tokens, obj);
+        return Err(fault);
+    }
     Ok(())
 }
 
-// Another token on an object that has one. It's the most recently used one.
-fn renew(tokens: &mut LruCache<u32, Held>, obj: ObjId, held: Held)
-    requires { is_some (at obj (reverse tokens.old.entries)) ≡ true }
-    ensures { reverse tokens.new.entries ≡ renewed obj held (reverse tokens.old.entries) }
+// The tokens on these objects go, and their slots.
+fn give_all_up(
+    tokens: &mut LruCache<u32, Held>,
+    slots: &mut SortedMap<ObjId, Option<Hold>>,
+    gone: &[(ObjId, u64)],
+)
+    ensures tokens { reverse tokens.new.entries ≡ apart_from (keys gone.now) (reverse tokens.old.entries) }
+    ensures slots { slots.new ≡ apart_from (keys gone.now) slots.old }
 {
-    if tokens.len() > 0 {
-        let _replaced = tokens.put(obj.get(), held);
+    for (obj, _) in gone {
+        tokens::give_up(tokens, *obj);
+        slots::remove(slots, *obj);
     }
-}
-
-// The token is taken out that was just added.
-fn take_back(tokens: &mut LruCache<u32, Held>, obj: ObjId)
-    ensures { tokens.new.entries ≡ remove_entry (nat_eq obj) tokens.old.entries }
-{
-    tokens.pop(&obj.get());
-}
-
-fn give_up(tokens: &mut LruCache<u32, Held>, obj: ObjId)
-    ensures { reverse tokens.new.entries ≡ without obj (reverse tokens.old.entries) }
-{
-    if tokens.len() > 0 {
-        tokens.pop(&obj.get());
-    }
-}
-
-// The token has at most this mode, and keeps its place.
-fn weaken(tokens: &mut LruCache<u32, Held>, obj: ObjId, to: Hold)
-    ensures { reverse tokens.new.entries ≡ cache.lowered obj to (reverse tokens.old.entries) }
-{
-    if tokens.len() == 0 {
-        return;
-    }
-    if let Some(held) = tokens.peek_mut(&obj.get()) {
-        held.hold = weaker(to, held.hold);
-    }
-}
-
-fn weaker(a: Hold, b: Hold) -> Hold
-    ensures { result ≡ weaker a b }
-{
-    if a.is_below(&b) { a } else { b }
 }
 
 #[cfg(test)]
