@@ -20,6 +20,11 @@ abbrev pub AreSound : Record → Type 0
 AreSound (Batch c s b ops) = AreSoundOps ops
 AreSound _ = Unit {0}
 
+-- each update of each batch is sound
+abbrev pub AreAllSound : List Record → Type 0
+AreAllSound [] = Unit {0}
+AreAllSound (r ∷ rs) = AreSound r × AreAllSound rs
+
 -- each unspent id is below the next one
 abbrev pub AllBelow : ℕ → List ℕ → Type 0
 AllBelow n [] = Unit {0}
