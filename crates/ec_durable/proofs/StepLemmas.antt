@@ -1,18 +1,17 @@
 -- Operations one by one, and slots.
-use Rattle.std.proofs.Common.{◌≡◌, ◌<◌, ◌≤◌, ◌+◌, refl, sym, ap, subst, ◌∙◌, arith, ℕ, zero, suc, Bool, true, false, ◌&&◌, cond, T, List, [], ◌∷◌, ◌++◌, length, drop, get_or, drop-cons, add-one, Option, None, Some, Result, Ok, Err}
-use Rattle.std.specs.Prelude.{◌==◌, OnOk, OnErr}
+use Rattle.std.proofs.Common.{◌≡◌, ◌<◌, ◌≤◌, ◌+◌, refl, sym, ap, subst, ◌∙◌, arith, ℕ, zero, suc, cond, T, List, [], ◌∷◌, length, drop, get_or, drop-cons, add-one, Option, None, Some, Result, Ok, Err}
+use Rattle.std.specs.Prelude.{OnOk, OnErr}
 use Rattle.ec_volume.specs.Update.{is_sound}
 use Rattle.ec_volume.specs.declared.update.Update.{Update}
-use Rattle.ec_sessions.specs.declared.slot.Slot.{Slot}
 use Rattle.ec_sessions.specs.Slots as slots
 use Rattle.ec_sessions.specs.Windows.{times}
-use Rattle.std.proofs.lemmas.Bool.{eqb-true, ne_eqb}
+use Rattle.std.proofs.lemmas.Bool.{ne_eqb}
 use Rattle.ec_durable.specs.declared.state.Durable.{Durable}
 use Rattle.ec_durable.specs.declared.record.RecordFault.{RecordFault}
 use Rattle.ec_durable.specs.declared.record.RecordFault.TheVariants.{NoSession, Done, Beyond, Unfit, NotReserved, BadAge, BadNumber, NoRoom, NoMemory}
 use Rattle.ec_durable.specs.declared.record.Record.{Record}
 use Rattle.ec_durable.specs.StepLaws.{ids_stay_below}
-use Rattle.ec_durable.specs.Durable.{step, operations, op_fault, carried_out, slot, is_next_grant, grants}
+use Rattle.ec_durable.specs.Durable.{step, operations, op_fault, carried_out}
 use Rattle.ec_durable.specs.Steps.{Refuses, RefusesOp, AreSoundOps, AllBelow, IdsAreBelow}
 
 pub sound_at : (ops : List (ℕ × Update)) (i : ℕ) (op : ℕ × Update) → AreSoundOps ops → i < length ops → op ≡ get_or ops i op → T (is_sound op.1)

@@ -1,6 +1,6 @@
 -- Unspent ids stay below the next one. No public clause cites this file.
-use Rattle.std.proofs.Common.{◌≡◌, ◌<◌, ◌≤◌, ◌+◌, ◌&&◌, refl, sym, ap, subst, ◌∙◌, arith, ℕ, zero, suc, Bool, true, false, cond, List, [], ◌∷◌, ◌++◌, Option, None, Some, Result, Ok, Err}
-use Rattle.std.specs.Prelude.{◌==◌, nat_lt, nat_le, is_ok, T}
+use Rattle.std.proofs.Common.{◌≡◌, ◌≤◌, ◌+◌, ◌&&◌, refl, ap, subst, arith, ℕ, zero, suc, Bool, true, false, cond, List, [], ◌∷◌, ◌++◌, Option, None, Some, Result, Ok, Err}
+use Rattle.std.specs.Prelude.{◌==◌, nat_lt, nat_le, T}
 use Rattle.std.proofs.lemmas.Bool.{eqb-true}
 use Rattle.ec_volume.specs.declared.update.Update.{Update}
 use Rattle.ec_sessions.specs.declared.slot.Slot.{Slot}
@@ -10,7 +10,7 @@ use Rattle.ec_durable.specs.declared.record.Record.{Record}
 use Rattle.ec_durable.specs.declared.record.Record.TheVariants.{Batch, Open, End, Ids, Epoch}
 use Rattle.ec_durable.specs.declared.record.RecordFault.{RecordFault}
 use Rattle.ec_durable.specs.declared.record.RecordFault.TheVariants.{NoSession, Done, Beyond, BadAge, BadNumber, NoRoom}
-use Rattle.ec_durable.specs.Durable.{step, slot, operations, op_fault, carried_out, made, spent, marked, low, has_batch, grants, is_beyond, is_session, is_next_session, is_next_grant, is_full, live, reserved, with_slot, batch_step}
+use Rattle.ec_durable.specs.Durable.{step, slot, operations, op_fault, carried_out, made, spent, marked, low, has_batch, grants, is_beyond, is_session, is_next_session, is_next_grant, is_full, live, reserved, with_slot}
 use Rattle.ec_durable.specs.Steps.{AllBelow, IdsAreBelow}
 
 same_Ok : {d e : Durable} → ◌≡◌ {A = Result Durable RecordFault} (Ok d) (Ok e) → d ≡ e

@@ -1,11 +1,11 @@
 -- Conditions of a step, and what a refusal shows.
-use Rattle.std.specs.Prelude.{◌≡◌, ◌<◌, ℕ, T, List, [], ◌∷◌, Option, None, Some, Result, Ok, Err}
+use Rattle.std.specs.Prelude.{◌≡◌, ◌<◌, ℕ, T, List, [], ◌∷◌, Option, Some, Result, Err}
 use Rattle.ec_volume.specs.Update.{is_sound}
 use Rattle.ec_volume.specs.declared.update.Update.{Update}
 use Rattle.ec_sessions.specs.Slots.{all_unspent}
 use Rattle.ec_durable.specs.declared.state.Durable.{Durable}
 use Rattle.ec_durable.specs.declared.record.Record.{Record}
-use Rattle.ec_durable.specs.declared.record.Record.TheVariants.{Batch, Open, End, Ids, Epoch}
+use Rattle.ec_durable.specs.declared.record.Record.TheVariants.{Batch}
 use Rattle.ec_durable.specs.declared.record.RecordFault.{RecordFault}
 use Rattle.ec_durable.specs.declared.record.RecordFault.TheVariants.{NoMemory, Unfit}
 use Rattle.ec_volume.specs.declared.volume.ApplyFault.{ApplyFault}
@@ -19,6 +19,11 @@ AreSoundOps (op ∷ ops) = T (is_sound op.1) × AreSoundOps ops
 abbrev pub AreSound : Record → Type 0
 AreSound (Batch c s b ops) = AreSoundOps ops
 AreSound _ = Unit {0}
+
+-- each update of each batch is sound
+abbrev pub AreAllSound : List Record → Type 0
+AreAllSound [] = Unit {0}
+AreAllSound (r ∷ rs) = AreSound r × AreAllSound rs
 
 -- each unspent id is below the next one
 abbrev pub AllBelow : ℕ → List ℕ → Type 0

@@ -1,4 +1,4 @@
-use Rattle.std.proofs.Common.{◌≡◌, ◌≤◌, arith, true, sym}
+use Rattle.std.proofs.Common.{◌≡◌, arith, true}
 use Rattle.ec_sessions.specs.Slots.{all_unspent}
 use Rattle.ec_durable.specs.Durable.{is_next_grant}
 use Rattle.ec_durable.specs.StepLaws.{first_next}
