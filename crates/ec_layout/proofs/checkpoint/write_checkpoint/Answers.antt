@@ -1,0 +1,23 @@
+use Rattle.std.proofs.Common.{rules, ◌≡◌}
+use Rattle.ec_disk.specs.declared.disk.DiskAnswer.TheVariants as said
+use Rattle.ec_layout.specs.Pieces.{pieces_of}
+use Rattle.ec_layout.specs.Frame.{prepare_leaves, checkpoint_leaves, checkpoint_done}
+use Rattle.ec_layout.proofs.checkpoint.write_checkpoint.Goals as goal
+
+pub returns-then-ne-clause-any_moment : goal.returns-then-ne-clause-any_moment
+returns-then-ne-clause-any_moment g c told before after follows laid =
+    prepare_leaves c.args.side c.args.table.now (pieces_of c.args.pieces.now) before after follows (g.D.Disk.view c.args.disk.now) (g.D.Disk.view c.prepare-answer.new.disk) laid (c.prepare-answer.ensures.ran told)
+
+pub returns-clause-any_moment : goal.returns-clause-any_moment
+returns-clause-any_moment g c told before after follows laid =
+    let done : c.prepare-answer.result ≡ said.Done = search rules in
+    checkpoint_leaves c.args.side c.args.table.now (pieces_of c.args.pieces.now) before after follows (g.D.Disk.view c.args.disk.now) (g.D.Disk.view c.prepare-answer.new.disk) laid (c.prepare-answer.ensures.ran told)
+    (g.met.D.Disk.given told c.prepare-answer.new.disk) (c.prepare-answer.ensures.synced told done) (c.prepare-answer.ensures.side told done) (c.prepare-answer.ensures.slots told done)
+    (g.D.Disk.view c.select.new.disk) (c.select.ensures.ran told)
+
+pub returns-clause-done : goal.returns-clause-done
+returns-clause-done g c told is before after follows laid =
+    let done : c.prepare-answer.result ≡ said.Done = search rules in
+    checkpoint_done c.args.side c.args.table.now (pieces_of c.args.pieces.now) before after follows (g.D.Disk.view c.args.disk.now) (g.D.Disk.view c.prepare-answer.new.disk) laid (c.prepare-answer.ensures.ran told)
+    (g.met.D.Disk.given told c.prepare-answer.new.disk) (c.prepare-answer.ensures.synced told done) (c.prepare-answer.ensures.side told done) (c.prepare-answer.ensures.slots told done)
+    (g.D.Disk.view c.select.new.disk) (c.select.ensures.ran told) (c.select.ensures.synced told is) (g.met.D.Disk.given told c.select.new.disk) (c.select.ensures.turned told is)

@@ -1,0 +1,43 @@
+use Rattle.std.proofs.Common.{rules, ◌≡◌, ◌+◌, ◌*◌, arith, length, List, ℕ, ap, ◌∙◌, subst}
+use Rattle.ec_disk.specs.Disk.{InRange, Wrote, written, byte}
+use Rattle.ec_disk.specs.Images.{byte-written_out}
+use Rattle.ec_disk.specs.declared.disk.DiskAnswer.TheVariants as said
+use Rattle.ec_layout.specs.PieceLaws.{ran-more, has-more}
+use Rattle.ec_layout.proofs.slots.write_slots.Goals as goal
+
+pub returns-then-ne-clause-ran : goal.returns-then-ne-clause-ran
+returns-then-ne-clause-ran g c told =
+    let x = c.piece-item.result in
+    let old = g.D.Disk.view c.args.disk.now in
+    let mid = g.D.Disk.view c.slots.disk in
+    let new = g.D.Disk.view c.write_at-answer.new.self in
+    let wrote = subst (λ k. Wrote (InRange k (length x.1.items)) mid new) c.slot_at.ensures (subst (λ bs. Wrote (InRange c.slot_at.result (length bs)) mid new) c.as_slice.ensures.value (c.write_at-answer.ensures.wrote told)) in
+    ran-more c.args.pieces.now c.requires.apart c.slots.piece-index x c.slots-test.true c.piece-item.is old mid new (c.slots.invariant.ran told) wrote
+
+pub slots-preserved : goal.slots-preserved
+slots-preserved g c =
+    let x = c.piece-item.result in
+    let old = g.D.Disk.view c.args.disk.now in
+    let mid = g.D.Disk.view c.slots.disk in
+    let new = g.D.Disk.view c.write_at-answer.new.self in
+    let done : c.write_at-answer.result ≡ said.Done = search rules in
+    let made : g.D.Disk.tells → new.gives ≡ written (4329472 + x.0 * 65600) x.1.items mid.gives = λ told.
+    c.write_at-answer.ensures.written told done ∙ ap (λ (bs : List ℕ). written c.slot_at.result bs mid.gives) c.as_slice.ensures.value ∙ ap (λ (k : ℕ). written k x.1.items mid.gives) c.slot_at.ensures in
+    record {
+      ran = λ told.
+          let wrote = subst (λ k. Wrote (InRange k (length x.1.items)) mid new) c.slot_at.ensures (subst (λ bs. Wrote (InRange c.slot_at.result (length bs)) mid new) c.as_slice.ensures.value (c.write_at-answer.ensures.wrote told)) in
+          ran-more c.args.pieces.now c.requires.apart c.slots.piece-index x c.slots-test.true c.piece-item.is old mid new (c.slots.invariant.ran told) wrote;
+      written = λ told. has-more c.args.pieces.now c.requires.apart c.slots.piece-index x c.slots-test.true c.piece-item.is mid.gives new.gives (c.slots.invariant.written told) (made told);
+      below = λ told i lt.
+          ap (λ (image : List ℕ). byte image i) (made told)
+          ∙ byte-written_out (4329472 + x.0 * 65600) x.1.items mid.gives i (λ r. absurd (omega (arith, lt, r.0)))
+          ∙ c.slots.invariant.below told i lt;
+      counts = record {
+        faults_later = omega (arith, c.slots.invariant.counts.faults_later, c.write_at-answer.ensures.counts.faults_later);
+        stops_later = omega (arith, c.slots.invariant.counts.stops_later, c.write_at-answer.ensures.counts.stops_later);
+        failed = λ no. absurd no;
+        stopped = λ no. absurd no;
+        armed = λ no. absurd no;
+        not_rearmed = λ some. c.slots.invariant.counts.not_rearmed (c.write_at-answer.ensures.counts.not_rearmed some);
+      };
+    }

@@ -1,0 +1,15 @@
+use Rattle.std.proofs.Common.{◌≡◌, ◌<◌, take, ℕ}
+use Rattle.ec_disk.specs.Disk.{byte, Counted}
+use Rattle.ec_disk.specs.Runs.{Ran}
+use Rattle.ec_layout.specs.Places.{slot_at}
+use Rattle.ec_layout.specs.Layout.{HasSlots}
+use Rattle.ec_layout.specs.Pieces.{pieces_of, InSlots}
+use Rattle.ec_layout.proofs.slots.write_slots.Given as goal
+
+abbrev pub invariant-slots : goal.invariant-slots
+invariant-slots g l = record {
+  ran : g.D.Disk.tells → Ran (InSlots (pieces_of l.pieces)) (g.D.Disk.view l.fn.disk) (g.D.Disk.view l.disk);
+  written : g.D.Disk.tells → HasSlots (g.D.Disk.view l.disk).gives (pieces_of (take l.piece-index l.pieces));
+  below : g.D.Disk.tells → (i : ℕ) → i < slot_at 0 → byte (g.D.Disk.view l.disk).gives i ≡ byte (g.D.Disk.view l.fn.disk).gives i;
+  counts : Counted (g.D.Disk.counts l.fn.disk) (g.D.Disk.counts l.disk) ⊥ ⊥;
+}

@@ -1,0 +1,17 @@
+//! The layout of a disk: two sides, each a journal and a table, and slots for images that a table names.
+//!
+//! A checkpoint writes free slots and the other side, syncs, and then turns the select byte. Whatever a crash leaves, one of the two sides is
+//! selected and all that it names stands there.
+#![tactic(auto)]
+
+mod checkpoint;
+mod head;
+mod side;
+mod slots;
+#[cfg(test)]
+mod tests;
+
+pub use checkpoint::{prepare, select, write_checkpoint};
+pub use head::{FIRST_WORD, write_head};
+pub use side::{JOURNAL_BYTES, SELECT_AT, Side, TABLE_BYTES};
+pub use slots::{SLOT_BYTES, slot_at, write_slots};
