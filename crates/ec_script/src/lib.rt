@@ -3,7 +3,6 @@
 
 mod laws;
 mod line;
-mod pieces;
 mod script;
 #[cfg(test)]
 mod tests;

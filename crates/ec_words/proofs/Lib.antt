@@ -1,0 +1,9 @@
+pub mod Columns
+pub mod Escapes
+pub mod Fits
+pub mod Left
+pub mod Misfits
+pub mod Named
+pub mod Numbers
+pub mod Once
+pub mod Splits
