@@ -1,3 +1,5 @@
 pub mod Lines
 pub mod Grammar
 pub mod Reading
+pub mod Lined
+pub mod Heads

@@ -1,3 +1,4 @@
+pub mod Bounded
 pub mod Columns
 pub mod Escapes
 pub mod Fits
@@ -6,4 +7,5 @@ pub mod Misfits
 pub mod Named
 pub mod Numbers
 pub mod Once
+pub mod OneCall
 pub mod Splits

@@ -10,7 +10,7 @@ use std::alloc::Global;
 pub fn text_of(alloc: Global, word: &[u8]) -> Result<Option<Vec<u8>>, NoMemory>
     ensures { IfOk result (λ found. option_map (λ text. text.items) found ≡ text_of word.now) }
 {
-    let mut text = Vec::new(alloc);
+    let mut text = Vec::with_capacity(alloc, word.len())?;
     let mut rest = word;
     'bytes: while !rest.is_empty() {
         let (byte, behind) = next_byte(rest);

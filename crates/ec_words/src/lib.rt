@@ -4,16 +4,20 @@
 mod call;
 mod cursor;
 mod escape;
+mod laws;
 mod name;
 mod number;
 mod paths;
 mod pieces;
 mod spell;
 mod spelled;
+#[cfg(test)]
+mod tests;
 
 pub use call::read_call;
 pub use cursor::{Misfit, Words, column_left};
 pub use escape::text_of;
+pub use laws::spelled_calls;
 pub use name::{Keyword, Verb, choice_of, is_word, keyword_of, kind_of, verb_of};
 pub use number::{mode_of, number_in};
 pub use paths::read_paths;
