@@ -1,3 +1,6 @@
 pub mod Splits
 pub mod Unfit
 pub mod Once
+pub mod Heads
+pub mod Outside
+pub mod LinedOnce

@@ -1,18 +1,19 @@
 -- A line has one reading or one column.
-use Rattle.std.proofs.Common.{◌≡◌, ℕ, suc, ◌<◌, ◌≤◌, ◌-◌, ◌^◌, List, [], ◌∷◌, ◌++◌, take, drop, refl, sym, ap, subst, ◌∙◌, append_assoc, arith, min}
+use Rattle.std.proofs.Common.{◌≡◌, ℕ, ◌-◌, ◌^◌, List, [], ◌∷◌, refl, sym, ap, subst, ◌∙◌, arith, min}
 use Rattle.std.specs.Prelude.{codes}
 use Rattle.std.proofs.lemmas.Fmt.{decimal_injective}
-use Rattle.std.proofs.lemmas.List.{take-take, take-append-drop}
 use Rattle.ec_plain.specs.Walk.{Path}
 use Rattle.ec_plain.specs.declared.call.Call.{Call}
 use Rattle.ec_plain.specs.declared.call.Call.TheVariants as call
 use Rattle.ec_script.specs.declared.line.Line.{Line}
 use Rattle.ec_script.specs.declared.line.Line.TheVariants as line
 use Rattle.ec_script.specs.declared.line.LineFault.TheVariants as fault
-use Rattle.ec_script.specs.Pieces.{onto}
-use Rattle.ec_script.specs.Words.{words_of, column_of}
-use Rattle.ec_script.specs.Grammar.{Word, ◌▸◌, End, IsClerkWord, IsPathWord, IsNumberWord, IsCountWord, IsTextWord, SpellsCall, Spells, IsComment, IsLine, IsFault, Begins, FirstUnfit}
+use Rattle.ec_words.specs.Pieces.{onto}
+use Rattle.ec_words.specs.Words.{words_of, column_of}
+use Rattle.ec_words.specs.Rows.{Word, End}
+use Rattle.ec_script.specs.Grammar.{IsClerkWord, IsPathWord, IsNumberWord, IsCountWord, IsTextWord, SpellsCall, Spells, IsComment, IsLine, IsFault}
 use Rattle.ec_script.proofs.Unfit.{in_create, in_write, in_read}
+use Rattle.ec_words.proofs.Once.{row_once, end_once, unfit_once}
 
 -- Words that stand for one value.
 
@@ -34,13 +35,6 @@ count_once w m n g h = number_once w m n g.0 h.0
 
 text_once : (w : Word) (bs cs : List ℕ) → IsTextWord w bs → IsTextWord w cs → bs ≡ cs
 text_once w bs cs g h = sym g.0 ∙ h.0
-
-row_once : {V X : Type 0} (P : Word → V → Type 0) (G : List Word → X → Type 0) → ((w : Word) (u v : V) → P w u → P w v → u ≡ v) → ((ws : List Word) (x y : X) → G ws x → G ws y → x ≡ y) → (ws : List Word) (x y : V × X) → (P ▸ G) ws x → (P ▸ G) ws y → x ≡ y
-row_once P G one rest [] x y g h = absurd g
-row_once P G one rest (w ∷ ws) x y g h = ap (λ v. (v, x.1)) (one w x.0 y.0 g.0 h.0) ∙ ap (λ r. (y.0, r)) (rest ws x.1 y.1 g.1 h.1)
-
-end_once : (ws : List Word) (x y : Unit {0}) → End ws x → End ws y → x ≡ y
-end_once ws x y g h = refl
 
 -- Calls and lines.
 
@@ -102,17 +96,6 @@ reading_once bytes (line.Crash c) (line.Call d b) g h = spelled_once (words_of b
 reading_once bytes (line.Crash c) (line.Crash d) g h = spelled_once (words_of bytes) (line.Crash c) (line.Crash d) g h
 
 -- Columns.
-
-fewer_begin : {X : Type 0} (G : List Word → X → Type 0) (ws : List Word) (j k : ℕ) → j ≤ k → Begins G (take k ws) → Begins G (take j ws)
-fewer_begin G ws j k le b =
-    let e : take j ws ++ drop j (take k ws) ≡ take k ws = ap (λ t. t ++ drop j (take k ws)) (sym (take-take j k ws le)) ∙ take-append-drop j (take k ws) in
-    (drop j (take k ws) ++ b.0, (b.1.0, subst (λ t. G t b.1.0) (ap (λ t. t ++ b.0) (sym e) ∙ append_assoc (take j ws) (drop j (take k ws)) b.0) b.1.1))
-
-not_before : {X : Type 0} (G : List Word → X → Type 0) (ws : List Word) (j k : ℕ) → FirstUnfit G ws j → FirstUnfit G ws k → j < k → ⊥
-not_before G ws j k u v lt = u.stops (omega (arith, v.within)) (fewer_begin G ws (suc j) k (omega arith) v.begins)
-
-unfit_once : {X : Type 0} (G : List Word → X → Type 0) (ws : List Word) (j k : ℕ) → FirstUnfit G ws j → FirstUnfit G ws k → j ≡ k
-unfit_once G ws j k u v = omega (arith, not_before G ws j k u v, not_before G ws k j v u)
 
 pub column_once : (bytes : List ℕ) (i j : ℕ) → IsFault bytes (fault.At i) → IsFault bytes (fault.At j) → i ≡ j
 column_once bytes i j g h =

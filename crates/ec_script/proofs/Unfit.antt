@@ -1,5 +1,5 @@
 -- How the first word that doesn't fit follows from what words have and lack.
-use Rattle.std.proofs.Common.{◌≡◌, ℕ, suc, ◌+◌, ◌<◌, List, [], ◌∷◌, ◌++◌, length, take, drop, drop-cons, get_or, Result, MatchResult, refl, sym, subst, ap, ◌∙◌, arith, rules, true}
+use Rattle.std.proofs.Common.{◌≡◌, ℕ, suc, ◌+◌, ◌<◌, List, [], ◌∷◌, length, drop, drop-cons, get_or, Result, MatchResult, refl, sym, subst, ap, ◌∙◌, arith, rules, true}
 use Rattle.std.specs.Prelude.{codes}
 use Rattle.std.specs.Str.{is_utf8}
 use Rattle.std.proofs.lemmas.Str.{IsUtf8-from_ascii, is_utf8-from_IsUtf8}
@@ -13,36 +13,19 @@ use Rattle.ec_script.specs.declared.line.Line.{Line}
 use Rattle.ec_script.specs.declared.line.Line.TheVariants as line
 use Rattle.ec_script.specs.declared.value.WordFault.{WordFault}
 use Rattle.ec_script.specs.declared.value.WordFault.TheVariants as fault
-use Rattle.ec_script.specs.Grammar.{Word, ◌▸◌, End, IsClerkWord, IsPathWord, IsNumberWord, IsCountWord, IsTextWord, SpellsCall, Spells, Begins, FirstUnfit}
+use Rattle.ec_words.specs.Rows.{Word, ◌▸◌, End, Begins, FirstUnfit}
+use Rattle.ec_script.specs.Grammar.{IsClerkWord, IsPathWord, IsNumberWord, IsCountWord, IsTextWord, SpellsCall, Spells}
 use Rattle.ec_script.specs.Reading.{Has, Lacks, IsRefused}
+use Rattle.ec_words.proofs.Fits.{unfit_none, unfit_first, behind, first_lacks}
 
 -- a `?` at this fault returns it
 pub at_fault : {X : Type 0} (G : List Word → X → Type 0) (k : ℕ) (ws : List Word) (r : Result X WordFault) (e : WordFault) → IsErrAnd r (λ y. y ≡ e) → IsRefused G k ws e → MatchResult r (G (drop k ws)) (IsRefused G k ws)
 at_fault G k ws r e is q = let p = err_from_is_err_and r is in rw (p.1, p.2) q
 
-unfit_none : {X : Type 0} (G : List Word → X → Type 0) → Begins G [] → ((x : X) → G [] x → ⊥) → FirstUnfit G [] 0
-unfit_none G b n = record { within = omega arith; begins = b; stops = λ lt. absurd (omega arith); none = n }
-
-unfit_first : {X : Type 0} (G : List Word → X → Type 0) (w : Word) (ws : List Word) → Begins G [] → ((rest : List Word) (x : X) → G (w ∷ rest) x → ⊥) → FirstUnfit G (w ∷ ws) 0
-unfit_first G w ws b n = record { within = omega arith; begins = b; stops = λ lt g. n g.0 g.1.0 g.1.1; none = n ws }
-
--- what doesn't fit in H behind a word that fits doesn't fit in G
-behind : {X Y : Type 0} (H : List Word → X → Type 0) (G : List Word → Y → Type 0) (w : Word) (f : X → Y) → ((ws : List Word) (x : X) → H ws x → G (w ∷ ws) (f x)) → ((ws : List Word) (y : Y) → G (w ∷ ws) y → (x : X) × H ws x) → (ws : List Word) (k : ℕ) → FirstUnfit H ws k → FirstUnfit G (w ∷ ws) (suc k)
-behind H G w f up down ws k u = record {
-  within = omega (arith, u.within);
-  begins = (u.begins.0, (f u.begins.1.0, up (take k ws ++ u.begins.0) u.begins.1.0 u.begins.1.1));
-  stops = λ lt b. u.stops (omega (arith, lt)) (b.0, down (take (suc k) ws ++ b.0) b.1.0 b.1.1);
-  none = λ y g. let d = down ws y g in u.none d.0 d.1;
-}
-
 -- the same for the words of a line behind the first k ones
 refused_behind : {X Y : Type 0} (H : List Word → X → Type 0) (G : List Word → Y → Type 0) (w : Word) (f : X → Y) → ((ws : List Word) (x : X) → H ws x → G (w ∷ ws) (f x)) → ((ws : List Word) (y : Y) → G (w ∷ ws) y → (x : X) × H ws x) → (k : ℕ) (ws : List Word) (e : WordFault) → drop k ws ≡ w ∷ drop (k + 1) ws → IsRefused H (k + 1) ws e → IsRefused G k ws e
 refused_behind H G w f up down k ws fault.NoMemory is r = tt
 refused_behind H G w f up down k ws (fault.Unfit at) is r = (suc r.0, (omega (arith, r.1.0), subst (λ d. FirstUnfit G d (suc r.0)) (sym is) (behind H G w f up down (drop (k + 1) ws) r.0 r.1.1)))
-
-first_lacks : {V X : Type 0} (P : Word → V → Type 0) (G : List Word → X → Type 0) (ws : List Word) → Begins (P ▸ G) [] → ((w : Word) (rest : List Word) (v : V) → ws ≡ w ∷ rest → P w v → ⊥) → FirstUnfit (P ▸ G) ws 0
-first_lacks P G [] b l = unfit_none (P ▸ G) b (λ x g. g)
-first_lacks P G (w ∷ ws) b l = unfit_first (P ▸ G) w ws b (λ rest x g. l w ws x.0 refl g.0)
 
 pub lacks : {V X : Type 0} (P : Word → V → Type 0) (G : List Word → X → Type 0) (k : ℕ) (ws : List Word) (e : WordFault) → Begins (P ▸ G) [] → Lacks P k ws e → IsRefused (P ▸ G) k ws e
 lacks P G k ws fault.NoMemory b l = tt

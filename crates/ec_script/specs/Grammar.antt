@@ -1,5 +1,5 @@
 -- What a line of a script may be, and which word of a line outside the grammar is the first that doesn't fit.
-use Rattle.std.specs.Prelude.{◌≡◌, ◌≢◌, ◌<◌, ◌≤◌, ◌-◌, ◌^◌, ℕ, suc, min, List, [], ◌∷◌, ◌++◌, length, take, codes, ⊤}
+use Rattle.std.specs.Prelude.{◌≡◌, ◌≢◌, ◌<◌, ◌≤◌, ◌-◌, ◌^◌, ℕ, min, List, [], ◌∷◌, length, codes, ⊤}
 use Rattle.std.specs.Fmt.{decimal}
 use Rattle.ec_base.specs.Names.{IsName}
 use Rattle.ec_plain.specs.Walk.{Path}
@@ -9,10 +9,8 @@ use Rattle.ec_script.specs.declared.line.Line.{Line}
 use Rattle.ec_script.specs.declared.line.Line.TheVariants as line
 use Rattle.ec_script.specs.declared.line.LineFault.{LineFault}
 use Rattle.ec_script.specs.declared.line.LineFault.TheVariants as fault
-use Rattle.ec_script.specs.Words.{words_of, column_of}
-
-abbrev pub Word : Type 0
-Word = List ℕ
+use Rattle.ec_words.specs.Words.{words_of, column_of}
+use Rattle.ec_words.specs.Rows.{Word, ◌▸◌, End, FirstUnfit}
 
 -- Words, by what they stand for.
 
@@ -43,17 +41,7 @@ IsCountWord w n = IsNumberWord w n × (n ≤ 4096)
 abbrev pub IsTextWord : Word → List ℕ → Type 0
 IsTextWord w bytes = (w ≡ bytes) × IsPlain w × (1 ≤ length w) × (length w ≤ 4096)
 
--- Rows of words, and the values that they spell.
-
--- a first word by the test P, and the rest by G
-infixr 30 ◌▸◌
-abbrev pub ◌▸◌ : {V X : Type 0} → (Word → V → Type 0) → (List Word → X → Type 0) → List Word → V × X → Type 0
-◌▸◌ P G [] vx = ⊥
-◌▸◌ P G (w ∷ ws) vx = P w (vx.0) × G ws (vx.1)
-
--- no further word
-abbrev pub End : List Word → Unit {0} → Type 0
-End ws u = ws ≡ []
+-- Words of a line, and the values that they spell.
 
 abbrev pub SpellsCall : List Word → Call → Type 0
 SpellsCall [] c = ⊥
@@ -80,18 +68,6 @@ IsLine bytes (line.Call clerk c) = Spells (words_of bytes) (line.Call clerk c)
 IsLine bytes (line.Crash clerk) = Spells (words_of bytes) (line.Crash clerk)
 
 -- Lines outside the grammar.
-
--- some words behind these make up something that G has
-abbrev pub Begins : {X : Type 0} → (List Word → X → Type 0) → List Word → Type 0
-Begins {X} G ws = (rest : List Word) × ((x : X) × G (ws ++ rest) x)
-
--- The word behind the first k words is the first that doesn't fit: these k words begin something that G has, and with
--- the next word they don't; where there is no next word, it is missing.
-pub record FirstUnfit {X : Type 0} (G : List Word → X → Type 0) (ws : List Word) (k : ℕ) : Type 0 where
-  pub within : k ≤ length ws
-  pub begins : Begins G (take k ws)
-  pub stops : k < length ws → Begins G (take (suc k) ws) → ⊥
-  pub none : (x : X) → G ws x → ⊥
 
 -- The column of the first word that doesn't fit. Columns from 2^32 on are shown as 2^32 - 1.
 abbrev pub IsFault : List ℕ → LineFault → Type 0

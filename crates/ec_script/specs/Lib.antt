@@ -1,5 +1,5 @@
-pub mod Pieces
-pub mod Words
 pub mod Lines
 pub mod Grammar
 pub mod Reading
+pub mod Lined
+pub mod Heads

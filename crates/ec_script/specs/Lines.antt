@@ -1,6 +1,6 @@
 -- The lines of a script.
 use Rattle.std.specs.Prelude.{◌==◌, ℕ, if◌then◌else◌, List, [], ◌∷◌}
-use Rattle.ec_script.specs.Pieces.{onto}
+use Rattle.ec_words.specs.Pieces.{onto}
 
 -- Lines end in LF, and the last one may lack it.
 abbrev pub lines_of : List ℕ → List (List ℕ)

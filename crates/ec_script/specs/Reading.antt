@@ -1,7 +1,7 @@
 -- What reading the words of a line one after the other tells.
 use Rattle.std.specs.Prelude.{◌≡◌, ◌+◌, ℕ, List, ◌∷◌, map, drop, ⊤}
 use Rattle.std.proofs.Common.{Bor}
-use Rattle.ec_script.specs.Grammar.{Word, FirstUnfit}
+use Rattle.ec_words.specs.Rows.{Word, FirstUnfit}
 use Rattle.ec_script.specs.declared.value.WordFault.{WordFault}
 use Rattle.ec_script.specs.declared.value.WordFault.TheVariants as fault
 

@@ -2,7 +2,7 @@
 ghost use Rattle.std.specs.Prelude.{◌≡◌, ◌+◌, ◌≤◌, ℕ, List, length};
 ghost use Rattle.ec_script.specs.declared.line.Line.{Line};
 ghost use Rattle.ec_script.specs.declared.line.LineFault.TheVariants as fault;
-ghost use Rattle.ec_script.specs.Words.{column_of};
+ghost use Rattle.ec_words.specs.Words.{column_of};
 ghost use Rattle.ec_script.specs.Grammar.{IsLine, IsFault};
 
 /// A line has one reading, or one column, which is at most just behind it.

@@ -1,15 +1,20 @@
 //! Scripts: their lines, and the grammar of a line.
 #![tactic(auto)]
 
+pub mod full;
+mod keyword;
 mod laws;
+mod laws_full;
 mod line;
-mod pieces;
 mod script;
 #[cfg(test)]
 mod tests;
+#[cfg(test)]
+mod tests_full;
 mod value;
 mod word;
 
 pub use laws::one_outcome;
+pub use laws_full::one_reading;
 pub use line::{Line, LineFault, read_line};
 pub use script::{count_lines, split_line};

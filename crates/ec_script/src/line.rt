@@ -3,12 +3,11 @@ ghost use Rattle.std.specs.Prelude.{◌≡◌, ◌∷◌, drop, codes, IfOk, Mat
 ghost use Rattle.ec_script.specs.Grammar.{Spells, SpellsCall, IsComment, IsLine, IsFault, IsSmall};
 ghost use Rattle.ec_script.specs.Reading.{texts, IsRefused};
 
-use crate::value::{
-    WordFault, clerk_at, count_at, end_at, is_word, number_at, path_at, text_at, word_at,
-};
+use crate::value::{WordFault, clerk_at, count_at, end_at, number_at, path_at, text_at, word_at};
 use crate::word::{column, words};
 use ec_base::{ClerkId, NoMemory};
 use ec_plain::Call;
+use ec_words::is_word;
 use std::alloc::Global;
 use thiserror::Error;
 
@@ -58,7 +57,7 @@ pub fn read_line(alloc: Global, line: &[u8]) -> Result<Line, LineFault>
     }
 }
 
-fn is_comment(line: &[u8]) -> bool
+pub(crate) fn is_comment(line: &[u8]) -> bool
     ensures { MatchBool result (IsComment line.now) (IsComment line.now → ⊥) }
 {
     match line {

@@ -2,7 +2,7 @@
 ghost use Rattle.std.specs.Prelude.{◌≡◌, ◌≢◌, ◌<◌, [], ◌∷◌, length};
 ghost use Rattle.ec_script.specs.Lines.{lines_of};
 
-use crate::pieces::piece_len;
+use ec_words::piece_len;
 
 /// The first line and what is behind it.
 pub fn split_line(bytes: &[u8]) -> (&[u8], &[u8])

@@ -3,10 +3,12 @@ ghost use Rattle.std.specs.Prelude.{◌≡◌, ◌<◌, ◌+◌, ◌^◌, ◌∷
 ghost use Rattle.std.specs.Fmt.{decimal};
 ghost use Rattle.ec_base.specs.Names.{IsName};
 ghost use Rattle.ec_plain.specs.Walk.{Path as PathNames};
-ghost use Rattle.ec_script.specs.Grammar.{IsPlain, IsClerkWord, IsPathWord, IsNumberWord, IsCountWord, IsTextWord, End};
+ghost use Rattle.ec_words.specs.Rows.{End};
+ghost use Rattle.ec_script.specs.Grammar.{IsPlain, IsClerkWord, IsPathWord, IsNumberWord, IsCountWord, IsTextWord};
 ghost use Rattle.ec_script.specs.Reading.{texts, Has, Lacks, IsRefused};
 
 use ec_base::{ClerkId, List as ByteList, Name, NameFault, NoMemory, Path};
+use ec_words::is_word;
 use itoa::Buffer;
 use std::alloc::Global;
 
@@ -57,12 +59,6 @@ fn clerk_of(word: &[u8]) -> Option<ClerkId>
     } else {
         None
     }
-}
-
-pub(crate) fn is_word(word: &[u8], text: &[u8]) -> bool
-    ensures { MatchBool result (word.now ≡ text.now) (word.now ≡ text.now → ⊥) }
-{
-    word == text
 }
 
 pub(crate) fn path_at(alloc: Global, words: &[&[u8]], at: usize) -> Result<Path, WordFault>

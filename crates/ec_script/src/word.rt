@@ -1,10 +1,10 @@
 // The words of a line.
 ghost use Rattle.std.specs.Prelude.{◌≡◌, ◌+◌, ◌-◌, ◌^◌, ◌<◌, ◌≤◌, min, take, length, IfOk};
-ghost use Rattle.ec_script.specs.Words.{words_of, spaced_len, column_of};
+ghost use Rattle.ec_words.specs.Words.{words_of, spaced_len, column_of};
 ghost use Rattle.ec_script.specs.Reading.{texts};
 
-use crate::pieces::piece_len;
 use ec_base::NoMemory;
+use ec_words::piece_len;
 use std::alloc::Global;
 
 pub(crate) fn words(alloc: Global, line: &[u8]) -> Result<Vec<&[u8]>, NoMemory>

@@ -1,5 +1,5 @@
 use Rattle.std.proofs.Common.{◌≡◌, ◌+◌, map, drop}
-use Rattle.ec_script.specs.Words.{spaced_len}
+use Rattle.ec_words.specs.Words.{spaced_len}
 use Rattle.ec_script.proofs.word.spaced_len.Given as goal
 
 abbrev pub invariant-loop-word : goal.invariant-loop-word

@@ -1,7 +1,8 @@
 use Rattle.std.proofs.Common.{◌<◌, ◌≤◌, length, arith, add-one, length-drop, ◌+◌}
 use Rattle.std.proofs.lemmas.List.{take_rest}
-use Rattle.ec_script.specs.Pieces.{piece_len}
-use Rattle.ec_script.proofs.Splits.{with_space, without_space, one_more, last_one}
+use Rattle.ec_words.specs.Pieces.{piece_len}
+use Rattle.ec_words.proofs.Splits.{with_space, without_space}
+use Rattle.ec_script.proofs.Splits.{one_more, last_one}
 use Rattle.ec_script.proofs.word.words.Goals as goal
 
 pub words-preserved : goal.words-preserved

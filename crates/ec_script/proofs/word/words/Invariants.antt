@@ -1,5 +1,5 @@
 use Rattle.std.proofs.Common.{◌≡◌, ◌++◌, ◌≤◌, map, length}
-use Rattle.ec_script.specs.Words.{words_of}
+use Rattle.ec_words.specs.Words.{words_of}
 use Rattle.ec_script.proofs.word.words.Given as goal
 
 abbrev pub invariant-words : goal.invariant-words

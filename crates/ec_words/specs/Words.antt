@@ -1,6 +1,6 @@
 -- The words of a line.
 use Rattle.std.specs.Prelude.{◌==◌, ◌+◌, ℕ, if◌then◌else◌, nat_lt, List, [], ◌∷◌, length, take}
-use Rattle.ec_script.specs.Pieces.{onto}
+use Rattle.ec_words.specs.Pieces.{onto}
 
 -- A line is split at each single space, so a word may be empty.
 abbrev pub words_of : List ℕ → List (List ℕ)

@@ -1,9 +1,9 @@
 // Pieces of bytes that end at a certain byte.
 ghost use Rattle.std.specs.Prelude.{◌≡◌};
-ghost use Rattle.ec_script.specs.Pieces.{piece_len};
+ghost use Rattle.ec_words.specs.Pieces.{piece_len};
 
 /// The length of the first piece, without the byte at its end.
-pub(crate) fn piece_len(bytes: &[u8], mark: u8) -> usize
+pub fn piece_len(bytes: &[u8], mark: u8) -> usize
     ensures { result ≡ piece_len mark bytes.now }
 {
     let mut at = 0;

@@ -1,0 +1,11 @@
+-- A line.
+use Rattle.std.specs.Prelude.{codes, refl, [], ◌∷◌}
+use Rattle.std.proofs.Common.{inr}
+use Rattle.ec_words.specs.declared.name.Keyword.TheVariants as keyword
+use Rattle.ec_words.specs.Rows.{Begins}
+use Rattle.ec_script.specs.declared.full.Line.TheVariants as line
+use Rattle.ec_script.specs.Lined.{Spells}
+
+-- some words make up a line
+pub a_line : Begins Spells []
+a_line = (codes "stop" ∷ [], (line.Stop, (inr keyword.Stop, (refl, (tt, (refl, refl))))))

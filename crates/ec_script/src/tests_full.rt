@@ -1,0 +1,61 @@
+//! Lines of the whole grammar, and the columns of bad ones.
+
+use crate::LineFault;
+use crate::full::{Line, read_lane, read_line};
+use ec_base::OpNo;
+use ec_plain::Call;
+use std::alloc::Global;
+use std::test::*;
+
+fn column(alloc: Global, line: &[u8]) -> u32 {
+    match read_line(alloc, line) {
+        Err(LineFault::At(column)) => column,
+        _ => 0,
+    }
+}
+
+#[test]
+fn lines_of_each_form(rt: HostRuntime) {
+    let alloc = rt.alloc();
+    assert!(rt; matches!(read_line(alloc, b"push A 1"), Ok(Line::Push(_, OpNo(1)))));
+    assert_eq!(rt; column(alloc, b"push A"), 7);
+    assert_eq!(rt; column(alloc, b"push A x"), 8);
+    assert_eq!(rt; column(alloc, b"push A 1 2"), 10);
+    assert!(rt;
+        matches!(
+            read_line(alloc, b"P chown /a%2Fb 7"),
+            Ok(Line::Call(_, Call::Chown(_, 7)))
+        )
+    );
+    assert!(rt; matches!(read_lane(alloc, b"8 sync"), Ok((8, Call::Sync))));
+    assert!(rt; matches!(read_lane(alloc, b"9 sync"), Err(LineFault::At(1))));
+}
+
+#[test]
+fn columns_of_bad_lines(rt: HostRuntime) {
+    let cases = [
+        (b"Q stat /".as_slice(), 1),
+        (b"A".as_slice(), 2),
+        (b"A  sync".as_slice(), 3),
+        (b"A statt /".as_slice(), 3),
+        (b"A sync ".as_slice(), 8),
+        (b"A stat f".as_slice(), 8),
+        (b"A stat /%2".as_slice(), 8),
+        (b"A stat /a/a/a/a/a/a/a/a/a/a/a/a/a/a/a/a/a".as_slice(), 8),
+        (b"A write /g 00 x".as_slice(), 12),
+        (b"A write /g 0 ".as_slice(), 14),
+        (b"A read /g 4294967296 1".as_slice(), 11),
+        (b"A read /g 0 4097".as_slice(), 13),
+        (b"A chmod /g 0648".as_slice(), 12),
+        (b"A touch /g 18446744073709551616".as_slice(), 12),
+        (b"A rename /a".as_slice(), 12),
+        (b"A forder / / / / / / / / /".as_slice(), 26),
+        (b"drop A hallo 1".as_slice(), 8),
+        (b"arm 1000001 old".as_slice(), 5),
+        (b"arm 1 older".as_slice(), 7),
+        (b"stop A".as_slice(), 6),
+    ];
+    for (line, want) in cases {
+        assert_eq!(rt; column(rt.alloc(), line), want);
+    }
+}

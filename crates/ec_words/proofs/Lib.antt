@@ -1,0 +1,11 @@
+pub mod Bounded
+pub mod Columns
+pub mod Escapes
+pub mod Fits
+pub mod Left
+pub mod Misfits
+pub mod Named
+pub mod Numbers
+pub mod Once
+pub mod OneCall
+pub mod Splits

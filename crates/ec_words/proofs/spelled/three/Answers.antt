@@ -1,0 +1,19 @@
+use Rattle.ec_words.specs.Rows.{◌▸◌}
+use Rattle.ec_words.specs.Rows.{Last, left}
+use Rattle.ec_words.proofs.Misfits.{returned, row_lacks, row_has, begins_row, begins_last}
+use Rattle.ec_words.proofs.spelled.three.Goals as goal
+
+pub returns-in_err-value : goal.returns-in_err-value
+returns-in_err-value g c =
+    let P = g.T.Spelled.stands in
+    let G = (g.U.Spelled.stands ▸ Last g.V.Spelled.stands) in
+    let ws = left c.args.words in
+    returned (P ▸ G) ws _ _ c.from_residual.ensures.1 (row_lacks P G ws _ (begins_row P G g.T.Spelled.example (begins_row g.U.Spelled.stands (Last g.V.Spelled.stands) g.U.Spelled.example (begins_last g.V.Spelled.stands g.V.Spelled.example))) c.in_err-value.ensures)
+
+pub returns-in_err-others : goal.returns-in_err-others
+returns-in_err-others g c =
+    let P = g.T.Spelled.stands in
+    let G = (g.U.Spelled.stands ▸ Last g.V.Spelled.stands) in
+    let ws = left c.args.words in
+    let t = c.in_ok-value.ensures in
+    returned (P ▸ G) ws _ _ c.from_residual-in_err-others.ensures.1 (row_has P G ws t.0 _ _ _ t.1.0 t.1.1 c.in_err-others.ensures)
