@@ -1,0 +1,5 @@
+pub mod Held
+pub mod Maps
+pub mod Needs
+pub mod Operands
+pub mod Walks

@@ -1,0 +1,4 @@
+pub mod ClosureLaws
+pub mod Held
+pub mod Needed
+pub mod Walk

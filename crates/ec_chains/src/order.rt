@@ -1,0 +1,128 @@
+// The held operations.
+ghost use Rattle.std.specs.Prelude.{◌≡◌, ℕ, T, true, false, Err, [], ◌∷◌, ◌++◌, IfOk, OnOk, OnErr};
+ghost use Rattle.std.specs.Ordering.{nat_cmp};
+ghost use Rattle.std.specs.FinMap.{is_sorted};
+ghost use Rattle.ec_base.specs.Tables.{keys};
+ghost use Rattle.ec_volume.specs.Update.{member};
+ghost use Rattle.ec_chains.specs.Held as held;
+ghost use Rattle.ec_chains.specs.declared.order.OrderFault.TheVariants as fault;
+
+use crate::closure::{Ask, closure};
+use ec_base::{Duplicate, NoMemory, ObjId, OpNo};
+use ec_volume::Update;
+use std::alloc::Global;
+use std::marker::Model;
+use thiserror::Error;
+
+/// The operations that a clerk holds, by rising number.
+#[derive(Drop)]
+pub struct Order {
+    alloc: Global,
+    held: Vec<(OpNo, Update)>,
+}
+
+impl Model for Order {
+    ghost use Rattle.std.specs.Prelude.{T};
+    ghost use Rattle.std.specs.Coded.{coded_list, coded×, coded_ℕ};
+    ghost use Rattle.std.specs.Ordering.{nat_cmp};
+    ghost use Rattle.std.specs.FinMap.{is_sorted};
+    ghost use Rattle.ec_volume.specs.contracts.update.Update as update;
+    ghost use Rattle.ec_order.specs.Order.{Issued};
+
+    ghost Value = { Issued };
+
+    ghost coded = { coded_list (coded× coded_ℕ update.the_row.coded) };
+
+    ghost view = { λ o. o.held.items };
+
+    ghost invariant = { λ o. T (is_sorted nat_cmp o.held.items) };
+}
+
+#[derive(Clone, Copy, Debug, Drop, PartialEq, Eq, Error)]
+pub enum OrderFault {
+    /// The operation isn't held.
+    #[error("no operation {0:?}")]
+    NoSuchOp(OpNo),
+    #[error("out of memory")]
+    NoMemory,
+}
+
+impl From<NoMemory> for OrderFault {
+    ghost from_gives = { λ _ e. e ≡ fault.NoMemory };
+
+    fn from(_: NoMemory) -> Self {
+        OrderFault::NoMemory
+    }
+}
+
+impl Order {
+    /// No operation is held.
+    pub fn new(alloc: Global) -> Result<Order, NoMemory>
+        ensures { IfOk result (λ made. made ≡ []) }
+    {
+        Ok(Order {
+            alloc,
+            held: Vec::new(alloc),
+        })
+    }
+
+    /// Holds one more operation. Its number is above those that are held.
+    pub fn add(&mut self, op: OpNo, update: &Update) -> Result<(), NoMemory>
+        requires { held.is_behind op self.old ≡ true }
+        ensures ok { OnOk result (self.new ≡ self.old ++ (op, update.now) ∷ []) }
+        ensures err { OnErr result (self.new ≡ self.old) }
+    {
+        self.hold(op, update.duplicate()?)
+    }
+
+    /// Holds one more operation, without a copy of its update.
+    pub fn hold(&mut self, op: OpNo, update: Update) -> Result<(), NoMemory>
+        requires { held.is_behind op self.old ≡ true }
+        ensures ok { OnOk result (self.new ≡ self.old ++ (op, update) ∷ []) }
+        ensures err { OnErr result (self.new ≡ self.old) }
+    {
+        Ok(self.held.push((op, update))?)
+    }
+
+    /// The held operations, by rising number.
+    pub fn held(&self) -> &[(OpNo, Update)]
+        ensures value { result.now ≡ self.now }
+        ensures sorted { T (is_sorted nat_cmp self.now) }
+    {
+        &self.held
+    }
+
+    /// The closure of the operations on the object, in the order of issue.
+    pub fn closure_of_object(&self, obj: ObjId) -> Result<Vec<OpNo>, NoMemory>
+        ensures { IfOk result (λ ops. ops.items ≡ keys (held.closure_of_object obj self.now)) }
+    {
+        closure(self.alloc, &self.held, Ask::Object(obj))
+    }
+
+    /// The closure of the operation, in the order of issue. `NoSuchOp` where it isn't held.
+    pub fn closure_of_op(&self, op: OpNo) -> Result<Vec<OpNo>, OrderFault>
+        ensures ops { IfOk result (λ ops. ops.items ≡ keys (held.closure_of_op op self.now)) }
+        ensures held { OnOk result (member op (keys self.now) ≡ true) }
+        ensures none { (n : ℕ) → result ≡ Err (fault.NoSuchOp n) → (n ≡ op) × (member op (keys self.now) ≡ false) }
+    {
+        let ops = closure(self.alloc, &self.held, Ask::Op(op))?;
+        if ops.as_slice().is_empty() {
+            return Err(OrderFault::NoSuchOp(op));
+        }
+        Ok(ops)
+    }
+
+    /// The operations of these numbers leave. It takes no memory.
+    pub fn settle(&mut self, ops: &[OpNo])
+        ensures { self.new ≡ held.settle ops.now self.old }
+    {
+        self.held.retain(|held| !ops.contains(&held.0));
+    }
+
+    /// No operation is held any more. It takes no memory.
+    pub fn clear(&mut self)
+        ensures { self.new ≡ [] }
+    {
+        self.held.clear();
+    }
+}

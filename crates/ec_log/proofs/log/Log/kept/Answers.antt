@@ -1,0 +1,15 @@
+use Rattle.std.proofs.Common.{not, ap, sym, ◌∙◌}
+use Rattle.ec_volume.specs.Update.{member}
+use Rattle.ec_chains.specs.Held.{is_behind}
+use Rattle.ec_log.specs.Log.{kept}
+use Rattle.ec_log.proofs.Logs.{behind_part, kept_none}
+use Rattle.ec_log.proofs.log.Log.kept.Goals as goal
+
+pub invariant_of-self : goal.invariant_of-self
+invariant_of-self c = ap (is_behind c.self.inside.next) c.settle.ensures ∙ behind_part (λ x. not (member x.0 c.as_slice.result.now)) c.self.inside.next c.self.inside.undurable c.self.invariant
+
+pub returns-in_default : goal.returns-in_default
+returns-in_default c =
+    kept_none (record { next = c.self.inside.next; first = c.self.inside.first; undurable = c.self.inside.undurable; batches = c.self.inside.batches; next_batch = c.self.inside.next_batch }) c.args.no c.remove.new.self
+    (sym c.remove.ensures.value ∙ c.in_default.is) c.remove.ensures.others
+    ∙ ap (λ l. kept c.args.no l) c.self.view_is

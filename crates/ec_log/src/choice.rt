@@ -1,0 +1,94 @@
+// The batches under way, and whether a new one begins.
+ghost use Rattle.std.specs.Prelude.{◌≡◌, ◌&&◌, IfOk};
+ghost use Rattle.std.specs.List.{list_any};
+ghost use Rattle.ec_base.specs.Tables.{keys, first};
+ghost use Rattle.ec_volume.specs.Update.{member};
+ghost use Rattle.ec_sessions.specs.Windows.{has};
+ghost use Rattle.ec_log.specs.Log.{has_one_of};
+ghost use Rattle.ec_log.specs.Choice as choice;
+
+use crate::limits::{MAX_BATCH_OPS, WINDOW_SIZE};
+use crate::state::Pick;
+use ec_base::{List, NoMemory, OpNo};
+use ec_sessions::Window;
+use ec_volume::Update;
+use std::alloc::Global;
+
+/// What is to be sent for a closure.
+pub fn choose(mut ops: Vec<OpNo>, next: u64, batches: &[(u64, List<OpNo>)]) -> Pick
+    ensures { result ≡ choice.choice ops.items next batches.now }
+{
+    if ops.as_slice().is_empty() {
+        return Pick::Settled;
+    }
+    if let Some(batch) = first_with(batches, &ops) {
+        return Pick::Behind(batch);
+    }
+    if let Some(batch) = full_from(next, batches) {
+        return Pick::Window(batch);
+    }
+    ops.truncate(MAX_BATCH_OPS);
+    Pick::Batch(next, List::of(ops))
+}
+
+// The first of the batches that has one of these operations.
+fn first_with(batches: &[(u64, List<OpNo>)], ops: &[OpNo]) -> Option<u64>
+    ensures { result ≡ choice.number_of (first (has_one_of ops.now) batches.now) }
+{
+    match batches {
+        [] => None,
+        [(no, members), rest @ ..] => {
+            if has_one_of(members.as_slice(), ops) {
+                Some(*no)
+            } else {
+                first_with(rest, ops)
+            }
+        }
+    }
+}
+
+fn has_one_of(members: &[OpNo], ops: &[OpNo]) -> bool
+    ensures { result ≡ list_any (λ n. member n members.now) ops.now }
+{
+    ops.iter().any(|op| members.contains(op))
+}
+
+// The least batch under way, where the next one would be a whole window above it.
+fn full_from(next: u64, batches: &[(u64, List<OpNo>)]) -> Option<u64>
+    ensures { result ≡ choice.full_from next batches.now }
+{
+    match batches {
+        [(least, _), ..] if next >= WINDOW_SIZE && next - WINDOW_SIZE == *least => Some(*least),
+        _ => None,
+    }
+}
+
+/// The operations but those in batches that the window has.
+pub fn lost_of(
+    alloc: Global,
+    window: &Window,
+    batches: &[(u64, List<OpNo>)],
+    ops: &[(OpNo, Update)],
+) -> Result<Vec<OpNo>, NoMemory>
+    ensures { IfOk result (λ lost. lost.items ≡ keys (choice.lost_in window.now batches.now ops.now)) }
+{
+    let mut lost = Vec::new(alloc);
+    for (op, _) in ops {
+        if !is_kept_by(window, batches, *op) {
+            lost.push(*op)?;
+        }
+    }
+    Ok(lost)
+}
+
+// Whether the operation is in a batch that the window has.
+fn is_kept_by(window: &Window, batches: &[(u64, List<OpNo>)], op: OpNo) -> bool
+    ensures { result ≡ list_any (λ b. has window.now b.0 && member op b.1) batches.now }
+{
+    match batches {
+        [] => false,
+        [(no, members), rest @ ..] => {
+            (window.has(*no) && members.as_slice().contains(&op)) || is_kept_by(window, rest, op)
+        }
+    }
+}

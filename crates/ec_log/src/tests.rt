@@ -1,0 +1,54 @@
+//! Picks, batch by batch, and a full log.
+
+use crate::{Asked, Log, LogFault, MAX_UNDURABLE, Pick};
+use ec_base::{Name, ObjId};
+use ec_volume::{Kind, Update};
+use std::alloc::Global;
+use std::test::*;
+
+fn create(alloc: Global, byte: u8) -> Result<Update, Fail> {
+    Ok(Update::Make {
+        dir: ObjId::root(),
+        name: Name::read(alloc, &[byte])?,
+        obj: ObjId::new(u32::from(byte)).ok_or("an id")?,
+        kind: Kind::File,
+    })
+}
+
+fn is_batch(pick: &Pick, no: u64, len: usize) -> bool {
+    match pick {
+        Pick::Batch(batch, ops) => *batch == no && ops.as_slice().len() == len,
+        _ => false,
+    }
+}
+
+#[test]
+fn creates_in_one_directory_travel_in_two_batches(rt: HostRuntime) -> Result<(), Fail> {
+    let alloc = rt.alloc();
+    let mut log = Log::new(alloc)?;
+    for byte in b'0'..b'q' {
+        log.issue(create(alloc, byte)?)?;
+    }
+    assert!(rt; is_batch(&log.pick(Asked::All)?, 1, 64));
+    assert!(rt; matches!(log.pick(Asked::All)?, Pick::Behind(1)));
+    log.kept(1);
+    assert_eq!(rt; log.floor(), 65);
+    assert!(rt; is_batch(&log.pick(Asked::Object(ObjId::root()))?, 2, 1));
+    log.kept(2);
+    assert!(rt; matches!(log.pick(Asked::All)?, Pick::Settled));
+    Ok(())
+}
+
+#[test]
+fn so_many_operations_fill_a_log(rt: HostRuntime) -> Result<(), Fail> {
+    let mut log = Log::new(rt.alloc())?;
+    let obj = ObjId::root();
+    for _ in 0..MAX_UNDURABLE {
+        log.issue(Update::Stamp { obj, stamp: 0 })?;
+    }
+    let more = log.issue(Update::Stamp { obj, stamp: 0 });
+    assert!(rt; matches!(more, Err(LogFault::Full)));
+    log.end();
+    assert_eq!(rt; log.floor(), 65_537);
+    Ok(())
+}
