@@ -7,4 +7,5 @@ pub mod Layout
 pub mod PieceLaws
 pub mod Pieces
 pub mod Places
+pub mod Reading
 pub mod Selected

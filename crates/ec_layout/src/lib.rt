@@ -7,6 +7,7 @@
 mod checkpoint;
 mod free;
 mod head;
+mod reading;
 mod selected;
 mod side;
 mod slots;
@@ -15,7 +16,8 @@ mod tests;
 
 pub use checkpoint::{prepare, select, write_checkpoint};
 pub use free::free_slots;
-pub use head::{FIRST_WORD, write_head};
+pub use head::{FIRST_WORD, FORM, write_head};
+pub use reading::Head;
 pub use selected::Selected;
 pub use side::{JOURNAL_BYTES, SELECT_AT, Side, TABLE_BYTES};
 pub use slots::{SLOT_BYTES, slot_at, write_slots};

@@ -2,6 +2,7 @@
 use crate::checkpoint::{prepare, write_checkpoint};
 use crate::free::free_slots;
 use crate::head::write_head;
+use crate::reading::Head;
 use crate::side::{SELECT_AT, Side};
 use crate::slots::slot_at;
 use ec_disk::{Choice, CrashDisk, Disk, DiskAnswer, DiskLen, MemDisk};
@@ -37,6 +38,17 @@ fn head_stands_in_front(rt: HostRuntime) {
     let mut disk = laid_out(rt.alloc()).expect(&rt, "disk");
     let head = bytes_at(rt.alloc(), &mut disk, 0, 16).expect(&rt, "head");
     assert_eq!(rt; head.as_slice(), b"ECHOFS1\n\0\0\0 \0\x01\0\0".as_slice());
+    let mut bytes = [0; 16];
+    if head.len() == 16 {
+        bytes.copy_from_slice(head.as_slice());
+    }
+    let want = Head {
+        has_first_word: true,
+        max_objects: 32,
+        side: Side::Even,
+        has_form: true,
+    };
+    assert_eq!(rt; Head::read(&bytes), want);
     assert_eq!(rt; disk.steps().len(), 8);
 }
 
