@@ -1,7 +1,11 @@
 pub mod Appends
 pub mod Frame
+pub mod Free
+pub mod FreeLaws
 pub mod Head
 pub mod Layout
 pub mod PieceLaws
 pub mod Pieces
 pub mod Places
+pub mod Reading
+pub mod Selected

@@ -11,6 +11,9 @@ use ec_journal::{JournalFault, write_synced};
 /// The first word of each disk.
 pub const FIRST_WORD: [u8; 8] = *b"ECHOFS1\n";
 
+/// The bytes behind the select byte.
+pub const FORM: [u8; 3] = [1, 0, 0];
+
 /// Writes the second word and then the first one, each with a sync: the last four calls of a format. `Bad` and `NoRoom` never come.
 ///
 /// Whatever a crash leaves, the layout lies there wherever the first word is right.

@@ -5,13 +5,19 @@
 #![tactic(auto)]
 
 mod checkpoint;
+mod free;
 mod head;
+mod reading;
+mod selected;
 mod side;
 mod slots;
 #[cfg(test)]
 mod tests;
 
 pub use checkpoint::{prepare, select, write_checkpoint};
-pub use head::{FIRST_WORD, write_head};
+pub use free::free_slots;
+pub use head::{FIRST_WORD, FORM, write_head};
+pub use reading::Head;
+pub use selected::Selected;
 pub use side::{JOURNAL_BYTES, SELECT_AT, Side, TABLE_BYTES};
 pub use slots::{SLOT_BYTES, slot_at, write_slots};

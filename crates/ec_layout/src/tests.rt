@@ -1,6 +1,8 @@
 // A disk that is laid out, and checkpoints that stop.
 use crate::checkpoint::{prepare, write_checkpoint};
+use crate::free::free_slots;
 use crate::head::write_head;
+use crate::reading::Head;
 use crate::side::{SELECT_AT, Side};
 use crate::slots::slot_at;
 use ec_disk::{Choice, CrashDisk, Disk, DiskAnswer, DiskLen, MemDisk};
@@ -36,7 +38,24 @@ fn head_stands_in_front(rt: HostRuntime) {
     let mut disk = laid_out(rt.alloc()).expect(&rt, "disk");
     let head = bytes_at(rt.alloc(), &mut disk, 0, 16).expect(&rt, "head");
     assert_eq!(rt; head.as_slice(), b"ECHOFS1\n\0\0\0 \0\x01\0\0".as_slice());
+    let mut bytes = [0; 16];
+    if head.len() == 16 {
+        bytes.copy_from_slice(head.as_slice());
+    }
+    let want = Head {
+        has_first_word: true,
+        max_objects: 32,
+        side: Side::Even,
+        has_form: true,
+    };
+    assert_eq!(rt; Head::read(&bytes), want);
     assert_eq!(rt; disk.steps().len(), 8);
+}
+
+#[test]
+fn free_slots_are_the_others(rt: HostRuntime) {
+    let free = free_slots(rt.alloc(), 6, &[4, 0, 1]).expect(&rt, "free");
+    assert_eq!(rt; free.as_slice(), [2, 3, 5].as_slice());
 }
 
 #[test]

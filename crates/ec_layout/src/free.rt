@@ -1,0 +1,26 @@
+// The slots that a checkpoint may write.
+ghost use Rattle.std.specs.Prelude.{◌≡◌, ◌<◌, ℕ, IfOk};
+ghost use Rattle.std.specs.List.{All};
+ghost use Rattle.ec_layout.specs.Free.{free_below};
+
+use ec_base::NoMemory;
+use std::alloc::Global;
+
+/// The slots below `count` that aren't named, rising.
+pub fn free_slots(alloc: Global, count: u32, named: &[u32]) -> Result<Vec<u32>, NoMemory>
+    requires { All (λ slot. slot < count) named.now }
+    ensures { IfOk result (λ free. free.items ≡ free_below count named.now) }
+{
+    let mut is_named = Vec::new(alloc);
+    is_named.resize(count as usize, false)?;
+    'named: for slot in named {
+        is_named[*slot as usize] = true;
+    }
+    let mut free = Vec::new(alloc);
+    'slots: for slot in 0..count {
+        if !is_named[slot as usize] {
+            free.push(slot)?;
+        }
+    }
+    Ok(free)
+}
