@@ -1,0 +1,68 @@
+-- Late answers, one by one.
+use Rattle.std.proofs.Common.{◌≡◌, refl, sym, ap, subst, ◌∙◌, arith, ◌≤◌, ◌<◌, ◌+◌, ℕ, zero, suc, Bool, true, false, ◌==◌, cond, List, [], ◌∷◌, ◌++◌, length, take, drop, get_or, Option, Some, None, append-nil, append_assoc, add-one}
+use Rattle.std.proofs.lemmas.Bool.{cond_both, cond-true, cond-false, eqb-true}
+use Rattle.std.proofs.lemmas.List.{take_more}
+use Rattle.std.proofs.Math.Seq.{drop-cons}
+use Rattle.ec_laws.proofs.More.{watch-step}
+use Rattle.ec_laws.proofs.Watching.{IsHeld, held-next}
+use Rattle.ec_volume.specs.Update.{listed}
+use Rattle.ec_history.specs.History.{History}
+use Rattle.ec_history.specs.declared.entry.Entry.TheVariants as entry
+use Rattle.ec_history.specs.Placing.{watch, begun, late, ops_in, call_entry, is_end_of, is_call_of, is_numbered, gives_entry, last_place, before_line, watch_next}
+use Rattle.ec_history.specs.declared.shown.Shown.{Shown}
+use Rattle.ec_history.specs.declared.shown.Shown.TheVariants.{Waits, Answered, Durable, Ended, Unseen, Told, Crashed}
+use Rattle.ec_history.specs.declared.watch.Watch.{Watch}
+use Rattle.ec_legal.specs.Watches.{call_of_start, own_call}
+
+held-start : (b : ℕ) (w : Watch) → IsHeld b w → (begun w).starts ≡ b
+held-start b w h = ap (λ v. v.starts) (cond-true w.running w _ h.running) ∙ h.starts
+
+pub of-start : (b : ℕ) (past : List Shown) (l c : ℕ) (cl : _) (a : _) (op : Option ℕ) → (begun (watch c past)).starts ≡ b → call_entry past (Answered l c cl a op) ≡ call_of_start b past (Answered l c cl a op)
+of-start b past l c cl a op e = ap (λ k. call_of_start k past (Answered l c cl a op)) e
+
+own : (c b : ℕ) (past : List Shown) (s : Shown) → IsHeld b (watch c past) → cond (is_call_of c s) (call_entry past s) [] ≡ own_call c b past s
+own c b past (Answered l d cl a op) h = go (c == d) refl
+  where
+    go : (q : Bool) → (c == d) ≡ q → cond q (call_entry past (Answered l d cl a op)) [] ≡ cond q (call_of_start b past (Answered l d cl a op)) []
+    go true e = of-start b past l d cl a op (subst (λ k. (begun (watch k past)).starts ≡ b) (eqb-true c d e) (held-start b (watch c past) h))
+    go false e = refl
+own c b past s h = refl
+
+pub line-at : (ss : List Shown) (i : ℕ) (s d : Shown) → i < length ss → s ≡ get_or ss i d → drop i ss ≡ s ∷ drop (i + 1) ss
+line-at ss i s d l e = drop-cons ss i d l ∙ ap (λ x. x ∷ drop (suc i) ss) (sym e) ∙ ap (λ k. s ∷ drop k ss) (sym (add-one i))
+
+pub above-at : (ss : List Shown) (i : ℕ) (s d : Shown) → i < length ss → s ≡ get_or ss i d → take (i + 1) ss ≡ take i ss ++ s ∷ []
+above-at ss i s d l e = take_more ss i d l ∙ ap (λ x. take i ss ++ x ∷ []) (sym e)
+
+pub late-step : (c b : ℕ) (ss : List Shown) (i : ℕ) (s d : Shown) → i < length ss → s ≡ get_or ss i d → is_end_of c s ≡ false → IsHeld b (watch c (take i ss))
+    → late c (take i ss) (drop i ss) ≡ own_call c b (take i ss) s ++ late c (take (i + 1) ss) (drop (i + 1) ss)
+late-step c b ss i s d l e n h =
+    ap (late c (take i ss)) (line-at ss i s d l e)
+    ∙ cond-false (is_end_of c s) [] _ n
+    ∙ ap (λ g. g ++ late c (take i ss ++ s ∷ []) (drop (i + 1) ss)) (own c b (take i ss) s h)
+    ∙ ap (λ p. own_call c b (take i ss) s ++ late c p (drop (i + 1) ss)) (sym (above-at ss i s d l e))
+
+pub late-end : (c : ℕ) (ss : List Shown) (i : ℕ) (s d : Shown) → i < length ss → s ≡ get_or ss i d → is_end_of c s ≡ true → late c (take i ss) (drop i ss) ≡ []
+late-end c ss i s d l e n = ap (late c (take i ss)) (line-at ss i s d l e) ∙ cond-true (is_end_of c s) [] _ n
+
+pub held-step : (c b : ℕ) (ss : List Shown) (i : ℕ) (s d : Shown) → i < length ss → s ≡ get_or ss i d → is_end_of c s ≡ false → IsHeld b (watch c (take i ss)) → IsHeld b (watch c (take (i + 1) ss))
+held-step c b ss i s d l e n h = subst (λ p. IsHeld b (watch c p)) (sym (above-at ss i s d l e)) (subst (IsHeld b) (sym (watch-step c (take i ss) s)) (held-next c b (watch c (take i ss)) s n h))
+
+pub ops-append : (h g : History) → ops_in (h ++ g) ≡ ops_in h ++ ops_in g
+ops-append [] g = refl
+ops-append ((p, entry.Call c b l begun cl a op) ∷ h) g = ap (λ ns. listed op ++ ns) (ops-append h g) ∙ sym (append_assoc (listed op) (ops_in h) (ops_in g))
+ops-append ((p, entry.Loss c b ns) ∷ h) g = ops-append h g
+
+-- one more call, of the entries and of the operations
+pub carry : {A : Type 0} (all xs ys zs one rest : List A) → all ≡ xs ++ zs → ys ≡ xs ++ one → zs ≡ one ++ rest → all ≡ ys ++ rest
+carry all xs ys zs one rest a y z = a ∙ ap (λ q. xs ++ q) z ∙ sym (append_assoc xs one rest) ∙ ap (λ q. q ++ rest) (sym y)
+
+-- The start of a call's entry, one line on.
+pub begun-step : (c b n : ℕ) (ss : List Shown) (i : ℕ) (s d : Shown) (w w' : Watch) (f f' p : ℕ) → i < length ss → s ≡ get_or ss i d → is_numbered n s ≡ false → w' ≡ watch_next c w s → f' ≡ cond (gives_entry c b w s) (i + 1) f
+    → p ≡ last_place c b w (i + 1) f (before_line n (drop i ss)) → p ≡ last_place c b w' (i + 1 + 1) f' (before_line n (drop (i + 1) ss))
+begun-step c b n ss i s d w w' f f' p l e m v g z =
+    z
+    ∙ ap (λ ts. last_place c b w (i + 1) f (before_line n ts)) (line-at ss i s d l e)
+    ∙ ap (last_place c b w (i + 1) f) (cond-false (is_numbered n s) [] (s ∷ before_line n (drop (i + 1) ss)) m)
+    ∙ ap (λ u. last_place c b u (i + 1 + 1) (cond (gives_entry c b w s) (i + 1) f) (before_line n (drop (i + 1) ss))) (sym v)
+    ∙ ap (λ k. last_place c b w' (i + 1 + 1) k (before_line n (drop (i + 1) ss))) (sym g)

@@ -1,0 +1,3 @@
+pub mod Watched
+pub mod Late
+pub mod Entries

@@ -1,0 +1,39 @@
+use Rattle.std.proofs.Common.{◌≡◌, ◌<◌, ◌≤◌, sym, subst, refl, arith, length, take, Some}
+use Rattle.std.specs.Prelude.{slice_get}
+use Rattle.std.proofs.lemmas.Option.{slice_get_read}
+use Rattle.ec_legal.specs.Watches.{AreWatched}
+use Rattle.ec_legal.proofs.Entries.{first-fault, starts-few, front-at, place-step, placeable-step}
+use Rattle.ec_legal.proofs.history.place_all.Goals as goal
+
+pub returns-in-Some-clause-fault : goal.returns-in-Some-clause-fault
+returns-in-Some-clause-fault c =
+    let ss = c.args.shown.now in
+    let i = c.loop-at.at in
+    let s = c.index-shown-at.result in
+    let within : i < length ss = omega (arith, c.loop-at-test.true) in
+    first-fault ss i s c.in-Some.rule (slice_get_read ss (length ss) i s refl within c.index-shown-at.is) c.loop-at.invariant.1 (rw c.in-Some.is at c.broken.ensures)
+
+pub push-requires-clause-line : goal.push-requires-clause-line
+push-requires-clause-line c =
+    let within : c.loop-at.at < length c.args.shown.now = omega (arith, c.loop-at-test.true) in
+    slice_get_read c.args.shown.now (length c.args.shown.now) c.loop-at.at c.index-shown-at.result refl within c.index-shown-at.is
+
+pub note-requires-clause-starts : goal.note-requires-clause-starts
+note-requires-clause-starts c w k g =
+    let ss = c.args.shown.now in
+    let within : c.loop-at.at ≤ length ss = omega (arith, c.loop-at-test.true) in
+    let below : length ss < 4294967296 = omega (arith, c.requires.few) in
+    starts-few c.loop-at.watches ss c.loop-at.at 4294967296 c.loop-at.invariant.0 within below w k g
+
+pub loop-at-preserved : goal.loop-at-preserved
+loop-at-preserved c =
+    let ss = c.args.shown.now in
+    let i = c.loop-at.at in
+    let s = c.index-shown-at.result in
+    let within : i < length ss = omega (arith, c.loop-at-test.true) in
+    let g = slice_get_read ss (length ss) i s refl within c.index-shown-at.is in
+    (
+      subst (AreWatched c.note.new.watches) (sym (front-at ss i s g)) (c.in_ok-note.ensures (take i ss) c.loop-at.invariant.0),
+      placeable-step ss i s g c.loop-at.invariant.1 (rw c.in_default.is at c.broken.ensures),
+      place-step ss i s _ c.loop-at.entries.items c.push.new.entries.items g c.loop-at.invariant.2 c.in_ok-push.ensures,
+    )

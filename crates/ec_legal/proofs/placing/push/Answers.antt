@@ -1,0 +1,30 @@
+use Rattle.std.proofs.Common.{◌≡◌, ◌<◌, ◌≤◌, ◌++◌, subst, arith, length, OnOk}
+use Rattle.std.proofs.lemmas.Option.{slice_get_within}
+use Rattle.ec_legal.proofs.Watched.{named-at}
+use Rattle.ec_legal.proofs.Entries.{starts-few, loss-held, line-loss}
+use Rattle.ec_legal.proofs.placing.push.Goals as goal
+
+pub push_answer-requires-clause-starts : goal.push_answer-requires-clause-starts
+push_answer-requires-clause-starts c =
+    let ss = c.args.shown.now in
+    let within : c.args.at < length ss = slice_get_within ss c.args.at c.args.line.now c.requires.line in
+    let front : c.args.at ≤ length ss = omega (arith, within) in
+    let below : length ss < 4294967296 = omega (arith, c.requires.few) in
+    starts-few c.args.watches.now ss c.args.at 4294967296 c.requires.watched front below c.watch_of-watch.result.now c.in-Answered.clerk c.watch_of-watch.ensures.value
+
+pub push_loss-requires-clause-within : goal.push_loss-requires-clause-within
+push_loss-requires-clause-within c = slice_get_within c.args.shown.now c.args.at c.args.line.now c.requires.line
+
+pub push_loss-requires-clause-held : goal.push_loss-requires-clause-held
+push_loss-requires-clause-held c r =
+    let w = c.watch_of-watch-in-Ended.result.now in
+    let own = named-at c.args.watches.now _ c.in-Ended.clerk w c.requires.watched c.watch_of-watch-in-Ended.ensures.below c.watch_of-watch-in-Ended.ensures.value in
+    loss-held c.in-Ended.clerk w _ c.args.shown.now c.args.at c.args.line.now c.requires.line c.in-Ended.is own r
+
+pub returns-in-Ended : goal.returns-in-Ended
+returns-in-Ended c =
+    let w = c.watch_of-watch-in-Ended.result.now in
+    let own = named-at c.args.watches.now _ c.in-Ended.clerk w c.requires.watched c.watch_of-watch-in-Ended.ensures.below c.watch_of-watch-in-Ended.ensures.value in
+    subst (λ h. OnOk c.push_loss.result (c.push_loss.new.entries.items ≡ c.args.entries.now.items ++ h))
+    (line-loss c.in-Ended.clerk w _ c.args.shown.now c.args.at c.args.line.now c.requires.line c.in-Ended.is own)
+    c.push_loss.ensures
