@@ -1,0 +1,4 @@
+pub mod Agreeing
+pub mod Making
+pub mod Members
+pub mod Settled
