@@ -88,6 +88,21 @@ module _ (ops : Issued) (i : ℕ) (x : ℕ × Update) (within : i < length ops) 
         ∙ ap (λ l. before ++ keys l) (sym (next_part at_place))
         ∙ h
 
+    pub held_taken : (before after all : Issued) (y : ℕ × Update) → y ≡ x → p x ≡ true → after ≡ before ++ y ∷ [] → before ++ filter p (drop i ops) ≡ all → after ++ filter p (drop (i + 1) ops) ≡ all
+    held_taken before after all y same e more h =
+        ap (λ l. l ++ filter p (drop (i + 1) ops)) more
+        ∙ append_assoc before (y ∷ []) (filter p (drop (i + 1) ops))
+        ∙ ap (λ z. before ++ z ∷ filter p (drop (i + 1) ops)) same
+        ∙ ap (λ b. before ++ cond b (x ∷ filter p (drop (i + 1) ops)) (filter p (drop (i + 1) ops))) (sym e)
+        ∙ ap (λ l. before ++ l) (sym (next_part at_place))
+        ∙ h
+
+    pub held_left : (before all : Issued) → p x ≡ false → before ++ filter p (drop i ops) ≡ all → before ++ filter p (drop (i + 1) ops) ≡ all
+    held_left before all e h =
+        ap (λ b. before ++ cond b (x ∷ filter p (drop (i + 1) ops)) (filter p (drop (i + 1) ops))) (sym e)
+        ∙ ap (λ l. before ++ l) (sym (next_part at_place))
+        ∙ h
+
     pub first_found : (all : Issued) → p x ≡ true → first_number (filter p (drop i ops)) ≡ first_number all → Some x.0 ≡ first_number all
     first_found all e h = ap (λ b. first_number (cond b (x ∷ filter p (drop (i + 1) ops)) (filter p (drop (i + 1) ops)))) (sym e) ∙ ap first_number (sym (next_part at_place)) ∙ h
 
@@ -98,6 +113,9 @@ module _ (ops : Issued) (i : ℕ) (x : ℕ × Update) (within : i < length ops) 
 
 pub numbers_end : (ops : Issued) (i : ℕ) (before all : List ℕ) → length ops ≤ i → before ++ keys (drop i ops) ≡ all → before ≡ all
 numbers_end ops i before all l h = sym (append-nil before) ∙ ap (λ d. before ++ keys d) (sym (drop_all i ops l)) ∙ h
+
+pub held_end : (p : ℕ × Update → Bool) (ops : Issued) (i : ℕ) (before all : Issued) → length ops ≤ i → before ++ filter p (drop i ops) ≡ all → before ≡ all
+held_end p ops i before all l h = sym (append-nil before) ∙ ap (λ d. before ++ filter p d) (sym (drop_all i ops l)) ∙ h
 
 pub part_end : (p : ℕ × Update → Bool) (ops : Issued) (i : ℕ) (before all : List ℕ) → length ops ≤ i → before ++ keys (filter p (drop i ops)) ≡ all → before ≡ all
 part_end p ops i before all l h = sym (append-nil before) ∙ ap (λ d. before ++ keys (filter p d)) (sym (drop_all i ops l)) ∙ h

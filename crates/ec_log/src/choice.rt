@@ -1,5 +1,5 @@
 // The batches under way, and whether a new one begins.
-ghost use Rattle.std.specs.Prelude.{◌≡◌, ◌&&◌, IfOk};
+ghost use Rattle.std.specs.Prelude.{◌≡◌, ◌&&◌, filter, IfOk};
 ghost use Rattle.std.specs.List.{list_any};
 ghost use Rattle.ec_base.specs.Tables.{keys, first};
 ghost use Rattle.ec_volume.specs.Update.{member};
@@ -9,7 +9,7 @@ ghost use Rattle.ec_log.specs.Choice as choice;
 
 use crate::limits::{MAX_BATCH_OPS, WINDOW_SIZE};
 use crate::state::Pick;
-use ec_base::{List, NoMemory, OpNo};
+use ec_base::{Duplicate, List, NoMemory, OpNo};
 use ec_sessions::Window;
 use ec_volume::Update;
 use std::alloc::Global;
@@ -61,6 +61,29 @@ fn full_from(next: u64, batches: &[(u64, List<OpNo>)]) -> Option<u64>
         [(least, _), ..] if next >= WINDOW_SIZE && next - WINDOW_SIZE == *least => Some(*least),
         _ => None,
     }
+}
+
+/// Copies of the operations of these numbers.
+pub fn those_in(
+    alloc: Global,
+    members: &[OpNo],
+    ops: &[(OpNo, Update)],
+) -> Result<Vec<(OpNo, Update)>, NoMemory>
+    ensures { IfOk result (λ found. found.items ≡ filter (λ op. member op.0 members.now) ops.now) }
+{
+    let mut found = Vec::new(alloc);
+    for (op, update) in ops {
+        if is_one_of(members, *op) {
+            found.push((*op, update.duplicate()?))?;
+        }
+    }
+    Ok(found)
+}
+
+fn is_one_of(members: &[OpNo], op: OpNo) -> bool
+    ensures { result ≡ member op members.now }
+{
+    members.contains(&op)
 }
 
 /// The operations but those in batches that the window has.

@@ -1,13 +1,13 @@
 // A clerk's log.
-ghost use Rattle.std.specs.Prelude.{◌≡◌, ◌==◌, ℕ, true, false, List, [], take, Err, IfOk, OnOk, OnErr};
-ghost use Rattle.ec_base.specs.Tables.{keys};
+ghost use Rattle.std.specs.Prelude.{◌≡◌, ◌==◌, ℕ, true, false, List, [], take, Err, is_some, IfOk, IfSome, OnOk, OnErr};
+ghost use Rattle.ec_base.specs.Tables.{at, keys};
 ghost use Rattle.ec_base.specs.declared.counter.Counter.{Counter as Kind};
 ghost use Rattle.ec_base.specs.declared.counter.Counter.TheVariants as counter;
 ghost use Rattle.ec_log.specs.Log as log;
 ghost use Rattle.ec_log.specs.declared.state.LogFault.TheVariants as fault;
 
 use crate::asked::{closure_of, first_asked};
-use crate::choice::{choose, lost_of};
+use crate::choice::{choose, lost_of, those_in};
 use crate::limits::MAX_UNDURABLE;
 use crate::state::{Asked, LogFault, Pick};
 use ec_base::{Counter, Duplicate, LAST_COUNTER, List, NoMemory, OpNo, SortedMap};
@@ -106,6 +106,20 @@ impl Log {
             self.next_batch += 1;
         }
         Ok(made)
+    }
+
+    /// Copies of the operations of a batch under way, in the order of issue.
+    pub fn batch(&self, no: u64) -> Result<Option<List<(OpNo, Update)>>, NoMemory>
+        ensures some { IfOk result (λ found. IfSome found (λ ops. ops ≡ log.batch no self.now)) }
+        ensures under_way { IfOk result (λ found. is_some found ≡ is_some (at no self.now.batches)) }
+    {
+        match self.batches.get(&no) {
+            None => Ok(None),
+            Some(members) => {
+                let ops = those_in(self.alloc, members.as_slice(), self.undurable.held())?;
+                Ok(Some(List::of(ops)))
+            }
+        }
     }
 
     /// The operations of the batch are durable. A batch that isn't under way changes nothing. It

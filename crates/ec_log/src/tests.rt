@@ -30,6 +30,8 @@ fn creates_in_one_directory_travel_in_two_batches(rt: HostRuntime) -> Result<(),
         log.issue(create(alloc, byte)?)?;
     }
     assert!(rt; is_batch(&log.pick(Asked::All)?, 1, 64));
+    let sent = log.batch(1)?.ok_or("a batch under way")?;
+    assert_eq!(rt; sent.as_slice().len(), 64);
     assert!(rt; matches!(log.pick(Asked::All)?, Pick::Behind(1)));
     log.kept(1);
     assert_eq!(rt; log.floor(), 65);
