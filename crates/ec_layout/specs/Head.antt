@@ -2,6 +2,7 @@
 use Rattle.std.specs.Prelude.{◌≡◌, ◌<◌, ◌≤◌, ℕ, List, [], ◌∷◌, ◌++◌, length}
 use Rattle.std.specs.Int.{w32, to_be_bytes}
 use Rattle.std.proofs.Common.{arith, ◌∙◌, ap, sym, subst, refl}
+use Rattle.std.proofs.lemmas.List.{get_or_past}
 use Rattle.ec_disk.specs.Disk.{View, byte, part, written, Loose, InRange, After, IsSynced, LeavesOnly}
 use Rattle.ec_disk.specs.Images.{part-loose, part-written, part-add, byte-part}
 use Rattle.ec_disk.specs.Runs.{Ran, leaves_only, leaves_then}
@@ -87,3 +88,12 @@ module _ (most : ℕ) (l : Layout) (headed : IsHeaded most l) where
       pub head_done : IsSynced new → new.may_leave new.gives → new.gives ≡ written 0 first_word mid.gives → IsLaid new l
       head_done now_synced now_given is c left =
           subst (λ image. Lies image l) (sym (now_synced c left)) (each new.gives (second.crash new.gives now_given) (ap (λ (image : List ℕ). part image 0 8) is ∙ part-written 0 first_word mid.gives))
+
+-- An empty disk awaits the head, once the rest of the layout is written and synced.
+pub empty_awaits : (old new : View) (l : Layout) → length old.gives ≡ 0 → ((i : ℕ) → i < 4096 → byte new.gives i ≡ byte old.gives i) → IsSynced new → HasSide new.gives l.side l.table l.bodies → HasSlots new.gives l.slots → AwaitsHead new l
+empty_awaits old new l empty front synced side_has slots_have = record {
+  synced = synced;
+  other_word = λ is. omega (arith, sym (byte-part new.gives 0 8 0 (omega arith)) ∙ ap (λ (x : List ℕ). byte x 0) is, front 0 (omega arith), get_or_past old.gives 0 0 (omega (arith, empty)));
+  side_stands = side_has;
+  slots_stand = slots_have;
+}
