@@ -1,6 +1,6 @@
 -- A call that words spell is within the bounds of calls.
-use Rattle.std.proofs.Common.{◌≡◌, ℕ, zero, suc, ◌+◌, ◌*◌, ◌<◌, ◌≤◌, ◌-◌, List, [], ◌∷◌, length, Option, Some, None, Bool, true, false, refl, sym, ap, subst, ◌∙◌, arith}
-use Rattle.std.specs.Prelude.{T, ◌&&◌, nat_le, eqb, ltb, if◌then◌else◌}
+use Rattle.std.proofs.Common.{◌≡◌, ℕ, zero, suc, ◌+◌, ◌*◌, ◌≤◌, ◌-◌, List, [], ◌∷◌, length, Option, Some, None, Bool, true, false, refl, sym, subst, arith}
+use Rattle.std.specs.Prelude.{T, ◌&&◌, nat_le, ltb, if◌then◌else◌}
 use Rattle.std.specs.List.{list_all}
 use Rattle.std.proofs.lemmas.Bool.{le-leb, leb-true, ltb-true}
 use Rattle.std.proofs.lemmas.Float.{T_from_true}
@@ -16,7 +16,7 @@ use Rattle.ec_plain.specs.declared.call.Call.{Call}
 use Rattle.ec_plain.specs.declared.call.Call.TheVariants as call
 use Rattle.ec_words.specs.declared.name.Verb.{Verb}
 use Rattle.ec_words.specs.declared.name.Verb.TheVariants as verb
-use Rattle.ec_words.specs.Rows.{Word, ◌▸◌, Last, UpTo, ◌⊳◌, ◌makes◌}
+use Rattle.ec_words.specs.Rows.{Word, ◌▸◌, Last, UpTo}
 use Rattle.ec_words.specs.Spelling.{IsPathText, IsSmallNumber, IsNumber, IsText, IsCount, IsMode, is_octal, mode_of}
 use Rattle.ec_words.specs.Calls.{Asks, SpellsCall}
 

@@ -1,5 +1,5 @@
 -- The bytes that are left of a line.
-use Rattle.std.proofs.Common.{◌≡◌, ℕ, suc, zero, ◌+◌, ◌<◌, ◌≤◌, List, [], ◌∷◌, length, take, drop, true, false, refl, arith}
+use Rattle.std.proofs.Common.{ap, ◌≡◌, ℕ, suc, zero, ◌+◌, ◌<◌, ◌≤◌, List, [], ◌∷◌, length, take, drop, true, false, refl, arith}
 use Rattle.std.specs.Prelude.{nat_lt, if◌then◌else◌}
 use Rattle.std.proofs.lemmas.Bool.{ltb-true, ltb-false}
 use Rattle.ec_words.specs.Words.{words_of, spaced_len, column_of}
@@ -19,6 +19,9 @@ pub joined_len-words_of : (bs : List ℕ) → joined_len (words_of bs) ≡ lengt
 joined_len-words_of bs =
     let s : (1 ≤ length (words_of bs)) × (spaced_len (words_of bs) ≡ length bs + 1) = spaced_len-words_of bs in
     omega (arith, joined_some (words_of bs) s.0, s.1)
+
+pub no_words : (bs : List ℕ) → words_of bs ≡ [] → ⊥
+no_words bs e = let n : length (words_of bs) ≡ 0 = ap length e in absurd (omega (arith, n, (spaced_len-words_of bs).0))
 
 -- what stands before and behind the first k words
 spaced_split : (k : ℕ) (ws : List (List ℕ)) → spaced_len (take k ws) + spaced_len (drop k ws) ≡ spaced_len ws

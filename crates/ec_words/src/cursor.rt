@@ -68,7 +68,10 @@ impl<'a> Words<'a> {
     pub fn is_empty(self) -> bool
         ensures { MatchBool result (left self.entry ≡ []) (left self.entry ≡ [] → ⊥) }
     {
-        self.split().is_none()
+        match self.rest {
+            None => true,
+            Some(_) => false,
+        }
     }
 
     /// How many bytes the words have, with the spaces between them.

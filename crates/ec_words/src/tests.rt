@@ -19,7 +19,17 @@ fn calls_by_their_words(rt: HostRuntime) {
         Ok(Call::Forder(paths)) => assert_eq!(rt; paths.as_slice().len(), 3),
         _ => assert!(rt; false),
     }
-    assert!(rt; matches!(read_call(alloc, Words::of(b"chmod / 7777")), Ok(Call::Chmod(_, 4095))));
-    assert!(rt; matches!(read_call(alloc, Words::of(b"chmod / 8 x")), Err(Misfit::Unfit(3))));
+    assert!(rt;
+        matches!(
+            read_call(alloc, Words::of(b"chmod / 7777")),
+            Ok(Call::Chmod(_, 4095))
+        )
+    );
+    assert!(rt;
+        matches!(
+            read_call(alloc, Words::of(b"chmod / 8 x")),
+            Err(Misfit::Unfit(3))
+        )
+    );
     assert!(rt; matches!(read_call(alloc, Words::of(b"stat")), Err(Misfit::Unfit(0))));
 }
