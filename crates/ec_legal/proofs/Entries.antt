@@ -1,16 +1,16 @@
 -- The entries of one line, by what stands above it.
-use Rattle.std.proofs.Common.{◌≡◌, refl, sym, ap, subst, ◌∙◌, arith, ◌≤◌, ◌<◌, ◌+◌, ℕ, zero, suc, Bool, true, false, cond, List, [], ◌∷◌, ◌++◌, length, take, drop, get_or, Option, Some, None, append-nil, append_assoc}
-use Rattle.std.specs.Prelude.{slice_get, is_some}
+use Rattle.std.proofs.Common.{◌≡◌, refl, sym, ap, subst, ◌∙◌, arith, ◌≤◌, ◌<◌, ◌+◌, ℕ, zero, suc, true, cond, List, [], ◌∷◌, ◌++◌, length, take, drop, Option, Some, append-nil, append_assoc}
+use Rattle.std.specs.Prelude.{slice_get}
 use Rattle.std.proofs.lemmas.Option.{get_or_from_slice_get, slice_get_within}
 use Rattle.ec_laws.proofs.More.{watch-step}
 use Rattle.ec_laws.proofs.Watching.{IsHeld, held-ended}
 use Rattle.ec_history.specs.History.{History}
 use Rattle.ec_history.specs.declared.entry.Entry.TheVariants as entry
-use Rattle.ec_history.specs.Placing.{watch, watch_next, begun, late, ops_in, or_zero, owner, is_running, line_entries, place_from, MayFollow, ArePlaceable}
+use Rattle.ec_history.specs.Placing.{watch, watch_next, late, ops_in, or_zero, owner, is_running, line_entries, place_from, MayFollow, ArePlaceable}
 use Rattle.ec_history.specs.declared.shown.Shown.{Shown}
-use Rattle.ec_history.specs.declared.shown.Shown.TheVariants.{Waits, Answered, Durable, Ended, Unseen, Told, Crashed}
+use Rattle.ec_history.specs.declared.shown.Shown.TheVariants.{Answered, Ended}
 use Rattle.ec_history.specs.declared.watch.Watch.{Watch}
-use Rattle.ec_legal.specs.Watches.{call_of_start, loss_of, late_calls, answer_of}
+use Rattle.ec_legal.specs.Watches.{loss_of, answer_of}
 use Rattle.ec_legal.proofs.Late.{above-at, line-at}
 use Rattle.ec_legal.proofs.Watched.{few-at}
 use Rattle.std.proofs.lemmas.List.{take-append-drop}

@@ -1,5 +1,5 @@
 -- The watches of all clerks, line by line.
-use Rattle.std.proofs.Common.{◌≡◌, refl, sym, ap, subst, ◌∙◌, arith, inl, inr, ◌≤◌, ◌<◌, ◌+◌, ℕ, zero, suc, T, Bool, true, false, not, ◌==◌, ◌&&◌, cond, List, [], ◌∷◌, ◌++◌, length, set, get_or, Option, Some, None, length-append, length-set, get_or-set_same, get_or-set_other}
+use Rattle.std.proofs.Common.{◌≡◌, refl, sym, ap, subst, ◌∙◌, arith, inl, inr, ◌≤◌, ◌<◌, ◌+◌, ℕ, T, Bool, true, false, ◌==◌, cond, List, [], ◌∷◌, ◌++◌, length, set, get_or, Option, Some, None, length-append, length-set, get_or-set_same, get_or-set_other}
 use Rattle.std.specs.Prelude.{slice_get, Decides}
 use Rattle.std.proofs.lemmas.Bool.{cond_both, cond-false, cases_eq, ne_eqb}
 use Rattle.std.proofs.lemmas.Float.{T_from_true}
@@ -9,11 +9,10 @@ use Rattle.ec_laws.proofs.More.{watch-step}
 use Rattle.ec_laws.proofs.Objects.{is-true}
 use Rattle.ec_laws.proofs.Watching.{from_front, answered_as, showing, in_session, before_session, own_end, other_end}
 use Rattle.ec_volume.specs.Image.{is_id}
-use Rattle.ec_volume.specs.Update.{listed}
-use Rattle.ec_history.specs.Placing.{watch, watch_from, watch_next, unwatched, begun, answered, ended, owner, is_running, shows, MayFollow, EachLine}
+use Rattle.ec_history.specs.Placing.{watch, watch_next, begun, answered, ended, owner, is_running, shows, MayFollow}
 use Rattle.ec_history.specs.declared.watch.Watch.{Watch}
 use Rattle.ec_history.specs.declared.shown.Shown.{Shown}
-use Rattle.ec_history.specs.declared.shown.Shown.TheVariants.{Waits, Answered, Durable, Ended, Unseen, Told, Crashed, Stopped, Started, Nothing, Unsettled, Bad, DiskBad, Limit, Spent}
+use Rattle.ec_history.specs.declared.shown.Shown.TheVariants.{Waits, Answered, Durable, Ended, Unseen, Told, Crashed}
 use Rattle.ec_legal.specs.Faults.{HasShape}
 use Rattle.ec_legal.specs.Watches.{AreWatched, IsNamed, clerk_of}
 

@@ -18,16 +18,19 @@ pub fn is_same(call: &Call, other: &Call) -> bool
             same_path(path, same) && at == place && count == most
         }
         (Call::Chmod(path, mode), Call::Chmod(same, bits)) => same_path(path, same) && mode == bits,
-        (Call::Touch(path, stamp), Call::Touch(same, time)) => same_path(path, same) && stamp == time,
+        (Call::Touch(path, stamp), Call::Touch(same, time)) => same_path(path, same)
+            && stamp == time,
         (Call::Stat(path), Call::Stat(same)) => same_path(path, same),
         (Call::List(path), Call::List(same)) => same_path(path, same),
         (Call::Remove(path), Call::Remove(same)) => same_path(path, same),
         (Call::Rmdir(path), Call::Rmdir(same)) => same_path(path, same),
-        (Call::Rename(path, to), Call::Rename(same, target)) => same_path(path, same) && same_path(to, target),
+        (Call::Rename(path, to), Call::Rename(same, target)) => same_path(path, same)
+            && same_path(to, target),
         (Call::Fsync(path), Call::Fsync(same)) => same_path(path, same),
         (Call::Forder(paths), Call::Forder(same)) => same_paths(paths, same),
         (Call::Sync, Call::Sync) => true,
-        (Call::Chown(path, owner), Call::Chown(same, user)) => same_path(path, same) && owner == user,
+        (Call::Chown(path, owner), Call::Chown(same, user)) => same_path(path, same)
+            && owner == user,
         _ => false,
     }
 }

@@ -4,8 +4,7 @@ ghost use Rattle.ec_history.specs.Placing.{place, ArePlaceable};
 ghost use Rattle.ec_legal.specs.Placed.{IsPlaceFault};
 ghost use Rattle.ec_legal.specs.Watches.{AreWatched};
 
-use crate::lines;
-use crate::placing;
+use crate::{lines, placing};
 use ec_base::NoMemory;
 use ec_history::{Entry, Rule, Shown, Watch};
 use std::alloc::Global;
@@ -39,7 +38,6 @@ pub struct History {
 }
 
 impl Model for History {
-    ghost use Rattle.ec_history.specs.History as history;
     ghost use Rattle.std.specs.Prelude.{List, ℕ};
     ghost use Rattle.std.specs.Coded.{coded_list, coded_ℕ, coded×};
     ghost use Rattle.ec_history.specs.contracts.entry.Entry as entry;
@@ -50,6 +48,15 @@ impl Model for History {
     ghost coded = { coded_list (coded× coded_ℕ entry.the_row.coded) };
 
     ghost view = { λ a. a.entries.items };
+}
+
+impl History {
+    /// Its entries, each with the place of its transcript line.
+    pub fn entries(&self) -> &[(u32, Entry)]
+        ensures { result.now ≡ self.now }
+    {
+        &self.entries
+    }
 }
 
 /// The history of these lines: each answer is a call and each `ended` line a loss, in printed

@@ -5,6 +5,8 @@ mod calls;
 mod history;
 mod lines;
 mod placing;
+#[cfg(test)]
+mod tests;
 mod watching;
 
 pub use history::{History, HistoryFault, place};

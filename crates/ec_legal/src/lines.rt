@@ -7,8 +7,7 @@ ghost use Rattle.ec_history.specs.Placing.{Agrees, Unanswered, EachLine, MayFoll
 ghost use Rattle.ec_legal.specs.Faults.{HasShape, BreaksLine};
 ghost use Rattle.ec_legal.specs.Watches.{AreWatched, IsNamed, clerk_of};
 
-use crate::calls;
-use crate::watching;
+use crate::{calls, watching};
 use ec_base::{CLERK_COUNT, ClerkId, List, NoMemory, OpNo};
 use ec_history::{Rule, Shown, Watch};
 use ec_plain::Call;

@@ -5,8 +5,7 @@ ghost use Rattle.ec_history.specs.Placing.{watch as watched, unwatched, begun, l
 ghost use Rattle.ec_legal.specs.Watches.{AreWatched, call_of_start, own_call, late_calls, loss_of, answer_of};
 ghost use Rattle.ec_laws.proofs.Watching.{IsHeld};
 
-use crate::lines;
-use crate::watching;
+use crate::{lines, watching};
 use ec_base::{ClerkId, Duplicate, List, NoMemory, OpNo};
 use ec_history::{Entry, Shown, Watch};
 use std::alloc::Global;

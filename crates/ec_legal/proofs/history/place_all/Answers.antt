@@ -1,5 +1,4 @@
-use Rattle.std.proofs.Common.{◌≡◌, ◌<◌, ◌≤◌, sym, subst, refl, arith, length, take, Some}
-use Rattle.std.specs.Prelude.{slice_get}
+use Rattle.std.proofs.Common.{◌<◌, ◌≤◌, sym, subst, refl, arith, length, take}
 use Rattle.std.proofs.lemmas.Option.{slice_get_read}
 use Rattle.ec_legal.specs.Watches.{AreWatched}
 use Rattle.ec_legal.proofs.Entries.{first-fault, starts-few, front-at, place-step, placeable-step}
@@ -31,8 +30,7 @@ loop-at-preserved c =
     let i = c.loop-at.at in
     let s = c.index-shown-at.result in
     let within : i < length ss = omega (arith, c.loop-at-test.true) in
-    let g = slice_get_read ss (length ss) i s refl within c.index-shown-at.is in
-    (
+    let g = slice_get_read ss (length ss) i s refl within c.index-shown-at.is in (
       subst (AreWatched c.note.new.watches) (sym (front-at ss i s g)) (c.in_ok-note.ensures (take i ss) c.loop-at.invariant.0),
       placeable-step ss i s g c.loop-at.invariant.1 (rw c.in_default.is at c.broken.ensures),
       place-step ss i s _ c.loop-at.entries.items c.push.new.entries.items g c.loop-at.invariant.2 c.in_ok-push.ensures,

@@ -1,4 +1,4 @@
-use Rattle.std.proofs.Common.{◌≡◌, ◌≤◌, ◌<◌, ◌+◌, sym, ap, subst, ◌∙◌, arith, cond, length}
+use Rattle.std.proofs.Common.{◌≡◌, ◌≤◌, ◌<◌, ◌+◌, sym, ap, ◌∙◌, arith, cond, length}
 use Rattle.std.proofs.lemmas.Bool.{cond-true, cond-false}
 use Rattle.ec_history.specs.Placing.{gives_entry}
 use Rattle.ec_legal.proofs.Watched.{more-next}
@@ -23,8 +23,7 @@ loop-at-preserved c =
       | else-gives_entry t ↦ omega (arith, t.found-is, c.loop-at.invariant.2)
     ] in
     let next = c.in_ok-note.ensures in
-    let starts : c.note.new.watch.starts ≤ i + 1 = omega (arith, ap (λ v. v.starts) next, more-next c.args.clerk w s, c.loop-at.invariant.1) in
-    (
+    let starts : c.note.new.watch.starts ≤ i + 1 = omega (arith, ap (λ v. v.starts) next, more-next c.args.clerk w s, c.loop-at.invariant.1) in (
       begun-step c.args.clerk c.args.boot c.args.number c.args.above.now i s s w c.note.new.watch c.loop-at.found c.if-gives_entry.found _ within c.index-above-at.is (sym c.is_numbered.ensures ∙ c.if-is_numbered.false) next found c.loop-at.invariant.0,
       starts,
       below,

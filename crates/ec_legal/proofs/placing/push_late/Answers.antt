@@ -1,4 +1,4 @@
-use Rattle.std.proofs.Common.{◌≡◌, ◌<◌, ◌+◌, ◌++◌, sym, ap, ◌∙◌, arith, length, take, drop}
+use Rattle.std.proofs.Common.{◌<◌, ◌+◌, sym, ap, ◌∙◌, arith, length, take, drop}
 use Rattle.ec_history.specs.Placing.{late, ops_in}
 use Rattle.ec_legal.specs.Watches.{own_call}
 use Rattle.ec_legal.proofs.Late.{late-step, held-step, ops-append, carry}
@@ -15,8 +15,7 @@ loop-at-preserved c =
     let goes = sym c.is_end_of.ensures ∙ c.if-is_end_of.false in
     let step = late-step k b ss i s s within c.index-shown-at.is goes c.loop-at.invariant.2 in
     let one = own_call k b (take i ss) s in
-    let rest = late k (take (i + 1) ss) (drop (i + 1) ss) in
-    (
+    let rest = late k (take (i + 1) ss) (drop (i + 1) ss) in (
       carry _ c.loop-at.entries.items c.push_own.new.entries.items _ one rest c.loop-at.invariant.0 c.in_ok-push_own.ensures.entries step,
       carry _ c.loop-at.ops.items c.push_own.new.ops.items _ (ops_in one) (ops_in rest) c.loop-at.invariant.1 c.in_ok-push_own.ensures.ops (ap ops_in step ∙ ops-append one rest),
       held-step k b ss i s s within c.index-shown-at.is goes c.loop-at.invariant.2,

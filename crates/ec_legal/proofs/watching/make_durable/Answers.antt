@@ -1,4 +1,4 @@
-use Rattle.std.proofs.Common.{◌≡◌, ap, ◌∙◌, not, filter, rules}
+use Rattle.std.proofs.Common.{ap, ◌∙◌, not, filter, rules}
 use Rattle.std.proofs.lemmas.Fn.{filter_same}
 use Rattle.ec_volume.specs.Update.{member}
 use Rattle.ec_legal.proofs.watching.make_durable.Goals as goal
