@@ -1,8 +1,12 @@
 //! The bytes of a disk's table: the durable state without its images, and in which slots these stand.
 #![tactic(auto)]
 
+mod laws;
 mod reading;
 mod table;
+#[cfg(test)]
+mod tests;
 
+pub use laws::tables_are_short;
 pub use reading::get_table;
 pub use table::{Table, Version};
