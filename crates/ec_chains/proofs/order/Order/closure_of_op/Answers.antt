@@ -10,8 +10,8 @@ use Rattle.ec_chains.proofs.order.Order.closure_of_op.Goals as goal
 
 pub returns-then-is_empty-clause-none : goal.returns-then-is_empty-clause-none
 returns-then-is_empty-clause-none c n e = (
-    named e,
-    op_absent c.args.op c.args.self.now c.in_ok-ops.ops.items c.as_slice.result.now (c.in_ok-ops.ensures ∙ ap (λ l. keys (walk (λ x. x.0 == c.args.op) l)) (c.deref.ensures.value ∙ c.self.view_is)) c.as_slice.ensures.value (sym c.if-is_empty.ensures),
+  named e,
+  op_absent c.args.op c.args.self.now c.in_ok-ops.ops.items c.as_slice.result.now (c.in_ok-ops.ensures ∙ ap (λ l. keys (walk (λ x. x.0 == c.args.op) l)) (c.deref.ensures.value ∙ c.self.view_is)) c.as_slice.ensures.value (sym c.if-is_empty.ensures),
 )
   where
     named : {X : Type 0} {a b : ℕ} → ◌≡◌ {A = Result X OrderFault} (Err (fault.NoSuchOp a)) (Err (fault.NoSuchOp b)) → b ≡ a
