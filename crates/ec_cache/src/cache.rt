@@ -1,5 +1,5 @@
 // A clerk's tokens with their images, in the order of use.
-ghost use Rattle.std.specs.Prelude.{◌≡◌, ◌≤◌, T, true, None, is_some, IfOk, IfSome, OnErr, OnOk, option_copied, option_map, reverse};
+ghost use Rattle.std.specs.Prelude.{◌≡◌, ◌≤◌, T, true, None, is_some, IfOk, IfSome, OnErr, OnOk, length, option_copied, option_map, reverse};
 ghost use Rattle.ec_base.specs.Tables.{at, keys, put, renewed};
 ghost use Rattle.ec_volume.specs.Update.{is_sound, operands, first_unfit};
 ghost use Rattle.ec_cache.specs.Cache as cache;
@@ -73,14 +73,35 @@ impl Cache {
         tokens::weaker(self.mode(obj), slots::counts_to(&self.slots, obj))
     }
 
-    // The whole mode of the token.
-    fn mode(&self, obj: ObjId) -> Hold
+    /// The whole mode of the token.
+    pub fn mode(&self, obj: ObjId) -> Hold
         ensures { result ≡ cache.mode obj self.now }
     {
         match tokens::held_at(&self.tokens, obj) {
             Some(held) => held.hold,
             None => Hold::Free,
         }
+    }
+
+    /// The token that is held on the object.
+    pub fn held(&self, obj: ObjId) -> Option<&Held>
+        ensures { option_copied result ≡ at obj self.now.held }
+    {
+        tokens::held_at(&self.tokens, obj)
+    }
+
+    /// How many tokens are held.
+    pub fn len(&self) -> usize
+        ensures { result ≡ length self.now.held }
+    {
+        self.tokens.len()
+    }
+
+    /// How many tokens may stay.
+    pub fn capacity(&self) -> usize
+        ensures { result ≡ self.now.capacity }
+    {
+        self.capacity
     }
 
     /// The image of the object, where a token is held.

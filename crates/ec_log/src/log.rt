@@ -1,10 +1,11 @@
 // A clerk's log.
-ghost use Rattle.std.specs.Prelude.{◌≡◌, ◌==◌, ℕ, true, false, List, [], take, Err, is_some, IfOk, IfSome, OnOk, OnErr};
+ghost use Rattle.std.specs.Prelude.{◌≡◌, ◌==◌, ℕ, true, false, List, [], take, Ok, Err, is_some, IfOk, IfSome, OnOk, OnErr};
 ghost use Rattle.ec_base.specs.Tables.{at, keys};
 ghost use Rattle.ec_base.specs.declared.counter.Counter.{Counter as Kind};
 ghost use Rattle.ec_base.specs.declared.counter.Counter.TheVariants as counter;
 ghost use Rattle.ec_log.specs.Log as log;
 ghost use Rattle.ec_log.specs.declared.state.LogFault.TheVariants as fault;
+ghost use Rattle.ec_log.specs.declared.state.Pick.TheVariants as picked;
 
 use crate::asked::{closure_of, first_asked};
 use crate::choice::{choose, lost_of, those_in};
@@ -92,6 +93,7 @@ impl Log {
     pub fn pick(&mut self, asked: Asked) -> Result<Pick, LogFault>
         ensures pick { IfOk result (λ made. made ≡ log.pick asked self.old) }
         ensures ok { IfOk result (λ made. self.new ≡ log.after_pick made self.old) }
+        ensures room { (no : ℕ) (ops : List ℕ) → result ≡ Ok (picked.Batch no ops) → log.batches_are_spent self.old ≡ false }
         ensures err { OnErr result (self.new ≡ self.old) }
         ensures full { result ≡ Err fault.Full → ⊥ }
         ensures spent { (c : Kind) → result ≡ Err (fault.Spent c) → (c ≡ counter.Batch) × (log.batches_are_spent self.old ≡ true) }
@@ -99,7 +101,7 @@ impl Log {
         let ops = closure_of(self.alloc, &self.undurable, asked)?;
         let made = choose(ops, self.next_batch, self.batches.items());
         if let Pick::Batch(no, ops) = &made {
-            if *no > LAST_COUNTER {
+            if self.next_batch > LAST_COUNTER {
                 return Err(LogFault::Spent(Counter::Batch));
             }
             self.batches.insert(*no, ops.duplicate()?)?;
@@ -170,5 +172,33 @@ impl Log {
         ensures { result ≡ log.first asked self.now }
     {
         first_asked(&asked, self.undurable.held())
+    }
+
+    /// The operations that aren't known to be durable, in the order of issue.
+    pub fn undurable(&self) -> &[(OpNo, Update)]
+        ensures { result.now ≡ self.now.undurable }
+    {
+        self.undurable.held()
+    }
+
+    /// The batches under way, by rising number.
+    pub fn under_way(&self) -> &[(u64, List<OpNo>)]
+        ensures { result.now ≡ self.now.batches }
+    {
+        self.batches.items()
+    }
+
+    /// The number of the next operation.
+    pub fn next(&self) -> u64
+        ensures { result ≡ self.now.next }
+    {
+        self.next
+    }
+
+    /// The number of the first operation of this session.
+    pub fn first_of_session(&self) -> u64
+        ensures { result ≡ self.now.first }
+    {
+        self.first
     }
 }

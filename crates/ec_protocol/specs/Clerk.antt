@@ -37,7 +37,7 @@ use Rattle.ec_log.specs.declared.state.Pick.{Pick}
 use Rattle.ec_log.specs.declared.state.Pick.TheVariants as pick_of
 use Rattle.ec_log.specs.declared.state.LogState.{LogState}
 use Rattle.ec_report.specs.Report.{owe, clear}
-use Rattle.ec_resolve.specs.Resolve.{evaluate, outcome}
+use Rattle.ec_resolve.specs.Resolve.{evaluate}
 use Rattle.ec_resolve.specs.declared.verdict.Verdict.{Verdict}
 use Rattle.ec_resolve.specs.declared.verdict.Verdict.TheVariants.{Need, Lost, NeedIds, Done}
 use Rattle.ec_protocol.specs.declared.clerk.Clerk.{Clerk}
@@ -217,18 +217,22 @@ verdict c k = evaluate k.cache k.owed c (first_id k.ids)
 abbrev pub answer_with : Waiting → Answer → Option ℕ → List ℕ → Doing → Tried
 answer_with w a op xs d = Answered (emit (out.Answer w.no a op) (with_cache (cache.all_used xs) d))
 
-abbrev pub last_of : List ℕ → ℕ
-last_of [] = 0
-last_of (x ∷ []) = x
+abbrev pub last_of : List ℕ → Option ℕ
+last_of [] = None
+last_of (x ∷ []) = Some x
 last_of (x ∷ y ∷ xs) = last_of (y ∷ xs)
 
 abbrev pub is_ok : Reply → Bool
 is_ok reply.Ok = true
 is_ok _ = false
 
+abbrev pub on_object : Option ℕ → Option Asked
+on_object None = None
+on_object (Some x) = Some (Object x)
+
 -- what an fsync waits for, on the object that its path reached, and a sync
 abbrev pub awaited : Call → Outcome → Option Asked
-awaited (call.Fsync p) o = elim (is_ok o.reply) [ true ↦ Some (Object (last_of o.touched)) | false ↦ None ]
+awaited (call.Fsync p) o = elim (is_ok o.reply) [ true ↦ on_object (last_of o.touched) | false ↦ None ]
 awaited call.Sync o = Some All
 awaited _ o = None
 
@@ -277,7 +281,7 @@ settle_outcome w o (Some u) d = issue_if_room w o u d
 -- the one thing that the call lacks is asked for
 abbrev pub try_verdict : Waiting → Verdict → Doing → Tried
 try_verdict w (Need x h) d = Waits (want x h d)
-try_verdict w NeedIds d = Waits (ask_room d)
+try_verdict w (NeedIds xs) d = Waits (ask_room d)
 try_verdict w (Lost ns xs) d = answer_with w (answer.Lost ns) None xs (with_clerk (λ k. record k { owed = clear xs k.owed }) d)
 try_verdict w (Done o) d = settle_outcome w o o.update d
 
@@ -406,23 +410,25 @@ take_ids got n first d =
       | true ↦ elim (nat_le last_grants got) [ true ↦ spend counter.Id d | false ↦ with_clerk (add_ids n first) d ]
     ]
 
-abbrev pub needs_id : Verdict → Bool
-needs_id NeedIds = true
-needs_id _ = false
+-- what a call touched that lacks an id
+abbrev pub idless : Verdict → Option (List ℕ)
+idless (NeedIds xs) = Some xs
+idless _ = None
 
--- a call that waits for an id is answered with the two numbers, and the objects that it touched are used
-abbrev pub refuse_make : ℕ → ℕ → Waiting → Doing → Doing
-refuse_make live reserved w d =
-    let touched = (outcome d.clerk.cache w.call None).touched in
-    emit (out.Answer w.no (answer.NoRoom live reserved) None) (with_cache (cache.all_used touched) d)
+-- it's answered with the two numbers, and the objects that it touched are used
+abbrev pub refuse_make : ℕ → ℕ → ℕ → List ℕ → Doing → Doing
+refuse_make live reserved n xs d = emit (out.Answer n (answer.NoRoom live reserved) None) (with_cache (cache.all_used xs) d)
+
+abbrev pub keep_call : Waiting → Doing → Doing
+keep_call w d = with_clerk (λ k. record k { waiting = k.waiting ++ w ∷ [] }) d
 
 -- each such call is answered, and the others go on waiting
 abbrev pub refuse_makes : ℕ → ℕ → List Waiting → Doing → Doing
 refuse_makes live reserved [] d = d
 refuse_makes live reserved (w ∷ ws) d =
-    refuse_makes live reserved ws (elim (needs_id (verdict w.call d.clerk)) [
-      | true ↦ refuse_make live reserved w d
-      | false ↦ with_clerk (λ k. record k { waiting = k.waiting ++ w ∷ [] }) d
+    refuse_makes live reserved ws (elim (idless (verdict w.call d.clerk)) [
+      | Some xs ↦ refuse_make live reserved w.no xs d
+      | None ↦ keep_call w d
     ])
 
 abbrev pub take_no_room : ℕ → ℕ → ℕ → Doing → Doing

@@ -1,7 +1,7 @@
 -- What a call makes of a fresh id: it makes an object with it, or doesn't look at it.
-use Rattle.std.proofs.Common.{◌≡◌, ◌∙◌, refl, sym, ap, inl, inr, ◌⊎◌, arith, ℕ, Bool, true, false, cond, List, [], ◌∷◌, ◌++◌, suc, Option, Some, None}
+use Rattle.std.proofs.Common.{◌≡◌, ◌∙◌, refl, sym, ap, inl, inr, ◌⊎◌, arith, ℕ, Bool, true, false, cond, not, List, [], ◌∷◌, ◌++◌, suc, Option, Some, None}
 use Rattle.std.specs.Prelude.{◌-◌, is_some, nat_le, length, take}
-use Rattle.ec_base.specs.Tables.{or_else}
+use Rattle.ec_base.specs.Tables.{first, or_else}
 use Rattle.ec_volume.specs.Entries.{Entries, entry}
 use Rattle.ec_volume.specs.Image.{entries_of, is_dir}
 use Rattle.ec_volume.specs.Volume.{Images}
@@ -15,13 +15,13 @@ use Rattle.ec_plain.specs.declared.call.Call.TheVariants as call
 use Rattle.ec_plain.specs.declared.call.Refusal.{Refusal}
 use Rattle.ec_plain.specs.declared.call.Refusal.TheVariants as no
 use Rattle.ec_plain.specs.declared.call.Outcome.{Outcome}
-use Rattle.ec_cache.specs.Cache.{images_held}
+use Rattle.ec_cache.specs.Cache.{holds, images_held}
 use Rattle.ec_cache.specs.declared.state.CacheState.{CacheState}
 use Rattle.ec_report.specs.Report.{Owed, due}
 use Rattle.ec_resolve.specs.Resolve.{judged, in_order, lacking, lacks_id, seen, first_unread, met, reported}
 use Rattle.ec_resolve.specs.declared.verdict.Verdict.{Verdict}
-use Rattle.ec_resolve.specs.declared.verdict.Verdict.TheVariants.{Need}
-use Rattle.ec_base.specs.declared.ids.Hold.TheVariants.{Read}
+use Rattle.ec_resolve.specs.declared.verdict.Verdict.TheVariants.{Need, NeedIds}
+use Rattle.ec_base.specs.declared.ids.Hold.TheVariants.{Read, Write}
 
 -- Outcomes by the fresh id.
 
@@ -108,8 +108,12 @@ judged_alike k owed cl None = elim (either-plain (images_held k) cl) [
   | inr m ↦ ap (judged k owed cl None) (m.comes 1) ∙ stands m 1 ∙ sym (stands m 0) ∙ sym (ap (judged k owed cl None) (m.comes 0))
 ]
   where
-    stands : (m : IsMaking (plain (images_held k) cl)) (x : ℕ) → judged k owed cl None (issues (Make m.dir m.name x m.kind) (m.read ++ x ∷ [])) ≡ in_order k owed cl None m.read (lacking k true (issues (Make m.dir m.name 0 m.kind) []))
-    stands m x = ap (λ os. in_order k owed cl None os (lacking k true (issues (Make m.dir m.name 0 m.kind) []))) (front-of m.read x)
+    -- what a make lacks without an id
+    idless : ℕ → List ℕ → Verdict
+    idless dir os = elim (first (λ x. not (holds x Write k)) (dir ∷ [])) [ Some x ↦ Need x Write | None ↦ NeedIds os ]
+
+    stands : (m : IsMaking (plain (images_held k) cl)) (x : ℕ) → judged k owed cl None (issues (Make m.dir m.name x m.kind) (m.read ++ x ∷ [])) ≡ in_order k owed cl None m.read (idless m.dir m.read)
+    stands m x = ap (λ os. in_order k owed cl None os (idless m.dir os)) (front-of m.read x)
 
 -- Nothing has to be read or reported before the update.
 

@@ -43,7 +43,7 @@ record IsSettled (k : CacheState) (fresh : Option ℕ) (out done : Outcome) : Ty
 
 settled : (k : CacheState) (fresh : Option ℕ) (out done : Outcome) (idless : Bool) (unread : Option ℕ) (ns : List ℕ) (xs : List ℕ) (unwritten : Option ℕ)
     → first_unread k fresh (seen idless out.touched) ≡ unread
-    → elim unread as (λ _. Verdict) [ Some x ↦ Need x Read | None ↦ or_else (elim unwritten as (λ _. Verdict) [ Some x ↦ Need x Write | None ↦ elim idless as (λ _. Verdict) [ true ↦ NeedIds | false ↦ Done out ] ]) (reported ns xs) ] ≡ Done done
+    → elim unread as (λ _. Verdict) [ Some x ↦ Need x Read | None ↦ or_else (elim unwritten as (λ _. Verdict) [ Some x ↦ Need x Write | None ↦ elim idless as (λ _. Verdict) [ true ↦ NeedIds (seen true out.touched) | false ↦ Done out ] ]) (reported ns xs) ] ≡ Done done
     → IsSettled k fresh out done
 settled k fresh out done idless (Some x) ns xs unwritten p e = absurd (cc e)
 settled k fresh out done idless None (n ∷ ns) xs unwritten p e = absurd (cc e)

@@ -166,11 +166,12 @@ fn lacking(
     if let Some(id) = first_unwritten(alloc, cache, idless, &outcome.update)? {
         return Ok(Verdict::Need(id, Hold::Write));
     }
-    Ok(if idless {
-        Verdict::NeedIds
-    } else {
-        Verdict::Done(outcome)
-    })
+    if !idless {
+        return Ok(Verdict::Done(outcome));
+    }
+    let touched = seen(true, outcome.touched.as_slice());
+    let touched = Vec::from_slice(alloc, touched)?;
+    Ok(Verdict::NeedIds(List::of(touched)))
 }
 
 fn first_unwritten(
