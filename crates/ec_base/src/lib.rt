@@ -8,8 +8,6 @@ mod list;
 mod name;
 mod outside;
 mod sorted;
-#[cfg(test)]
-mod tests;
 
 pub use counter::Counter;
 pub use ids::{Age, ClerkId, Hold, ObjId, OpNo, SessionNo, next};

@@ -8,8 +8,6 @@ mod limits;
 mod read_images;
 mod read_updates;
 mod reader;
-#[cfg(test)]
-mod tests;
 mod write_images;
 mod write_updates;
 mod writer;

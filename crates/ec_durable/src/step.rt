@@ -218,6 +218,3 @@ fn made(update: &Update) -> Option<ObjId>
         _ => None,
     }
 }
-
-#[cfg(test)]
-mod tests;

@@ -3,8 +3,6 @@
 
 mod draws;
 mod line;
-#[cfg(test)]
-mod tests;
 mod whole;
 
 pub use whole::script;

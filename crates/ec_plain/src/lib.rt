@@ -11,8 +11,6 @@ mod outcome;
 mod remove;
 mod rename;
 mod step;
-#[cfg(test)]
-mod tests;
 mod walk;
 
 pub use answer::plain;

@@ -7,10 +7,6 @@ mod laws;
 mod laws_full;
 mod line;
 mod script;
-#[cfg(test)]
-mod tests;
-#[cfg(test)]
-mod tests_full;
 mod value;
 mod word;
 

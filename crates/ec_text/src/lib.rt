@@ -5,7 +5,5 @@ mod answer;
 mod asked;
 mod line;
 mod pieces;
-#[cfg(test)]
-mod tests;
 
 pub use line::print;

@@ -9,8 +9,6 @@ mod image;
 mod laws;
 mod limits;
 mod look;
-#[cfg(test)]
-mod tests;
 mod update;
 mod volume;
 

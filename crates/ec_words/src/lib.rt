@@ -11,8 +11,6 @@ mod paths;
 mod pieces;
 mod spell;
 mod spelled;
-#[cfg(test)]
-mod tests;
 
 pub use call::read_call;
 pub use cursor::{Misfit, Words, column_left};

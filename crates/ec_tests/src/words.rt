@@ -1,7 +1,7 @@
 //! Calls by their words.
 
-use crate::{Misfit, Words, read_call};
 use ec_plain::Call;
+use ec_words::{Misfit, Words, read_call};
 use std::test::*;
 
 #[test]

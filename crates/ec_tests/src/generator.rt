@@ -1,4 +1,6 @@
-use super::*;
+//! Scripts that the generator draws.
+
+use ec_gen::script;
 use std::test::Fail;
 
 #[test]

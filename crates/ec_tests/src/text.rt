@@ -1,9 +1,9 @@
 //! Lines as they are printed.
 
-use crate::print;
 use ec_base::{ClerkId, Counter, List, Name, OpNo, Path};
 use ec_history::{Answer, LimitName, Shown};
 use ec_plain::{Call, Refusal, Reply};
+use ec_text::print;
 use ec_volume::Kind;
 use std::alloc::Global;
 use std::test::*;

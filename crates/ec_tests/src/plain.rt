@@ -1,6 +1,7 @@
-// Calls in a row on one volume.
-use crate::{Call, Outcome, Refusal, Reply, plain};
+//! Calls in a row on one volume.
+
 use ec_base::{Duplicate, List, ObjId, Path};
+use ec_plain::{Call, Outcome, Refusal, Reply, plain};
 use ec_volume::{Kind, Volume};
 use std::alloc::Global;
 use std::test::Fail;

@@ -1,5 +1,7 @@
-use super::*;
+//! Messages by their bytes.
+
 use ec_base::{Age, ClerkId, SessionNo};
+use ec_wire::{Msg, WireFault, decode, encode};
 use std::test::*;
 
 // Hello of clerk A, age 1, 0; and a Kept, with a byte too many.

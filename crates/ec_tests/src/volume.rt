@@ -1,9 +1,9 @@
-// Each public call once.
+//! Each public call of volumes once.
 ghost use Rattle.std.specs.Prelude.{T, IfOk};
 ghost use Rattle.ec_volume.specs.Update.{is_sound};
 
-use crate::{ApplyFault, Entries, Image, Kind, Look, Update, Volume, operands};
 use ec_base::{Duplicate, Name, ObjId};
+use ec_volume::{ApplyFault, Entries, Image, Kind, Look, Update, Volume, operands};
 use std::alloc::Global;
 use std::test::Fail;
 

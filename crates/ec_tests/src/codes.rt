@@ -1,8 +1,9 @@
+//! Updates and images by their bytes.
 ghost use Rattle.std.specs.Prelude.{◌≡◌, true};
 ghost use Rattle.ec_volume.specs.Update.{is_sound};
 
-use super::*;
 use ec_base::{List, Name, ObjId};
+use ec_codes::{CodeFault, get_image, get_image_v1, get_update, put_image, put_update};
 use ec_volume::{Image, Kind, Update};
 use std::alloc::Global;
 use std::test::*;

@@ -1,11 +1,11 @@
-// Each public call once, and maps whose clauses name the orders of their keys.
+//! Each public call once, and maps whose clauses name the orders of their keys.
 ghost use Rattle.std.specs.Prelude.{◌≡◌, OnOk};
 ghost use Rattle.std.specs.FinMap.Entries.{find, put};
 ghost use Rattle.std.specs.Ordering.{nat_cmp};
 ghost use Rattle.std.specs.Cmp.Lexicographic.{slice_cmp};
 ghost use Rattle.ec_base.specs.Sorted.{without};
 
-use crate::{
+use ec_base::{
     ClerkId, Duplicate, Gave, List, MemSink, MemSource, Name, NameFault, NoMemory, ObjId, Path,
     PathFault, Sink, SortedMap, Source, StdSink, StdSource, Took, next,
 };

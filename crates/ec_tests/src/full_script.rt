@@ -1,9 +1,9 @@
 //! Lines of the whole grammar, and the columns of bad ones.
 
-use crate::LineFault;
-use crate::full::{Line, read_lane, read_line};
 use ec_base::OpNo;
 use ec_plain::Call;
+use ec_script::LineFault;
+use ec_script::full::{Line, read_lane, read_line};
 use std::alloc::Global;
 use std::test::*;
 

@@ -1,7 +1,7 @@
 //! Lines that are read, and the columns of bad ones.
 
-use crate::{Line, LineFault, count_lines, read_line, split_line};
 use ec_plain::Call;
+use ec_script::{Line, LineFault, count_lines, read_line, split_line};
 use std::alloc::Global;
 use std::test::*;
 
