@@ -5,8 +5,6 @@ mod disk;
 mod file;
 mod lent;
 mod memory;
-#[cfg(test)]
-mod tests;
 mod turns;
 mod undo;
 

@@ -4,8 +4,6 @@
 mod fault;
 mod frames;
 mod laws;
-#[cfg(test)]
-mod tests;
 
 pub use fault::FrameFault;
 pub use frames::{Frames, MAX_BODY_BYTES, frame};

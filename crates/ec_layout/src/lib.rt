@@ -11,8 +11,6 @@ mod reading;
 mod selected;
 mod side;
 mod slots;
-#[cfg(test)]
-mod tests;
 
 pub use checkpoint::{prepare, select, write_checkpoint};
 pub use free::free_slots;

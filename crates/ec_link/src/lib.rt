@@ -12,8 +12,6 @@ mod spawn;
 mod tcp;
 mod tcp_bell;
 mod tcp_net;
-#[cfg(test)]
-mod tests;
 
 pub use around::Around;
 pub use bell::{Bell, MemBell};

@@ -4,8 +4,6 @@
 mod lock;
 mod passes;
 mod plays;
-#[cfg(test)]
-mod tests;
 mod traced;
 mod types;
 mod view;

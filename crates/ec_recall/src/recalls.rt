@@ -118,6 +118,3 @@ fn keyed(alloc: Global, wants: Vec<Want>) -> Result<IndexMap<(u64, u32), Want>, 
     }
     Ok(map)
 }
-
-#[cfg(test)]
-mod tests;

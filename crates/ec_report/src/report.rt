@@ -79,6 +79,3 @@ impl Report {
         maps::objects(self.alloc, &self.rows)
     }
 }
-
-#[cfg(test)]
-mod tests;

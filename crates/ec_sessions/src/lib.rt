@@ -4,8 +4,6 @@
 mod laws;
 mod sessions;
 mod slot;
-#[cfg(test)]
-mod tests;
 mod unspent;
 mod window;
 

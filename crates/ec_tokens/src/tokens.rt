@@ -173,6 +173,3 @@ impl Tokens {
         self.rows.remove(&s);
     }
 }
-
-#[cfg(test)]
-mod tests;

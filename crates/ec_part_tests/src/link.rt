@@ -1,6 +1,6 @@
 //! A pair in memory, as its ends see it.
 
-use crate::{Bell, Got, Link, MemLink, Net, Sent, TcpNet, mem_pair};
+use ec_link::{Bell, Got, Link, MemLink, Net, Sent, TcpNet, mem_pair};
 use std::test::*;
 
 fn pair(rt: &HostRuntime) -> Result<(MemLink, MemLink), Fail> {

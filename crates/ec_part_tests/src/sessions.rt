@@ -1,11 +1,11 @@
 //! A window, and the sessions of one clerk.
 
-use crate::{Greeting, Marked, Sessions, Window};
 use ec_base::{Age, ClerkId, ObjId, SessionNo};
+use ec_sessions::{Greeting, Marked, Sessions, Window};
 use std::test::*;
 
 #[test]
-#[tactic(auto, unfolding(crate::specs::Windows::marked))]
+#[tactic(auto, unfolding(ec_sessions::specs::Windows::marked))]
 fn five_marks(rt: HostRuntime) {
     let mut window = Window { low: 0, mask: 0 };
     assert_eq!(rt; window.mark(2), Marked::Marked);

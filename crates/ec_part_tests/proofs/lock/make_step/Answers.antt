@@ -1,7 +1,7 @@
 use Rattle.std.proofs.Common.{◌≡◌, ◌<◌, [], ◌∷◌, ◌++◌, length, MatchBool, sym, ap, ◌∙◌, subst}
 use Rattle.ec_lock.specs.Laws.{steps_of}
-use Rattle.ec_lock.proofs.Rows.{others_kept, own_added, longer_by_one}
-use Rattle.ec_lock.proofs.tests.make_step.Goals as goal
+use Rattle.ec_part_tests.proofs.Rows.{others_kept, own_added, longer_by_one}
+use Rattle.ec_part_tests.proofs.lock.make_step.Goals as goal
 
 pub leave-requires-clause-own : goal.leave-requires-clause-own
 leave-requires-clause-own g c n differ =

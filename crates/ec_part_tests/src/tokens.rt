@@ -1,6 +1,8 @@
+//! Tokens that sessions are granted, claim and give back.
 ghost use Rattle.std.specs.Prelude.{◌≡◌};
 
-use super::*;
+use ec_base::{Hold, ObjId, SessionNo};
+use ec_tokens::{ClaimFault, Tokens};
 use std::test::Fail;
 
 fn object(rt: &impl std::process::Abort, number: u32) -> ObjId

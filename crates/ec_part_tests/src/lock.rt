@@ -3,7 +3,7 @@ ghost use Rattle.std.specs.Prelude.{◌≡◌, ◌<◌, [], ◌∷◌, ◌++◌,
 ghost use Rattle.ec_lock.specs.Laws.{steps_of};
 ghost use Rattle.ec_lock.specs.Passes.{front, IsPassOf};
 
-use crate::{Pass, Traced, TracedLock};
+use ec_lock::{Pass, Traced, TracedLock};
 use std::alloc::Global;
 use std::sync::Wait;
 use std::test::*;

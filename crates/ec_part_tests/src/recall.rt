@@ -1,4 +1,9 @@
-use super::*;
+//! What is due to wants, in steps.
+
+use ec_base::{Hold, NoMemory, ObjId, SessionNo};
+use ec_recall::{Action, Recalls};
+use ec_tokens::Tokens;
+use std::alloc::Global;
 use std::process::Abort;
 use std::test::Fail;
 

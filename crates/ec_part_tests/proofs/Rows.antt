@@ -1,4 +1,4 @@
--- A row of numbers that gets one more, for the tests.
+-- A row of numbers that gets one more, for the tests of the lock.
 use Rattle.std.proofs.Common.{◌≡◌, ℕ, ◌<◌, ◌⊎◌, length, arith, length-append, Bool, true, false, cond, List, [], ◌∷◌, ◌++◌, Some, IsTrue, MatchBool, refl, sym, ap, ◌∙◌, ⊎_elim, append-nil, eq-eqb, ne_eqb}
 use Rattle.std.proofs.lemmas.Bool.{MatchBool-at_true, MatchBool-at_false}
 use mathlib.Core.List.{IsPrefix}

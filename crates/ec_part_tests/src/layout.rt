@@ -1,12 +1,10 @@
-// A disk that is laid out, and checkpoints that stop.
-use crate::checkpoint::{prepare, write_checkpoint};
-use crate::free::free_slots;
-use crate::head::write_head;
-use crate::reading::Head;
-use crate::side::{SELECT_AT, Side};
-use crate::slots::slot_at;
+//! A disk that is laid out, and checkpoints that stop.
+
 use ec_disk::{Choice, CrashDisk, Disk, DiskAnswer, DiskLen, MemDisk};
 use ec_journal::{JournalFault, read_part};
+use ec_layout::{
+    Head, SELECT_AT, Side, free_slots, prepare, slot_at, write_checkpoint, write_head,
+};
 use std::alloc::Global;
 
 // A disk whose slot 0 holds `root` and whose even table is `table 1`, by eight calls.

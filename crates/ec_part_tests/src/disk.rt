@@ -1,7 +1,7 @@
-//! Disks over real files: what a cut leaves of them, their lengths, and their syncs.
+//! Disks in memory and over real files: what a cut leaves of them, their lengths, and their syncs.
 
-use crate::{Choice, CrashDisk, Disk, DiskAnswer, DiskLen, FileDisk};
-use std::alloc::Global;
+use ec_disk::{Choice, CrashDisk, Disk, DiskAnswer, DiskLen, FileDisk, MemDisk};
+use std::alloc::{AllocError, Global};
 use std::cell::Cell;
 use std::fs::{File, Metadata, OpenFile};
 use std::os::unix::fs::FileExt;
@@ -194,4 +194,59 @@ fn write_that_fails_in_its_middle_is_taken_back(rt: HostRuntime) -> io::Result<(
     let image = fs::read(&rt, path)?;
     assert_eq!(rt; image.as_slice(), b"abcd".as_slice());
     fs::remove_file(&rt, path)
+}
+
+// All bytes of a disk in memory.
+fn contents(alloc: Global, disk: &mut MemDisk) -> Result<Vec<u8>, AllocError> {
+    let mut bytes = Vec::new(alloc);
+    if let DiskLen::Len(len) = disk.len() {
+        bytes.resize(len as usize, 0)?;
+        disk.read_at(0, &mut bytes);
+    }
+    Ok(bytes)
+}
+
+#[test]
+fn stop_takes_back_what_no_sync_kept(rt: HostRuntime) {
+    let fails = Vec::new(rt.alloc());
+    let mut disk = MemDisk::new(rt.alloc(), fails).expect(&rt, "memory");
+    assert_eq!(rt; disk.write_at(0, b"abc"), DiskAnswer::Done);
+    disk.arm(1);
+    assert_eq!(rt; disk.sync(), DiskAnswer::Stopped);
+    assert_eq!(rt; disk.len(), DiskLen::Stopped);
+    assert_eq!(rt; disk.power_cut(Choice::Old), DiskAnswer::Done);
+    assert_eq!(rt; disk.len(), DiskLen::Len(0));
+    assert_eq!(rt; disk.steps().len(), 2);
+}
+
+#[test]
+fn cuts_leave_old_new_or_torn(rt: HostRuntime) {
+    let cases = [
+        (Choice::Old, b"abcd".as_slice()),
+        (Choice::New, b"aXYZ\0\0QR".as_slice()),
+        (Choice::Torn, b"abYd\0\0Q\0".as_slice()),
+    ];
+    for (choice, want) in cases {
+        let fails = Vec::new(rt.alloc());
+        let mut disk = MemDisk::new(rt.alloc(), fails).expect(&rt, "memory");
+        assert_eq!(rt; disk.write_at(0, b"abcd"), DiskAnswer::Done);
+        assert_eq!(rt; disk.sync(), DiskAnswer::Done);
+        assert_eq!(rt; disk.write_at(1, b"xyz"), DiskAnswer::Done);
+        assert_eq!(rt; disk.write_at(1, b"XYZ"), DiskAnswer::Done);
+        assert_eq!(rt; disk.write_at(6, b"QR"), DiskAnswer::Done);
+        assert_eq!(rt; disk.power_cut(choice), DiskAnswer::Done);
+        let bytes = contents(rt.alloc(), &mut disk).expect(&rt, "memory");
+        assert_eq!(rt; bytes.as_slice(), want, "after {choice:?}");
+    }
+}
+
+#[test]
+fn listed_call_fails_and_changes_nothing(rt: HostRuntime) {
+    let fails = vec![in rt.alloc(); 3, 1].expect(&rt, "memory");
+    let mut disk = MemDisk::new(rt.alloc(), fails).expect(&rt, "memory");
+    assert_eq!(rt; disk.len(), DiskLen::Failed);
+    assert_eq!(rt; disk.write_at(0, b"a"), DiskAnswer::Done);
+    assert_eq!(rt; disk.write_at(0, b"b"), DiskAnswer::Failed);
+    let bytes = contents(rt.alloc(), &mut disk).expect(&rt, "memory");
+    assert_eq!(rt; bytes.as_slice(), b"a".as_slice());
 }

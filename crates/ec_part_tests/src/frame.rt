@@ -1,6 +1,6 @@
 //! The frame of a message, and the same fed byte by byte.
 
-use crate::{FrameFault, Frames, frame};
+use ec_frame::{FrameFault, Frames, frame};
 use std::test::*;
 
 // The length, a kind byte and three numbers of 1.

@@ -1,4 +1,7 @@
-use super::*;
+//! An operation that is lost, and then told.
+
+use ec_base::{List, ObjId, OpNo};
+use ec_report::Report;
 use std::process::Abort;
 use std::test::Fail;
 
