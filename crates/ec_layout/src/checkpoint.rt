@@ -32,9 +32,9 @@ pub fn prepare<D: Disk>(
     ensures calls { result ≡ said.Done → Called (length pieces.now + 3) (D.counts disk.old) (D.counts disk.new) }
     ensures counts { Counted (D.counts disk.old) (D.counts disk.new) (result ≡ said.Failed) (result ≡ said.Stopped) }
 {
-    let answer = write_side(disk, side, pieces, table);
-    if answer != DiskAnswer::Done {
-        return answer;
+    let written = write_side(disk, side, pieces, table);
+    if written != DiskAnswer::Done {
+        return written;
     }
     disk.sync()
 }
