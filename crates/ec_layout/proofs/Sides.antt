@@ -1,11 +1,13 @@
 -- A side whose table and first gate are written behind the slots.
 use Rattle.std.specs.Prelude.{◌≡◌, ◌<◌, ◌≤◌, ◌+◌, ℕ, List, [], ◌∷◌, length}
-use Rattle.std.proofs.Common.{arith, ◌∙◌, ap, sym, subst, refl}
-use Rattle.ec_disk.specs.Disk.{byte, part, written, Loose, InRange}
+use Rattle.std.proofs.Common.{inl, inr, arith, ◌∙◌, ap, sym, subst, refl}
+use Rattle.ec_disk.specs.Disk.{View, byte, part, written, Loose, InRange, Wrote}
 use Rattle.ec_disk.specs.Images.{part-loose, part-written, byte-written, byte-written_out, written-loose, length-written}
+use Rattle.ec_disk.specs.Runs.{Ran, and_wrote, ran_within}
 use Rattle.ec_layout.specs.declared.side.Side.{Side}
 use Rattle.ec_layout.specs.Places.{journal_at, table_at}
 use Rattle.ec_layout.specs.Layout.{HasSide, HasSlots}
+use Rattle.ec_layout.specs.Pieces.{InSlots, InPieces}
 use Rattle.ec_layout.specs.Frame.{behind_head, before_slots, slots_loose}
 
 module _ (at : Side) (table : List ℕ) (small : length table ≤ 65536) (d e f : List ℕ) (first : e ≡ written (table_at at) table d) (second : f ≡ written (journal_at at) (0 ∷ []) e) where
@@ -52,3 +54,10 @@ module _ (at : Side) (table : List ℕ) (small : length table ≤ 65536) (d e f 
       ∙ byte-written_out (journal_at at) (0 ∷ []) e i (λ r. absurd (omega (arith, lt, r.0, behind_head at)))
       ∙ ap (λ (image : List ℕ). byte image i) first
       ∙ byte-written_out (table_at at) table d i (λ r. absurd (omega (arith, lt, r.0, behind_head at)))
+
+pub side_ran : (at : Side) (table : List ℕ) (pieces : List (ℕ × List ℕ)) (old slots mid new : View) → length table ≤ 65536 → Ran (InSlots pieces) old slots → Wrote (InRange (table_at at) (length table)) slots mid → Wrote (InRange (journal_at at) 1) mid new → Ran (InPieces at pieces) old new
+side_ran at table pieces old slots mid new small ran first second =
+    and_wrote (InRange (journal_at at) 1) (InPieces at pieces) (λ i r. inl (r.0, omega (arith, r.1))) old mid new
+    (and_wrote (InRange (table_at at) (length table)) (InPieces at pieces) (λ i r. inl (omega (arith, r.0), omega (arith, r.1, small))) old slots mid
+    (ran_within (InSlots pieces) (InPieces at pieces) (λ i is. inr is) old slots ran) first)
+    second

@@ -1,13 +1,15 @@
 -- There are slots enough, and none of them is named or stands twice.
 use Rattle.std.specs.Prelude.{◌≡◌, ◌⊎◌, ◌<◌, ◌≤◌, ◌+◌, ◌==◌, ◌||◌, ℕ, zero, suc, Bool, true, false, List, [], ◌∷◌, ◌++◌, length, get_or, take}
 use Rattle.std.specs.List.{All}
+use Rattle.std.specs.List.Sorted.{IsStrictlyIncreasing}
 use Rattle.std.proofs.Math.ListN.{set}
+use Rattle.std.proofs.Math.Seq.{get_or-append_seam}
 use Rattle.std.proofs.Common.{inl, inr, ⊎_elim, arith, ◌∙◌, ap, sym, subst, refl, cond, length-append}
 use Rattle.std.proofs.lemmas.Bool.{cases_lt, cases_eq}
 use Rattle.std.proofs.lemmas.Bool.{eqb-true, eq-eqb, ne_eqb}
 use Rattle.std.proofs.lemmas.List.Elements.{All-push}
-use Rattle.std.proofs.lemmas.List.{append-nil, take_more, length-set, get_or-set_same, get_or-set_other}
-use Rattle.ec_layout.specs.Free.{is_named, if_free, free_below}
+use Rattle.std.proofs.lemmas.List.{append-nil, take_more, length-set, get_or-set_same, get_or-set_other, get_or_append_left}
+use Rattle.ec_layout.specs.Free.{is_named, if_free, free_below, IsFreeBelow}
 
 -- One slot more that is named takes at most one, and none where it's not below the number.
 one_named : (k n : ℕ) (named : List ℕ) → length (free_below k named) ≤ length (free_below k (n ∷ named)) + 1
@@ -50,9 +52,6 @@ free_enough count [] = omega (arith, all count)
     all (suc k) = omega (arith, length-append (free_below k []) (k ∷ []), all k)
 free_enough count (n ∷ named) = omega (arith, free_enough count named, one_named count n named)
 
-abbrev pub IsFreeBelow : ℕ → List ℕ → ℕ → Type 0
-IsFreeBelow count named slot = (slot < count) × (is_named slot named ≡ false)
-
 all_more : (k : ℕ) (named slots : List ℕ) → All (IsFreeBelow k named) slots → All (IsFreeBelow (suc k) named) slots
 all_more k named slots all i d lt = (omega (arith, (all i d lt).0), (all i d lt).1)
 
@@ -64,6 +63,27 @@ free_are (suc k) named = go (is_named k named) refl (all_more k named (free_belo
     go : (b : Bool) → is_named k named ≡ b → All (IsFreeBelow (suc k) named) (free_below k named) → All (IsFreeBelow (suc k) named) (free_below k named ++ cond b [] (k ∷ []))
     go true p before = subst (All (IsFreeBelow (suc k) named)) (sym (append-nil (free_below k named))) before
     go false p before = All-push (IsFreeBelow (suc k) named) (free_below k named) k before (omega arith, p)
+
+rising_push : (xs : List ℕ) (k : ℕ) → IsStrictlyIncreasing xs → All (λ x. x < k) xs → IsStrictlyIncreasing (xs ++ k ∷ [])
+rising_push xs k rising below i lt =
+    let len = length-append xs (k ∷ []) in
+    let inside : i < length xs = omega (arith, lt, len) in
+    let here = get_or_append_left xs (k ∷ []) 0 i inside in
+    elim (cases_lt (i + 1) (length xs)) [
+      | inl next ↦ omega (arith, here, get_or_append_left xs (k ∷ []) 0 (i + 1) next, rising i next)
+      | inr past ↦
+          let last : i + 1 ≡ length xs = omega (arith, past, inside) in
+          omega (arith, here, ap (λ (j : ℕ). get_or (xs ++ k ∷ []) j 0) last, get_or-append_seam xs k [] 0, below i 0 inside)
+    ]
+
+-- they rise
+pub free_rise : (count : ℕ) (named : List ℕ) → IsStrictlyIncreasing (free_below count named)
+free_rise zero named = λ i lt. absurd (omega (arith, lt))
+free_rise (suc k) named = go (is_named k named) (free_rise k named)
+  where
+    go : (b : Bool) → IsStrictlyIncreasing (free_below k named) → IsStrictlyIncreasing (free_below k named ++ cond b [] (k ∷ []))
+    go true before = subst IsStrictlyIncreasing (sym (append-nil (free_below k named))) before
+    go false before = rising_push (free_below k named) k before (λ i d lt. (free_are k named i d lt).0)
 
 -- One step of the marking, and one of the collecting.
 

@@ -1,3 +1,4 @@
+pub mod ApartLaws
 pub mod Appends
 pub mod Frame
 pub mod Free

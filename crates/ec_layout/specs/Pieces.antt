@@ -2,16 +2,20 @@
 use Rattle.std.specs.Prelude.{◌⊎◌, ◌<◌, ◌≤◌, ◌+◌, ℕ, List, [], ◌∷◌, length, map, Vec}
 use Rattle.std.specs.declared.alloc.Global.{Global}
 use Rattle.ec_layout.specs.declared.side.Side.{Side}
-use Rattle.ec_layout.specs.Places.{journal_at, slot_at}
+use Rattle.ec_layout.specs.Places.{journal_at, slot_at, slot_bytes, slot_count}
 use Rattle.ec_layout.specs.Layout.{IsFree}
 
 abbrev pub pieces_of : List (ℕ × Vec ℕ Global) → List (ℕ × List ℕ)
 pieces_of pieces = map (λ p. (p.0, p.1.items)) pieces
 
--- slots below 2,048, each once, with at most so many bytes as one holds
+-- the slots of these pieces
+abbrev pub slots_of : List (ℕ × List ℕ) → List ℕ
+slots_of pieces = map (λ p. p.0) pieces
+
+-- slots of the disk, each once, with at most so many bytes as one holds
 abbrev pub AreApart : List (ℕ × List ℕ) → Type 0
 AreApart [] = Unit {0}
-AreApart (s ∷ slots) = (s.0 < 2048) × (length s.1 ≤ 65600) × IsFree s.0 slots × AreApart slots
+AreApart (s ∷ slots) = (s.0 < slot_count) × (length s.1 ≤ slot_bytes) × IsFree s.0 slots × AreApart slots
 
 -- a place in one of these slots
 abbrev pub InSlots : List (ℕ × List ℕ) → ℕ → Type 0

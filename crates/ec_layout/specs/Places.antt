@@ -23,6 +23,10 @@ side_bytes = 2162688
 abbrev pub slot_bytes : ℕ
 slot_bytes = 65600
 
+-- twice the most objects that a volume may have
+abbrev pub slot_count : ℕ
+slot_count = 2048
+
 abbrev pub other : Side → Side
 other side.Even = side.Odd
 other side.Odd = side.Even

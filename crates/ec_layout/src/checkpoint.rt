@@ -1,7 +1,7 @@
 // A checkpoint: the other side and free slots are written and synced, then the select byte.
-ghost use Rattle.std.specs.Prelude.{◌≡◌, ◌⊎◌, ◌<◌, ◌≤◌, ℕ, [], length};
+ghost use Rattle.std.specs.Prelude.{◌≡◌, ◌⊎◌, ◌<◌, ◌≤◌, ◌+◌, ℕ, [], length};
 ghost use Rattle.ec_disk.specs.declared.disk.DiskAnswer.TheVariants as said;
-ghost use Rattle.ec_disk.specs.Disk.{byte, InRange, IsSynced, LeavesOnly, Counted, written};
+ghost use Rattle.ec_disk.specs.Disk.{byte, InRange, IsSynced, LeavesOnly, Counted, Called, written};
 ghost use Rattle.ec_disk.specs.Runs.{Ran};
 ghost use Rattle.ec_layout.specs.Places as place;
 ghost use Rattle.ec_layout.specs.Layout.{Layout, Lies, IsLaid, HasSide, HasSlots, Follows};
@@ -14,7 +14,8 @@ use ec_disk::{Disk, DiskAnswer};
 // The gate that an empty journal begins with, which isn't open.
 const CLOSED: u8 = 0;
 
-/// Writes the pieces to their slots, the table of this side and the closed first gate of its journal, and syncs.
+/// Writes the pieces to their slots, the table of this side and the closed first gate of its journal, and syncs: a call of the disk for each
+/// piece, and three.
 pub fn prepare<D: Disk>(
     disk: &mut D,
     side: Side,
@@ -28,11 +29,12 @@ pub fn prepare<D: Disk>(
     ensures slots { D.tells → result ≡ said.Done → HasSlots (D.view disk.new).gives (pieces_of pieces.now) }
     ensures front { D.tells → result ≡ said.Done → (i : ℕ) → i < place.journals_at → byte (D.view disk.new).gives i ≡ byte (D.view disk.old).gives i }
     ensures synced { D.tells → result ≡ said.Done → IsSynced (D.view disk.new) }
+    ensures calls { result ≡ said.Done → Called (length pieces.now + 3) (D.counts disk.old) (D.counts disk.new) }
     ensures counts { Counted (D.counts disk.old) (D.counts disk.new) (result ≡ said.Failed) (result ≡ said.Stopped) }
 {
-    let answer = write_side(disk, side, pieces, table);
-    if answer != DiskAnswer::Done {
-        return answer;
+    let written = write_side(disk, side, pieces, table);
+    if written != DiskAnswer::Done {
+        return written;
     }
     disk.sync()
 }
@@ -49,6 +51,7 @@ fn write_side<D: Disk>(
     ensures side { D.tells → result ≡ said.Done → HasSide (D.view disk.new).gives side table.now [] }
     ensures slots { D.tells → result ≡ said.Done → HasSlots (D.view disk.new).gives (pieces_of pieces.now) }
     ensures front { D.tells → result ≡ said.Done → (i : ℕ) → i < place.journals_at → byte (D.view disk.new).gives i ≡ byte (D.view disk.old).gives i }
+    ensures calls { result ≡ said.Done → Called (length pieces.now + 2) (D.counts disk.old) (D.counts disk.new) }
     ensures counts { Counted (D.counts disk.old) (D.counts disk.new) (result ≡ said.Failed) (result ≡ said.Stopped) }
 {
     let answer = write_slots(disk, pieces);
@@ -62,11 +65,12 @@ fn write_side<D: Disk>(
     disk.write_at(side.journal_at(), &[CLOSED])
 }
 
-/// Turns the select byte to this side, and syncs.
+/// Turns the select byte to this side, and syncs: two calls of the disk.
 pub fn select<D: Disk>(disk: &mut D, side: Side) -> DiskAnswer
     ensures ran { D.tells → Ran (InRange place.select_at 1) (D.view disk.old) (D.view disk.new) }
     ensures turned { D.tells → result ≡ said.Done → byte (D.view disk.new).gives place.select_at ≡ place.select_byte side }
     ensures synced { D.tells → result ≡ said.Done → IsSynced (D.view disk.new) }
+    ensures calls { result ≡ said.Done → Called 2 (D.counts disk.old) (D.counts disk.new) }
     ensures counts { Counted (D.counts disk.old) (D.counts disk.new) (result ≡ said.Failed) (result ≡ said.Stopped) }
 {
     let answer = disk.write_at(SELECT_AT, &[side.select_byte()]);
@@ -78,7 +82,8 @@ pub fn select<D: Disk>(disk: &mut D, side: Side) -> DiskAnswer
 
 /// Writes the pieces to slots that the selected side doesn't name, and the other `side` with this table and an empty journal; then picks it.
 ///
-/// Whatever a crash leaves, one of the two layouts lies there whole; at `Done` it's the new one.
+/// There is a call of the disk for each piece, and five. Whatever a crash leaves, one of the two layouts lies there whole; at `Done` it's the
+/// new one.
 pub fn write_checkpoint<D: Disk>(
     disk: &mut D,
     side: Side,
@@ -90,6 +95,7 @@ pub fn write_checkpoint<D: Disk>(
     ensures any_moment { D.tells → (before after : Layout) → Follows side table.now (pieces_of pieces.now) before after → IsLaid (D.view disk.old) before → LeavesOnly (D.view disk.old) (D.view disk.new) (λ image. Lies image before ⊎ Lies image after) }
     ensures done { D.tells → result ≡ said.Done → (before after : Layout) → Follows side table.now (pieces_of pieces.now) before after → IsLaid (D.view disk.old) before → IsLaid (D.view disk.new) after }
     ensures synced { D.tells → result ≡ said.Done → IsSynced (D.view disk.new) }
+    ensures calls { result ≡ said.Done → Called (length pieces.now + 5) (D.counts disk.old) (D.counts disk.new) }
     ensures counts { Counted (D.counts disk.old) (D.counts disk.new) (result ≡ said.Failed) (result ≡ said.Stopped) }
 {
     let answer = prepare(disk, side, pieces, table);

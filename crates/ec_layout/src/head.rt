@@ -1,6 +1,6 @@
 // The first 16 bytes of a disk.
 ghost use Rattle.std.specs.Prelude.{◌≡◌, IfOk, OnOk, IsErrOf, ℕ};
-ghost use Rattle.ec_disk.specs.Disk.{IsSynced, LeavesOnly, Counted};
+ghost use Rattle.ec_disk.specs.Disk.{IsSynced, LeavesOnly, Counted, Called};
 ghost use Rattle.ec_journal.specs.declared.fault.JournalFault.TheVariants as fault;
 ghost use Rattle.ec_layout.specs.Layout.{Layout, IsLaid};
 ghost use Rattle.ec_layout.specs.Head.{IsHeaded, AwaitsHead, LiesIfWhole, second_word};
@@ -21,6 +21,7 @@ pub fn write_head<D: Disk>(disk: &mut D, max_objects: u32) -> Result<(), Journal
     ensures any_moment { D.tells → (l : Layout) → IsHeaded max_objects l → AwaitsHead (D.view disk.old) l → LeavesOnly (D.view disk.old) (D.view disk.new) (LiesIfWhole l) }
     ensures done { OnOk result (D.tells → (l : Layout) → IsHeaded max_objects l → AwaitsHead (D.view disk.old) l → IsLaid (D.view disk.new) l) }
     ensures synced { OnOk result (D.tells → IsSynced (D.view disk.new)) }
+    ensures calls { OnOk result (Called 4 (D.counts disk.old) (D.counts disk.new)) }
     ensures counts { Counted (D.counts disk.old) (D.counts disk.new) (IsErrOf result fault.DiskFailed) (IsErrOf result fault.DiskStopped) }
     ensures no_room { (need free : ℕ) → IsErrOf result (fault.NoRoom need free) → ⊥ }
     ensures no_bad { (place : ℕ) → IsErrOf result (fault.Bad place) → ⊥ }

@@ -7,6 +7,7 @@
 mod checkpoint;
 mod free;
 mod head;
+mod laws;
 mod reading;
 mod selected;
 mod side;
@@ -15,6 +16,7 @@ mod slots;
 pub use checkpoint::{prepare, select, write_checkpoint};
 pub use free::free_slots;
 pub use head::{FIRST_WORD, FORM, write_head};
+pub use laws::free_pieces_are_apart;
 pub use reading::Head;
 pub use selected::Selected;
 pub use side::{JOURNAL_BYTES, SELECT_AT, Side, TABLE_BYTES};

@@ -15,7 +15,7 @@ pub struct Selected {
 }
 
 impl Selected {
-    ghost use Rattle.std.specs.Prelude.{◌≡◌, ◌⊎◌, ◌<◌, ◌≤◌, ℕ, length, OnOk, OnErr, IsErrOf};
+    ghost use Rattle.std.specs.Prelude.{◌≡◌, ◌⊎◌, ◌<◌, ◌≤◌, ◌+◌, ℕ, length, OnOk, OnErr, IsErrOf};
     ghost use Rattle.ec_disk.specs.declared.disk.DiskAnswer.TheVariants as said;
     ghost use Rattle.ec_disk.specs.Disk.{IsSynced, LeavesOnly, Counted, Called};
     ghost use Rattle.ec_journal.specs.Records.{max_record_bytes};
@@ -66,7 +66,8 @@ impl Selected {
         Ok(())
     }
 
-    /// Writes the pieces to slots that this side doesn't name, and the other side with this table and an empty journal; then selects it.
+    /// Writes the pieces to slots that this side doesn't name, and the other side with this table and an empty journal; then selects it. There
+    /// is a call of the disk for each piece, and five.
     pub fn checkpoint<D: Disk>(
         &mut self,
         disk: &mut D,
@@ -79,6 +80,7 @@ impl Selected {
         ensures any_moment { D.tells → (before after : Layout) → Follows (place.other (side_now self.old)) table.now (pieces_of pieces.now) before after → IsOn (D.view disk.old) self.old before → LeavesOnly (D.view disk.old) (D.view disk.new) (λ image. Lies image before ⊎ Lies image after) }
         ensures synced { D.tells → result ≡ said.Done → IsSynced (D.view disk.new) }
         ensures empty { result ≡ said.Done → IsSelected (place.other (side_now self.old)) 0 self.new }
+        ensures calls { result ≡ said.Done → Called (length pieces.now + 5) (D.counts disk.old) (D.counts disk.new) }
         ensures counts { Counted (D.counts disk.old) (D.counts disk.new) (result ≡ said.Failed) (result ≡ said.Stopped) }
     {
         let side = self.side.other();

@@ -1,7 +1,7 @@
 // Slots, each of which holds one image.
-ghost use Rattle.std.specs.Prelude.{◌≡◌, ◌<◌, ℕ};
+ghost use Rattle.std.specs.Prelude.{◌≡◌, ◌<◌, ℕ, length};
 ghost use Rattle.ec_disk.specs.declared.disk.DiskAnswer.TheVariants as said;
-ghost use Rattle.ec_disk.specs.Disk.{byte, Counted};
+ghost use Rattle.ec_disk.specs.Disk.{byte, Counted, Called};
 ghost use Rattle.ec_disk.specs.Runs.{Ran};
 ghost use Rattle.ec_layout.specs.Places as place;
 ghost use Rattle.ec_layout.specs.Layout.{HasSlots};
@@ -28,6 +28,7 @@ pub fn write_slots<D: Disk>(disk: &mut D, pieces: &[(u32, Vec<u8>)]) -> DiskAnsw
     ensures ran { D.tells → Ran (InSlots (pieces_of pieces.now)) (D.view disk.old) (D.view disk.new) }
     ensures written { D.tells → result ≡ said.Done → HasSlots (D.view disk.new).gives (pieces_of pieces.now) }
     ensures below { D.tells → result ≡ said.Done → (i : ℕ) → i < place.slot_at 0 → byte (D.view disk.new).gives i ≡ byte (D.view disk.old).gives i }
+    ensures calls { result ≡ said.Done → Called (length pieces.now) (D.counts disk.old) (D.counts disk.new) }
     ensures counts { Counted (D.counts disk.old) (D.counts disk.new) (result ≡ said.Failed) (result ≡ said.Stopped) }
 {
     'slots: for piece in pieces {

@@ -1,7 +1,8 @@
-use Rattle.std.proofs.Common.{ℕ, List, length, ap, subst, ◌∙◌}
+use Rattle.std.proofs.Common.{ℕ, List, length, ap, subst, refl, ◌∙◌}
 use Rattle.ec_disk.specs.Disk.{InRange, written}
 use Rattle.ec_disk.specs.Runs.{Ran}
 use Rattle.ec_layout.specs.Head.{second_word_leaves, head_leaves, head_done}
+use Rattle.ec_layout.proofs.Calls.{both_called}
 use Rattle.ec_layout.proofs.head.write_head.Goals as goal
 
 pub returns-in_err-write_synced-clause-any_moment : goal.returns-in_err-write_synced-clause-any_moment
@@ -34,3 +35,7 @@ returns-clause-done g c told l headed awaits =
     head_done c.args.max_objects l headed old mid awaits (subst (λ (x : List ℕ). Ran (InRange 8 (length x)) old mid) c.second_word.ensures (c.write_synced.ensures.ran told))
     (g.met.D.Disk.given told c.write_synced.new.disk) (c.in_ok-write_synced.ensures.synced told) (c.in_ok-write_synced.ensures.written told ∙ ap (λ (x : List ℕ). written 8 x old.gives) c.second_word.ensures)
     new (c.write_synced-2.ensures.ran told) (c.in_ok-write_synced-2.ensures.synced told) (g.met.D.Disk.given told c.write_synced-2.new.disk) (c.in_ok-write_synced-2.ensures.written told)
+
+pub returns-clause-calls : goal.returns-clause-calls
+returns-clause-calls g c =
+    both_called 2 2 4 (g.D.Disk.counts c.args.disk.now) (g.D.Disk.counts c.write_synced.new.disk) (g.D.Disk.counts c.write_synced-2.new.disk) refl c.in_ok-write_synced.ensures.calls c.in_ok-write_synced-2.ensures.calls

@@ -1,8 +1,9 @@
-use Rattle.std.proofs.Common.{rules, ◌≡◌, ◌+◌, ◌*◌, arith, length, List, ℕ, ap, ◌∙◌, subst}
-use Rattle.ec_disk.specs.Disk.{InRange, Wrote, written, byte}
+use Rattle.std.proofs.Common.{rules, ◌≡◌, ◌+◌, ◌*◌, arith, length, List, ℕ, ap, ◌∙◌, subst, refl}
+use Rattle.ec_disk.specs.Disk.{InRange, Wrote, Called, written, byte}
 use Rattle.ec_disk.specs.Images.{byte-written_out}
 use Rattle.ec_disk.specs.declared.disk.DiskAnswer.TheVariants as said
 use Rattle.ec_layout.specs.PieceLaws.{ran-more, has-more}
+use Rattle.ec_layout.proofs.Calls.{no_call, one_call}
 use Rattle.ec_layout.proofs.slots.write_slots.Goals as goal
 
 pub returns-then-ne-clause-ran : goal.returns-then-ne-clause-ran
@@ -32,6 +33,7 @@ slots-preserved g c =
           ap (λ (image : List ℕ). byte image i) (made told)
           ∙ byte-written_out (4329472 + x.0 * 65600) x.1.items mid.gives i (λ r. absurd (omega (arith, lt, r.0)))
           ∙ c.slots.invariant.below told i lt;
+      calls = one_call c.slots.piece-index (c.slots.piece-index + 1) (g.D.Disk.counts c.args.disk.now) (g.D.Disk.counts c.slots.disk) (g.D.Disk.counts c.write_at-answer.new.self) refl c.slots.invariant.calls c.write_at-answer.ensures.call c.write_at-answer.ensures.armed.next;
       counts = record {
         faults_later = omega (arith, c.slots.invariant.counts.faults_later, c.write_at-answer.ensures.counts.faults_later);
         stops_later = omega (arith, c.slots.invariant.counts.stops_later, c.write_at-answer.ensures.counts.stops_later);
@@ -41,3 +43,17 @@ slots-preserved g c =
         not_rearmed = λ some. c.slots.invariant.counts.not_rearmed (c.write_at-answer.ensures.counts.not_rearmed some);
       };
     }
+
+pub slots-init : goal.slots-init
+slots-init g c = record {
+  ran = search rules;
+  written = search rules;
+  below = search rules;
+  calls = no_call (g.D.Disk.counts c.args.disk.now);
+  counts = search rules;
+}
+
+pub returns-clause-calls : goal.returns-clause-calls
+returns-clause-calls g c is =
+    let all : c.slots.piece-index ≡ length c.args.pieces.now = omega arith in
+    subst (λ (n : ℕ). Called n (g.D.Disk.counts c.args.disk.now) (g.D.Disk.counts c.slots.disk)) all c.slots.invariant.calls

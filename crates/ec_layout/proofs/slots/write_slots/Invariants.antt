@@ -1,5 +1,5 @@
 use Rattle.std.proofs.Common.{◌≡◌, ◌<◌, take, ℕ}
-use Rattle.ec_disk.specs.Disk.{byte, Counted}
+use Rattle.ec_disk.specs.Disk.{byte, Counted, Called}
 use Rattle.ec_disk.specs.Runs.{Ran}
 use Rattle.ec_layout.specs.Places.{slot_at}
 use Rattle.ec_layout.specs.Layout.{HasSlots}
@@ -11,5 +11,6 @@ invariant-slots g l = record {
   ran : g.D.Disk.tells → Ran (InSlots (pieces_of l.pieces)) (g.D.Disk.view l.fn.disk) (g.D.Disk.view l.disk);
   written : g.D.Disk.tells → HasSlots (g.D.Disk.view l.disk).gives (pieces_of (take l.piece-index l.pieces));
   below : g.D.Disk.tells → (i : ℕ) → i < slot_at 0 → byte (g.D.Disk.view l.disk).gives i ≡ byte (g.D.Disk.view l.fn.disk).gives i;
+  calls : Called l.piece-index (g.D.Disk.counts l.fn.disk) (g.D.Disk.counts l.disk);
   counts : Counted (g.D.Disk.counts l.fn.disk) (g.D.Disk.counts l.disk) ⊥ ⊥;
 }
