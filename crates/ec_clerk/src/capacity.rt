@@ -1,0 +1,43 @@
+// Tokens beyond the capacity go back, but those on objects with undurable operations.
+ghost use Rattle.std.specs.Prelude.{◌≡◌, IfOk, OnOk};
+ghost use Rattle.ec_protocol.specs.Clerk as clerk;
+ghost use Rattle.ec_clerk.specs.Seen.{Does, send_numbers};
+
+use crate::doing::Doing;
+use ec_base::{Hold, NoMemory, ObjId, OpNo};
+use ec_volume::{Update, operands};
+use std::alloc::Global;
+
+impl Doing {
+    /// Gives back what is beyond the capacity.
+    pub(crate) fn evict(&mut self) -> Result<(), NoMemory>
+        ensures { OnOk result (Does clerk.evict self.old self.new) }
+    {
+        if self.cache.len() <= self.cache.capacity() {
+            return Ok(());
+        }
+        let pinned = on_objects(self.alloc, self.ledger.log.undurable())?;
+        let gone = self.cache.evict(&pinned)?;
+        self.send_backs(&gone)
+    }
+
+    fn send_backs(&mut self, gone: &[(ObjId, u64)]) -> Result<(), NoMemory>
+        ensures { OnOk result (Does (send_numbers gone.now) self.old self.new) }
+    {
+        'gone: for (obj, number) in gone {
+            self.send_back(*obj, *number, Hold::Free)?;
+        }
+        Ok(())
+    }
+}
+
+// The operands of operations.
+fn on_objects(alloc: Global, ops: &[(OpNo, Update)]) -> Result<Vec<ObjId>, NoMemory>
+    ensures { IfOk result (λ objs. objs.items ≡ clerk.on_objects ops.now) }
+{
+    let mut objs = Vec::new(alloc);
+    'ops: for (_, update) in ops {
+        objs.extend_from_slice(&operands(alloc, update)?)?;
+    }
+    Ok(objs)
+}
