@@ -1,9 +1,9 @@
 -- Walks over operations by rising place, and closures by what is asked for.
 use Rattle.std.proofs.Common.{◌≡◌, ◌<◌, ◌≤◌, ◌+◌, refl, sym, ap, ◌∙◌, ℕ, suc, Bool, true, false, cond, not, List, [], ◌∷◌, ◌++◌, length, drop, get_or, arith, drop-cons, append-nil, None, Some}
-use Rattle.std.specs.Prelude.{T, ◌==◌, ◌&&◌, filter, nat_lt}
+use Rattle.std.specs.Prelude.{T, ◌==◌, ◌&&◌, filter, nat_lt, nat_le}
 use Rattle.std.specs.Ordering.{nat_cmp}
 use Rattle.std.specs.FinMap.{is_sorted}
-use Rattle.std.proofs.lemmas.Bool.{and_parts, and_from, lt-ltb, ltb-true}
+use Rattle.std.proofs.lemmas.Bool.{and_parts, and_from, lt-ltb, ltb-true, le-leb}
 use Rattle.std.proofs.lemmas.List.{append_assoc, drop_all}
 use Rattle.ec_base.specs.Tables.{Table, at, or_else, without, keys}
 use Rattle.ec_volume.specs.Update.{member}
@@ -11,7 +11,7 @@ use Rattle.ec_volume.specs.declared.update.Update.{Update}
 use Rattle.ec_order.specs.Order.{Issued, closure}
 use Rattle.ec_chains.specs.Held.{is_behind}
 use Rattle.ec_chains.specs.ClosureLaws.{walk-closure, walk-passing, walk-none, walk-all, there-member}
-use Rattle.ec_log.specs.Log.{is_asked, first_number, kept}
+use Rattle.ec_log.specs.Log.{is_asked, first_number, is_from, kept}
 use Rattle.ec_log.specs.declared.state.LogState.{LogState}
 use Rattle.ec_log.specs.Choice.{closure_in}
 use Rattle.ec_log.specs.declared.state.Asked.TheVariants.{Op, All}
@@ -33,6 +33,24 @@ behind_part q n (x ∷ xs) h =
   where
     go : (b : Bool) → nat_lt x.0 n ≡ true → is_behind n (filter q xs) ≡ true → is_behind n (cond b (x ∷ filter q xs) (filter q xs)) ≡ true
     go true e r = and_from (nat_lt x.0 n) (is_behind n (filter q xs)) e r
+    go false e r = r
+
+-- Numbers from the first one of the session on.
+
+pub from_more : (f n : ℕ) (u : Update) (xs : Issued) → f ≤ n → is_from f xs ≡ true → is_from f (xs ++ (n, u) ∷ []) ≡ true
+from_more f n u [] l h = ap (λ b. b && true) (le-leb f n l)
+from_more f n u (x ∷ xs) l h =
+    let p = and_parts (nat_le f x.0) (is_from f xs) h in
+    and_from (nat_le f x.0) (is_from f (xs ++ (n, u) ∷ [])) p.0 (from_more f n u xs l p.1)
+
+pub from_part : (q : ℕ × Update → Bool) (f : ℕ) (xs : Issued) → is_from f xs ≡ true → is_from f (filter q xs) ≡ true
+from_part q f [] h = refl
+from_part q f (x ∷ xs) h =
+    let p = and_parts (nat_le f x.0) (is_from f xs) h in
+    go (q x) p.0 (from_part q f xs p.1)
+  where
+    go : (b : Bool) → nat_le f x.0 ≡ true → is_from f (filter q xs) ≡ true → is_from f (cond b (x ∷ filter q xs) (filter q xs)) ≡ true
+    go true e r = and_from (nat_le f x.0) (is_from f (filter q xs)) e r
     go false e r = r
 
 -- no operation leaves

@@ -30,15 +30,16 @@ pub struct Log {
 }
 
 impl Model for Log {
-    ghost use Rattle.std.specs.Prelude.{◌≡◌, true};
+    ghost use Rattle.std.specs.Prelude.{◌≡◌, ◌≤◌, true};
     ghost use Rattle.ec_chains.specs.Held.{is_behind};
+    ghost use Rattle.ec_log.specs.Log.{is_from};
     ghost use Rattle.ec_log.specs.declared.state.LogState.{LogState};
 
     ghost Value = { LogState };
 
     ghost view = { λ l. record { next = l.next; first = l.first; undurable = l.undurable; batches = l.batches; next_batch = l.next_batch } };
 
-    ghost invariant = { λ l. is_behind l.next l.undurable ≡ true };
+    ghost invariant = { λ l. (l.first ≤ l.next) × (is_from l.first l.undurable ≡ true) × (is_behind l.next l.undurable ≡ true) };
 }
 
 impl From<NoMemory> for LogFault {
@@ -96,7 +97,7 @@ impl Log {
         ensures room { (no : ℕ) (ops : List ℕ) → result ≡ Ok (picked.Batch no ops) → log.batches_are_spent self.old ≡ false }
         ensures err { OnErr result (self.new ≡ self.old) }
         ensures full { result ≡ Err fault.Full → ⊥ }
-        ensures spent { (c : Kind) → result ≡ Err (fault.Spent c) → (c ≡ counter.Batch) × (log.batches_are_spent self.old ≡ true) }
+        ensures spent { (c : Kind) → result ≡ Err (fault.Spent c) → (c ≡ counter.Batch) × (log.is_new (log.pick asked self.old) ≡ true) × (log.batches_are_spent self.old ≡ true) }
     {
         let ops = closure_of(self.alloc, &self.undurable, asked)?;
         let made = choose(ops, self.next_batch, self.batches.items());
@@ -174,9 +175,11 @@ impl Log {
         first_asked(&asked, self.undurable.held())
     }
 
-    /// The operations that aren't known to be durable, in the order of issue.
+    /// The operations that aren't known to be durable, in the order of issue: they rise from the
+    /// first one of this session on.
     pub fn undurable(&self) -> &[(OpNo, Update)]
-        ensures { result.now ≡ self.now.undurable }
+        ensures value { result.now ≡ self.now.undurable }
+        ensures own { log.AreOwn self.now }
     {
         self.undurable.held()
     }

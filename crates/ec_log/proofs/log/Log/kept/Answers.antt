@@ -1,12 +1,18 @@
-use Rattle.std.proofs.Common.{not, ap, sym, ◌∙◌}
+use Rattle.std.proofs.Common.{not, ap, sym, ◌∙◌, ℕ}
 use Rattle.ec_volume.specs.Update.{member}
+use Rattle.ec_volume.specs.declared.update.Update.{Update}
 use Rattle.ec_chains.specs.Held.{is_behind}
-use Rattle.ec_log.specs.Log.{kept}
-use Rattle.ec_log.proofs.Logs.{behind_part, kept_none}
+use Rattle.ec_log.specs.Log.{is_from, kept}
+use Rattle.ec_log.proofs.Logs.{behind_part, from_part, kept_none}
 use Rattle.ec_log.proofs.log.Log.kept.Goals as goal
 
 pub invariant_of-self : goal.invariant_of-self
-invariant_of-self c = ap (is_behind c.self.inside.next) c.settle.ensures ∙ behind_part (λ x. not (member x.0 c.as_slice.result.now)) c.self.inside.next c.self.inside.undurable c.self.invariant
+invariant_of-self c =
+    let left = λ (x : ℕ × Update). not (member x.0 c.as_slice.result.now) in (
+      c.self.invariant.0,
+      ap (is_from c.self.inside.first) c.settle.ensures ∙ from_part left c.self.inside.first c.self.inside.undurable c.self.invariant.1,
+      ap (is_behind c.self.inside.next) c.settle.ensures ∙ behind_part left c.self.inside.next c.self.inside.undurable c.self.invariant.2,
+    )
 
 pub returns-in_default : goal.returns-in_default
 returns-in_default c =
