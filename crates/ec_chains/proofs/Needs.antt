@@ -54,20 +54,20 @@ and_false : (s u : Bool) → ((s && false) || u) ≡ u
 and_false true u = refl
 and_false false u = refl
 
-plain_needs : (x y : Update) → Plain x → needs x y ≡ share x y
+pub plain_needs : (x y : Update) → Plain x → needs x y ≡ share x y
 plain_needs x y p =
     ap (λ b. (share x y && not (b && is_overwrite y)) || under x y) p.is
     ∙ ap (λ b. (share x y && true) || b) (p.lower y)
     ∙ and_true (share x y)
 
-range_needs : (o m : ℕ) (xs : List ℕ) (y : Update) → Plain y → needs (Put o m xs true) y ≡ member o (operands y)
+pub range_needs : (o m : ℕ) (xs : List ℕ) (y : Update) → Plain y → needs (Put o m xs true) y ≡ member o (operands y)
 range_needs o m xs y p =
     ap (λ b. ((member o (operands y) || false) && not b) || under (Put o m xs true) y) p.is
     ∙ ap (λ b. ((member o (operands y) || false) && true) || b) (p.upper o m xs)
     ∙ and_true (member o (operands y) || false)
     ∙ or_false (member o (operands y))
 
-ranges_need : (o m p n : ℕ) (xs ys : List ℕ) → needs (Put o m xs true) (Put p n ys true) ≡ ((o == p) && meet m (length xs) n (length ys))
+pub ranges_need : (o m p n : ℕ) (xs ys : List ℕ) → needs (Put o m xs true) (Put p n ys true) ≡ ((o == p) && meet m (length xs) n (length ys))
 ranges_need o m p n xs ys = and_false (share (Put o m xs true) (Put p n ys true)) ((o == p) && meet m (length xs) n (length ys))
 
 -- One more is chosen.

@@ -1,4 +1,5 @@
 pub mod ClosureLaws
+pub mod Front
 pub mod Held
 pub mod Needed
 pub mod Walk

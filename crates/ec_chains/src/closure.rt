@@ -16,14 +16,17 @@ pub enum Ask {
     /// Those on an object.
     Object(ObjId),
     Op(OpNo),
+    All,
 }
 
-fn passes(ask: &Ask, op: OpNo, update: &Update) -> bool
+/// Whether the operation is asked for by itself. It takes no memory.
+pub fn passes(ask: &Ask, op: OpNo, update: &Update) -> bool
     ensures { result ≡ passes ask.now (op, update.now) }
 {
     match ask {
         Ask::Object(obj) => has_operand(update, *obj),
         Ask::Op(other) => op == *other,
+        Ask::All => true,
     }
 }
 

@@ -2,11 +2,13 @@
 #![tactic(auto)]
 
 mod closure;
+mod front;
 mod needed;
 mod operand;
 mod order;
 #[cfg(test)]
 mod tests;
 
+pub use closure::Ask;
 pub use operand::has_operand;
 pub use order::{Order, OrderFault};

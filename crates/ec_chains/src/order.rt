@@ -4,11 +4,14 @@ ghost use Rattle.std.specs.Ordering.{nat_cmp};
 ghost use Rattle.std.specs.FinMap.{is_sorted};
 ghost use Rattle.ec_base.specs.Tables.{keys};
 ghost use Rattle.ec_volume.specs.Update.{member};
+ghost use Rattle.ec_chains.specs.Front.{IsFront, IsBound};
 ghost use Rattle.ec_chains.specs.Held as held;
+ghost use Rattle.ec_chains.specs.declared.closure.Ask.TheVariants.{Op};
 ghost use Rattle.ec_chains.specs.declared.order.OrderFault.TheVariants as fault;
 
 use crate::closure::{Ask, closure};
-use ec_base::{Duplicate, NoMemory, ObjId, OpNo};
+use crate::front::{last_on, note, reach, wanted};
+use ec_base::{Duplicate, NoMemory, ObjId, OpNo, SortedMap};
 use ec_volume::Update;
 use std::alloc::Global;
 use std::marker::Model;
@@ -19,6 +22,8 @@ use thiserror::Error;
 pub struct Order {
     alloc: Global,
     held: Vec<(OpNo, Update)>,
+    // for objects the last operation on them that is on others too, or a later number
+    shared: SortedMap<ObjId, OpNo>,
 }
 
 impl Model for Order {
@@ -28,6 +33,7 @@ impl Model for Order {
     ghost use Rattle.std.specs.FinMap.{is_sorted};
     ghost use Rattle.ec_volume.specs.contracts.update.Update as update;
     ghost use Rattle.ec_order.specs.Order.{Issued};
+    ghost use Rattle.ec_chains.specs.Front.{Covers};
 
     ghost Value = { Issued };
 
@@ -35,7 +41,7 @@ impl Model for Order {
 
     ghost view = { λ o. o.held.items };
 
-    ghost invariant = { λ o. T (is_sorted nat_cmp o.held.items) };
+    ghost invariant = { λ o. T (is_sorted nat_cmp o.held.items) × Covers o.shared o.held.items };
 }
 
 #[derive(Clone, Copy, Debug, Drop, PartialEq, Eq, Error)]
@@ -63,6 +69,7 @@ impl Order {
         Ok(Order {
             alloc,
             held: Vec::new(alloc),
+            shared: SortedMap::new(alloc),
         })
     }
 
@@ -81,6 +88,7 @@ impl Order {
         ensures ok { OnOk result (self.new ≡ self.old ++ (op, update) ∷ []) }
         ensures err { OnErr result (self.new ≡ self.old) }
     {
+        note(self.alloc, &mut self.shared, op, &update)?;
         Ok(self.held.push((op, update))?)
     }
 
@@ -112,6 +120,29 @@ impl Order {
         Ok(ops)
     }
 
+    /// The first of the closure of what is asked for, in the order of issue: at least so many, or
+    /// all. The rest of the closure is asked for by itself. It walks from the least operation on as
+    /// far as needed.
+    pub fn front(&self, ask: Ask, most: usize) -> Result<Vec<OpNo>, NoMemory>
+        ensures { IfOk result (λ ops. IsFront ask self.now most ops.items) }
+    {
+        let bound = self.bound(&ask);
+        let place = reach(&self.held, &ask, bound, wanted(&ask, most));
+        closure(self.alloc, &self.held[..place], ask)
+    }
+
+    // What is asked for behind this number needs nothing that isn't asked for.
+    fn bound(&self, ask: &Ask) -> u64
+        ensures bound { IsBound ask.now self.now result }
+        ensures op { (op : ℕ) → ask.now ≡ Op op → result ≡ op }
+    {
+        match ask {
+            Ask::Object(obj) => last_on(&self.shared, *obj),
+            Ask::Op(op) => op.0,
+            Ask::All => 0,
+        }
+    }
+
     /// The operations of these numbers leave. It takes no memory.
     pub fn settle(&mut self, ops: &[OpNo])
         ensures { self.new ≡ held.settle ops.now self.old }
@@ -124,5 +155,6 @@ impl Order {
         ensures { self.new ≡ [] }
     {
         self.held.clear();
+        self.shared = SortedMap::new(self.alloc);
     }
 }

@@ -16,20 +16,6 @@ keys_front zero xs = refl
 keys_front (suc k) [] = refl
 keys_front (suc k) (x ∷ xs) = ap (λ l. x.0 ∷ l) (keys_front k xs)
 
--- the first batch that has one of the operations
-module _ (ns : List ℕ) where
-  pub first_here : (bs : Table (List ℕ)) (b d : ℕ × List ℕ) → 1 ≤ length bs → has_one_of ns (get_or bs 0 d) ≡ true → Some (get_or bs 0 b).0 ≡ choice.number_of (first_of (has_one_of ns) bs)
-  first_here [] b d l h = absurd (omega (arith, l))
-  first_here (x ∷ xs) b d l h = sym (ap (λ t. choice.number_of (elim t as (λ z. Option (ℕ × List ℕ)) [ true ↦ Some x | false ↦ first_of (has_one_of ns) xs ])) h)
-
-  pub first_after : (bs : Table (List ℕ)) (b : ℕ × List ℕ) (found : Option ℕ) → 1 ≤ length bs → has_one_of ns (get_or bs 0 b) ≡ false
-      → found ≡ choice.number_of (first_of (has_one_of ns) (take (length bs - 1) (drop 1 bs))) → found ≡ choice.number_of (first_of (has_one_of ns) bs)
-  first_after [] b found l h r = absurd (omega (arith, l))
-  first_after (x ∷ xs) b found l h r =
-      r
-      ∙ ap (λ ys. choice.number_of (first_of (has_one_of ns) ys)) (take_all (length (x ∷ xs) - 1) xs (omega arith))
-      ∙ sym (ap (λ t. choice.number_of (elim t as (λ z. Option (ℕ × List ℕ)) [ true ↦ Some x | false ↦ first_of (has_one_of ns) xs ])) h)
-
 pub choice_pick : (l : LogState) (xs : Issued) → choice.choice (keys xs) l.next_batch l.batches ≡ pick_from xs l
 choice_pick l [] = refl
 choice_pick l (x ∷ xs) = go (first_of (has_one_of (keys (x ∷ xs))) l.batches)

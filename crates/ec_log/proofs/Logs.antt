@@ -65,17 +65,6 @@ kept_none l n bs none is =
     ∙ ap (λ us. record l { undurable = us; batches = without n l.batches }) (sym (all_stay l.undurable))
     ∙ ap (λ o. record l { undurable = filter (λ op. not (member op.0 (or_else [] o))) l.undurable; batches = without n l.batches }) (sym none)
 
--- Closures.
-
-pub closure-all : (xs : Issued) → T (is_sorted nat_cmp xs) → xs ≡ closure_in All xs
-closure-all xs s = sym (walk-all xs) ∙ walk-passing (is_asked All) xs s
-
-pub closure-op : (op : ℕ) (xs : Issued) → T (is_sorted nat_cmp xs) → closure (λ n. n == op) xs ≡ closure_in (Op op) xs
-closure-op op xs s = sym (walk-closure (is_asked (Op op)) (λ n. n == op) xs (λ n u h. refl)) ∙ walk-passing (is_asked (Op op)) xs s
-
-pub closure-no_op : (op : ℕ) (xs : Issued) → member op (keys xs) ≡ false → [] ≡ keys (closure (λ n. n == op) xs)
-closure-no_op op xs none = ap keys (sym (walk-none (is_asked (Op op)) xs (there-member op xs ∙ none)) ∙ walk-closure (is_asked (Op op)) (λ n. n == op) xs (λ n u h. refl))
-
 -- One more place.
 
 module _ (ops : Issued) (i : ℕ) (x : ℕ × Update) (within : i < length ops) (is : x ≡ get_or ops i x) where

@@ -1,15 +1,18 @@
 // What is asked for, among the undurable operations.
-ghost use Rattle.std.specs.Prelude.{◌≡◌, filter, IfOk};
-ghost use Rattle.ec_base.specs.Tables.{keys};
-ghost use Rattle.ec_chains.specs.Held as held;
+ghost use Rattle.std.specs.Prelude.{◌≡◌, T, filter, IfOk, MatchResult, option_copied};
+ghost use Rattle.std.specs.Ordering.{nat_cmp};
+ghost use Rattle.std.specs.FinMap.{is_sorted};
+ghost use Rattle.ec_base.specs.Sorted.{Stands, Goes};
+ghost use Rattle.ec_base.specs.Tables.{at};
+ghost use Rattle.ec_volume.specs.Update.{member};
 ghost use Rattle.ec_log.specs.Log.{is_asked, first_number};
-ghost use Rattle.ec_log.specs.Choice.{closure_in};
+ghost use Rattle.ec_log.specs.Choice.{ask_of, numbers_asked, IsFrontOf};
 
+use crate::limits::MAX_BATCH_OPS;
 use crate::state::Asked;
 use ec_base::{NoMemory, OpNo};
-use ec_chains::{Order, OrderFault, has_operand};
+use ec_chains::{Ask, Order, has_operand};
 use ec_volume::Update;
-use std::alloc::Global;
 
 fn is_asked(asked: &Asked, op: OpNo, update: &Update) -> bool
     ensures { result ≡ is_asked asked.now (op, update.now) }
@@ -33,35 +36,49 @@ pub fn first_asked(asked: &Asked, ops: &[(OpNo, Update)]) -> Option<OpNo>
     None
 }
 
-/// The closure of what is asked for, in the order of issue.
-pub fn closure_of(alloc: Global, undurable: &Order, asked: Asked) -> Result<Vec<OpNo>, NoMemory>
-    ensures { IfOk result (λ ops. ops.items ≡ keys (closure_in asked undurable.now)) }
+/// The first of the closure of what is asked for, in the order of issue: at least so many as a
+/// batch has, or all.
+pub fn front_of(undurable: &Order, asked: Asked) -> Result<Vec<OpNo>, NoMemory>
+    ensures { IfOk result (λ ops. IsFrontOf asked undurable.now ops.items) }
 {
-    let held = undurable.held();
+    undurable.front(ask_of(asked), MAX_BATCH_OPS)
+}
+
+fn ask_of(asked: Asked) -> Ask
+    ensures { result ≡ ask_of asked }
+{
     match asked {
-        Asked::Object(obj) => undurable.closure_of_object(obj),
-        Asked::Op(op) => closure_of_op(alloc, undurable, op),
-        Asked::All => numbers(alloc, held),
+        Asked::Object(obj) => Ask::Object(obj),
+        Asked::Op(op) => Ask::Op(op),
+        Asked::All => Ask::All,
     }
 }
 
-// The closure of the operation: none where it isn't undurable.
-fn closure_of_op(alloc: Global, undurable: &Order, op: OpNo) -> Result<Vec<OpNo>, NoMemory>
-    ensures { IfOk result (λ ops. ops.items ≡ keys (held.closure_of_op op undurable.now)) }
+/// Whether the operation is there and asked for by itself. It takes no memory.
+pub fn is_asked_for(asked: &Asked, ops: &[(OpNo, Update)], op: OpNo) -> bool
+    requires { T (is_sorted nat_cmp ops.now) }
+    ensures { result ≡ member op (numbers_asked asked.now ops.now) }
 {
-    match undurable.closure_of_op(op) {
-        Ok(ops) => Ok(ops),
-        Err(OrderFault::NoSuchOp(_)) => Ok(Vec::new(alloc)),
-        Err(OrderFault::NoMemory) => Err(NoMemory),
+    match update_of(ops, op) {
+        Some(update) => is_asked(asked, op, update),
+        None => false,
     }
 }
 
-fn numbers(alloc: Global, ops: &[(OpNo, Update)]) -> Result<Vec<OpNo>, NoMemory>
-    ensures { IfOk result (λ numbers. numbers.items ≡ keys ops.now) }
+fn update_of(ops: &[(OpNo, Update)], op: OpNo) -> Option<&Update>
+    requires { T (is_sorted nat_cmp ops.now) }
+    ensures { option_copied result ≡ at op ops.now }
 {
-    let mut numbers = Vec::with_capacity(alloc, ops.len())?;
-    for (op, _) in ops {
-        numbers.push(*op)?;
+    match slot_of(ops, op) {
+        Ok(place) => Some(&ops[place].1),
+        Err(_) => None,
     }
-    Ok(numbers)
+}
+
+// Where the operation is, or where it would go.
+fn slot_of(ops: &[(OpNo, Update)], op: OpNo) -> Result<usize, usize>
+    requires { T (is_sorted nat_cmp ops.now) }
+    ensures { MatchResult result (Stands nat_cmp op ops.now) (Goes nat_cmp op ops.now) }
+{
+    ops.binary_search_by(|(here, _)| here.0.cmp(&op.0))
 }

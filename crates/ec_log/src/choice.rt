@@ -1,27 +1,35 @@
 // The batches under way, and whether a new one begins.
-ghost use Rattle.std.specs.Prelude.{◌≡◌, ◌&&◌, filter, IfOk};
+ghost use Rattle.std.specs.Prelude.{◌≡◌, ◌&&◌, ◌||◌, T, filter, IfOk};
+ghost use Rattle.std.specs.Ordering.{nat_cmp};
+ghost use Rattle.std.specs.FinMap.{is_sorted};
 ghost use Rattle.std.specs.List.{list_any};
 ghost use Rattle.ec_base.specs.Tables.{keys, first};
 ghost use Rattle.ec_volume.specs.Update.{member};
 ghost use Rattle.ec_sessions.specs.Windows.{has};
-ghost use Rattle.ec_log.specs.Log.{has_one_of};
 ghost use Rattle.ec_log.specs.Choice as choice;
 
+use crate::asked::is_asked_for;
 use crate::limits::{MAX_BATCH_OPS, WINDOW_SIZE};
-use crate::state::Pick;
+use crate::state::{Asked, Pick};
 use ec_base::{Duplicate, List, NoMemory, OpNo};
 use ec_sessions::Window;
 use ec_volume::Update;
 use std::alloc::Global;
 
-/// What is to be sent for a closure.
-pub fn choose(mut ops: Vec<OpNo>, next: u64, batches: &[(u64, List<OpNo>)]) -> Pick
-    ensures { result ≡ choice.choice ops.items next batches.now }
+/// What is to be sent for a closure that begins so, and no new batch begins before the answer of the
+/// one behind which it is, if any.
+pub fn choose(
+    mut ops: Vec<OpNo>,
+    next: u64,
+    batches: &[(u64, List<OpNo>)],
+    behind: Option<u64>,
+) -> Pick
+    ensures { result ≡ choice.chosen ops.items next batches.now behind }
 {
     if ops.as_slice().is_empty() {
         return Pick::Settled;
     }
-    if let Some(batch) = first_with(batches, &ops) {
+    if let Some(batch) = behind {
         return Pick::Behind(batch);
     }
     if let Some(batch) = full_from(next, batches) {
@@ -31,26 +39,45 @@ pub fn choose(mut ops: Vec<OpNo>, next: u64, batches: &[(u64, List<OpNo>)]) -> P
     Pick::Batch(next, List::of(ops))
 }
 
-// The first of the batches that has one of these operations.
-fn first_with(batches: &[(u64, List<OpNo>)], ops: &[OpNo]) -> Option<u64>
-    ensures { result ≡ choice.number_of (first (has_one_of ops.now) batches.now) }
+/// The first of the batches that has one of these operations, or one that is asked for by itself.
+pub fn first_met(
+    batches: &[(u64, List<OpNo>)],
+    ops: &[OpNo],
+    asked: &Asked,
+    undurable: &[(OpNo, Update)],
+) -> Option<u64>
+    requires { T (is_sorted nat_cmp undurable.now) }
+    ensures { result ≡ choice.number_of (first (choice.is_met ops.now asked.now undurable.now) batches.now) }
 {
     match batches {
         [] => None,
         [(no, members), rest @ ..] => {
-            if has_one_of(members.as_slice(), ops) {
+            if is_met(members.as_slice(), ops, asked, undurable) {
                 Some(*no)
             } else {
-                first_with(rest, ops)
+                first_met(rest, ops, asked, undurable)
             }
         }
     }
 }
 
-fn has_one_of(members: &[OpNo], ops: &[OpNo]) -> bool
-    ensures { result ≡ list_any (λ n. member n members.now) ops.now }
+fn is_met(
+    members: &[OpNo],
+    ops: &[OpNo],
+    asked: &Asked,
+    undurable: &[(OpNo, Update)],
+) -> bool
+    requires { T (is_sorted nat_cmp undurable.now) }
+    ensures { result ≡ list_any (λ n. member n ops.now || member n (choice.numbers_asked asked.now undurable.now)) members.now }
 {
-    ops.iter().any(|op| members.contains(op))
+    match members {
+        [] => false,
+        [op, rest @ ..] => {
+            ops.contains(op)
+                || is_asked_for(asked, undurable, *op)
+                || is_met(rest, ops, asked, undurable)
+        }
+    }
 }
 
 // The least batch under way, where the next one would be a whole window above it.

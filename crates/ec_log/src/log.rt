@@ -7,8 +7,8 @@ ghost use Rattle.ec_log.specs.Log as log;
 ghost use Rattle.ec_log.specs.declared.state.LogFault.TheVariants as fault;
 ghost use Rattle.ec_log.specs.declared.state.Pick.TheVariants as picked;
 
-use crate::asked::{closure_of, first_asked};
-use crate::choice::{choose, lost_of, those_in};
+use crate::asked::{first_asked, front_of};
+use crate::choice::{choose, first_met, lost_of, those_in};
 use crate::limits::MAX_UNDURABLE;
 use crate::state::{Asked, LogFault, Pick};
 use ec_base::{Counter, Duplicate, LAST_COUNTER, List, NoMemory, OpNo, SortedMap};
@@ -99,8 +99,10 @@ impl Log {
         ensures full { result ≡ Err fault.Full → ⊥ }
         ensures spent { (c : Kind) → result ≡ Err (fault.Spent c) → (c ≡ counter.Batch) × (log.is_new (log.pick asked self.old) ≡ true) × (log.batches_are_spent self.old ≡ true) }
     {
-        let ops = closure_of(self.alloc, &self.undurable, asked)?;
-        let made = choose(ops, self.next_batch, self.batches.items());
+        let ops = front_of(&self.undurable, asked)?;
+        let batches = self.batches.items();
+        let behind = first_met(batches, &ops, &asked, self.undurable.held());
+        let made = choose(ops, self.next_batch, batches, behind);
         if let Pick::Batch(no, ops) = &made {
             if self.next_batch > LAST_COUNTER {
                 return Err(LogFault::Spent(Counter::Batch));

@@ -1,7 +1,7 @@
 //! Picks, batch by batch, and a full log.
 
 use crate::{Asked, Log, LogFault, MAX_UNDURABLE, Pick};
-use ec_base::{Name, ObjId};
+use ec_base::{List, Name, ObjId, OpNo};
 use ec_volume::{Kind, Update};
 use std::alloc::Global;
 use std::test::*;
@@ -53,4 +53,36 @@ fn so_many_operations_fill_a_log(rt: HostRuntime) -> Result<(), Fail> {
     log.end();
     assert_eq!(rt; log.floor(), 65_537);
     Ok(())
+}
+
+// What the closure of an object needs: its create, and the create before it in the same directory.
+#[test]
+fn writes_beside_a_closure_stay(rt: HostRuntime) -> Result<(), Fail> {
+    let alloc = rt.alloc();
+    let mut log = Log::new(alloc)?;
+    let obj = ObjId::new(u32::from(b'a')).ok_or("an id")?;
+    log.issue(create(alloc, b'a')?)?;
+    for place in 0..30_000 {
+        log.issue(Update::Put {
+            obj,
+            at: 0,
+            bytes: List::of(Vec::from_slice(alloc, b"x")?),
+            inside: place > 0,
+        })?;
+    }
+    log.issue(create(alloc, b'b')?)?;
+    let other = ObjId::new(u32::from(b'b')).ok_or("an id")?;
+    assert!(rt; is_of(&log.pick(Asked::Object(other))?, &[OpNo(1), OpNo(30_002)]));
+    assert!(rt; matches!(log.pick(Asked::Object(obj))?, Pick::Behind(1)));
+    log.kept(1);
+    assert_eq!(rt; log.floor(), 2);
+    assert!(rt; matches!(log.pick(Asked::Object(other))?, Pick::Settled));
+    Ok(())
+}
+
+fn is_of(pick: &Pick, expected: &[OpNo]) -> bool {
+    match pick {
+        Pick::Batch(_, ops) => ops.as_slice() == expected,
+        _ => false,
+    }
 }

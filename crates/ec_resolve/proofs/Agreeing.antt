@@ -408,3 +408,9 @@ module _ (v w : Images) where
 -- A call sees no images but those of the objects that it touches.
 pub plain-agrees : (v w : Images) (cl : Call) (fresh : ℕ) → Agree v w (plain v cl fresh).touched → plain w cl fresh ≡ plain v cl fresh
 plain-agrees v w cl fresh a = (goes-plain v w cl fresh).same a
+
+-- Where the volumes agree up to one of the objects touched, the same are touched up to that one.
+pub plain-touches_on : (v w : Images) (cl : Call) (fresh : ℕ) (front : List ℕ) (x : ℕ) (back : List ℕ) → (plain v cl fresh).touched ≡ front ++ x ∷ back → Agree v w front → (more : List ℕ) × ((plain w cl fresh).touched ≡ front ++ x ∷ more)
+plain-touches_on v w cl fresh front x back e a =
+    let f : Front (front ++ x ∷ []) (plain w cl fresh).touched = (goes-plain v w cl fresh).on front x (back, e ∙ sym (append_assoc front (x ∷ []) back)) a in
+    (f.0, f.1 ∙ append_assoc front (x ∷ []) f.0)

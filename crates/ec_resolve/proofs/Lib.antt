@@ -2,3 +2,4 @@ pub mod Agreeing
 pub mod Making
 pub mod Members
 pub mod Settled
+pub mod Verdicts

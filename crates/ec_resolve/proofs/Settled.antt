@@ -19,7 +19,7 @@ use Rattle.ec_resolve.specs.declared.verdict.Verdict.TheVariants.{Need, NeedIds,
 use Rattle.ec_resolve.proofs.Agreeing.{plain-agrees}
 
 -- none passes the test
-first-none : (p : ℕ → Bool) (xs : List ℕ) → first p xs ≡ None → (x : ℕ) → T (member x xs) → p x ≡ false
+pub first-none : (p : ℕ → Bool) (xs : List ℕ) → first p xs ≡ None → (x : ℕ) → T (member x xs) → p x ≡ false
 first-none p [] e x m = absurd m
 first-none p (y ∷ xs) e x m = go (p y) refl (x == y) refl e m (first-none p xs)
   where
@@ -32,7 +32,7 @@ first-none p (y ∷ xs) e x m = go (p y) refl (x == y) refl e m (first-none p xs
     go false q false i e m r = r e x m
 
 -- a test in two parts that fails
-either : (a b : Bool) → (not a && not b) ≡ false → T a ⊎ T b
+pub either : (a b : Bool) → (not a && not b) ≡ false → T a ⊎ T b
 either true b e = inl tt
 either false true e = inr tt
 either false false e = absurd (let t : true ≡ false = e in cc)

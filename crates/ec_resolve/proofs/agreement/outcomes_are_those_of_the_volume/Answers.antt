@@ -1,5 +1,12 @@
 use Rattle.ec_resolve.proofs.Settled.{done-comes}
+use Rattle.ec_resolve.proofs.Verdicts.{done-says, done-ready}
 use Rattle.ec_resolve.proofs.agreement.outcomes_are_those_of_the_volume.Goals as goal
 
-pub returns : goal.returns
-returns c = done-comes
+pub returns-clause-comes : goal.returns-clause-comes
+returns-clause-comes c = done-comes
+
+pub returns-clause-any_id : goal.returns-clause-any_id
+returns-clause-any_id c = done-says
+
+pub returns-clause-ready : goal.returns-clause-ready
+returns-clause-ready c = done-ready

@@ -12,6 +12,6 @@ returns c =
     IfOk-weaker c.closure.result _ _ (λ ops is.
     is
     ∙ ap (λ l. keys (walk (λ x. has_operand c.args.obj x.1) l)) c.deref.ensures.value
-    ∙ ap keys (walk-passing (λ x. has_operand c.args.obj x.1) c.self.inside.held.items c.self.invariant)
+    ∙ ap keys (walk-passing (λ x. has_operand c.args.obj x.1) c.self.inside.held.items c.self.invariant.0)
     ∙ ap (λ l. keys (closure_of_object c.args.obj l)) c.self.view_is)
     c.closure.ensures

@@ -1,0 +1,102 @@
+// How far the first operations of a closure reach.
+ghost use Rattle.std.specs.Prelude.{◌≡◌, ◌≤◌, ℕ, T, false, length, OnOk};
+ghost use Rattle.std.specs.Ordering.{nat_cmp};
+ghost use Rattle.std.specs.FinMap.{is_sorted};
+ghost use Rattle.ec_base.specs.Tables.{at_or};
+ghost use Rattle.ec_volume.specs.Update.{member, operands};
+ghost use Rattle.ec_chains.specs.Front.{is_alone, wanted, Reaches};
+
+use crate::closure::{Ask, passes};
+use ec_base::{NoMemory, ObjId, OpNo, SortedMap};
+use ec_volume::{Update, operands};
+use std::alloc::Global;
+
+/// The least place such that so many of the operations before it are asked for, and all behind it
+/// are above the bound, or behind the last one.
+pub fn reach(held: &[(OpNo, Update)], ask: &Ask, bound: u64, most: usize) -> usize
+    requires { T (is_sorted nat_cmp held.now) }
+    ensures within { result ≤ length held.now }
+    ensures reaches { Reaches ask.now held.now most bound result }
+{
+    let mut at = 0;
+    let mut found = 0;
+    'reach: while at < held.len() {
+        let (op, update) = &held[at];
+        if most <= found && bound < op.0 {
+            return at;
+        }
+        if passes(ask, *op, update) {
+            found += 1;
+        }
+        at += 1;
+    }
+    at
+}
+
+/// So many have to be asked for by themselves: of one operation there is no other.
+pub fn wanted(ask: &Ask, most: usize) -> usize
+    ensures { result ≡ wanted ask.now most }
+{
+    match ask {
+        Ask::Object(_) | Ask::All => most,
+        Ask::Op(_) => 0,
+    }
+}
+
+/// Whether the update is on one object alone.
+pub fn is_alone(update: &Update) -> bool
+    ensures { result ≡ is_alone update.now }
+{
+    matches!(
+        update,
+        Update::Put { .. }
+            | Update::Len { .. }
+            | Update::Mode { .. }
+            | Update::Stamp { .. }
+            | Update::Owner { .. }
+    )
+}
+
+/// The last of these operations on the object, or 0.
+pub fn last_on(shared: &SortedMap<ObjId, OpNo>, obj: ObjId) -> u64
+    ensures { result ≡ at_or 0 obj shared.now }
+{
+    match shared.get(&obj) {
+        Some(op) => op.0,
+        None => 0,
+    }
+}
+
+/// An operation that is on several objects is the last such one on each of them.
+pub fn note(
+    alloc: Global,
+    shared: &mut SortedMap<ObjId, OpNo>,
+    op: OpNo,
+    update: &Update,
+) -> Result<(), NoMemory>
+    ensures old { (o n : ℕ) → n ≤ at_or 0 o shared.old → n ≤ op → n ≤ at_or 0 o shared.new }
+    ensures new { OnOk result (is_alone update.now ≡ false → (o : ℕ) → T (member o (operands update.now)) → op ≤ at_or 0 o shared.new) }
+{
+    if is_alone(update) {
+        return Ok(());
+    }
+    let objs = operands(alloc, update)?;
+    note_all(shared, &objs, op)
+}
+
+fn note_all(
+    shared: &mut SortedMap<ObjId, OpNo>,
+    objs: &[ObjId],
+    op: OpNo,
+) -> Result<(), NoMemory>
+    ensures old { (o n : ℕ) → n ≤ at_or 0 o shared.old → n ≤ op → n ≤ at_or 0 o shared.new }
+    ensures new { OnOk result ((o : ℕ) → T (member o objs.now) → op ≤ at_or 0 o shared.new) }
+{
+    match objs {
+        [] => Ok(()),
+        [obj, rest @ ..] => {
+            shared.insert(*obj, op)?;
+            note_all(shared, rest, op)
+        }
+    }
+}
