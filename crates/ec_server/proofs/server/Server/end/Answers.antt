@@ -1,0 +1,30 @@
+use Rattle.ec_protocol.specs.Server as machine
+use Rattle.ec_server.specs.CallLaws.{answers_ok, answers_err, answers_stand, answers_record, answers_none}
+use Rattle.ec_server.specs.ServeLaws.{end_goes}
+use Rattle.ec_server.specs.Servers.{standing}
+use Rattle.ec_server.proofs.server.Server.end.Goals as goal
+
+pub returns-clause-ok : goal.returns-clause-ok
+returns-clause-ok g c =
+    answers_ok c.end-done.result c.answer.result _ _ c.end-done.new.self c.answer.new.self.core c.end-done.ensures.ok c.answer.ensures.ok (c.answer.ensures.same (g.K.Keeper.kept c.end-done.new.keeper))
+
+pub returns-clause-err : goal.returns-clause-err
+returns-clause-err g c =
+    answers_err _ c.end-done.result c.answer.result _ _ _ _ _ c.end-done.new.self c.answer.new.self.core c.end-done.ensures.err c.answer.ensures.err (c.answer.ensures.same (g.K.Keeper.kept c.end-done.new.keeper))
+
+pub returns-clause-stands : goal.returns-clause-stands
+returns-clause-stands g c =
+    let kept = g.K.Keeper.kept in
+    let old = standing (kept c.args.keeper.now) c.args.self.now in
+    let clerks = c.requires c.if-self.false in
+    answers_stand c.answer.result _ _ _ _ _ old _ c.answer.ensures.down (returns-clause-ok g c) (returns-clause-err g c) (end_goes c.args.clerk old clerks).clerks clerks
+
+pub returns-clause-record : goal.returns-clause-record
+returns-clause-record g c =
+    let old = standing (g.K.Keeper.kept c.args.keeper.now) c.args.self.now in
+    answers_record c.answer.result _ _ (standing (g.K.Keeper.kept c.end-done.new.keeper) c.answer.new.self) (returns-clause-ok g c) (end_goes c.args.clerk old (c.requires c.if-self.false))
+
+pub returns-clause-none : goal.returns-clause-none
+returns-clause-none g c =
+    let kept = g.K.Keeper.kept in
+    answers_none c.answer.result c.args.clerk (standing (kept c.args.keeper.now) c.args.self.now) (standing (kept c.end-done.new.keeper) c.answer.new.self) (returns-clause-ok g c)

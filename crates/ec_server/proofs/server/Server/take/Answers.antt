@@ -1,0 +1,25 @@
+use Rattle.ec_protocol.specs.Server as machine
+use Rattle.ec_server.specs.CallLaws.{answers_ok, answers_err, answers_stand, answers_record}
+use Rattle.ec_server.specs.ServeLaws.{take_goes}
+use Rattle.ec_server.specs.Servers.{standing}
+use Rattle.ec_server.proofs.server.Server.take.Goals as goal
+
+pub returns-clause-ok : goal.returns-clause-ok
+returns-clause-ok g c =
+    answers_ok c.take-done.result c.answer.result _ _ c.take-done.new.self c.answer.new.self.core c.take-done.ensures.ok c.answer.ensures.ok (c.answer.ensures.same (g.K.Keeper.kept c.take-done.new.keeper))
+
+pub returns-clause-err : goal.returns-clause-err
+returns-clause-err g c =
+    answers_err _ c.take-done.result c.answer.result _ _ _ _ _ c.take-done.new.self c.answer.new.self.core c.take-done.ensures.err c.answer.ensures.err (c.answer.ensures.same (g.K.Keeper.kept c.take-done.new.keeper))
+
+pub returns-clause-stands : goal.returns-clause-stands
+returns-clause-stands g c =
+    let kept = g.K.Keeper.kept in
+    let old = standing (kept c.args.keeper.now) c.args.self.now in
+    let clerks = c.requires.keeper c.if-self.false in
+    answers_stand c.answer.result _ _ _ _ _ old _ c.answer.ensures.down (returns-clause-ok g c) (returns-clause-err g c) (take_goes c.args.from c.args.msg.now old clerks).clerks clerks
+
+pub returns-clause-record : goal.returns-clause-record
+returns-clause-record g c =
+    let old = standing (g.K.Keeper.kept c.args.keeper.now) c.args.self.now in
+    answers_record c.answer.result _ _ (standing (g.K.Keeper.kept c.take-done.new.keeper) c.answer.new.self) (returns-clause-ok g c) (take_goes c.args.from c.args.msg.now old (c.requires.keeper c.if-self.false))

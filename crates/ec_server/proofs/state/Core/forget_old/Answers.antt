@@ -1,0 +1,7 @@
+use Rattle.std.proofs.Common.{ap, sym, ◌∙◌}
+use Rattle.ec_protocol.specs.Server as machine
+use Rattle.ec_server.specs.Steps.{under}
+use Rattle.ec_server.proofs.state.Core.forget_old.Goals as goal
+
+pub returns-in-Some : goal.returns-in-Some
+returns-in-Some c = λ d. c.forget.ensures d ∙ ap (λ o. machine.with_server (machine.forget_old o) (under d c.args.self.now)) (sym c.in-Some.is)

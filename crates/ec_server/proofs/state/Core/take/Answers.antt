@@ -1,0 +1,23 @@
+use Rattle.std.proofs.lemmas.Result.{err_from_is_err_and}
+use Rattle.std.proofs.Common.{ap, sym, ◌∙◌}
+use Rattle.ec_protocol.specs.Server as machine
+use Rattle.ec_server.specs.CallLaws.{taken_clerks, leaves_served}
+use Rattle.ec_server.specs.Steps.{under, server}
+use Rattle.ec_server.proofs.state.Core.take.Goals as goal
+
+pub returns-in_err-taken-clause-err : goal.returns-in_err-taken-clause-err
+returns-in_err-taken-clause-err g c =
+    let d = g.K.Keeper.kept c.args.keeper.now in
+    let p = err_from_is_err_and c.from_residual.result c.from_residual.ensures.1 in
+    rw (p.1, p.2) (leaves_served _ _ _ (machine.taken c.args.from c.args.msg.now) (server d c.args.self.now) _ (under d c.begin.new.self) (c.begin.ensures d) c.in_err-taken.ensures.err)
+
+pub serve-requires : goal.serve-requires
+serve-requires g c =
+    let kept = g.K.Keeper.kept in
+    let d = kept c.args.keeper.now in
+    taken_clerks c.args.from c.args.msg.now (server d c.args.self.now) (under d c.begin.new.self) (under (kept c.taken.new.keeper) c.taken.new.self) (c.begin.ensures d) c.in_ok-taken.ensures.ok c.requires.clerks
+
+pub returns-clause-ok : goal.returns-clause-ok
+returns-clause-ok g c =
+    let d = g.K.Keeper.kept c.args.keeper.now in
+    ap (λ (t : machine.Serving). machine.serve (machine.taken c.args.from c.args.msg.now t)) (sym (c.begin.ensures d)) ∙ ap machine.serve c.in_ok-taken.ensures.ok ∙ c.in_ok-serve.ensures

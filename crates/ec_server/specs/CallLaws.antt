@@ -1,0 +1,163 @@
+-- What a call of a server leaves. No public clause cites this file.
+use Rattle.std.proofs.Common.{◌≡◌, ◌≤◌, refl, sym, ap, subst, ◌∙◌, arith, ℕ, Bool, true, false, not, ◌&&◌, List, [], ◌∷◌, Option, None, Some, Result, Ok, Err, length, map}
+use Rattle.std.specs.Prelude.{◌==◌, ◌↔◌, nat_lt, nat_le, OnOk, IfOk, IfErr, IsOk, IsTrue, T}
+use Rattle.std.specs.List.{list_all}
+use Rattle.std.proofs.lemmas.Bool.{and_parts, lt-ltb}
+use Rattle.ec_base.specs.declared.counter.Counter.{Counter}
+use Rattle.ec_base.specs.declared.ids.Hold.{Hold}
+use Rattle.ec_base.specs.declared.ids.Hold.TheVariants.{Free, Read, Write}
+use Rattle.ec_base.specs.Holds.{is_free}
+use Rattle.ec_base.specs.Tables.{keys}
+use Rattle.ec_disk.specs.Disk.{Counts}
+use Rattle.ec_sessions.specs.Slots as slots
+use Rattle.ec_tokens.specs.Tokens.{rises_from, is_claim}
+use Rattle.ec_volume.specs.Update.{is_sound as is_sound_update}
+use Rattle.ec_volume.specs.declared.update.Update.{Update}
+use Rattle.ec_wire.specs.Messages.{is_sound, rises, is_held_mode}
+use Rattle.ec_wire.specs.declared.msg.Msg.{Msg}
+use Rattle.ec_wire.specs.declared.msg.Msg.TheVariants as msg
+use Rattle.ec_durable.specs.Durable.{slot}
+use Rattle.ec_durable.specs.Steps.{AreSoundOps}
+use Rattle.ec_durable.specs.declared.state.Durable.{Durable}
+use Rattle.ec_durable.specs.declared.record.Record.{Record}
+use Rattle.ec_protocol.specs.Server.{Serving, serving, taken, in_session, end_open, serve, take, end}
+use Rattle.ec_protocol.specs.declared.server.Server.{Server}
+use Rattle.ec_protocol.specs.declared.server.Served.{Served}
+use Rattle.ec_server.specs.Clerks.{HaveClerks, Records, Goes}
+use Rattle.ec_server.specs.ClerkLaws.{taken_goes}
+use Rattle.ec_server.specs.ServeLaws.{serve_serves, ended_goes, end_rec}
+use Rattle.ec_server.specs.Servers.{GoesDown}
+use Rattle.ec_server.specs.Steps.{server, under, Leaves, part_of, does}
+use Rattle.ec_server.specs.declared.messages.Part.{Part}
+use Rattle.ec_server.specs.declared.state.Core.{Core}
+use Rattle.ec_server.specs.declared.fault.ServerFault.{ServerFault}
+use Rattle.ec_server.specs.declared.fault.ServerFault.TheVariants.{DiskFailed, DiskStopped, Spent, NoMemory}
+
+-- Steps.
+
+pub taken_clerks : (c : ℕ) (m : Msg) (s : Server) (t u : Serving) → t ≡ serving s → taken c m t ≡ u → HaveClerks s → HaveClerks u.server
+taken_clerks c m s t u p q h = subst (λ (v : Serving). HaveClerks v.server) (ap (taken c m) (sym p) ∙ q) (taken_goes c m (serving s) refl h).clerks
+
+pub end_clerks : (c : ℕ) (s : Server) (t u : Serving) → t ≡ serving s → end_open c (slot s.durable c) t ≡ u → HaveClerks s → HaveClerks u.server
+end_clerks c s t u p q h = subst (λ (v : Serving). HaveClerks v.server) (ap (end_open c (slot s.durable c)) (sym p) ∙ q) (ended_goes c (slot s.durable c) (serving s) refl h).clerks
+
+-- a fault before the wants are served
+pub leaves_served : (fault : ServerFault) (a b : Counts) (f : Serving → Serving) (s new : Server) (t : Serving) → t ≡ serving s → Leaves fault a b (f t) t.server new → Leaves fault a b (serve (f (serving s))) s new
+leaves_served fault a b f s new t p h = go fault (subst (λ (v : Serving). Leaves fault a b (f v) v.server new) p h)
+  where
+    go : (e : ServerFault) → Leaves e a b (f (serving s)) s new → Leaves e a b (serve (f (serving s))) s new
+    go (Spent n) h = ((serve_serves (f (serving s))).spent n h.0, h.1)
+    go DiskFailed h = h
+    go DiskStopped h = h
+    go NoMemory h = tt
+
+-- Answers.
+
+abbrev pub answer_of : Server → Served → Serving
+answer_of s served = record { server = s; sent = served.sent; rec = served.rec; spent = None }
+
+pub answered : (m : Serving) (e : Durable) (core after : Core) (served : Served) → m ≡ under e core → server e after ≡ server e core → served.sent ≡ core.sent.items → served.rec ≡ core.rec → m ≡ answer_of (server e after) served
+answered m e core after served p q r n =
+    p ∙ ap (λ (s : Server). record { server = s; sent = core.sent.items; rec = core.rec; spent = None }) (sym q)
+    ∙ ap (λ (l : List (ℕ × Msg)). record { server = server e after; sent = l; rec = core.rec; spent = None }) (sym r)
+    ∙ ap (λ (o : Option Record). record { server = server e after; sent = served.sent; rec = o; spent = None }) (sym n)
+
+apart : false ≡ true → ⊥
+apart p = absurd cc
+
+pub answers_ok : {U : Type 0} (done : Result U ServerFault) (res : Result Served ServerFault) (m : Serving) (e : Durable) (core after : Core) → OnOk done (m ≡ under e core)
+    → IfOk res (λ served. IsOk done × (served.sent ≡ core.sent.items) × (served.rec ≡ core.rec)) → server e after ≡ server e core → IfOk res (λ served. m ≡ answer_of (server e after) served)
+answers_ok (Ok u) (Ok served) m e core after p r q = answered m e core after served p q r.1 r.2
+answers_ok (Err f) (Ok served) m e core after p r q = absurd (apart r.0)
+answers_ok done (Err f) m e core after p r q = tt
+
+pub answers_err : (U : Type 0) (done : Result U ServerFault) (res : Result Served ServerFault) (a b : Counts) (m : Serving) (e : Durable) (old : Server) (core after : Core)
+    → IfErr done (λ fault. Leaves fault a b m old (server e core)) → IfErr res (λ fault. done ≡ Err fault) → server e after ≡ server e core → IfErr res (λ fault. Leaves fault a b m old (server e after))
+answers_err U done (Ok served) a b m e old core after p r q = tt
+answers_err U done (Err f) a b m e old core after p r q =
+    subst (λ (s : Server). Leaves f a b m old s) (sym q) (by done p r)
+  where
+    by : (d : Result U ServerFault) → IfErr d (λ fault. Leaves fault a b m old (server e core)) → d ≡ Err f → Leaves f a b m old (server e core)
+    by (Ok u) p r = absurd cc
+    by (Err g) p r = let same : g ≡ f = cc in subst (λ (x : ServerFault). Leaves x a b m old (server e core)) same p
+
+both : (x : Bool) → x ≡ true → x ≡ false → ⊥
+both x p q = absurd cc
+
+pub answers_stand : (res : Result Served ServerFault) (down now : Bool) (a b : Counts) (m : Serving) (old new : Server) → GoesDown res down now → IfOk res (λ served. m ≡ answer_of new served)
+    → IfErr res (λ fault. Leaves fault a b m old new) → HaveClerks m.server → HaveClerks old → now ≡ false → HaveClerks new
+answers_stand (Ok served) down now a b m old new g p r h k q = subst (λ (v : Serving). HaveClerks v.server) p h
+answers_stand (Err (Spent n)) down now a b m old new g p r h k q = subst HaveClerks (sym r.1) k
+answers_stand (Err DiskFailed) down now a b m old new g p r h k q = absurd (both now g.1 q)
+answers_stand (Err DiskStopped) down now a b m old new g p r h k q = absurd (both now g.1 q)
+answers_stand (Err NoMemory) down now a b m old new g p r h k q = absurd (both now g q)
+
+pub record_by : (m : Serving) (d : Durable) (new : Server) (served : Served) → m ≡ answer_of new served → Goes d m → Records served.rec d new.durable
+record_by m d new served p g = subst (λ (v : Serving). Records v.rec d v.server.durable) p g.record_of
+
+pub answers_record : (res : Result Served ServerFault) (m : Serving) (d : Durable) (new : Server) → IfOk res (λ served. m ≡ answer_of new served) → Goes d m → IfOk res (λ served. Records served.rec d new.durable)
+answers_record (Ok served) m d new p g = record_by m d new served p g
+answers_record (Err f) m d new p g = tt
+
+pub answers_none : (res : Result Served ServerFault) (c : ℕ) (s new : Server) → IfOk res (λ served. end c s ≡ answer_of new served) → IfOk res (λ served. (served.rec ≡ None) ↔ (slots.is_open (slot s.durable c) ≡ false))
+answers_none (Ok served) c s new p = subst (λ (v : Serving). (v.rec ≡ None) ↔ (slots.is_open (slot s.durable c) ≡ false)) p (end_rec c s)
+answers_none (Err f) c s new p = tt
+
+-- Messages.
+
+same_part : {p q : Part} → Some p ≡ Some q → p ≡ q
+same_part is = cc
+
+pub taken_part : (c : ℕ) (m : Msg) (q : Part) (t : Serving) → part_of m ≡ Some q → taken c m t ≡ in_session c q.session q.at_epoch q.needs_no_claim (does c m) t
+taken_part c (msg.Want ss e x h last) q t is = ap (λ (p : Part). in_session c p.session p.at_epoch p.needs_no_claim (does c (msg.Want ss e x h last)) t) (same_part is)
+taken_part c (msg.Back ss e x n h) q t is = ap (λ (p : Part). in_session c p.session p.at_epoch p.needs_no_claim (does c (msg.Back ss e x n h)) t) (same_part is)
+taken_part c (msg.Flush ss e b ops) q t is = ap (λ (p : Part). in_session c p.session p.at_epoch p.needs_no_claim (does c (msg.Flush ss e b ops)) t) (same_part is)
+taken_part c (msg.Room ss e got ask) q t is = ap (λ (p : Part). in_session c p.session p.at_epoch p.needs_no_claim (does c (msg.Room ss e got ask)) t) (same_part is)
+taken_part c (msg.Claim ss e list) q t is = ap (λ (p : Part). in_session c p.session p.at_epoch p.needs_no_claim (does c (msg.Claim ss e list)) t) (same_part is)
+taken_part c (msg.Bye ss e) q t is = ap (λ (p : Part). in_session c p.session p.at_epoch p.needs_no_claim (does c (msg.Bye ss e)) t) (same_part is)
+taken_part c _ q t is = absurd cc
+
+-- What is sound.
+
+sound_list : (ops : List (ℕ × Update)) → list_all (λ op. is_sound_update op.1) ops ≡ true → AreSoundOps ops
+sound_list [] h = tt
+sound_list (op ∷ ops) h =
+    let p = and_parts (is_sound_update op.1) (list_all (λ op. is_sound_update op.1) ops) h in
+    (subst T (sym p.0) tt, sound_list ops p.1)
+
+pub sound_ops : (m : Msg) (s e b : ℕ) (ops : List (ℕ × Update)) → IsTrue (is_sound m) → m ≡ msg.Flush s e b ops → AreSoundOps ops
+sound_ops m s e b ops h is = sound_list ops (last (nat_le 1 (length ops)) (nat_le (length ops) 64) (rises (keys ops)) (list_all (λ op. is_sound_update op.1) ops) (subst (λ (n : Msg). IsTrue (is_sound n)) is h))
+  where
+    last : (x y z w : Bool) → (x && y && z && w) ≡ true → w ≡ true
+    last x y z w h = grind (arith, h)
+
+-- the first id is one
+abbrev pub IsFromOne : List (ℕ × Hold) → Type 0
+IsFromOne [] = Unit {0}
+IsFromOne (e ∷ es) = 1 ≤ e.0
+
+held_all : (list : List (ℕ × Hold)) → list_all (λ t. is_held_mode t.1) list ≡ true → list_all (λ e. not (is_free e.1)) list ≡ true
+held_all [] h = refl
+held_all (e ∷ es) h =
+    let p = and_parts (is_held_mode e.1) (list_all (λ t. is_held_mode t.1) es) h in
+    ap (λ b. b && list_all (λ e. not (is_free e.1)) es) (by e.1 p.0) ∙ held_all es p.1
+  where
+    by : (h : Hold) → is_held_mode h ≡ true → not (is_free h) ≡ true
+    by Free h = absurd cc
+    by Read h = refl
+    by Write h = refl
+
+rising : (e : ℕ × Hold) (es : List (ℕ × Hold)) → rises (keys (e ∷ es)) ≡ true → rises_from e.0 es ≡ true
+rising e [] h = refl
+rising e (f ∷ es) h =
+    let p = and_parts (nat_lt e.0 f.0) (rises (keys (f ∷ es))) h in
+    ap (λ b. b && rises_from f.0 es) p.0 ∙ rising f es p.1
+
+pub sound_claim : (m : Msg) (s e : ℕ) (list : List (ℕ × Hold)) → IsTrue (is_sound m) → m ≡ msg.Claim s e list → IsFromOne list → IsTrue (is_claim list)
+sound_claim m s e list h is one =
+    let p = and_parts (rises (keys list)) (list_all (λ t. is_held_mode t.1) list) (subst (λ (n : Msg). IsTrue (is_sound n)) is h) in
+    ap (λ b. b && list_all (λ e. not (is_free e.1)) list) (from list p.0 one) ∙ held_all list p.1
+  where
+    from : (l : List (ℕ × Hold)) → rises (keys l) ≡ true → IsFromOne l → rises_from 0 l ≡ true
+    from [] h one = refl
+    from (e ∷ es) h one = ap (λ b. b && rises_from e.0 es) (lt-ltb 0 e.0 (omega (arith, one))) ∙ rising e es h

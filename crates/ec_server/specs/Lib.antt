@@ -1,0 +1,11 @@
+pub mod CallLaws
+pub mod ClerkLaws
+pub mod Clerks
+pub mod Kept
+pub mod KeptLaws
+pub mod Laws
+pub mod LoopLaws
+pub mod ServeLaws
+pub mod Servers
+pub mod SlotLaws
+pub mod Steps

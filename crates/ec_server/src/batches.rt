@@ -1,0 +1,90 @@
+// Batches.
+ghost use Rattle.std.specs.Prelude.{◌≡◌, OnOk, IfErr, IfOk, Some, None, MatchOption};
+ghost use Rattle.std.specs.List.{list_all};
+ghost use Rattle.ec_base.specs.Holds.{is_write};
+ghost use Rattle.ec_durable.specs.Durable.{slot, has_batch};
+ghost use Rattle.ec_durable.specs.Steps.{AreSoundOps};
+ghost use Rattle.ec_tokens.specs.Tokens.{mode, token};
+ghost use Rattle.ec_protocol.specs.Server as machine;
+ghost use Rattle.ec_server.specs.Kept.{IsLater};
+ghost use Rattle.ec_server.specs.Steps.{under, server, at_slot, Stops};
+
+use crate::fault::ServerFault;
+use crate::keeper::Keeper;
+use crate::state::{Core, epoch};
+use ec_base::{ClerkId, Duplicate, Hold, List, NoMemory, ObjId, OpNo, SessionNo};
+use ec_durable::Record;
+use ec_tokens::Tokens;
+use ec_volume::{Update, operands};
+use ec_wire::Msg;
+use std::alloc::Global;
+
+// The session has a Write token on each operand.
+fn may_write(
+    alloc: Global,
+    tokens: &Tokens,
+    session: SessionNo,
+    ops: &[(OpNo, Update)],
+) -> Result<bool, NoMemory>
+    ensures { IfOk result (λ may. may ≡ machine.may_write tokens.now session ops.now) }
+{
+    for (_, update) in ops {
+        if !may_write_all(tokens, session, &operands(alloc, update)?) {
+            return Ok(false);
+        }
+    }
+    Ok(true)
+}
+
+fn may_write_all(tokens: &Tokens, session: SessionNo, ids: &[ObjId]) -> bool
+    ensures { result ≡ list_all (λ x. is_write (mode (token tokens.now session x))) ids.now }
+{
+    ids.iter().all(|id| has_write(tokens, session, *id))
+}
+
+fn has_write(tokens: &Tokens, session: SessionNo, obj: ObjId) -> bool
+    ensures { result ≡ is_write (mode (token tokens.now session obj)) }
+{
+    matches!(tokens.token(session, obj), Some((Hold::Write, _)))
+}
+
+// Whether the clerk's window has the batch.
+fn is_done<K: Keeper>(keeper: &K, clerk: ClerkId, batch: u64) -> bool
+    ensures { result ≡ has_batch batch (slot (K.kept keeper.now) clerk) }
+{
+    match keeper.view().sessions.slot(clerk) {
+        Some(slot) => slot.window.has(batch),
+        None => false,
+    }
+}
+
+impl Core {
+    // A batch that the window has is answered; another one is committed, and ends the session where it can't be.
+    pub(crate) fn flush<K: Keeper>(
+        &mut self,
+        keeper: &mut K,
+        clerk: ClerkId,
+        session: SessionNo,
+        batch: u64,
+        ops: &List<(OpNo, Update)>,
+    ) -> Result<(), ServerFault>
+        requires { AreSoundOps ops.now }
+        ensures ok { OnOk result (at_slot clerk (machine.flush clerk session batch ops.now) (under (K.kept keeper.old) self.old) ≡ under (K.kept keeper.new) self.new) }
+        ensures err { IfErr result (λ fault. Stops fault (K.counts keeper.old) (K.counts keeper.new) (server (K.kept keeper.old) self.old) (server (K.kept keeper.new) self.new)) }
+        ensures later { IsLater (K.counts keeper.old) (K.counts keeper.new) }
+    {
+        if is_done(keeper, clerk, batch) {
+            self.tell(clerk, Msg::Kept(session, epoch(keeper), batch))?;
+            return Ok(());
+        }
+        if !may_write(self.alloc, &self.tokens, session, ops.as_slice())? {
+            return self.finish(keeper, clerk);
+        }
+        let change = Record::Batch(clerk, session, batch, ops.duplicate()?);
+        if !self.commit(keeper, change)? {
+            return self.finish(keeper, clerk);
+        }
+        self.tell(clerk, Msg::Kept(session, epoch(keeper), batch))?;
+        Ok(())
+    }
+}

@@ -1,0 +1,97 @@
+// What keeps the durable state, and one that keeps it in memory.
+ghost use Rattle.std.specs.Prelude.{◌≡◌, ◌≤◌, None, Ok, Err, OnOk, IfErr};
+ghost use Rattle.ec_disk.specs.Disk.{Counts, Counted};
+ghost use Rattle.ec_durable.specs.Durable.{step};
+ghost use Rattle.ec_durable.specs.Steps.{AreSound};
+ghost use Rattle.ec_durable.specs.WellFormed.{IsInOrder};
+ghost use Rattle.ec_server.specs.Kept.{Refuses, HasIds};
+ghost use Rattle.ec_durable.specs.declared.state.Durable.{Durable as State};
+ghost use Rattle.ec_server.specs.declared.keeper.KeepFault.TheVariants as fault;
+
+use ec_base::NoMemory;
+use ec_durable::{Durable, Record, RecordFault, records_keep_states_in_order};
+use std::marker::Model;
+use thiserror::Error;
+
+/// Why a record wasn't committed.
+#[derive(Clone, Copy, Debug, Drop, PartialEq, Eq, Error)]
+pub enum KeepFault {
+    #[error("the record is refused: {0}")]
+    Refused(RecordFault),
+    #[error("the disk failed")]
+    DiskFailed,
+    #[error("the disk stopped")]
+    DiskStopped,
+    #[error("out of memory")]
+    NoMemory,
+}
+
+/// What keeps the durable state.
+pub trait Keeper {
+    /// The state behind all that was committed.
+    ghost kept: { Self → State };
+
+    /// How often its disk failed and stopped.
+    ghost counts: { Self → Counts };
+
+    /// The state behind all that was committed.
+    fn view(&self) -> &Durable
+        ensures kept { result.now ≡ kept self.now }
+        ensures ids { HasIds (kept self.now) };
+
+    /// Commits a record whose updates are sound. After a refusal, or a fault of the disk, the state is as before; after a fault of
+    /// the disk what is on the disk isn't known.
+    fn commit(&mut self, change: &Record) -> Result<(), KeepFault>
+        requires sound { AreSound change.now }
+        ensures ok { OnOk result (step change.now (kept self.old) ≡ Ok (kept self.new)) }
+        ensures err { IfErr result (λ fault. Refuses fault change.now (kept self.old) (kept self.new)) }
+        ensures counts { Counted (counts self.old) (counts self.new) (result ≡ Err fault.DiskFailed) (result ≡ Err fault.DiskStopped) };
+}
+
+/// A durable state in memory, which no crash outlives.
+#[derive(Drop)]
+pub struct InMemory {
+    durable: Durable,
+}
+
+impl Model for InMemory {
+    ghost use Rattle.std.specs.Prelude.{◌≤◌};
+    ghost use Rattle.ec_durable.specs.WellFormed.{IsInOrder};
+    ghost use Rattle.ec_durable.specs.declared.state.Durable.{Durable as State};
+
+    ghost Value = { State };
+
+    ghost view = { λ k. k.durable };
+
+    ghost invariant = { λ k. IsInOrder k.durable × (1 ≤ k.durable.next_id) };
+}
+
+impl InMemory {
+    /// Keeps this state, in which no id is used twice and the next one is from 1.
+    pub fn new(durable: Durable) -> InMemory
+        requires order { IsInOrder durable }
+        requires next { 1 ≤ durable.next_id }
+        ensures { result ≡ durable }
+    {
+        InMemory { durable }
+    }
+}
+
+impl Keeper for InMemory {
+    ghost kept = { λ keeper. keeper };
+
+    ghost counts = { λ keeper. record { calls = 0; faults = 0; stops = 0; armed = None } };
+
+    fn view(&self) -> &Durable {
+        &self.durable
+    }
+
+    fn commit(&mut self, change: &Record) -> Result<(), KeepFault> {
+        records_keep_states_in_order();
+        match self.durable.step(change) {
+            Ok(()) => Ok(()),
+            Err(RecordFault::NoMemory) => Err(KeepFault::NoMemory),
+            Err(fault) => Err(KeepFault::Refused(fault)),
+        }
+    }
+}

@@ -1,0 +1,112 @@
+// Wants, tokens given back, and claims.
+ghost use Rattle.std.specs.Prelude.{◌≡◌, ◌≢◌, ◌&&◌, OnOk, IfErr, IfOk, IsTrue, Some, None, true, is_some};
+ghost use Rattle.ec_durable.specs.Durable.{slot};
+ghost use Rattle.std.specs.List.{list_all};
+ghost use Rattle.ec_base.specs.Tables.{keys};
+ghost use Rattle.ec_volume.specs.Volume.{images};
+ghost use Rattle.ec_tokens.specs.Tokens.{is_claim};
+ghost use Rattle.ec_durable.specs.declared.state.Durable.{Durable};
+ghost use Rattle.ec_protocol.specs.Server as machine;
+ghost use Rattle.ec_server.specs.Kept.{IsLater};
+ghost use Rattle.ec_server.specs.Steps.{under, server, at_slot, Stops};
+
+use crate::fault::ServerFault;
+use crate::keeper::Keeper;
+use crate::state::{Core, epoch};
+use ec_base::{ClerkId, Duplicate, Hold, NoMemory, ObjId, SessionNo};
+use ec_tokens::ClaimFault;
+use ec_volume::Image;
+use ec_wire::Msg;
+
+// The object's image now.
+fn image<K: Keeper>(keeper: &K, obj: ObjId) -> Result<Image, NoMemory>
+    ensures { IfOk result (λ image. image ≡ images (K.kept keeper.now).volume obj) }
+{
+    match keeper.view().volume.look(obj) {
+        Some(image) => image.duplicate(),
+        None => Ok(Image::Gone),
+    }
+}
+
+impl Core {
+    // A grant, with the object's image now.
+    pub(crate) fn send_grant<K: Keeper>(
+        &mut self,
+        keeper: &K,
+        clerk: ClerkId,
+        session: SessionNo,
+        obj: ObjId,
+        hold: Hold,
+        number: u64,
+    ) -> Result<(), NoMemory>
+        ensures { OnOk result (machine.send_grant clerk session obj hold number (under (K.kept keeper.now) self.old) ≡ under (K.kept keeper.now) self.new) }
+    {
+        let image = image(keeper, obj)?;
+        let grant = Msg::Grant(session, epoch(keeper), obj, number, hold, image);
+        self.tell(clerk, grant)?;
+        Ok(())
+    }
+
+    fn note(&mut self, session: SessionNo, obj: ObjId, hold: Hold) -> Result<(), NoMemory>
+        requires { hold ≢ Hold.Free }
+        ensures { OnOk result ((d : Durable) → under d self.new ≡ machine.note session obj hold (under d self.old)) }
+    {
+        self.recalls.want(session, obj, hold)
+    }
+
+    // A token above the clerk's last one is sent again; else the want is noted.
+    pub(crate) fn want<K: Keeper>(
+        &mut self,
+        keeper: &K,
+        clerk: ClerkId,
+        session: SessionNo,
+        obj: ObjId,
+        hold: Hold,
+        last: u64,
+    ) -> Result<(), NoMemory>
+        requires { hold ≢ Hold.Free }
+        ensures { OnOk result (machine.want clerk session obj hold last (under (K.kept keeper.now) self.old) ≡ under (K.kept keeper.now) self.new) }
+    {
+        let Some((held, number)) = self.tokens.token(session, obj) else {
+            self.note(session, obj, hold)?;
+            return Ok(());
+        };
+        if last < number {
+            self.send_grant(keeper, clerk, session, obj, held, number)?;
+        } else {
+            self.note(session, obj, hold)?;
+        }
+        Ok(())
+    }
+
+    pub(crate) fn back(&mut self, session: SessionNo, obj: ObjId, number: u64, to: Hold)
+        ensures { (d : Durable) → under d self.new ≡ machine.back session obj number to (under d self.old) }
+    {
+        self.tokens.give_back(session, obj, number, to);
+    }
+
+    // The first claim in this epoch is recorded, and ends the session where it clashes.
+    pub(crate) fn claim<K: Keeper>(
+        &mut self,
+        keeper: &mut K,
+        clerk: ClerkId,
+        session: SessionNo,
+        list: &[(ObjId, Hold)],
+    ) -> Result<(), ServerFault>
+        requires list { IsTrue (is_claim list.now) }
+        requires slot { is_some (slot (K.kept keeper.old) clerk) ≡ true }
+        ensures ok { OnOk result (at_slot clerk (machine.claim clerk session list.now) (under (K.kept keeper.old) self.old) ≡ under (K.kept keeper.new) self.new) }
+        ensures err { IfErr result (λ fault. Stops fault (K.counts keeper.old) (K.counts keeper.new) (server (K.kept keeper.old) self.old) (server (K.kept keeper.new) self.new)) }
+        ensures later { IsLater (K.counts keeper.old) (K.counts keeper.new) }
+    {
+        if self.has_claimed(session) {
+            return Ok(());
+        }
+        match self.tokens.claim(session, list) {
+            Ok(()) => self.add_claimed(session)?,
+            Err(ClaimFault::Clash(..)) => self.finish(keeper, clerk)?,
+            Err(ClaimFault::NoMemory) => return Err(ServerFault::NoMemory),
+        }
+        Ok(())
+    }
+}
