@@ -8,4 +8,4 @@ mod pieces;
 #[cfg(test)]
 mod tests;
 
-pub use line::print;
+pub use line::{print, print_answer, print_call};
