@@ -6,6 +6,7 @@ mod keyword;
 mod laws;
 mod laws_full;
 mod line;
+mod place;
 mod script;
 #[cfg(test)]
 mod tests;
@@ -17,4 +18,5 @@ mod word;
 pub use laws::one_outcome;
 pub use laws_full::one_reading;
 pub use line::{Line, LineFault, read_line};
+pub use place::last_column;
 pub use script::{count_lines, split_line};
