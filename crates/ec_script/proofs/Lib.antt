@@ -4,3 +4,4 @@ pub mod Once
 pub mod Heads
 pub mod Outside
 pub mod LinedOnce
+pub mod Lasts

@@ -3,3 +3,4 @@ pub mod Grammar
 pub mod Reading
 pub mod Lined
 pub mod Heads
+pub mod Last

@@ -82,7 +82,8 @@ fn read_words(alloc: Global, words: Words<'_>) -> Result<Line, Misfit>
     }
 }
 
-fn fault_at(line: &[u8], misfit: Misfit) -> LineFault
+/// The fault of a line whose words are refused so.
+pub fn fault_at(line: &[u8], misfit: Misfit) -> LineFault
     ensures { result ≡ fault_at line.now misfit }
 {
     match misfit {

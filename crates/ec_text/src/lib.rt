@@ -6,4 +6,4 @@ mod asked;
 mod line;
 mod pieces;
 
-pub use line::print;
+pub use line::{print, print_answer, print_call};

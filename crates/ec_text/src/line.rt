@@ -2,13 +2,15 @@
 ghost use Rattle.std.specs.Prelude.{◌≡◌, ◌++◌, IfOk, OnOk, codes};
 ghost use Rattle.std.specs.Fmt.{decimal};
 ghost use Rattle.ec_text.specs.Pieces.{clerk_text, numbers_text};
+ghost use Rattle.ec_text.specs.Calls.{call_text};
+ghost use Rattle.ec_text.specs.Answers.{answered_text};
 ghost use Rattle.ec_text.specs.Lines.{limit_text, counter_text, asked_text, shown_line, shown_text};
 
 use crate::answer::push_answered;
 use crate::asked::push_call;
 use crate::pieces::{push_clerk, push_number, push_numbers, push_text};
 use ec_base::{ClerkId, Counter, NoMemory, OpNo};
-use ec_history::{LimitName, Shown};
+use ec_history::{Answer, LimitName, Shown};
 use ec_plain::Call;
 use std::alloc::Global;
 
@@ -19,6 +21,28 @@ pub fn print(alloc: Global, shown: &Shown) -> Result<Vec<u8>, NoMemory>
     let mut out = Vec::new(alloc);
     push_line(&mut out, shown)?;
     push_text(&mut out, b"\n")?;
+    Ok(out)
+}
+
+/// The words of a call, as a transcript line shows them.
+pub fn print_call(alloc: Global, call: &Call) -> Result<Vec<u8>, NoMemory>
+    ensures { IfOk result (λ text. text.items ≡ call_text call.now) }
+{
+    let mut out = Vec::new(alloc);
+    push_call(&mut out, call)?;
+    Ok(out)
+}
+
+/// The words of an answer, as a transcript line shows them. An answer with an operation names it.
+pub fn print_answer(
+    alloc: Global,
+    answer: &Answer,
+    op: Option<OpNo>,
+) -> Result<Vec<u8>, NoMemory>
+    ensures { IfOk result (λ text. text.items ≡ answered_text answer.now op) }
+{
+    let mut out = Vec::new(alloc);
+    push_answered(&mut out, answer, op)?;
     Ok(out)
 }
 

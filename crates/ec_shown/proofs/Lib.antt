@@ -1,0 +1,14 @@
+pub mod Behind
+pub mod Escapes
+pub mod Named
+pub mod Rising
+pub mod Counted
+pub mod Said
+pub mod Ordered
+pub mod Firsts
+pub mod One
+pub mod Spaced
+pub mod Words
+pub mod Printed
+pub mod Back
+pub mod Ranges

@@ -1,0 +1,7 @@
+pub mod Spelling
+pub mod Rows
+pub mod Examples
+pub mod Answers
+pub mod Calls
+pub mod Lines
+pub mod Showable
