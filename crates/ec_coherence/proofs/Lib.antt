@@ -84,3 +84,4 @@ pub mod GivenIds
 pub mod HeldChange
 pub mod TakenIds
 pub mod Records
+pub mod Beginning

@@ -12,3 +12,4 @@ pub mod Caches
 pub mod Clerks
 pub mod BatchLaws
 pub mod ClerkLaws
+pub mod Opening
