@@ -1,9 +1,8 @@
 -- All facts hold at the beginning.
-use Rattle.std.proofs.Common.{◌≡◌, refl, sym, subst, ◌∙◌, arith, ℕ, zero, suc, Bool, true, false, not, cond, ◌<◌, T, List, [], ◌∷◌, replicate}
+use Rattle.std.proofs.Common.{◌≡◌, refl, sym, ◌∙◌, arith, ℕ, zero, suc, Bool, true, false, not, cond, ◌<◌, T, List, replicate}
 use Rattle.std.specs.Prelude.{◌==◌, Option, None, Some, slice_index_or}
 use Rattle.ec_volume.specs.Image.{is_gone, new_object}
 use Rattle.ec_volume.specs.Update.{root}
-use Rattle.ec_volume.specs.Volume as volume
 use Rattle.ec_volume.specs.declared.image.Image.TheVariants.{Gone}
 use Rattle.ec_volume.specs.declared.image.Kind.TheVariants as kind
 use Rattle.ec_formed.proofs.Formatted.{formatted-formed, formatted-held}
@@ -16,7 +15,6 @@ use Rattle.ec_coherence.specs.Log.{LogsAgree}
 use Rattle.ec_coherence.specs.Images.{ImagesAgree}
 use Rattle.ec_coherence.specs.Events.{EventsAgree}
 use Rattle.ec_coherence.specs.Stops.{StopsAgree}
-use Rattle.ec_coherence.specs.Invariant.{Invariant}
 use Rattle.ec_coherence.specs.Opening.{opening, OpeningAgrees, FirstStartStands}
 use Rattle.ec_coherence.proofs.Start.{start-stands}
 use Rattle.ec_coherence.proofs.Tables.{equal, none_some}

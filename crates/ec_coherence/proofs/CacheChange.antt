@@ -1,11 +1,10 @@
 -- What a clerk holds behind an update, and which ids are left.
-use Rattle.std.proofs.Common.{◌≡◌, refl, sym, ap, subst, ◌∙◌, inl, inr, ◌⊎◌, arith, ℕ, Bool, true, false, not, ◌&&◌, ◌||◌, cond, T, List, [], ◌∷◌, ◌++◌}
-use Rattle.std.specs.Prelude.{◌==◌, drop, Option, None, Some}
+use Rattle.std.proofs.Common.{◌≡◌, refl, sym, ap, subst, ◌∙◌, inl, inr, ℕ, Bool, true, false, not, ◌||◌, cond, T, List, [], ◌∷◌, ◌++◌}
+use Rattle.std.specs.Prelude.{◌==◌, Option, None, Some}
 use Rattle.std.specs.Cmp.{unsigned_ties}
 use Rattle.ec_base.specs.Tables.{Table, at, without, renewed}
 use Rattle.ec_volume.specs.Update.{member, operands, has_operand, effect, fits, distinct, is_sound, listed}
 use Rattle.ec_volume.specs.Volume.{image_next}
-use Rattle.ec_volume.specs.declared.image.Image.{Image}
 use Rattle.ec_volume.specs.declared.update.Update.{Update}
 use Rattle.ec_volume.specs.declared.update.Update.TheVariants.{Make, Drop, Move, Put, Len, Mode, Stamp, Order, Shift, Owner}
 use Rattle.ec_base.specs.Holds.{is_write}
@@ -16,7 +15,7 @@ use Rattle.ec_cache.specs.declared.state.Held.{Held}
 use Rattle.ec_protocol.specs.Clerk.{less_id, first_id, suits}
 use Rattle.ec_coherence.specs.Tokens.{IsWrite}
 use Rattle.ec_coherence.proofs.Lists.{and_first, and_next, or_first, no_both}
-use Rattle.ec_coherence.proofs.Tables.{at-without, equal, is-true, is-false, same_some, none_some}
+use Rattle.ec_coherence.proofs.Tables.{at-without, equal, is-true, same_some, none_some}
 use Rattle.std.specs.List.{list_all}
 
 at-cons : {X : Type 0} (j : ℕ) (e : ℕ × X) (es : Table X) → at j (e ∷ es) ≡ cond (j == e.0) (Some e.1) (at j es)
@@ -57,9 +56,11 @@ at-one u x y k = go (at x k.held) refl
       where
         there : at y k.held ≡ None
         there = ap (λ z. at z k.held) (equal y x e) ∙ p
+
     some : (h : Held) (a : Bool) → (y == x) ≡ a → at x k.held ≡ Some h → cond a (Some (record h { image = effect u x h.image })) (at y k.held) ≡ affected u y a (at y k.held)
     some h false e p = refl
     some h true e p = ap (λ z. Some (record h { image = effect u z h.image })) (sym (equal y x e)) ∙ sym (ap (affected u y true) (ap (λ z. at z k.held) (equal y x e) ∙ p))
+
     go : (o : Option Held) → at x k.held ≡ o → at y (elim o as (λ z. CacheState) [ None ↦ k | Some h ↦ record k { held = renewed x (record h { image = effect u x h.image }) k.held } ]).held ≡ affected u y (y == x) (at y k.held)
     go None p = none (y == x) refl p
     go (Some h) p = at-renewed y x (record h { image = effect u x h.image }) k.held ∙ some h (y == x) refl p
@@ -80,9 +81,11 @@ at-used (x ∷ xs) y k = at-used xs y (cache.used x k) ∙ one
     same-one : (h : Held) → at x k.held ≡ Some h → (b : Bool) → (y == x) ≡ b → cond b (Some h) (at y k.held) ≡ at y k.held
     same-one h p true q = sym (ap (λ z. at z k.held) (equal y x q) ∙ p)
     same-one h p false q = refl
+
     go : (o : Option Held) → at x k.held ≡ o → at y (elim o as (λ z. CacheState) [ None ↦ k | Some h ↦ record k { held = renewed x h k.held } ]).held ≡ at y k.held
     go None p = refl
     go (Some h) p = at-renewed y x h k.held ∙ same-one h p (y == x) refl
+
     one : at y (cache.used x k).held ≡ at y k.held
     one = go (at x k.held) refl
 
@@ -119,6 +122,7 @@ suits-held u k s w x m = go (at x k.held) (w x m) (all (operands u) (and_next (i
       | inl e ↦ subst (λ z. T (fits u z (cache.images_held k z))) (sym (equal x y (is-true (x == y) e))) (and_first (fits u y (cache.images_held k y)) _ h)
       | inr r ↦ all os (and_next (fits u y (cache.images_held k y)) _ h) r
     ]
+
     go : (z : Option Held) → IsWrite z → T (fits u x (cache.held_image z)) → (o : Held) × (z ≡ Some o) × T (is_write o.hold) × T (fits u x o.image)
     go None w f = absurd w
     go (Some o) w f = (o, refl, w, f)

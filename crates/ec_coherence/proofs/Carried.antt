@@ -1,8 +1,6 @@
 -- Operations on the durable state: where they are taken, and what they leave.
-use Rattle.std.proofs.Common.{◌≡◌, ◌≢◌, refl, sym, ap, subst, ◌∙◌, inl, inr, ◌⊎◌, arith, ℕ, zero, suc, Bool, true, false, not, ◌&&◌, ◌||◌, cond, T, ◌≤◌, ◌<◌, List, [], ◌∷◌, ◌++◌, length}
-use Rattle.std.specs.Prelude.{◌==◌, ⊤, map, Option, None, Some, Result, Ok, Err}
-use Rattle.std.specs.List.{filter, list_all, list_any}
-use Rattle.std.specs.Ordering.{nat_cmp}
+use Rattle.std.proofs.Common.{◌≡◌, ◌≢◌, refl, sym, ap, subst, ◌∙◌, inl, inr, ◌⊎◌, arith, ℕ, Bool, true, false, not, ◌&&◌, ◌||◌, cond, T, ◌<◌, List, [], ◌∷◌, ◌++◌, length}
+use Rattle.std.specs.Prelude.{◌==◌, map, Option, None, Some, Result, Ok, Err}
 use Rattle.std.proofs.lemmas.List.{get_or-set_same, get_or-set_other, get_or_past}
 use Rattle.std.proofs.lemmas.Bool.{cases_Bool, ltb-true, ltb-false}
 use Rattle.std.specs.Prelude.{nat_lt}
@@ -22,8 +20,8 @@ use Rattle.ec_durable.specs.Durable.{carried_out, operations, op_fault, unreserv
 use Rattle.ec_durable.specs.declared.state.Durable.{Durable}
 use Rattle.ec_durable.specs.declared.record.RecordFault.{RecordFault}
 use Rattle.ec_coherence.specs.Log.{makes}
-use Rattle.ec_coherence.proofs.Tables.{is-true, is-false, holds, equal, same, differs, differ, none_some, same_some}
-use Rattle.ec_coherence.proofs.Lists.{or_first, or_next, or_else, and_first, and_next, and_both, no_both, each-at, each-member, same_tests, each-turn, each-back, member-more}
+use Rattle.ec_coherence.proofs.Tables.{is-true, is-false, holds, equal, same, none_some}
+use Rattle.ec_coherence.proofs.Lists.{or_first, or_next, or_else, and_first, and_next, and_both, no_both, each-at, each-member}
 
 -- One update.
 
@@ -46,6 +44,7 @@ images-changed_at u (o ∷ os) v x d =
   where
     w : Table Image
     w = with_image o (effect u o (images v o)) v
+
     go : (b : Bool) → (x == o) ≡ b → cond (member x os) (effect u x (images w x)) (images w x) ≡ cond (b || member x os) (effect u x (images v x)) (images v x)
     go true e = ap (λ c. cond c (effect u x (images w x)) (images w x)) (ap (λ y. member y os) (equal x o e) ∙ is-false (member o os) (and_first (not (member o os)) (distinct os) d))
         ∙ images-with o (effect u o (images v o)) v x ∙ ap (λ c. cond c (effect u o (images v o)) (images v x)) e ∙ ap (λ y. effect u y (images v y)) (sym (equal x o e))
@@ -127,6 +126,7 @@ less_distinct o (y ∷ ys) d = go (y == o) (less_distinct o ys (and_next (not (m
         turn true true f n = n
         turn true false f n = f tt
         turn false b f n = tt
+
     go : (b : Bool) → T (distinct (slots.without o ys)) → T (distinct (cond b ys (y ∷ slots.without o ys)))
     go true h = and_next (not (member y ys)) (distinct ys) d
     go false h = and_both (not (member y (slots.without o ys))) (distinct (slots.without o ys)) (away true (was-in y o ys) (and_first (not (member y ys)) (distinct ys) d)) h
@@ -216,5 +216,8 @@ all-carry c (op ∷ ops) d sl here opened f s dis h =
       volume = λ x. r.volume x ∙ ap (λ i. image_after x i (updates_in ops)) (vol x);
       own = r.own ∙ ap (λ xs. Some (record sl { unspent = xs })) (less-listed (made op.1) (makes (updates_in ops)) sl.unspent);
       others = λ j n. r.others j n ∙ slot-other (record d { volume = changed op.1 d.volume }) c j (spent (made op.1) (slot d c)) n;
-      next_id = r.next_id; next_session = r.next_session; epoch = r.epoch; most = r.most
+      next_id = r.next_id;
+      next_session = r.next_session;
+      epoch = r.epoch;
+      most = r.most;
     }

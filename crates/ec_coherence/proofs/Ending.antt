@@ -1,26 +1,24 @@
 -- A session ends: its undurable operations are lost, and the log facts and the images of the others go on agreeing.
-use Rattle.std.proofs.Common.{◌≡◌, ◌≢◌, refl, sym, ap, subst, ◌∙◌, inl, inr, ◌⊎◌, arith, ℕ, suc, zero, Bool, true, false, not, ◌&&◌, ◌||◌, cond, T, ◌≤◌, ◌<◌, ◌+◌, List, [], ◌∷◌, ◌++◌}
-use Rattle.std.specs.Prelude.{◌==◌, map, Option, None, Some, is_some}
+use Rattle.std.proofs.Common.{◌≡◌, ◌≢◌, refl, sym, ap, subst, ◌∙◌, inl, inr, ◌⊎◌, arith, ℕ, suc, zero, Bool, true, false, not, ◌&&◌, cond, T, ◌≤◌, ◌<◌, List, [], ◌∷◌, ◌++◌}
+use Rattle.std.specs.Prelude.{◌==◌, Option, None, Some, is_some}
 use Rattle.std.specs.List.{filter}
 use Rattle.std.specs.Ordering.{nat_cmp}
 use Rattle.std.specs.FinMap.{is_sorted}
 use Rattle.std.specs.FinMap.Entries.{below_all}
 use Rattle.std.proofs.lemmas.Bool.{cases_eq}
-use Rattle.ec_base.specs.Tables.{Table, at}
+use Rattle.ec_base.specs.Tables.{at}
 use Rattle.ec_base.specs.declared.ids.Hold.{Hold}
 use Rattle.ec_base.specs.declared.ids.Hold.TheVariants.{Free, Read, Write}
 use Rattle.ec_volume.specs.Image.{is_gone}
-use Rattle.ec_volume.specs.Update.{member, operands, has_operand, is_sound, distinct, effect}
-use Rattle.ec_volume.specs.Volume.{Images, images, image_next, image_after, after, Fits, WellFormed}
+use Rattle.ec_volume.specs.Update.{operands, has_operand, is_sound, effect}
+use Rattle.ec_volume.specs.Volume.{images, image_next, image_after, after}
 use Rattle.ec_volume.specs.declared.image.Image.{Image}
-use Rattle.ec_volume.specs.declared.update.Update.{Update}
 use Rattle.ec_history.specs.History.{Each, Op, updates, of_start}
 use Rattle.ec_laws.specs.Needs.{holds_needed}
 use Rattle.ec_laws.proofs.Parts.{needs-part}
 use Rattle.ec_laws.proofs.Pulled.{pulled-fit_alone}
-use Rattle.ec_sessions.specs.Windows.{has}
 use Rattle.ec_sessions.specs.declared.slot.Slot.{Slot}
-use Rattle.ec_base.specs.Holds.{rank, clash, is_write}
+use Rattle.ec_base.specs.Holds.{rank, clash}
 use Rattle.ec_wire.specs.Messages.{is_held_mode}
 use Rattle.ec_wire.specs.declared.msg.Msg.{Msg}
 use Rattle.ec_wire.specs.declared.msg.Msg.TheVariants.{Flush, Room}
@@ -30,7 +28,7 @@ use Rattle.ec_cache.specs.Cache.{last}
 use Rattle.ec_cache.specs.declared.state.Held.{Held}
 use Rattle.ec_protocol.specs.declared.clerk.Clerk.{Clerk}
 use Rattle.ec_protocol.specs.declared.server.Server.{Server}
-use Rattle.ec_coherence.specs.System.{System, Ghost, Eff, clerk_in, is_open, is_of, undurable, seen, seen_ops, at_session}
+use Rattle.ec_coherence.specs.System.{System, Ghost, Eff, clerk_in, is_open, is_of, seen, seen_ops}
 use Rattle.ec_coherence.specs.Sessions.{SessionsAgree}
 use Rattle.ec_coherence.specs.Tokens.{TokensAgree, view, eff, eff_hold, side, side_in, Below, IsWrite}
 use Rattle.ec_coherence.specs.Log as log
@@ -38,10 +36,10 @@ use Rattle.ec_coherence.specs.Log.{Knows, LogAgrees, LogsAgree, HasWrites, IdsAg
 use Rattle.ec_coherence.specs.Images.{ImagesAgree}
 use Rattle.ec_coherence.specs.Steps.{end_session}
 use Rattle.ec_coherence.proofs.ClerkIn.{owned}
-use Rattle.ec_coherence.proofs.Lists.{or_else, or_first, or_next, and_first, and_next, and_both, no_both, either_way, same_tests, filter-two, filter-alike, filter-no, filter-yes, each-turn, each-both, each-more, each-part, each-fewer, each-at, each-always, Needed, needed-pairs, pairs-needed, pairs-turn, pairs-both, pairs-each}
+use Rattle.ec_coherence.proofs.Lists.{and_first, and_next, and_both, no_both, either_way, same_tests, filter-two, filter-alike, filter-no, filter-yes, each-turn, each-more, each-part, each-fewer, each-at, each-always, Needed, needed-pairs, pairs-needed, pairs-turn, pairs-both, pairs-each}
 use Rattle.ec_coherence.proofs.OneSession.{write-eff, one-session, needs-shares}
 use Rattle.ec_coherence.proofs.OpenSlots.{open-at, at-open, one-owner}
-use Rattle.ec_coherence.proofs.Tables.{is-true, is-false, holds, equal, same, same_some, none_some, differ}
+use Rattle.ec_coherence.proofs.Tables.{is-false, same, same_some, none_some, differ}
 
 -- Parts of rising operations rise.
 
@@ -78,9 +76,9 @@ touched-or lost x P [] h = inl tt
 touched-or lost x P (o ∷ os) h = elim (either_way (lost o)) [
   | inr n ↦ elim (touched-or lost x P os h.1) [ inl f ↦ inl ((λ t. absurd (no_both (lost o) t n)), f) | inr q ↦ inr q ]
   | inl l ↦ elim (either_way (has_operand x o.update)) [
-      | inl m ↦ inr (o, h.0, l, m)
-      | inr n ↦ elim (touched-or lost x P os h.1) [ inl f ↦ inl ((λ t. n), f) | inr q ↦ inr q ]
-    ]
+    | inl m ↦ inr (o, h.0, l, m)
+    | inr n ↦ elim (touched-or lost x P os h.1) [ inl f ↦ inl ((λ t. n), f) | inr q ↦ inr q ]
+  ]
 ]
 
 -- Where one session has a Write token, another one holds nothing.
@@ -93,6 +91,7 @@ module _ (g : System) (ta : TokensAgree (view g)) where
       reach None f e b = absurd (none_some e)
       reach (Some z) None e b = absurd b
       reach (Some z) (Some f) e b = subst (λ w. rank w.hold ≤ rank f.hold) (same_some e) b.0
+
       clashes : (a e f : Hold) → T (is_held_mode a) → rank a ≤ rank f → 2 ≤ rank e → T (not (clash e f)) → ⊥
       clashes Free e f t l w n = absurd t
       clashes a Free f t l w n = absurd (omega arith)
@@ -106,7 +105,6 @@ module _ (g : System) (sa : SessionsAgree g) (ta : TokensAgree (view g)) (lo : L
     -- the durable state behind it, and what is sent
     (d : Durable) (v : Option Server) (ms : List (ℕ × Msg)) (volume : d.volume ≡ (g.durable).volume) (next_id : d.next_id ≡ (g.durable).next_id) (others : (j : ℕ) → j ≢ c → slot d j ≡ slot g.durable j)
     (ended : (sm : Slot) → slot d c ≡ Some sm → T sm.is_open → ⊥) where
-
   abbrev pub ghost : Ghost
   ghost = end_session g s g.ghost
 
@@ -158,9 +156,9 @@ module _ (g : System) (sa : SessionsAgree g) (ta : TokensAgree (view g)) (lo : L
   writes' : Each (λ o. T (not (dur o)) → HasWrites h o) (filter keep ks)
   writes' = each-part (λ o. T (not (dur o)) → HasWrites h o) keep ks (each-turn (λ o. T (not (dur o)) → HasWrites g o) (λ o. T (keep o) → T (not (dur o)) → HasWrites h o) ks
       (λ o f t n.
-          let w = f n in
-          let other : w.session ≢ s = λ e. absurd (no_both (lost o) (and_both (own o) (not (dur o)) (subst (λ z. T (is_of (g.ghost.owner z) o)) e w.own) n) t) in
-          record { session = w.session; clerk = w.clerk; in_place = w.in_place; is_open = still-open w.session other w.is_open; own = w.own; writes = w.writes }) lo.writes)
+      let w = f n in
+      let other : w.session ≢ s = λ e. absurd (no_both (lost o) (and_both (own o) (not (dur o)) (subst (λ z. T (is_of (g.ghost.owner z) o)) e w.own) n) t) in
+      record { session = w.session; clerk = w.clerk; in_place = w.in_place; is_open = still-open w.session other w.is_open; own = w.own; writes = w.writes }) lo.writes)
 
   -- of the other open sessions nothing is lost
   stays : (t j : ℕ) (sm : Slot) → slot g.durable j ≡ Some sm → sm.session ≡ t → T sm.is_open → t ≢ s → (o : Op) → T (is_of (g.ghost.owner t) o) → T (keep o)
@@ -178,7 +176,7 @@ module _ (g : System) (sa : SessionsAgree g) (ta : TokensAgree (view g)) (lo : L
       let f : LogAgrees g t sm m = lo.logs t j sm z.0 q r m i in
       record {
         knows = subst (λ os. Knows m.log sm.window os dur) (sym (part-same (is_of (g.ghost.owner t)) (stays t j sm z.0 q r z.1))) f.knows;
-        ids = subst (IdsAgree m sm (g.ghost.grants t) (g.ghost.first t)) (sym (part-same (λ o. is_of (g.ghost.owner t) o && not (dur o)) (λ o y. stays t j sm z.0 q r z.1 o (and_first (is_of (g.ghost.owner t) o) _ y)))) f.ids
+        ids = subst (IdsAgree m sm (g.ghost.grants t) (g.ghost.first t)) (sym (part-same (λ o. is_of (g.ghost.owner t) o && not (dur o)) (λ o y. stays t j sm z.0 q r z.1 o (and_first (is_of (g.ghost.owner t) o) _ y)))) f.ids;
       }
 
   starts' : (e a : ℕ) → IsNumbered ghost e a (next_of (g.clerks e a))
@@ -187,7 +185,7 @@ module _ (g : System) (sa : SessionsAgree g) (ta : TokensAgree (view g)) (lo : L
     sorted = subst (λ os. T (is_sorted nat_cmp (numbered os))) (filter-two keep (of_start e a) ks ∙ filter-alike (λ o. of_start e a o && keep o) (λ o. keep o && of_start e a o) ks (each-always (λ o. (of_start e a o && keep o) ≡ (keep o && of_start e a o)) ks (λ o. turn (of_start e a o) (keep o))) ∙ sym (filter-two (of_start e a) keep ks))
         (part-rises keep (filter (of_start e a) ks) f.sorted);
     numbers = each-fewer (λ o. T (of_start e a o) → (suc zero ≤ o.number) × (o.number < next_of (g.clerks e a))) keep ks f.numbers;
-    none_later = f.none_later
+    none_later = f.none_later;
   }
     where
       turn : (a b : Bool) → (a && b) ≡ (b && a)
@@ -203,7 +201,9 @@ module _ (g : System) (sa : SessionsAgree g) (ta : TokensAgree (view g)) (lo : L
 
   pub end-logs : Each (λ m. log.Fits h m.1) ms → LogsAgree h
   end-logs new = record {
-    writes = writes'; logs = logs'; starts = starts';
+    writes = writes';
+    logs = logs';
+    starts = starts';
     closed = needs-part (λ o. o.update) dur keep ks lo.closed;
     unopened = lo.unopened;
     untaken = λ t j sm p q r. lo.untaken t j sm (was t j sm p q r).0 q r;
@@ -211,7 +211,7 @@ module _ (g : System) (sa : SessionsAgree g) (ta : TokensAgree (view g)) (lo : L
     unspent = λ t x j sm p q r m. let f = lo.unspent t x j sm (was t j sm p q r).0 q r m in (subst (λ y. x < y) (sym next_id) f.0, subst (λ y. T (is_gone (images y x))) (sym volume) f.1);
     once = λ t j sm p q r. lo.once t j sm (was t j sm p q r).0 q r;
     apart = λ t u x n j sm p q r i sn p' q' r'. lo.apart t u x n j sm (was t j sm p q r).0 q r i sn (was u i sn p' q' r').0 q' r';
-    whole = λ t x j sm p q r. lo.whole t x j sm (was t j sm p q r).0 q r
+    whole = λ t x j sm p q r. lo.whole t x j sm (was t j sm p q r).0 q r;
   }
 
   -- Images.
@@ -278,7 +278,8 @@ module _ (g : System) (sa : SessionsAgree g) (ta : TokensAgree (view g)) (lo : L
     server = λ x. ap (λ z. images z x) volume ∙ im.server x ∙ ap (λ os. after g.origin (updates os) x) (sym (part-same dur (λ o t. elim (either_way (lost o)) [ inr z ↦ z | inl z ↦ absurd (no_both (dur o) t (and_next (own o) _ z)) ])));
     fits = pulled-fit_alone (λ o. o.update) g.origin keep ks left-needed im.fits;
     sound = each-fewer (λ o. T (is_sound o.update)) keep ks im.sound;
-    origin = im.origin; origin_held = im.origin_held;
+    origin = im.origin;
+    origin_held = im.origin_held;
     licences = λ t x m i o p. im.licences t x m i o p ∙ elim (cases_eq t s) [ inl e ↦ subst (λ w. seen g w x ≡ seen h w x) (sym e) (seen-own x) | inr n ↦ seen-other t x m o n i p ];
     unfrozen = λ t o. let f = was-open t o in frozen-other t f.1 ∙ im.unfrozen t f.0;
     unopened = λ t e. frozen-other t (λ q. absurd (none_some (sym e ∙ ap g.ghost.owner q ∙ ap g.ghost.owner (sym of) ∙ (sa.slots c sl here).2))) ∙ im.unopened t e;
@@ -287,7 +288,7 @@ module _ (g : System) (sa : SessionsAgree g) (ta : TokensAgree (view g)) (lo : L
       | inl f ↦ im.known x (subst (λ z. T (not (is_gone z))) (untouched-after keep x (g.origin x) ks (each-turn (λ o. T (lost o) → T (not (has_operand x o.update))) (λ o. T (not (keep o)) → T (not (has_operand x o.update))) ks (λ o k z. k (twice (lost o) z)) f)) t)
       | inr q ↦ each-at (λ y. y < (g.durable).next_id) x (operands (q.0).update) q.1 q.3
     ]);
-    operands = subst (λ y. Each (λ o. Each (λ x. x < y) (operands o.update)) (filter keep ks)) (sym next_id) (each-fewer (λ o. Each (λ x. x < (g.durable).next_id) (operands o.update)) keep ks im.operands)
+    operands = subst (λ y. Each (λ o. Each (λ x. x < y) (operands o.update)) (filter keep ks)) (sym next_id) (each-fewer (λ o. Each (λ x. x < (g.durable).next_id) (operands o.update)) keep ks im.operands);
   }
     where
       twice : (b : Bool) → T (not (not b)) → T b

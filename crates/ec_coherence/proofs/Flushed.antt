@@ -1,6 +1,6 @@
 -- A Flush of an open session that isn't marked: its record steps, the tokens are there, and so the server commits it.
-use Rattle.std.proofs.Common.{◌≡◌, ◌≢◌, refl, sym, ap, subst, ◌∙◌, inl, inr, ◌⊎◌, arith, ℕ, Bool, true, false, not, ◌&&◌, ◌||◌, cond, T, ◌≤◌, ◌<◌, ◌+◌, List, [], ◌∷◌, ◌++◌}
-use Rattle.std.specs.Prelude.{◌==◌, Option, None, Some, is_some, Result, Ok, Err}
+use Rattle.std.proofs.Common.{◌≡◌, refl, sym, ap, subst, ◌∙◌, arith, ℕ, Bool, true, false, not, ◌&&◌, T, ◌≤◌, List, [], ◌∷◌}
+use Rattle.std.specs.Prelude.{Option, None, Some, is_some, Result, Ok, Err}
 use Rattle.std.specs.List.{filter, list_all}
 use Rattle.ec_base.specs.Tables.{at}
 use Rattle.ec_base.specs.declared.ids.Hold.{Hold}
@@ -21,18 +21,17 @@ use Rattle.ec_durable.specs.declared.record.Record.TheVariants as record_of
 use Rattle.ec_log.specs.Log.{batch}
 use Rattle.ec_protocol.specs.Server.{Serving, flush, may_write, tell, epoch, finish}
 use Rattle.ec_protocol.specs.declared.clerk.Clerk.{Clerk}
-use Rattle.ec_coherence.specs.System.{System, Eff, clerk_in, is_of, recorded}
+use Rattle.ec_coherence.specs.System.{System, clerk_in, is_of, recorded}
 use Rattle.ec_coherence.specs.Sessions.{SessionsAgree}
 use Rattle.ec_coherence.specs.Tokens.{TokensAgree, view, eff, eff_hold, IsWrite}
 use Rattle.ec_coherence.specs.Log as log
 use Rattle.ec_coherence.specs.Log.{LogsAgree, HasWrites}
 use Rattle.ec_coherence.specs.Images.{ImagesAgree}
-use Rattle.ec_coherence.proofs.Batched.{all-undurable}
 use Rattle.ec_coherence.proofs.Committing.{commits, committed, batch-updates, session-open}
-use Rattle.ec_coherence.proofs.Lists.{and_first, and_next, and_both, each-turn, each-part, each-at, each-member}
+use Rattle.ec_coherence.proofs.Lists.{and_first, and_next, and_both, each-turn, each-part}
 use Rattle.ec_coherence.proofs.OneSession.{write-eff}
 use Rattle.ec_coherence.proofs.OpenSlots.{one-owner}
-use Rattle.ec_coherence.proofs.Tables.{is-true, is-false, same_some}
+use Rattle.ec_coherence.proofs.Tables.{is-true, is-false}
 
 some-at : {A : Type 0} (o : Option A) → T (is_some o) → (x : A) × (o ≡ Some x)
 some-at None t = absurd t
@@ -55,7 +54,6 @@ module _ (g : System) (sa : SessionsAgree g) (ta : TokensAgree (view g)) (lo : L
     (here : slot g.durable c ≡ Some sl) (of : sl.session ≡ s) (opened : T sl.is_open) (there : clerk_in g s ≡ Some k)
     (b : ℕ) (ns : List ℕ) (under : at b k.log.batches ≡ Some ns) (unmarked : T (not (has sl.window b)))
     (t : Serving) (is-durable : t.server.durable ≡ g.durable) (claimed : (x : ℕ) → eff (view g) s x ≡ recorded (token t.server.tokens s x) g.durable.epoch) where
-
   abbrev own : Op → Bool
   own = is_of (g.ghost.owner s)
 
@@ -97,6 +95,7 @@ module _ (g : System) (sa : SessionsAgree g) (ta : TokensAgree (view g)) (lo : L
         where
           head : ◌≡◌ {A = List Update} (x.1 ∷ Rattle.ec_coherence.proofs.Carried.updates_in xs) (o.update ∷ updates os) → x.1 ≡ o.update
           head e = cc
+
           tail : ◌≡◌ {A = List Update} (x.1 ∷ Rattle.ec_coherence.proofs.Carried.updates_in xs) (o.update ∷ updates os) → Rattle.ec_coherence.proofs.Carried.updates_in xs ≡ updates os
           tail e = cc
 
@@ -110,18 +109,18 @@ module _ (g : System) (sa : SessionsAgree g) (ta : TokensAgree (view g)) (lo : L
     where
       go : (x y : Bool) (r : Result Durable RecordFault) → x ≡ false → y ≡ true → r ≡ Ok (committed g sa ta lo im c s sl k here of opened there b ns under unmarked)
           → elim x as (λ z. Serving) [
-              | true ↦ tell c (Kept s (epoch t) b) t
-              | false ↦ elim y as (λ z. Serving) [
-                  | true ↦ elim r as (λ z. Serving) [
-                      | Ok d ↦ tell c (Kept s (epoch (record t { server = record (t.server) { durable = d }; rec = Some (record_of.Batch c s b (batch b k.log)) })) b) (record t { server = record (t.server) { durable = d }; rec = Some (record_of.Batch c s b (batch b k.log)) })
-                      | Err fault ↦ finish c sl t
-                    ]
-                  | false ↦ finish c sl t
-                ]
-            ] ≡ tell c (Kept s (epoch then) b) then
+            | true ↦ tell c (Kept s (epoch t) b) t
+            | false ↦ elim y as (λ z. Serving) [
+              | true ↦ elim r as (λ z. Serving) [
+                | Ok d ↦ tell c (Kept s (epoch (record t { server = record (t.server) { durable = d }; rec = Some (record_of.Batch c s b (batch b k.log)) })) b) (record t { server = record (t.server) { durable = d }; rec = Some (record_of.Batch c s b (batch b k.log)) })
+                | Err fault ↦ finish c sl t
+              ]
+              | false ↦ finish c sl t
+            ]
+          ] ≡ tell c (Kept s (epoch then) b) then
       go false true r p q e = ap (λ z. elim z as (λ z. Serving) [
-          | Ok d ↦ tell c (Kept s (epoch (record t { server = record (t.server) { durable = d }; rec = Some (record_of.Batch c s b (batch b k.log)) })) b) (record t { server = record (t.server) { durable = d }; rec = Some (record_of.Batch c s b (batch b k.log)) })
-          | Err fault ↦ finish c sl t
-        ]) e
+        | Ok d ↦ tell c (Kept s (epoch (record t { server = record (t.server) { durable = d }; rec = Some (record_of.Batch c s b (batch b k.log)) })) b) (record t { server = record (t.server) { durable = d }; rec = Some (record_of.Batch c s b (batch b k.log)) })
+        | Err fault ↦ finish c sl t
+      ]) e
       go true y r p q e = absurd (cc)
       go false false r p q e = absurd (cc)

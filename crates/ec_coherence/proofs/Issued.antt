@@ -1,5 +1,5 @@
 -- A call of an open session is answered by an update: the log facts and the images go on agreeing.
-use Rattle.std.proofs.Common.{◌≡◌, ◌≢◌, refl, sym, ap, subst, ◌∙◌, inl, inr, ◌⊎◌, arith, ℕ, suc, zero, Bool, true, false, not, ◌&&◌, ◌||◌, cond, T, ◌≤◌, ◌<◌, ◌+◌, ◌^◌, List, [], ◌∷◌, ◌++◌}
+use Rattle.std.proofs.Common.{◌≡◌, ◌≢◌, refl, sym, ap, subst, ◌∙◌, inl, inr, ◌⊎◌, arith, ℕ, suc, zero, Bool, true, false, not, ◌&&◌, ◌||◌, cond, T, ◌≤◌, ◌<◌, ◌+◌, List, [], ◌∷◌, ◌++◌}
 use Rattle.std.specs.Prelude.{◌==◌, Option, None, Some, is_some}
 use Rattle.std.specs.List.{filter}
 use Rattle.std.specs.Ordering.{nat_cmp}
@@ -11,20 +11,15 @@ use Rattle.ec_base.specs.declared.ids.Hold.{Hold}
 use Rattle.ec_base.specs.declared.ids.Hold.TheVariants.{Free, Read, Write}
 use Rattle.ec_volume.specs.Image.{is_gone}
 use Rattle.ec_volume.specs.Update.{member, operands, has_operand, fits, is_sound, distinct, listed}
-use Rattle.ec_volume.specs.Volume.{Images, image_next, image_after, after, Fits, WellFormed}
+use Rattle.ec_volume.specs.Volume.{Images, image_next, image_after, after, Fits}
 use Rattle.ec_volume.specs.declared.image.Image.{Image}
 use Rattle.ec_volume.specs.declared.update.Update.{Update}
 use Rattle.ec_plain.specs.declared.call.Call.{Call}
-use Rattle.ec_order.specs.Order.{Issued, Holds}
-use Rattle.ec_history.specs.History.{Each, Op, History, updates, of_start}
-use Rattle.ec_history.specs.declared.shown.Shown.{Shown}
-use Rattle.ec_laws.specs.Needs.{holds_needed}
+use Rattle.ec_order.specs.Order.{Holds}
+use Rattle.ec_history.specs.History.{Each, Op, updates, of_start}
 use Rattle.ec_laws.proofs.Objects.{fits-next, after-append}
-use Rattle.ec_picks.specs.Logs.{IsLog, Agrees, TellsDurable}
 use Rattle.ec_picks.proofs.Logging.{issue-log, issue-batch, sorted-more}
 use Rattle.ec_picks.proofs.Resting.{issue-rest, issue-tells}
-use Rattle.ec_sessions.specs.Windows.{has}
-use Rattle.ec_sessions.specs.declared.window.Window.{Window}
 use Rattle.ec_sessions.specs.declared.slot.Slot.{Slot}
 use Rattle.ec_base.specs.Holds.{rank, clash, is_write}
 use Rattle.ec_wire.specs.Messages.{is_held_mode}
@@ -35,7 +30,6 @@ use Rattle.ec_cache.specs.Cache.{last}
 use Rattle.ec_cache.specs.declared.state.CacheState.{CacheState}
 use Rattle.ec_cache.specs.declared.state.Held.{Held}
 use Rattle.ec_log.specs.Log.{issue, batch}
-use Rattle.ec_log.specs.declared.state.LogState.{LogState}
 use Rattle.ec_protocol.specs.declared.clerk.Clerk.{Clerk}
 use Rattle.ec_coherence.specs.System.{System, Ghost, Eff, clerk_in, with_start, is_open, is_of, undurable, seen, seen_ops}
 use Rattle.ec_coherence.specs.Sessions.{SessionsAgree}
@@ -43,11 +37,9 @@ use Rattle.ec_coherence.specs.Tokens.{TokensAgree, view, eff, eff_hold, side, si
 use Rattle.ec_coherence.specs.Log as log
 use Rattle.ec_coherence.specs.Log.{Knows, LogAgrees, LogsAgree, HasWrites, IdsAgree, IsNumbered, OfOpen, InSession, mine, numbered, makes, next_of}
 use Rattle.ec_coherence.specs.Images.{ImagesAgree}
-use Rattle.ec_coherence.proofs.Batched.{each-held}
-use Rattle.ec_coherence.proofs.ClerkIn.{owned, start-same, was-in, now-in, other-in}
-use Rattle.ec_coherence.proofs.Committed.{in-both}
+use Rattle.ec_coherence.proofs.ClerkIn.{owned, was-in, now-in, other-in}
 use Rattle.ec_coherence.proofs.Ids.{in-front, in-back, in-either}
-use Rattle.ec_coherence.proofs.Lists.{or_else, or_first, or_next, and_first, and_next, and_both, no_both, either_way, filter-more, map-more, each-turn, each-more, each-front, each-back, each-at, each-member, each-always, Pairs, Needed, needed-pairs, pairs-needed, filter-yes, filter-no}
+use Rattle.ec_coherence.proofs.Lists.{or_else, or_first, or_next, and_first, and_next, and_both, no_both, either_way, filter-more, map-more, each-turn, each-more, each-at, each-member, each-always, Pairs, Needed, needed-pairs, pairs-needed, filter-yes, filter-no}
 use Rattle.ec_coherence.proofs.OneSession.{write-eff}
 use Rattle.ec_coherence.proofs.OpenSlots.{at-open}
 use Rattle.ec_coherence.proofs.Tables.{is-true, is-false, holds, equal, same, same_some, none_some}
@@ -91,8 +83,10 @@ turned-distinct x (y ∷ ys) d =
     none : (b : Bool) → (T b → ⊥) → T (not b)
     none true f = f tt
     none false f = tt
+
     one : (a b : ℕ) → T ((a == b) || false) → T (a == b)
     one a b t = elim (or_else (a == b) false t) [ inl p ↦ p | inr p ↦ absurd p ]
+
     turn : (a b : ℕ) → T (b == a) → T (a == b)
     turn a b t = holds (a == b) (swap a b (is-true (b == a) t))
       where
@@ -136,7 +130,6 @@ module _ (g : System) (sa : SessionsAgree g) (ta : TokensAgree (view g)) (lo : L
     (changed : (x : ℕ) (o : Held) → at x ch.held ≡ Some o → (p : Held) × (at x k.cache.held ≡ Some p) × (o.image ≡ image_next x p.image u))
     (writes-stay : (x : ℕ) → IsWrite (at x k.cache.held) → IsWrite (at x ch.held))
     (ids-are : k.ids ≡ listed (made u) ++ ids) where
-
   abbrev pub op : Op
   op = record { clerk = c; boot = age.boot; number = k.log.next; place = place; update = u }
 
@@ -199,8 +192,14 @@ module _ (g : System) (sa : SessionsAgree g) (ta : TokensAgree (view g)) (lo : L
 
   writes-old : (o : Op) → HasWrites g o → HasWrites h o
   writes-old o w = elim (cases_eq w.session s) [
-    | inl e ↦ record { session = w.session; clerk = new; in_place = ap (clerk_in h) e ∙ in-h; is_open = w.is_open; own = w.own;
-        writes = each-turn (λ x. IsWrite (at x k.cache.held)) (λ x. IsWrite (at x ch.held)) (operands o.update) writes-stay (subst (λ m. Each (λ x. IsWrite (at x (m.cache).held)) (operands o.update)) (same_some (sym w.in_place ∙ ap (clerk_in g) e ∙ in-g)) w.writes) }
+    | inl e ↦ record {
+      session = w.session;
+      clerk = new;
+      in_place = ap (clerk_in h) e ∙ in-h;
+      is_open = w.is_open;
+      own = w.own;
+      writes = each-turn (λ x. IsWrite (at x k.cache.held)) (λ x. IsWrite (at x ch.held)) (operands o.update) writes-stay (subst (λ m. Each (λ x. IsWrite (at x (m.cache).held)) (operands o.update)) (same_some (sym w.in_place ∙ ap (clerk_in g) e ∙ in-g)) w.writes);
+    }
     | inr d ↦ record { session = w.session; clerk = w.clerk; in_place = in-other w.session d ∙ w.in_place; is_open = w.is_open; own = w.own; writes = w.writes }
   ]
 
@@ -235,7 +234,8 @@ module _ (g : System) (sa : SessionsAgree g) (ta : TokensAgree (view g)) (lo : L
       let kn = old.knows in
       let fresh : kn.durable k.log.next ≡ false = kn.later k.log.next (omega arith) in
       subst (λ os. Knows (issue u k.log) sl.window os dur) (sym (part-yes own own-op)) (record {
-        known = kn.known; durable = kn.durable;
+        known = kn.known;
+        durable = kn.durable;
         agrees = each-more (λ o. dur o ≡ kn.durable o.number) (filter own ks) (op ∷ []) kn.agrees (new-op ∙ sym fresh, tt);
         sure = kn.sure;
         rest = subst (λ z. Rattle.ec_picks.specs.Picks.IsRest z kn.known (issue u k.log)) (sym (map-more (λ o. (o.number, o.update)) (filter own ks) (op ∷ [])))
@@ -244,7 +244,8 @@ module _ (g : System) (sa : SessionsAgree g) (ta : TokensAgree (view g)) (lo : L
         log = issue-log k.log kn.log u;
         window = record { answered = kn.window.answered; sent = kn.window.sent };
         later = λ n l. kn.later n (omega arith);
-        marks = kn.marks; limit = kn.limit
+        marks = kn.marks;
+        limit = kn.limit;
       })
     where
       no : (a b : Bool) → (T a → T b) → b ≡ false → a ≡ false
@@ -259,7 +260,8 @@ module _ (g : System) (sa : SessionsAgree g) (ta : TokensAgree (view g)) (lo : L
 
   ids' : IdsAgree new sl (g.ghost.grants s) (g.ghost.first s) (undurable ghost s)
   ids' = record {
-    granted = old.ids.granted; last = old.ids.last;
+    granted = old.ids.granted;
+    last = old.ids.last;
     distinct_ids = subst (λ z. T (distinct (ids ++ z))) (sym still-is) (ids-distinct (made u) ids (makes (updates still)) (subst (λ z. T (distinct (z ++ makes (updates still)))) ids-are old.ids.distinct_ids));
     free = subst (λ z. Each (λ x. T (member x sl.unspent)) (ids ++ z)) (sym still-is) (each-member (λ x. T (member x sl.unspent)) (ids ++ (makes (updates still) ++ listed (made u))) (λ x m.
         each-at (λ y. T (member y sl.unspent)) x ((listed (made u) ++ ids) ++ makes (updates still)) (subst (λ z. Each (λ x. T (member x sl.unspent)) (z ++ makes (updates still))) ids-are old.ids.free) (ids-in (made u) ids (makes (updates still)) x m)));
@@ -268,7 +270,7 @@ module _ (g : System) (sa : SessionsAgree g) (ta : TokensAgree (view g)) (lo : L
     all = subst (λ z. Each (λ x. T (member x (ids ++ z)) ⊎ ((k.got + 1 ≡ g.ghost.grants s) × (g.ghost.first s ≤ x) × (x < g.ghost.first s + 16))) sl.unspent) (sym still-is)
         (each-turn (λ x. T (member x (k.ids ++ makes (updates still))) ⊎ ((k.got + 1 ≡ g.ghost.grants s) × (g.ghost.first s ≤ x) × (x < g.ghost.first s + 16)))
         (λ x. T (member x (ids ++ (makes (updates still) ++ listed (made u)))) ⊎ ((k.got + 1 ≡ g.ghost.grants s) × (g.ghost.first s ≤ x) × (x < g.ghost.first s + 16))) sl.unspent
-        (λ x m. elim m [ inl a ↦ inl (in-ids (made u) ids (makes (updates still)) x (subst (λ z. T (member x (z ++ makes (updates still)))) ids-are a)) | inr z ↦ inr z ]) old.ids.all)
+        (λ x m. elim m [ inl a ↦ inl (in-ids (made u) ids (makes (updates still)) x (subst (λ z. T (member x (z ++ makes (updates still)))) ids-are a)) | inr z ↦ inr z ]) old.ids.all);
   }
 
   -- The other open sessions are of other clerks.
@@ -289,7 +291,7 @@ module _ (g : System) (sa : SessionsAgree g) (ta : TokensAgree (view g)) (lo : L
     | inr d ↦ let f : LogAgrees g t sm m = lo.logs t j sm p q r m (sym (in-other t d) ∙ i) in
         record {
           knows = subst (λ os. Knows m.log sm.window os dur) (sym (part-no (is_of (g.ghost.owner t)) (other-of t j sm d p q))) f.knows;
-          ids = subst (IdsAgree m sm (g.ghost.grants t) (g.ghost.first t)) (sym (part-no (λ o. is_of (g.ghost.owner t) o && not (dur o)) (ap (λ b. b && not (dur op)) (other-of t j sm d p q)))) f.ids
+          ids = subst (IdsAgree m sm (g.ghost.grants t) (g.ghost.first t)) (sym (part-no (λ o. is_of (g.ghost.owner t) o && not (dur o)) (ap (λ b. b && not (dur op)) (other-of t j sm d p q)))) f.ids;
         }
   ]
     where
@@ -309,8 +311,9 @@ module _ (g : System) (sa : SessionsAgree g) (ta : TokensAgree (view g)) (lo : L
         numbers = each-more (λ o. T (of_start c age.boot o) → (suc zero ≤ o.number) × (o.number < k.log.next + 1)) ks (op ∷ [])
             (each-turn (λ o. T (of_start c age.boot o) → (suc zero ≤ o.number) × (o.number < k.log.next)) (λ o. T (of_start c age.boot o) → (suc zero ≤ o.number) × (o.number < k.log.next + 1)) ks (λ o f t. let q = f t in (q.0, (let z = q.1 in omega arith))) numbers-of.numbers)
             (λ t. (numbers-of.from_one, omega arith), tt);
-        none_later = λ o t l. numbers-of.none_later o t (omega arith)
+        none_later = λ o t l. numbers-of.none_later o t (omega arith);
       }
+
       go : (b : Bool) → ((d == c) && (a == age.boot)) ≡ b → IsNumbered ghost d a (next_of (elim b as (λ z. Option Clerk) [ true ↦ Some new | false ↦ g.clerks d a ]))
       go true e =
           let ec : d ≡ c = equal d c (is-true (d == c) (and_first (d == c) _ (holds _ e))) in
@@ -322,7 +325,7 @@ module _ (g : System) (sa : SessionsAgree g) (ta : TokensAgree (view g)) (lo : L
             from_one = f.from_one;
             sorted = subst (λ os. T (is_sorted nat_cmp (numbered os))) (sym (part-no (of_start d a) e)) f.sorted;
             numbers = each-more (λ o. T (of_start d a o) → (suc zero ≤ o.number) × (o.number < next_of (g.clerks d a))) ks (op ∷ []) f.numbers (λ t. absurd (subst T e t), tt);
-            none_later = f.none_later
+            none_later = f.none_later;
           }
 
   fit-kept : (m : Msg) → log.Fits g m → log.Fits h m
@@ -352,11 +355,17 @@ module _ (g : System) (sa : SessionsAgree g) (ta : TokensAgree (view g)) (lo : L
 
   pub issue-logs : LogsAgree h
   issue-logs = record {
-    writes = writes'; logs = logs'; starts = starts';
+    writes = writes';
+    logs = logs';
+    starts = starts';
     closed = pairs-needed (λ o. o.update) dur (ks ++ op ∷ []) (pairs-one (Needed (λ o. o.update) dur) ks op (needed-pairs (λ o. o.update) dur ks lo.closed) (each-always (λ x. Needed (λ o. o.update) dur x op) ks (λ x t n. absurd (subst T new-op t))));
-    untaken = lo.untaken; unopened = lo.unopened;
+    untaken = lo.untaken;
+    unopened = lo.unopened;
     messages = each-turn (λ m. log.Fits g m.1) (λ m. log.Fits h m.1) g.pool (λ m f. fit-kept m.1 f) lo.messages;
-    unspent = lo.unspent; once = lo.once; apart = lo.apart; whole = whole'
+    unspent = lo.unspent;
+    once = lo.once;
+    apart = lo.apart;
+    whole = whole';
   }
 
   -- Images.
@@ -398,6 +407,7 @@ module _ (g : System) (sa : SessionsAgree g) (ta : TokensAgree (view g)) (lo : L
       reach None f e b = absurd (none_some e)
       reach (Some z) None e b = absurd b
       reach (Some z) (Some f) e b = subst (λ w. rank w.hold ≤ rank f.hold) (same_some e) b.0
+
       clashes : (a e f : Hold) → T (is_held_mode a) → rank a ≤ rank f → 2 ≤ rank e → T (not (clash e f)) → ⊥
       clashes Free e f t l w n = absurd t
       clashes a Free f t l w n = absurd (omega arith)
@@ -423,7 +433,8 @@ module _ (g : System) (sa : SessionsAgree g) (ta : TokensAgree (view g)) (lo : L
     server = λ x. im.server x ∙ ap (λ os. after g.origin (updates os) x) (sym (part-no dur new-op));
     fits = subst (Fits g.origin) (sym updates-are) (fits-next g.origin (updates ks) u im.fits fits-now);
     sound = each-more (λ o. T (is_sound o.update)) ks (op ∷ []) im.sound (sound, tt);
-    origin = im.origin; origin_held = im.origin_held;
+    origin = im.origin;
+    origin_held = im.origin_held;
     licences = λ t x m i o p. elim (cases_eq t s) [
       | inl e ↦
           let em : new ≡ m = same_some (sym in-h ∙ ap (clerk_in h) (sym e) ∙ i) in
@@ -432,11 +443,12 @@ module _ (g : System) (sa : SessionsAgree g) (ta : TokensAgree (view g)) (lo : L
           ∙ sym (ap (λ w. after g.origin (updates (seen_ops (g.ghost.frozen w) (ks ++ op ∷ []))) x) e ∙ ap (λ z. after g.origin (updates (seen_ops z (ks ++ op ∷ []))) x) (im.unfrozen s session-open))
       | inr d ↦ seen-frozen t x m o d (sym (in-other t d) ∙ i) p
     ];
-    unfrozen = im.unfrozen; unopened = im.unopened;
+    unfrozen = im.unfrozen;
+    unopened = im.unopened;
     cut_off = im.cut_off;
     known = λ x t. elim (either_way (has_operand x u)) [
       | inl m ↦ given x m
       | inr n ↦ im.known x (subst (λ z. T (not (is_gone z))) (next-is x ∙ ap (λ b. cond b (Rattle.ec_volume.specs.Update.effect u x (kept-volume x)) (kept-volume x)) (is-false (has_operand x u) n)) t)
     ];
-    operands = each-more (λ o. Each (λ x. x < g.durable.next_id) (operands o.update)) ks (op ∷ []) im.operands (each-member (λ x. x < g.durable.next_id) (operands u) given, tt)
+    operands = each-more (λ o. Each (λ x. x < g.durable.next_id) (operands o.update)) ks (op ∷ []) im.operands (each-member (λ x. x < g.durable.next_id) (operands u) given, tt);
   }

@@ -1,6 +1,6 @@
 -- What a call's verdict says of the modes that it asks for and that are held.
-use Rattle.std.proofs.Common.{◌≡◌, refl, ap, subst, ◌∙◌, arith, ℕ, zero, suc, Bool, true, false, not, ◌&&◌, ◌||◌, T, ◌<◌, List, [], ◌∷◌, length}
-use Rattle.std.specs.Prelude.{◌==◌, Option, None, Some, Contains, slice_index_or, is_none, nat_lt}
+use Rattle.std.proofs.Common.{◌≡◌, refl, ap, subst, ◌∙◌, arith, ℕ, zero, suc, Bool, true, false, not, ◌||◌, T, ◌<◌, List, [], ◌∷◌, length}
+use Rattle.std.specs.Prelude.{◌==◌, Option, None, Some, Contains, slice_index_or, nat_lt}
 use Rattle.ec_base.specs.Tables.{at, at_or, first, or_else}
 use Rattle.ec_base.specs.declared.ids.Hold.{Hold}
 use Rattle.ec_base.specs.declared.ids.Hold.TheVariants.{Free, Read, Write}

@@ -1,5 +1,5 @@
 -- Of the operations that aren't durable, those with a common operand are of one session.
-use Rattle.std.proofs.Common.{◌≡◌, ◌≢◌, refl, sym, ap, subst, ◌∙◌, inl, inr, ◌⊎◌, arith, ℕ, Bool, true, false, not, ◌&&◌, ◌||◌, cond, T, ◌≤◌, ◌<◌, List, [], ◌∷◌}
+use Rattle.std.proofs.Common.{◌≡◌, sym, ap, ◌∙◌, inl, inr, arith, ℕ, Bool, true, not, T, ◌≤◌, List, [], ◌∷◌}
 use Rattle.std.specs.Prelude.{◌==◌, Option, None, Some}
 use Rattle.std.specs.List.{list_any}
 use Rattle.std.proofs.lemmas.Bool.{cases_eq}
@@ -9,14 +9,14 @@ use Rattle.ec_base.specs.declared.ids.Hold.TheVariants.{Free, Read, Write}
 use Rattle.ec_volume.specs.Update.{member, operands}
 use Rattle.ec_volume.specs.declared.update.Update.{Update}
 use Rattle.ec_order.specs.Order.{share, needs}
-use Rattle.ec_history.specs.History.{Each, Op}
+use Rattle.ec_history.specs.History.{Op}
 use Rattle.ec_laws.proofs.Pulled.{needs-strangers}
 use Rattle.ec_base.specs.Holds.{rank, clash, is_write}
 use Rattle.ec_cache.specs.Cache.{last}
 use Rattle.ec_cache.specs.declared.state.Held.{Held}
 use Rattle.ec_protocol.specs.declared.clerk.Clerk.{Clerk}
 use Rattle.ec_coherence.specs.System.{System, Eff, clerk_in, is_open}
-use Rattle.ec_coherence.specs.Tokens.{View, Side, side, side_in, view, eff, eff_hold, Apart, Below, IsWrite, TokensAgree}
+use Rattle.ec_coherence.specs.Tokens.{side, side_in, view, eff, eff_hold, Below, IsWrite, TokensAgree}
 use Rattle.ec_coherence.specs.Log.{HasWrites}
 use Rattle.ec_coherence.proofs.Tables.{is-true, holds}
 use Rattle.ec_coherence.proofs.Lists.{or_else, or_first, or_next, each-at}

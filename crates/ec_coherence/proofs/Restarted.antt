@@ -1,14 +1,11 @@
 -- A clerk is told that the server has restarted, or sends what is outstanding again: it claims, and sends the wants that its calls need, its room and the
 -- batches under way.
-use Rattle.std.proofs.Common.{◌≡◌, refl, ap, subst, arith, ℕ, Bool, true, false, T, ◌≤◌, ◌<◌, [], ◌++◌}
+use Rattle.std.proofs.Common.{◌≡◌, refl, ap, subst, arith, ℕ, Bool, true, false, ◌≤◌, ◌<◌, [], ◌++◌}
 use Rattle.std.specs.Prelude.{Some, nat_lt}
 use Rattle.ec_base.specs.Tables.{keys}
-use Rattle.ec_history.specs.History.{Each}
-use Rattle.ec_wire.specs.Messages.{is_held_mode}
-use Rattle.ec_protocol.specs.declared.clerk.Clerk.{Clerk}
 use Rattle.ec_protocol.specs.Clerk.{Doing, with_clerk, epoch, claim, enter_epoch, needs, resend_needs, resend_room, send_outstanding, take_restarted}
 use Rattle.ec_coherence.specs.Clerks.{NeedsNamed, acting}
-use Rattle.ec_coherence.specs.Tokens.{View, side, Names, TokensAgree}
+use Rattle.ec_coherence.specs.Tokens.{View, side, TokensAgree}
 use Rattle.ec_coherence.proofs.Acting.{is-in, twice}
 use Rattle.ec_coherence.proofs.Goes.{Goes, goes-batches}
 use Rattle.ec_coherence.proofs.NewEpoch.{entered, entered-agrees}

@@ -1,6 +1,5 @@
 -- The end of a clerk's step, in its session: the token facts stay, where what its calls need is known at each state between.
 use Rattle.std.proofs.Common.{◌≡◌, refl, ℕ, T, ◌≤◌, List, [], ◌∷◌, ◌++◌}
-use Rattle.ec_base.specs.declared.ids.Hold.{Hold}
 use Rattle.ec_history.specs.History.{Each}
 use Rattle.ec_wire.specs.Messages.{is_held_mode}
 use Rattle.ec_protocol.specs.declared.clerk.Waiting.{Waiting}

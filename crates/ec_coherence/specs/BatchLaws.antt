@@ -1,6 +1,6 @@
 -- What is proved of the records that a server commits, as contracts name it: a batch under way steps and a session can end, and behind both the facts on logs,
 -- batches, ids and images hold.
-use Rattle.std.specs.Prelude.{◌≡◌, ℕ, T, not, List, [], ◌∷◌, ◌++◌, Option, Some, is_some, Ok}
+use Rattle.std.specs.Prelude.{◌≡◌, ℕ, T, not, List, [], ◌∷◌, ◌++◌, Option, Some, Ok}
 use Rattle.ec_base.specs.Tables.{at, keys}
 use Rattle.ec_volume.specs.declared.update.Update.{Update}
 use Rattle.ec_sessions.specs.Windows.{has}

@@ -1,5 +1,5 @@
 -- A step of a clerk that is in a session, as the facts on tokens see it.
-use Rattle.std.specs.Prelude.{ℕ, T, true, false, not, ◌&&◌, ◌++◌, Some, Option}
+use Rattle.std.specs.Prelude.{ℕ, T, true, false, not, ◌&&◌, ◌++◌, Some}
 use Rattle.ec_history.specs.History.{Each}
 use Rattle.ec_wire.specs.Messages.{is_held_mode}
 use Rattle.ec_wire.specs.declared.msg.Msg.{Msg}

@@ -1,5 +1,5 @@
 -- The history: what was shown, kept, covered and owed.
-use Rattle.std.specs.Prelude.{◌≡◌, ◌==◌, ◌-◌, ◌+◌, ℕ, T, Bool, false, not, ◌&&◌, List, [], ◌∷◌, ◌++◌, map, length, Option, None, Some}
+use Rattle.std.specs.Prelude.{◌≡◌, ◌==◌, ◌-◌, ◌+◌, ℕ, T, Bool, false, ◌&&◌, List, [], ◌∷◌, ◌++◌, map, length, Option, None, Some}
 use Rattle.std.specs.List.{filter, list_any}
 use Rattle.ec_base.specs.declared.ids.Age.{Age}
 use Rattle.ec_volume.specs.Update.{operands}

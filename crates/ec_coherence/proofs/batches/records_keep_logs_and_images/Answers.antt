@@ -1,4 +1,3 @@
-use Rattle.std.proofs.Common.{◌≡◌, subst, sym, ◌∙◌}
 use Rattle.ec_coherence.proofs.Flushed.{every-flush-steps}
 use Rattle.ec_coherence.proofs.Records.{batches-keep, ends-keep}
 use Rattle.ec_coherence.proofs.batches.records_keep_logs_and_images.Goals as goal
