@@ -1,0 +1,54 @@
+-- What is proved of the records that a server commits, as contracts name it: a batch under way steps and a session can end, and behind both the facts on logs,
+-- batches, ids and images hold.
+use Rattle.std.specs.Prelude.{◌≡◌, ℕ, T, not, List, [], ◌∷◌, ◌++◌, Option, Some, Ok}
+use Rattle.ec_base.specs.Tables.{at, keys}
+use Rattle.ec_volume.specs.declared.update.Update.{Update}
+use Rattle.ec_sessions.specs.Windows.{has}
+use Rattle.ec_sessions.specs.declared.slot.Slot.{Slot}
+use Rattle.ec_wire.specs.declared.msg.Msg.TheVariants.{Flush, Kept, Ended}
+use Rattle.ec_durable.specs.Durable.{slot, step}
+use Rattle.ec_durable.specs.declared.state.Durable.{Durable}
+use Rattle.ec_durable.specs.declared.record.Record.TheVariants as record_of
+use Rattle.ec_log.specs.Log.{batch}
+use Rattle.ec_protocol.specs.declared.clerk.Clerk.{Clerk}
+use Rattle.ec_protocol.specs.declared.server.Server.{Server}
+use Rattle.ec_coherence.specs.System.{System, clerk_in}
+use Rattle.ec_coherence.specs.Sessions.{SessionsAgree}
+use Rattle.ec_coherence.specs.Tokens.{TokensAgree, view}
+use Rattle.ec_coherence.specs.Log as log
+use Rattle.ec_coherence.specs.Log.{LogsAgree}
+use Rattle.ec_coherence.specs.Images.{ImagesAgree}
+use Rattle.ec_coherence.specs.Steps.{end_session, keep_batch}
+
+-- The facts that these laws rest on.
+pub record Agrees (g : System) : Type 0 where
+  pub sessions : SessionsAgree g
+  pub tokens : TokensAgree (view g)
+  pub logs : LogsAgree g
+  pub images : ImagesAgree g
+
+-- a Flush of an open session that isn't marked steps: no batch ends a session
+abbrev pub FlushesStep : Type 0
+FlushesStep = (g : System) → Agrees g → (c s e b : ℕ) (ops : List (ℕ × Update)) → log.Fits g (Flush s e b ops)
+    → (sl : Slot) (k : Clerk) → slot g.durable c ≡ Some sl → sl.session ≡ s → T sl.is_open → clerk_in g s ≡ Some k → T (not (has sl.window b))
+    → (d : Durable) × (step (record_of.Batch c s b ops) g.durable ≡ Ok d)
+
+-- the system behind a committed batch, of which the clerk is told
+abbrev pub behind_batch : System → Durable → Option Server → ℕ → ℕ → ℕ → ℕ → Slot → List (ℕ × Update) → System
+behind_batch g d v c s b e sl ops = record g { durable = d; server = v; pool = g.pool ++ (c, Kept s e b) ∷ []; ghost = keep_batch c (sl.age).boot (keys ops) g.ghost }
+
+-- behind it logs and images agree
+abbrev pub BatchesKeep : Type 0
+BatchesKeep = (g : System) → Agrees g → (c s : ℕ) (sl : Slot) (k : Clerk) → slot g.durable c ≡ Some sl → sl.session ≡ s → T sl.is_open → clerk_in g s ≡ Some k
+    → (b : ℕ) (ns : List ℕ) → at b k.log.batches ≡ Some ns → T (not (has sl.window b)) → (v : Option Server) (e : ℕ) (d : Durable)
+    → step (record_of.Batch c s b (batch b k.log)) g.durable ≡ Ok d
+    → LogsAgree (behind_batch g d v c s b e sl (batch b k.log)) × ImagesAgree (behind_batch g d v c s b e sl (batch b k.log))
+
+-- the system behind the end of a session, of which the clerk is told
+abbrev pub behind_end : System → Durable → Option Server → ℕ → ℕ → ℕ → ℕ → System
+behind_end g d v c s low mask = record g { durable = d; server = v; pool = g.pool ++ (c, Ended s low mask) ∷ []; ghost = end_session g s g.ghost }
+
+-- an open session can end, and behind its end logs and images agree
+abbrev pub EndsKeep : Type 0
+EndsKeep = (g : System) → Agrees g → (c s : ℕ) (sl : Slot) → slot g.durable c ≡ Some sl → sl.session ≡ s → T sl.is_open → (v : Option Server) (low mask : ℕ)
+    → (d : Durable) × (step (record_of.End c s) g.durable ≡ Ok d) × LogsAgree (behind_end g d v c s low mask) × ImagesAgree (behind_end g d v c s low mask)

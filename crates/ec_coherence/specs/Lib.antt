@@ -1,0 +1,15 @@
+pub mod System
+pub mod Tokens
+pub mod Sessions
+pub mod Log
+pub mod Images
+pub mod Events
+pub mod Stops
+pub mod Invariant
+pub mod Steps
+pub mod Laws
+pub mod Caches
+pub mod Clerks
+pub mod BatchLaws
+pub mod ClerkLaws
+pub mod Opening

@@ -1,0 +1,10 @@
+// Batches and the ends of sessions.
+ghost use Rattle.ec_coherence.specs.BatchLaws.{FlushesStep, BatchesKeep, EndsKeep};
+
+/// A batch that is under way is taken by the server and never ends its session, and behind its
+/// record logs, batches, ids and images agree; so they do behind the end of a session.
+pub fn records_keep_logs_and_images()
+    ensures steps { FlushesStep }
+    ensures batches { BatchesKeep }
+    ensures ends { EndsKeep }
+{}

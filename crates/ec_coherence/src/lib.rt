@@ -1,0 +1,13 @@
+//! What holds of all nodes and messages together, in every state of a run, and that each step
+//! keeps it. Each function has an empty body, and its contract is a law.
+#![tactic(auto)]
+
+mod batches;
+mod clerk;
+mod opening;
+mod server;
+
+pub use batches::records_keep_logs_and_images;
+pub use clerk::clerks_keep_tokens;
+pub use opening::the_opening_agrees;
+pub use server::server_steps_stand;
