@@ -69,7 +69,7 @@ member-both n (x ∷ xs) ys = go (n == x) (member-both n xs ys)
     go true e = refl
     go false e = e
 
-holds-behind : (i : ℕ) (xs : Issued) (n : ℕ) (u : Update) → Holds (drop i xs) n u → Holds xs n u
+pub holds-behind : (i : ℕ) (xs : Issued) (n : ℕ) (u : Update) → Holds (drop i xs) n u → Holds xs n u
 holds-behind zero xs n u h = h
 holds-behind (suc i) [] n u h = h
 holds-behind (suc i) (x ∷ xs) n u h = inr (holds-behind i xs n u h)

@@ -2,6 +2,7 @@
 #![tactic(auto)]
 
 mod closure;
+mod first;
 mod front;
 mod needed;
 mod operand;

@@ -1,5 +1,5 @@
 // The held operations.
-ghost use Rattle.std.specs.Prelude.{◌≡◌, ℕ, T, true, false, Err, [], ◌∷◌, ◌++◌, IfOk, OnOk, OnErr};
+ghost use Rattle.std.specs.Prelude.{◌≡◌, ◌≤◌, ℕ, T, length, drop, true, false, Err, [], ◌∷◌, ◌++◌, IfOk, OnOk, OnErr};
 ghost use Rattle.std.specs.Ordering.{nat_cmp};
 ghost use Rattle.std.specs.FinMap.{is_sorted};
 ghost use Rattle.ec_base.specs.Tables.{keys};
@@ -10,6 +10,7 @@ ghost use Rattle.ec_chains.specs.declared.closure.Ask.TheVariants.{Op};
 ghost use Rattle.ec_chains.specs.declared.order.OrderFault.TheVariants as fault;
 
 use crate::closure::{Ask, closure};
+use crate::first::{are_first, remove_first};
 use crate::front::{last_on, note, reach, wanted};
 use ec_base::{Duplicate, NoMemory, ObjId, OpNo, SortedMap};
 use ec_volume::Update;
@@ -21,13 +22,15 @@ use thiserror::Error;
 #[derive(Drop)]
 pub struct Order {
     alloc: Global,
+    // by rising number; so many of the first ones have left
     held: Vec<(OpNo, Update)>,
+    gone: usize,
     // for objects the last operation on them that is on others too, or a later number
     shared: SortedMap<ObjId, OpNo>,
 }
 
 impl Model for Order {
-    ghost use Rattle.std.specs.Prelude.{T};
+    ghost use Rattle.std.specs.Prelude.{◌≤◌, T, length, drop};
     ghost use Rattle.std.specs.Coded.{coded_list, coded×, coded_ℕ};
     ghost use Rattle.std.specs.Ordering.{nat_cmp};
     ghost use Rattle.std.specs.FinMap.{is_sorted};
@@ -39,9 +42,9 @@ impl Model for Order {
 
     ghost coded = { coded_list (coded× coded_ℕ update.the_row.coded) };
 
-    ghost view = { λ o. o.held.items };
+    ghost view = { λ o. drop o.gone o.held.items };
 
-    ghost invariant = { λ o. T (is_sorted nat_cmp o.held.items) × Covers o.shared o.held.items };
+    ghost invariant = { λ o. (o.gone ≤ length o.held.items) × T (is_sorted nat_cmp (drop o.gone o.held.items)) × Covers o.shared (drop o.gone o.held.items) };
 }
 
 #[derive(Clone, Copy, Debug, Drop, PartialEq, Eq, Error)]
@@ -69,6 +72,7 @@ impl Order {
         Ok(Order {
             alloc,
             held: Vec::new(alloc),
+            gone: 0,
             shared: SortedMap::new(alloc),
         })
     }
@@ -97,14 +101,14 @@ impl Order {
         ensures value { result.now ≡ self.now }
         ensures sorted { T (is_sorted nat_cmp self.now) }
     {
-        &self.held
+        &self.held[self.gone..]
     }
 
     /// The closure of the operations on the object, in the order of issue.
     pub fn closure_of_object(&self, obj: ObjId) -> Result<Vec<OpNo>, NoMemory>
         ensures { IfOk result (λ ops. ops.items ≡ keys (held.closure_of_object obj self.now)) }
     {
-        closure(self.alloc, &self.held, Ask::Object(obj))
+        closure(self.alloc, self.held(), Ask::Object(obj))
     }
 
     /// The closure of the operation, in the order of issue. `NoSuchOp` where it isn't held.
@@ -113,7 +117,7 @@ impl Order {
         ensures held { OnOk result (member op (keys self.now) ≡ true) }
         ensures none { (n : ℕ) → result ≡ Err (fault.NoSuchOp n) → (n ≡ op) × (member op (keys self.now) ≡ false) }
     {
-        let ops = closure(self.alloc, &self.held, Ask::Op(op))?;
+        let ops = closure(self.alloc, self.held(), Ask::Op(op))?;
         if ops.as_slice().is_empty() {
             return Err(OrderFault::NoSuchOp(op));
         }
@@ -127,8 +131,9 @@ impl Order {
         ensures { IfOk result (λ ops. IsFront ask self.now most ops.items) }
     {
         let bound = self.bound(&ask);
-        let place = reach(&self.held, &ask, bound, wanted(&ask, most));
-        closure(self.alloc, &self.held[..place], ask)
+        let held = self.held();
+        let place = reach(held, &ask, bound, wanted(&ask, most));
+        closure(self.alloc, &held[..place], ask)
     }
 
     // What is asked for behind this number needs nothing that isn't asked for.
@@ -143,11 +148,30 @@ impl Order {
         }
     }
 
-    /// The operations of these numbers leave. It takes no memory.
+    /// The operations of these numbers leave. Where they are the first ones it takes time in
+    /// proportion to their number, and only now and then a walk over all. It takes no memory.
     pub fn settle(&mut self, ops: &[OpNo])
         ensures { self.new ≡ held.settle ops.now self.old }
     {
-        self.held.retain(|held| !ops.contains(&held.0));
+        if are_first(ops, self.held()) {
+            self.leave(ops.len());
+        } else {
+            remove_first(&mut self.held, self.gone);
+            self.gone = 0;
+            self.held.retain(|held| !ops.contains(&held.0));
+        }
+    }
+
+    // So many of the first operations leave. What has left is dropped once it is half of all.
+    fn leave(&mut self, count: usize)
+        requires { count ≤ length self.old }
+        ensures { self.new ≡ drop count self.old }
+    {
+        self.gone += count;
+        if self.held.len() / 2 <= self.gone {
+            remove_first(&mut self.held, self.gone);
+            self.gone = 0;
+        }
     }
 
     /// No operation is held any more. It takes no memory.
@@ -155,6 +179,7 @@ impl Order {
         ensures { self.new ≡ [] }
     {
         self.held.clear();
+        self.gone = 0;
         self.shared = SortedMap::new(self.alloc);
     }
 }

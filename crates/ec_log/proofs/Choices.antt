@@ -1,7 +1,6 @@
 -- A pick by the numbers of its closure is the pick.
-use Rattle.std.proofs.Common.{◌≡◌, refl, sym, ap, ◌∙◌, ℕ, suc, zero, Bool, true, false, cond, not, List, [], ◌∷◌, take, drop, length, get_or, arith, Option, None, Some}
-use Rattle.std.specs.Prelude.{◌==◌, ◌+◌, ◌-◌, ◌≤◌}
-use Rattle.std.proofs.lemmas.List.{take_all}
+use Rattle.std.proofs.Common.{◌≡◌, refl, ap, ℕ, suc, zero, Bool, true, false, cond, not, List, [], ◌∷◌, take, Option, None, Some}
+use Rattle.std.specs.Prelude.{◌==◌, ◌+◌}
 use Rattle.ec_base.specs.Tables.{Table, keys, first as first_of}
 use Rattle.ec_order.specs.Order.{Issued}
 use Rattle.ec_sessions.specs.Limits.{max_batch_ops, window_size}

@@ -1,12 +1,11 @@
 -- A pick by the first operations of a closure.
-use Rattle.std.proofs.Common.{◌≡◌, refl, sym, ap, subst, ◌∙◌, ℕ, suc, zero, T, Bool, true, false, cond, List, [], ◌∷◌, take, drop, length, get_or, arith, Option, None, Some}
+use Rattle.std.proofs.Common.{◌≡◌, refl, sym, ap, subst, ◌∙◌, ℕ, T, Bool, true, false, cond, List, [], ◌∷◌, take, drop, length, get_or, arith, Option, None, Some}
 use Rattle.std.specs.Prelude.{◌==◌, ◌||◌, ◌-◌, ◌≤◌, filter}
 use Rattle.std.specs.Cmp.{unsigned_ties}
 use Rattle.std.specs.List.{list_any}
 use Rattle.std.specs.Ordering.{nat_cmp, is_lt}
 use Rattle.std.specs.FinMap.{is_sorted}
 use Rattle.std.specs.FinMap.Entries.{below_all}
-use Rattle.std.proofs.lemmas.Bool.{true≢false}
 use Rattle.std.proofs.lemmas.Bool.Decides.{nat_tests}
 use Rattle.std.proofs.lemmas.List.{take_all}
 use Rattle.ec_base.specs.SortedLaws.{first, second}

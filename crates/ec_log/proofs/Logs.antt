@@ -1,20 +1,15 @@
 -- Walks over operations by rising place, and closures by what is asked for.
 use Rattle.std.proofs.Common.{◌≡◌, ◌<◌, ◌≤◌, ◌+◌, refl, sym, ap, ◌∙◌, ℕ, suc, Bool, true, false, cond, not, List, [], ◌∷◌, ◌++◌, length, drop, get_or, arith, drop-cons, append-nil, None, Some}
-use Rattle.std.specs.Prelude.{T, ◌==◌, ◌&&◌, filter, nat_lt, nat_le}
-use Rattle.std.specs.Ordering.{nat_cmp}
-use Rattle.std.specs.FinMap.{is_sorted}
+use Rattle.std.specs.Prelude.{◌&&◌, filter, nat_lt, nat_le}
 use Rattle.std.proofs.lemmas.Bool.{and_parts, and_from, lt-ltb, ltb-true, le-leb}
 use Rattle.std.proofs.lemmas.List.{append_assoc, drop_all}
 use Rattle.ec_base.specs.Tables.{Table, at, or_else, without, keys}
 use Rattle.ec_volume.specs.Update.{member}
 use Rattle.ec_volume.specs.declared.update.Update.{Update}
-use Rattle.ec_order.specs.Order.{Issued, closure}
+use Rattle.ec_order.specs.Order.{Issued}
 use Rattle.ec_chains.specs.Held.{is_behind}
-use Rattle.ec_chains.specs.ClosureLaws.{walk-closure, walk-passing, walk-none, walk-all, there-member}
-use Rattle.ec_log.specs.Log.{is_asked, first_number, is_from, kept}
+use Rattle.ec_log.specs.Log.{first_number, is_from, kept}
 use Rattle.ec_log.specs.declared.state.LogState.{LogState}
-use Rattle.ec_log.specs.Choice.{closure_in}
-use Rattle.ec_log.specs.declared.state.Asked.TheVariants.{Op, All}
 
 -- Numbers above all that are held.
 

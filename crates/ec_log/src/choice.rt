@@ -61,12 +61,7 @@ pub fn first_met(
     }
 }
 
-fn is_met(
-    members: &[OpNo],
-    ops: &[OpNo],
-    asked: &Asked,
-    undurable: &[(OpNo, Update)],
-) -> bool
+fn is_met(members: &[OpNo], ops: &[OpNo], asked: &Asked, undurable: &[(OpNo, Update)]) -> bool
     requires { T (is_sorted nat_cmp undurable.now) }
     ensures { result ≡ list_any (λ n. member n ops.now || member n (choice.numbers_asked asked.now undurable.now)) members.now }
 {

@@ -1,4 +1,9 @@
+ghost use Rattle.std.specs.Prelude.{◌≡◌};
+ghost use Rattle.ec_cache.specs.Cache.{images_held};
+ghost use Rattle.ec_volume.specs.Update.{fits};
+
 use super::*;
+use ec_base::List;
 use Hold::{Free, Read, Write};
 use std::process::Abort;
 use std::test::Fail;
@@ -74,5 +79,59 @@ fn shows_tokens_by_rising_ids(rt: HostRuntime) -> Result<(), Fail> {
     assert!(rt; held.len() == 3 && held[2] == (object(&rt, 7), Read));
     assert!(rt; cache.last(object(&rt, 7)) == 0 && cache.holds(object(&rt, 6), Read));
     assert!(rt; cache.look(object(&rt, 5)).is_none());
+    Ok(())
+}
+
+fn fits_at(cache: &Cache, update: &Update, obj: ObjId) -> bool
+    ensures { result ≡ fits update.now obj (images_held cache.now obj) }
+{
+    match cache.image(obj) {
+        Some(image) => image.fits(update, obj),
+        None => Image::Gone.fits(update, obj),
+    }
+}
+
+// Changes the mode of an object where that fits.
+fn chmod(cache: &mut Cache, obj: ObjId, mode: u16) -> Result<bool, NoMemory> {
+    let update = Update::Mode { obj, mode };
+    if !update.sound() || !fits_at(cache, &update, obj) {
+        return Ok(false);
+    }
+    cache.change(&update)?;
+    Ok(true)
+}
+
+// A token that is held is under recall.
+fn recall(cache: &mut Cache, obj: ObjId, to: Hold) -> bool {
+    if cache.held(obj).is_none() {
+        return false;
+    }
+    cache.limit(obj, to);
+    true
+}
+
+fn mode_of(cache: &Cache, obj: ObjId) -> Option<u16> {
+    match cache.image(obj)? {
+        Image::File { mode, .. } => Some(*mode),
+        _ => None,
+    }
+}
+
+#[test]
+fn changes_an_image_and_counts_less_under_recall(rt: HostRuntime) -> Result<(), Fail> {
+    let mut cache = Cache::new(rt.alloc(), 4096)?;
+    let obj = object(&rt, 9);
+    let image = Image::File {
+        mode: 0o644,
+        stamp: 0,
+        owner: 0,
+        bytes: List::of(Vec::new(rt.alloc())),
+    };
+    assert!(rt; !chmod(&mut cache, obj, 0o600)?);
+    assert!(rt; cache.take(obj, Write, 1, image)?);
+    assert!(rt; chmod(&mut cache, obj, 0o600)?);
+    assert!(rt; mode_of(&cache, obj) == Some(0o600));
+    assert!(rt; recall(&mut cache, obj, Read));
+    assert!(rt; cache.holds(obj, Read) && !cache.holds(obj, Write));
     Ok(())
 }

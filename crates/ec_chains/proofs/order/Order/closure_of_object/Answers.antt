@@ -2,7 +2,6 @@ use Rattle.std.proofs.Common.{ap, ◌∙◌}
 use Rattle.std.proofs.lemmas.Result.{IfOk-weaker}
 use Rattle.ec_base.specs.Tables.{keys}
 use Rattle.ec_volume.specs.Update.{has_operand}
-use Rattle.ec_chains.specs.Held.{closure_of_object}
 use Rattle.ec_chains.specs.Walk.{walk}
 use Rattle.ec_chains.specs.ClosureLaws.{walk-passing}
 use Rattle.ec_chains.proofs.order.Order.closure_of_object.Goals as goal
@@ -11,7 +10,6 @@ pub returns : goal.returns
 returns c =
     IfOk-weaker c.closure.result _ _ (λ ops is.
     is
-    ∙ ap (λ l. keys (walk (λ x. has_operand c.args.obj x.1) l)) c.deref.ensures.value
-    ∙ ap keys (walk-passing (λ x. has_operand c.args.obj x.1) c.self.inside.held.items c.self.invariant.0)
-    ∙ ap (λ l. keys (closure_of_object c.args.obj l)) c.self.view_is)
+    ∙ ap (λ l. keys (walk (λ x. has_operand c.args.obj x.1) l)) c.held.ensures.value
+    ∙ ap keys (walk-passing (λ x. has_operand c.args.obj x.1) c.args.self.now c.held.ensures.sorted))
     c.closure.ensures
