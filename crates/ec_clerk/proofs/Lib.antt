@@ -1,3 +1,4 @@
+pub mod AtOnce
 pub mod Ends
 pub mod Owing
 pub mod Spent

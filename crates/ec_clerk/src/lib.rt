@@ -10,6 +10,7 @@ mod endings;
 mod fitting;
 mod ledger;
 mod messages;
+mod prompt;
 mod pushes;
 mod recalls;
 mod resends;
@@ -22,3 +23,4 @@ mod tries;
 mod wants;
 
 pub use clerk::{Clerk, MAX_TOKENS};
+pub use prompt::held_call_is_prompt;

@@ -51,10 +51,10 @@ fn sends_batch(outs: &[Out]) -> bool {
 }
 
 fn answers_first(outs: &[Out]) -> bool {
-    matches!(
-        outs,
-        [.., Out::Answer(1, Answer::Reply(Reply::Ok), Some(OpNo(1)))]
-    )
+    match outs {
+        [.., Out::Answer(no, Answer::Reply(Reply::Ok), Some(op))] => *no == 1 && *op == OpNo(1),
+        _ => false,
+    }
 }
 
 #[test]
