@@ -34,11 +34,7 @@ pub fn print_call(alloc: Global, call: &Call) -> Result<Vec<u8>, NoMemory>
 }
 
 /// The words of an answer, as a transcript line shows them. An answer with an operation names it.
-pub fn print_answer(
-    alloc: Global,
-    answer: &Answer,
-    op: Option<OpNo>,
-) -> Result<Vec<u8>, NoMemory>
+pub fn print_answer(alloc: Global, answer: &Answer, op: Option<OpNo>) -> Result<Vec<u8>, NoMemory>
     ensures { IfOk result (λ text. text.items ≡ answered_text answer.now op) }
 {
     let mut out = Vec::new(alloc);
