@@ -14,10 +14,11 @@ use Rattle.ec_codes.specs.FieldLaws.{word-is, long-is, id-is}
 use Rattle.ec_codes.specs.Clerks.{age_field}
 use Rattle.ec_codes.specs.ClerkLaws.{age-is}
 use Rattle.ec_codes.specs.declared.fault.CodeFault.TheVariants as fault
+use Rattle.ec_layout.specs.Places.{table_bytes}
 use Rattle.ec_table.specs.declared.table.Table.{Table}
 use Rattle.ec_table.specs.declared.table.Version.{Version}
 use Rattle.ec_table.specs.declared.table.Version.TheVariants.{One, Two}
-use Rattle.ec_table.specs.Codes.{last_first_field, last_of, is_behind, is_above, id_above, ids_field, slot_fields, slot_tag, is_slot_tag, fields_of, slot_of, never, to_never, held, slot_form, slot_code, always, slots_field, ids_in, numbers_in, is_free, place_after, place_spell, places_field, state_fields, parts_of, table_of, state_code, ends_at, in_size, sized, old_table, new_table, Versioned, spell_version, fits_version, in_version, read_version, table_code}
+use Rattle.ec_table.specs.Codes.{last_first_field, last_of, is_behind, is_above, id_above, ids_field, slot_fields, slot_tag, is_slot_tag, fields_of, slot_of, never, to_never, held, slot_form, slot_code, always, slots_field, ids_in, numbers_in, is_free, place_after, place_spell, places_field, state_fields, parts_of, table_of, state_code, ends_at, in_size, sized, max_old_state, max_new_state, old_table, new_table, Versioned, spell_version, fits_version, in_version, read_version, table_code}
 
 same_some : {A : Type 0} (x y : A) → Some x ≡ Some y → x ≡ y
 same_some x y e = cc
@@ -231,19 +232,19 @@ sized_is limit F small law = record {
 
 -- A table.
 
-in_word : (limit : ℕ) → limit ≤ 65536 → (n : ℕ) → nat_le n limit ≡ true → word.fits n ≡ true
+in_word : (limit : ℕ) → limit ≤ table_bytes → (n : ℕ) → nat_le n limit ≡ true → word.fits n ≡ true
 unfolding word
 in_word limit le n h = lt-ltb _ _ (omega (arith, le, leb-true n limit h))
 
 pub old_is : (most : ℕ) → IsFormat (old_table most)
 unfolding old_table
-old_is most = sized_is 65532 (state_code most) (in_word 65532 (omega arith)) (state_is most)
+old_is most = sized_is max_old_state (state_code most) (in_word max_old_state (omega arith)) (state_is most)
 
 pub new_is : (most : ℕ) → IsFormat (new_table most)
 unfolding new_table
-new_is most = sized_is 65531 (state_code most) (in_word 65531 (omega arith)) (state_is most)
+new_is most = sized_is max_new_state (state_code most) (in_word max_new_state (omega arith)) (state_is most)
 
-zero_first : (n : ℕ) → n ≤ 65536 → (rest : List ℕ) × (word.spell n ≡ 0 ∷ rest)
+zero_first : (n : ℕ) → n ≤ table_bytes → (rest : List ℕ) × (word.spell n ≡ 0 ∷ rest)
 unfolding word
 zero_first n le = (drop 1 (to_be_bytes w32 n), ap (λ k. k ∷ drop 1 (to_be_bytes w32 n)) (omega (arith, le)))
 
@@ -251,7 +252,7 @@ old_first : (most : ℕ) (t : Table) → (old_table most).fits t ≡ true → (r
 unfolding old_table
 old_first most t h =
     let body = (state_code most).spell t in
-    let f = and_parts ((state_code most).fits t) (nat_le (length body) 65532) h in
+    let f = and_parts ((state_code most).fits t) (nat_le (length body) max_old_state) h in
     let z = zero_first (length body) (omega (arith, leb-true _ _ f.1)) in
     (z.0 ++ body, ap (λ s. s ++ body) z.1)
 

@@ -1,5 +1,5 @@
 -- The bytes of tables: the durable state without its images, and where each image stands.
-use Rattle.std.specs.Prelude.{◌==◌, ◌+◌, ◌*◌, ℕ, Bool, true, false, not, ◌&&◌, if◌then◌else◌, nat_lt, nat_le, List, [], ◌∷◌, ◌++◌, length, map, take, Option, None, Some, Ok, Err}
+use Rattle.std.specs.Prelude.{◌==◌, ◌+◌, ◌-◌, ◌*◌, ℕ, Bool, true, false, not, ◌&&◌, if◌then◌else◌, nat_lt, nat_le, List, [], ◌∷◌, ◌++◌, length, map, take, Option, None, Some, Ok, Err}
 use Rattle.ec_base.specs.Limits.{clerk_count}
 use Rattle.ec_base.specs.declared.ids.Age.{Age}
 use Rattle.ec_volume.specs.Update.{member}
@@ -9,6 +9,7 @@ use Rattle.ec_codes.specs.Fields.{word, long, id, or_zero, is_from_one, id_or_no
 use Rattle.ec_codes.specs.Clerks.{age_field}
 use Rattle.ec_codes.specs.declared.fault.CodeFault.TheVariants as fault
 use Rattle.ec_durable.specs.declared.state.Durable.{Durable}
+use Rattle.ec_layout.specs.Places.{table_bytes}
 use Rattle.ec_table.specs.declared.table.Table.{Table}
 use Rattle.ec_table.specs.declared.table.Version.{Version}
 use Rattle.ec_table.specs.declared.table.Version.TheVariants.{One, Two}
@@ -154,15 +155,18 @@ sized limit F = record {
 
 -- A table: version 1 begins with the length, version 2 with a byte 2.
 
--- the bytes of a table on a disk
-abbrev pub table_bytes : ℕ
-table_bytes = 65536
+-- the bytes of a state behind the length, and behind a byte 2 and the length
+abbrev pub max_old_state : ℕ
+max_old_state = table_bytes - 4
+
+abbrev pub max_new_state : ℕ
+max_new_state = max_old_state - 1
 
 unfoldable pub old_table : ℕ → Format Table
-old_table most = sized 65532 (state_code most)
+old_table most = sized max_old_state (state_code most)
 
 unfoldable pub new_table : ℕ → Format Table
-new_table most = sized 65531 (state_code most)
+new_table most = sized max_new_state (state_code most)
 
 -- as a version and a table
 abbrev pub Versioned : Type 0

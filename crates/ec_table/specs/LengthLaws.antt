@@ -6,7 +6,8 @@ use Rattle.ec_sessions.specs.declared.slot.Slot.{Slot}
 use Rattle.ec_codes.specs.Fields.{word, long, id}
 use Rattle.ec_codes.specs.Clerks.{age_field}
 use Rattle.ec_table.specs.declared.table.Table.{Table}
-use Rattle.ec_table.specs.Codes.{last_first_field, ids_field, slot_fields, slot_form, slot_code, slots_field, place_spell, places_field, state_fields, state_code}
+use Rattle.ec_table.specs.declared.table.Version.TheVariants.{Two}
+use Rattle.ec_table.specs.Codes.{last_first_field, ids_field, slot_fields, slot_form, slot_code, slots_field, place_spell, places_field, state_fields, state_code, new_table, table_code}
 
 ids_len : (os : List ℕ) → length (flat_map id.spell os) ≡ 4 * length os
 unfolding id
@@ -42,3 +43,11 @@ pub state_len : (most : ℕ) (t : Table) → length t.slots ≤ 16 → length t.
 unfolding state_code state_fields slots_field places_field word long
 state_len most t few ids =
     omega (arith, few, ids, slots_len t.slots, places_len t.places, length-append (flat_map slot_code.spell t.slots) ((places_field most).spell t.places))
+
+-- a table of version 2: a byte 2, a length and such a state
+abbrev pub max_table_code : ℕ
+max_table_code = max_state_code + 5
+
+pub table_len : (most : ℕ) (t : Table) → length t.slots ≤ 16 → length t.places + length (all_unspent t.slots) ≤ 1024 → length ((table_code most).spell (Two, t)) ≤ max_table_code
+unfolding table_code new_table word
+table_len most t few ids = omega (arith, state_len most t few ids)

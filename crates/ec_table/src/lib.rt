@@ -2,11 +2,14 @@
 #![tactic(auto)]
 
 mod laws;
+mod limits;
 mod reading;
 mod table;
 #[cfg(test)]
 mod tests;
+mod writing;
 
 pub use laws::tables_are_short;
 pub use reading::get_table;
 pub use table::{Table, Version};
+pub use writing::put_table;

@@ -5,6 +5,7 @@ ghost use Rattle.ec_codes.specs.Formats.{Gives, Spells, variant, rows_read};
 ghost use Rattle.ec_codes.specs.Readers.{Reads};
 ghost use Rattle.ec_table.specs.Codes.{last_first_field, is_above, id_above, ids_field, slot_fields, slot_of, held, slot_form, slot_code, slots_field, ids_in, numbers_in, is_free, place_after, places_field, state_code, in_size, old_table, new_table, sized, Versioned, table_code};
 
+use crate::limits::{MAX_NEW_STATE, MAX_OLD_STATE};
 use crate::table::{Table, Version};
 use ec_base::{CLERK_COUNT, List, ObjId, SessionNo};
 use ec_codes::{CodeFault, Reader};
@@ -60,7 +61,7 @@ fn read_old(
 ) -> Result<(Table, usize), CodeFault>
     ensures { Gives (λ x. x) result ((old_table max_objects).read bytes.now at) }
 {
-    read_sized(alloc, bytes, at, 65532, max_objects)
+    read_sized(alloc, bytes, at, MAX_OLD_STATE, max_objects)
 }
 
 #[tactic(auto, unfolding(crate::specs::Codes::new_table))]
@@ -72,7 +73,7 @@ fn read_new(
 ) -> Result<(Table, usize), CodeFault>
     ensures { Gives (λ x. x) result ((new_table max_objects).read bytes.now at) }
 {
-    read_sized(alloc, bytes, at, 65531, max_objects)
+    read_sized(alloc, bytes, at, MAX_NEW_STATE, max_objects)
 }
 
 // A length of at most so many bytes, and a state in these.

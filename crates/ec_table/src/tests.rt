@@ -1,5 +1,8 @@
 use super::*;
+use ec_base::{NoMemory, ObjId};
 use ec_codes::CodeFault;
+use ec_durable::Durable;
+use std::alloc::Global;
 use std::test::*;
 
 // The table of a formatted volume in version 1: the root in slot 0.
@@ -42,4 +45,26 @@ fn refused_tables(rt: HostRuntime) {
     for (bytes, most, fault) in rows {
         assert_eq!(rt; get_table(rt.alloc(), bytes, 0, most).err(), Some(fault));
     }
+}
+
+// The table of a formatted volume, the root in slot 0.
+fn written(alloc: Global) -> Result<Vec<u8>, NoMemory> {
+    let state = Durable::formatted(alloc, 32)?;
+    match ObjId::new(1) {
+        Some(root) => put_table(alloc, &state, &[(root, 0)]),
+        None => Ok(Vec::new(alloc)),
+    }
+}
+
+// Behind a byte 2 it's the table of version 1.
+#[test]
+fn table_is_written(rt: HostRuntime) -> Result<(), Fail> {
+    let bytes = written(rt.alloc()).ok().ok_or("bytes")?;
+    assert_eq!(rt; bytes.get(0), Some(&2));
+    assert_eq!(rt; bytes.get(1..), Some(FORMATTED.as_slice()));
+    let ((version, table), next) = get_table(rt.alloc(), &bytes, 0, 32).ok().ok_or("a table")?;
+    assert_eq!(rt; version, Version::Two);
+    assert_eq!(rt; next, 53);
+    assert_eq!(rt; table.next_id, 2);
+    Ok(())
 }
