@@ -1,21 +1,18 @@
 -- What a disk holds behind an append and behind a checkpoint.
-use Rattle.std.proofs.Common.{◌≡◌, ◌⊎◌, ℕ, ◌+◌, ◌*◌, ◌<◌, ◌≤◌, Bool, true, false, List, [], ◌∷◌, ◌++◌, length, get_or, Option, None, Some, Result, Ok, Err, refl, sym, ap, subst, ◌∙◌, arith, inl, inr, ⊎_elim}
-use Rattle.std.specs.Prelude.{T, nat_le, slice_get, unwrap_or}
+use Rattle.std.proofs.Common.{◌≡◌, ◌⊎◌, ℕ, ◌+◌, ◌*◌, ◌≤◌, true, false, List, [], ◌∷◌, ◌++◌, length, get_or, Option, Some, Ok, refl, sym, ap, subst, ◌∙◌, arith, inl, inr, ⊎_elim}
+use Rattle.std.specs.Prelude.{nat_le, unwrap_or}
 use Rattle.std.specs.Int.{w32, to_be_bytes}
 use Rattle.std.specs.List.{All}
-use Rattle.std.specs.Ordering.{nat_cmp}
 use Rattle.std.proofs.Math.Logic.{∥∥₁_map}
 use Rattle.std.proofs.lemmas.Bool.{leb-true}
 use Rattle.std.proofs.lemmas.Option.{slice_get-get_or}
-use Rattle.ec_base.specs.SortedLaws.{first, second}
+use Rattle.ec_base.specs.SortedLaws.{second}
 use Rattle.ec_base.specs.Tables.{at}
 use Rattle.ec_disk.specs.Disk.{View, LeavesOnly}
-use Rattle.ec_disk.specs.Runs.{leaves_then}
 use Rattle.ec_volume.specs.Image.{is_gone}
 use Rattle.ec_volume.specs.Update.{member}
 use Rattle.ec_volume.specs.Volume.{images}
 use Rattle.ec_volume.specs.Volume as volume
-use Rattle.ec_volume.specs.Held.{IsVolume}
 use Rattle.ec_volume.specs.declared.image.Image.{Image}
 use Rattle.ec_volume.specs.declared.image.Image.TheVariants.{Gone}
 use Rattle.ec_volume.proofs.Held.{images_find}
@@ -27,14 +24,14 @@ use Rattle.ec_durable.specs.Durable.{step}
 use Rattle.ec_durable.specs.Steps.{AreSound}
 use Rattle.ec_durable.specs.Codes.{record_code, said}
 use Rattle.ec_durable.specs.CodeLaws.{said_again}
-use Rattle.ec_durable.specs.WellFormed.{WellFormed, IsInOrder}
+use Rattle.ec_durable.specs.WellFormed.{IsInOrder}
 use Rattle.ec_kept.proofs.Volumes.{step_well}
 use Rattle.ec_table.specs.Codes.{table_code, described, numbers_in, place_after}
 use Rattle.ec_table.specs.declared.table.Version.TheVariants.{Two}
 use Rattle.ec_layout.specs.Places.{other}
 use Rattle.ec_layout.specs.declared.side.Side.{Side}
 use Rattle.ec_layout.specs.declared.side.Side.TheVariants as side
-use Rattle.ec_layout.specs.Layout.{Layout, Lies, Follows, IsAmong, IsFree}
+use Rattle.ec_layout.specs.Layout.{Layout, Lies, Follows, IsAmong}
 use Rattle.ec_layout.specs.Appends.{with_body, LeavesBody}
 use Rattle.ec_layout.specs.Selected.{IsOn, side_now}
 use Rattle.ec_layout.specs.Free.{free_below}
@@ -45,7 +42,7 @@ use Rattle.ec_layout.specs.declared.selected.Selected.{Selected}
 use Rattle.ec_stands.specs.Stands.{slot_code, IsCheckpoint, StepsTo, StandsFor}
 use Rattle.ec_stands.specs.Laws.{lies_stands, steps_more}
 use Rattle.ec_store.specs.Places.{ArePlaces, AreSpare, IsPlaced, placed, pieces, touched}
-use Rattle.ec_store.specs.Store.{KeepsImages, Holds, StandsForEither}
+use Rattle.ec_store.specs.Store.{Holds, StandsForEither}
 use Rattle.ec_store.proofs.Members.{told, free_member, free_distinct}
 use Rattle.ec_store.proofs.Images.{step_images, step_most, image_at}
 use Rattle.ec_store.proofs.Placing.{rows_all, pieces_apart, pieces_are_free, slots_of, StandsIn, new_slots, new_among, new_numbers, place_stands, are_places, length_placed}

@@ -1,19 +1,19 @@
 -- Images that a record leaves alone, and images that have a code.
-use Rattle.std.proofs.Common.{◌≡◌, ◌⊎◌, ℕ, zero, suc, ◌+◌, ◌<◌, ◌≤◌, Bool, true, false, cond, List, [], ◌∷◌, ◌++◌, length, get_or, Option, None, Some, Result, Ok, Err, refl, sym, ap, subst, ◌∙◌, arith, inl, inr, ⊎_elim}
-use Rattle.std.specs.Prelude.{◌==◌, ◌||◌, ◌&&◌, T, not, nat_lt, nat_le, unwrap_or, slice_get}
-use Rattle.std.specs.List.{All, list_any, list_all, flat_map}
+use Rattle.std.proofs.Common.{◌≡◌, ℕ, zero, suc, ◌+◌, Bool, true, false, cond, List, [], ◌∷◌, length, Option, None, Some, Result, Ok, Err, refl, sym, ap, subst, ◌∙◌, ⊎_elim}
+use Rattle.std.specs.Prelude.{◌==◌, ◌||◌, ◌&&◌, T, not, nat_le, unwrap_or, slice_get}
+use Rattle.std.specs.List.{list_all, flat_map}
 use Rattle.std.specs.Ordering.{nat_cmp}
 use Rattle.std.specs.Cmp.{nat_cmp_total}
 use Rattle.std.specs.Cmp.Lexicographic.{nat_list_cmp_total}
-use Rattle.std.specs.declared.cmp.Ordering.TheVariants.{Less, Equal, Greater}
+use Rattle.std.specs.declared.cmp.Ordering.TheVariants.{Less, Equal}
 use Rattle.std.specs.FinMap.{is_sorted}
 use Rattle.std.specs.FinMap.Entries.{below_all}
-use Rattle.std.proofs.lemmas.Bool.{cases_Bool, and_parts, and_from}
+use Rattle.std.proofs.lemmas.Bool.{and_parts, and_from}
 use Rattle.std.proofs.lemmas.Cmp.{tied_itself}
 use Rattle.std.proofs.lemmas.List.Folds.{list_any-append}
-use Rattle.std.proofs.lemmas.Option.{slice_get-get_or, get_or_from_slice_get, slice_get_within}
+use Rattle.std.proofs.lemmas.Option.{get_or_from_slice_get, slice_get_within}
 use Rattle.ec_base.specs.SortedLaws.{first, second, found_at, below_each}
-use Rattle.ec_base.specs.Tables.{Table, at}
+use Rattle.ec_base.specs.Tables.{Table}
 use Rattle.ec_volume.specs.Image.{is_gone, entries_of}
 use Rattle.ec_volume.specs.Entries.{Entries, by_bytes, entry}
 use Rattle.ec_volume.specs.Update.{member, distinct, operands, is_sound, effect}
@@ -26,7 +26,6 @@ use Rattle.ec_volume.proofs.Held.{images_find, held_live}
 use Rattle.ec_volume.proofs.Changed.{changed_images}
 use Rattle.ec_codes.specs.Images.{is_sound_image, ids_under}
 use Rattle.ec_sessions.specs.Slots as slots
-use Rattle.ec_sessions.specs.declared.slot.Slot.{Slot}
 use Rattle.ec_durable.specs.declared.state.Durable.{Durable}
 use Rattle.ec_durable.specs.declared.record.Record.{Record}
 use Rattle.ec_durable.specs.declared.record.Record.TheVariants.{Batch, Open, End, Ids, Epoch}
@@ -36,7 +35,7 @@ use Rattle.ec_durable.specs.Durable.{step, slot, live, reserved, is_full, is_ses
 use Rattle.ec_durable.specs.Steps.{AreSound, AreSoundOps}
 use Rattle.ec_durable.proofs.Batches.{same_Ok, not_Ok}
 use Rattle.ec_store.specs.Places.{touched}
-use Rattle.ec_store.proofs.Members.{clash, same_some, told, holds, member_cases}
+use Rattle.ec_store.proofs.Members.{same_some, told, member_cases}
 
 -- What each step of a record keeps, records keep: it doesn't speak of sessions and numbers, and such updates keep it.
 abbrev pub EachOp : (Update → Type 0) → List (ℕ × Update) → Type 0

@@ -1,6 +1,6 @@
 -- What a checkpoint writes, and where the images stand then.
-use Rattle.std.proofs.Common.{◌≡◌, ◌⊎◌, ℕ, ◌+◌, ◌*◌, ◌^◌, ◌<◌, ◌≤◌, Bool, true, false, cond, List, [], ◌∷◌, ◌++◌, length, map, take, drop, get_or, Option, None, Some, refl, sym, ap, subst, ◌∙◌, arith, inl, inr, ⊎_elim, length-append, append_assoc}
-use Rattle.std.specs.Prelude.{◌==◌, ◌&&◌, T, not, nat_lt, nat_le, slice_get}
+use Rattle.std.proofs.Common.{◌≡◌, ℕ, ◌+◌, ◌*◌, ◌^◌, ◌<◌, ◌≤◌, Bool, true, false, cond, List, [], ◌∷◌, ◌++◌, length, take, drop, get_or, Option, None, Some, refl, sym, ap, subst, ◌∙◌, arith, inl, inr, ⊎_elim, length-append, append_assoc}
+use Rattle.std.specs.Prelude.{◌&&◌, T, not, nat_lt, slice_get}
 use Rattle.std.specs.List.{All}
 use Rattle.std.specs.Ordering.{nat_cmp, is_lt}
 use Rattle.std.specs.FinMap.Entries.{is_sorted, below_all}
@@ -13,12 +13,12 @@ use Rattle.ec_base.specs.SortedLaws.{first, second, both}
 use Rattle.std.proofs.lemmas.Bool.Decides.{eqb_tells}
 use Rattle.ec_volume.specs.Image.{is_gone}
 use Rattle.ec_volume.specs.Volume.{images}
-use Rattle.ec_volume.specs.Update.{member, distinct}
+use Rattle.ec_volume.specs.Update.{member}
 use Rattle.ec_volume.specs.declared.image.Image.{Image}
 use Rattle.ec_volume.specs.declared.image.Image.TheVariants.{Gone, File, Dir}
 use Rattle.ec_codes.specs.Images.{image_code, image_form}
 use Rattle.ec_codes.specs.LengthLaws.{file_long, dir_long}
-use Rattle.ec_codes.specs.Formats.{rows_fit, such}
+use Rattle.ec_codes.specs.Formats.{rows_fit}
 use Rattle.ec_codes.specs.Fields.{id, word}
 use Rattle.ec_table.specs.Codes.{last_of, is_behind, is_above, id_above, ids_in, numbers_in, is_free, place_after}
 use Rattle.ec_table.specs.declared.table.Version.TheVariants.{Two}
@@ -26,7 +26,7 @@ use Rattle.ec_layout.specs.Layout.{IsFree, AreFree, IsAmong, AreAmong}
 use Rattle.ec_layout.specs.Pieces.{AreApart}
 use Rattle.ec_stands.specs.Stands.{slot_code, AreSlots}
 use Rattle.ec_store.specs.Places.{ArePlaces, AreSpare, IsPlaced, slot_of, rest_of, piece_of, placed, pieces}
-use Rattle.ec_store.proofs.Members.{clash, same_some, told, holds, member_cases, member_none, member_here, member_later, member_out, member_push, member_of_push, member_before, distinct_parts, at_cases, at_here, at_later, less_is}
+use Rattle.ec_store.proofs.Members.{clash, member_cases, member_none, member_here, member_later, member_push, member_of_push, member_before, distinct_parts, at_cases, at_here, at_later, less_is}
 
 -- What a table asks of a place.
 
@@ -148,37 +148,39 @@ module _ (most : ℕ) (limit : most ≤ 1024) (named : List ℕ) (kept : List (�
   step : (before : List (ℕ × ℕ)) (e : ℕ × Image) (es : List (ℕ × Image)) (free : List ℕ) (x : Option ℕ) → at e.0 kept ≡ x → IsReady before (e ∷ es) free → ((place_after most before).fits (e.0, slot_of x free) ≡ true) × IsReady (before ++ (e.0, slot_of x free) ∷ []) es (rest_of x free)
   step before e es free (Some s) is ready =
       let below = first (below_all nat_cmp e.0 es) (is_sorted nat_cmp es) ready.sorted in
-      let out : member s (numbers_in before) ≡ false = ⊎_elim (λ yes. absurd ((ready.apart s yes).1 e.0 (member_here e.0 e.0 (keys es) refl) is)) (λ no. no) (cases_Bool (member s (numbers_in before))) in
-      (place_fits most before e.0 s limit (are.ids e.0 s is) ready.above (are.below s (are.among e.0 s is)) out,
-      record {
-        above = next_above before (e.0, s) es below;
-        sorted = second (below_all nat_cmp e.0 es) (is_sorted nat_cmp es) ready.sorted;
-        each = All-tail (IsPlaced kept) e es ready.each;
-        long = omega (arith, ready.long);
-        spare = ready.spare;
-        apart = λ n n_is. ⊎_elim
-            (λ old. ((ready.apart n old).0, λ o among. (ready.apart n old).1 o (member_later o e.0 (keys es) among)))
-            (λ same. (out_of_named n free ready.spare (ap (λ (m : ℕ). member m named) same ∙ are.among e.0 s is), λ o among found. omega (arith, not_below o e.0 es below among, are.apart o e.0 s (found ∙ ap (λ (m : ℕ). Some m) same) is)))
-            (member_push n s (numbers_in before) (ap (λ (ns : List ℕ). member n ns) (sym (numbers_push before (e.0, s))) ∙ n_is));
-      })
+      let out : member s (numbers_in before) ≡ false = ⊎_elim (λ yes. absurd ((ready.apart s yes).1 e.0 (member_here e.0 e.0 (keys es) refl) is)) (λ no. no) (cases_Bool (member s (numbers_in before))) in (
+        place_fits most before e.0 s limit (are.ids e.0 s is) ready.above (are.below s (are.among e.0 s is)) out,
+        record {
+          above = next_above before (e.0, s) es below;
+          sorted = second (below_all nat_cmp e.0 es) (is_sorted nat_cmp es) ready.sorted;
+          each = All-tail (IsPlaced kept) e es ready.each;
+          long = omega (arith, ready.long);
+          spare = ready.spare;
+          apart = λ n n_is. ⊎_elim
+              (λ old. ((ready.apart n old).0, λ o among. (ready.apart n old).1 o (member_later o e.0 (keys es) among)))
+              (λ same. (out_of_named n free ready.spare (ap (λ (m : ℕ). member m named) same ∙ are.among e.0 s is), λ o among found. omega (arith, not_below o e.0 es below among, are.apart o e.0 s (found ∙ ap (λ (m : ℕ). Some m) same) is)))
+              (member_push n s (numbers_in before) (ap (λ (ns : List ℕ). member n ns) (sym (numbers_push before (e.0, s))) ∙ n_is));
+        },
+      )
   step before e es [] None is ready = absurd (omega (arith, ready.long))
   step before e es (f ∷ free) None is ready =
       let below = first (below_all nat_cmp e.0 es) (is_sorted nat_cmp es) ready.sorted in
       let here = ready.spare.each f (member_here f f free refl) in
       let once = distinct_parts f free ready.spare.once in
-      let out : member f (numbers_in before) ≡ false = ⊎_elim (λ yes. clash (member f (f ∷ free)) (member_here f f free refl) (ready.apart f yes).0) (λ no. no) (cases_Bool (member f (numbers_in before))) in
-      (place_fits most before e.0 f limit (and_parts (id.fits e.0) (image_code.fits e.1) (All-head (IsPlaced kept) e es ready.each is).0).0 ready.above here.0 out,
-      record {
-        above = next_above before (e.0, f) es below;
-        sorted = second (below_all nat_cmp e.0 es) (is_sorted nat_cmp es) ready.sorted;
-        each = All-tail (IsPlaced kept) e es ready.each;
-        long = omega (arith, ready.long);
-        spare = record { each = λ n n_is. ready.spare.each n (member_later n f free n_is); once = once.1 };
-        apart = λ n n_is. ⊎_elim
-            (λ old. ((member_none n f free (ready.apart n old).0).1, λ o among. (ready.apart n old).1 o (member_later o e.0 (keys es) among)))
-            (λ same. (ap (λ (m : ℕ). member m free) same ∙ once.0, λ o among found. clash (member f named) (are.among o f (found ∙ ap (λ (m : ℕ). Some m) same)) here.1))
-            (member_push n f (numbers_in before) (ap (λ (ns : List ℕ). member n ns) (sym (numbers_push before (e.0, f))) ∙ n_is));
-      })
+      let out : member f (numbers_in before) ≡ false = ⊎_elim (λ yes. clash (member f (f ∷ free)) (member_here f f free refl) (ready.apart f yes).0) (λ no. no) (cases_Bool (member f (numbers_in before))) in (
+        place_fits most before e.0 f limit (and_parts (id.fits e.0) (image_code.fits e.1) (All-head (IsPlaced kept) e es ready.each is).0).0 ready.above here.0 out,
+        record {
+          above = next_above before (e.0, f) es below;
+          sorted = second (below_all nat_cmp e.0 es) (is_sorted nat_cmp es) ready.sorted;
+          each = All-tail (IsPlaced kept) e es ready.each;
+          long = omega (arith, ready.long);
+          spare = record { each = λ n n_is. ready.spare.each n (member_later n f free n_is); once = once.1 };
+          apart = λ n n_is. ⊎_elim
+              (λ old. ((member_none n f free (ready.apart n old).0).1, λ o among. (ready.apart n old).1 o (member_later o e.0 (keys es) among)))
+              (λ same. (ap (λ (m : ℕ). member m free) same ∙ once.0, λ o among found. clash (member f named) (are.among o f (found ∙ ap (λ (m : ℕ). Some m) same)) here.1))
+              (member_push n f (numbers_in before) (ap (λ (ns : List ℕ). member n ns) (sym (numbers_push before (e.0, f))) ∙ n_is));
+        },
+      )
 
   pub rows : (before : List (ℕ × ℕ)) (es : List (ℕ × Image)) (free : List ℕ) → IsReady before es free → rows_fit (place_after most) before (placed kept es free) ≡ true
   rows before [] free ready = refl
@@ -291,10 +293,12 @@ place_stands (t ∷ slots) (p ∷ places) [] are o s found = absurd are
 place_stands (t ∷ slots) (p ∷ places) (e ∷ es) are o s found =
     elim (at_cases o p places s found) [
       | inl here ↦
-          let same : o ≡ e.0 = here.0 ∙ sym are.1 in
-          (e.1, at_here o e es same,
-          inl (ap (λ (n : ℕ). (n, (slot_code Two).spell (o, e.1))) (sym here.1) ∙ ap (λ (n : ℕ). (p.1, (slot_code Two).spell (n, e.1))) same ∙ sym are.0),
-          ap (λ (n : ℕ). (slot_code Two).fits (n, e.1)) same ∙ are.2)
+          let same : o ≡ e.0 = here.0 ∙ sym are.1 in (
+            e.1,
+            at_here o e es same,
+            inl (ap (λ (n : ℕ). (n, (slot_code Two).spell (o, e.1))) (sym here.1) ∙ ap (λ (n : ℕ). (p.1, (slot_code Two).spell (n, e.1))) same ∙ sym are.0),
+            ap (λ (n : ℕ). (slot_code Two).fits (n, e.1)) same ∙ are.2,
+          )
       | inr later ↦
           let rec = place_stands slots places es are.3 o s later.1 in
           (rec.0, at_later o e es (λ same. later.0 (same ∙ are.1)) ∙ rec.1, inr rec.2, rec.3)

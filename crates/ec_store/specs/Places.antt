@@ -1,6 +1,6 @@
 -- Where a checkpoint puts the images of objects: those that are kept stay in their slots, each other one goes to the least free slot, by rising ids.
 use Rattle.std.specs.Prelude.{◌≡◌, ◌<◌, ◌≤◌, ◌*◌, ℕ, true, false, List, [], ◌∷◌, ◌++◌, length, drop, get_or, Option, None, Some}
-use Rattle.std.specs.List.{flat_map, All}
+use Rattle.std.specs.List.{flat_map}
 use Rattle.ec_base.specs.Tables.{at}
 use Rattle.ec_volume.specs.Update.{member, distinct, operands}
 use Rattle.ec_volume.specs.declared.image.Image.{Image}

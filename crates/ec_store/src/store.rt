@@ -19,7 +19,7 @@ use crate::plan::{Plan, lay_out, touched};
 use ec_base::{Duplicate, NoMemory, ObjId, SortedMap};
 use ec_disk::Disk;
 use ec_durable::{Durable, Record, encode};
-use ec_layout::Selected;
+use ec_layout::{Selected, Side, prepare, write_head};
 use std::alloc::Global;
 
 /// The durable state that a disk stands for, and where its images stand there.
@@ -47,7 +47,8 @@ impl Store {
     ghost use Rattle.ec_durable.specs.declared.record.RecordFault.{RecordFault};
     ghost use Rattle.ec_durable.specs.declared.record.RecordFault.TheVariants as record_fault;
     ghost use Rattle.ec_durable.specs.declared.state.Durable.{Durable};
-    ghost use Rattle.ec_durable.specs.Durable.{step};
+    ghost use Rattle.ec_durable.specs.Durable.{step, formatted};
+    ghost use Rattle.ec_durable.specs.WellFormed.{least_max_objects, most_max_objects};
     ghost use Rattle.ec_durable.specs.Codes.{is_sound_record, record_code, max_record_code};
     ghost use Rattle.ec_layout.specs.Selected.{free_now};
     ghost use Rattle.ec_stands.specs.Stands.{StandsFor};
@@ -61,6 +62,44 @@ impl Store {
         ensures { result.now ≡ view_of self.now }
     {
         &self.state
+    }
+
+    /// Lays an empty disk out for a volume of 32 to 1,024 objects, which has the root alone.
+    ///
+    /// The disk is bad until its first word is written, which is written last.
+    pub fn format<D: Disk>(
+        alloc: Global,
+        disk: &mut D,
+        max_objects: u32,
+    ) -> Result<Store, StoreFault>
+        requires least { least_max_objects ≤ max_objects }
+        requires limit { max_objects ≤ most_max_objects }
+        requires empty { D.tells → length (D.view disk.old).gives ≡ 0 }
+        ensures view { IfOk result (λ store. view_of store ≡ formatted max_objects) }
+        ensures ok { IfOk result (λ store. D.tells → IsHeld (D.view disk.new) store) }
+        ensures stands { OnOk result (D.tells → (image : List ℕ) → (D.view disk.new).may_leave image → StandsFor image (formatted max_objects)) }
+        ensures synced { OnOk result (D.tells → IsSynced (D.view disk.new)) }
+        ensures no_bad { (place : ℕ) → IsErrOf result (fault.BadDisk place) → ⊥ }
+        ensures no_refusal { (f : RecordFault) → IsErrOf result (fault.Refused f) → ⊥ }
+        ensures counts { Counted (D.counts disk.old) (D.counts disk.new) (IsErrOf result fault.DiskFailed) (IsErrOf result fault.DiskStopped) }
+    {
+        let state = Durable::formatted(alloc, max_objects)?;
+        let plan = lay_out(alloc, &state, &[], &SortedMap::new(alloc))?;
+        done(prepare(
+            disk,
+            Side::Even,
+            plan.pieces.as_slice(),
+            plan.table.as_slice(),
+        ))?;
+        if let Err(fault) = write_head(disk, max_objects) {
+            return Err(of_disk(fault));
+        }
+        Ok(Store {
+            state,
+            selected: Selected::new(Side::Even, 0),
+            named: plan.named,
+            kept: plan.kept,
+        })
     }
 
     /// Steps the state by a record whose updates are sound, of which a batch has 1 to 64, and brings the record to the disk: by four calls
@@ -169,7 +208,10 @@ impl Store {
     {
         let alloc = *self.kept.allocator();
         self.state.step(change)?;
-        done(self.selected.checkpoint(disk, plan.pieces.as_slice(), plan.table.as_slice()))?;
+        done(
+            self.selected
+                .checkpoint(disk, plan.pieces.as_slice(), plan.table.as_slice()),
+        )?;
         self.named = plan.named;
         self.kept = plan.kept;
         append(&mut self.selected, alloc, disk, body)?;

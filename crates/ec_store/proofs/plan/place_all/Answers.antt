@@ -1,5 +1,4 @@
-use Rattle.std.proofs.Common.{Vec, rules, arith, ◌≡◌, ◌≤◌, ◌∙◌, ℕ, true, List, [], ◌∷◌, ◌++◌, length, Option, None, Some, take, drop, ap, sym, subst}
-use Rattle.std.specs.Prelude.{slice_get}
+use Rattle.std.proofs.Common.{Vec, rules, arith, ◌≡◌, ◌∙◌, ℕ, ap, subst}
 use Rattle.std.specs.declared.alloc.Global.{Global}
 use Rattle.std.specs.List.{All}
 use mathlib.Core.Bool.{Bool-set}
@@ -7,11 +6,8 @@ use Rattle.std.proofs.Math.Logic.{∥∥₁_elim}
 use Rattle.std.proofs.lemmas.List.{take_all}
 use Rattle.ec_base.specs.Tables.{at}
 use Rattle.ec_volume.specs.declared.image.Image.{Image}
-use Rattle.ec_codes.specs.Images.{is_sound_image}
-use Rattle.ec_table.specs.declared.table.Version.TheVariants.{Two}
-use Rattle.ec_stands.specs.Stands.{slot_code}
 use Rattle.ec_layout.specs.Pieces.{pieces_of}
-use Rattle.ec_store.specs.Places.{IsPlaced, slot_of, piece_of}
+use Rattle.ec_store.specs.Places.{IsPlaced}
 use Rattle.ec_store.specs.Placing.{free_now}
 use Rattle.ec_store.specs.declared.plan.Placing.{Placing}
 use Rattle.ec_store.proofs.Images.{sound_image}

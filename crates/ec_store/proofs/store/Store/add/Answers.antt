@@ -1,12 +1,9 @@
-use Rattle.std.proofs.Common.{◌≡◌, ℕ, List, true, false, Option, Some, ap, sym, subst, inl, ◌∙◌}
-use Rattle.std.specs.Prelude.{Ok}
+use Rattle.std.proofs.Common.{ℕ, List, ap, sym, subst, inl, ◌∙◌}
 use Rattle.ec_base.specs.Tables.{at}
 use Rattle.ec_volume.specs.Update.{member}
 use Rattle.ec_durable.specs.CodeLaws.{sound_steps}
-use Rattle.ec_durable.specs.declared.state.Durable.{Durable}
-use Rattle.ec_durable.specs.Durable.{step}
 use Rattle.ec_durable.proofs.Kept.{below_kept, step_kept}
-use Rattle.ec_store.specs.Places.{ArePlaces, touched}
+use Rattle.ec_store.specs.Places.{ArePlaces}
 use Rattle.ec_store.specs.Store.{StandsForEither}
 use Rattle.ec_store.proofs.Members.{left_kept}
 use Rattle.ec_store.proofs.Images.{step_most}

@@ -1,4 +1,4 @@
-use Rattle.std.proofs.Common.{◌≡◌, ◌∙◌, ℕ, List, None, cond, ap, subst, sym}
+use Rattle.std.proofs.Common.{◌∙◌, ℕ, List, None, cond, ap, subst, sym}
 use Rattle.std.specs.Prelude.{IfOk}
 use Rattle.ec_base.specs.Tables.{at}
 use Rattle.ec_volume.specs.Update.{member}

@@ -1,4 +1,4 @@
-use Rattle.std.proofs.Common.{◌≡◌, ℕ, List, true, false, None, Some, cond, ap, sym, subst, inl, ◌∙◌, ◌*◌}
+use Rattle.std.proofs.Common.{◌≡◌, ℕ, List, false, Some, ap, sym, subst, inl, ◌∙◌, ◌*◌}
 use Rattle.ec_base.specs.Tables.{at}
 use Rattle.ec_disk.specs.Runs.{leaves_then}
 use Rattle.ec_volume.specs.Update.{member}
@@ -9,7 +9,7 @@ use Rattle.ec_layout.specs.Layout.{Follows}
 use Rattle.ec_layout.specs.Pieces.{AreApart, pieces_of}
 use Rattle.ec_layout.specs.Places.{other}
 use Rattle.ec_layout.specs.Selected.{side_now}
-use Rattle.ec_store.specs.Places.{ArePlaces, touched}
+use Rattle.ec_store.specs.Places.{ArePlaces}
 use Rattle.ec_store.specs.Store.{StandsForEither}
 use Rattle.ec_store.proofs.Members.{left_kept, keeps_left}
 use Rattle.ec_store.proofs.Images.{step_most}
