@@ -31,7 +31,7 @@ pub struct Journal {
 }
 
 impl Journal {
-    ghost use Rattle.std.specs.Prelude.{◌≡◌, ◌+◌, ◌^◌, ◌<◌, ◌≤◌, ℕ, length, IfOk, OnOk, OnErr, IsErrOf};
+    ghost use Rattle.std.specs.Prelude.{◌≡◌, ◌+◌, ◌^◌, ◌<◌, ◌≤◌, ℕ, length, IfOk, OnOk, OnErr, IsErrOf, MatchBool};
     ghost use Rattle.ec_disk.specs.Disk.{IsSynced, Counted, Called, Rests};
     ghost use Rattle.ec_disk.specs.Runs.{Ran};
     ghost use Rattle.ec_journal.specs.Records.{head_bytes, max_record_bytes, records, HasBodies};
@@ -78,6 +78,14 @@ impl Journal {
             end: found.end,
         };
         Ok((journal, found.bodies.into_vec()))
+    }
+
+    /// Whether there is room for a record with this body.
+    pub fn has_room(&self, body: &[u8]) -> bool
+        requires { length body.now ≤ max_record_bytes }
+        ensures { MatchBool result (need_of body.now ≤ free_of self.now) (free_of self.now < need_of body.now) }
+    {
+        (body.len() + AROUND_BYTES) as u64 <= self.size - self.end
     }
 
     /// Adds a body, by four calls of the disk. At `Ok` it is there after each crash.

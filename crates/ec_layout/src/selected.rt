@@ -15,7 +15,7 @@ pub struct Selected {
 }
 
 impl Selected {
-    ghost use Rattle.std.specs.Prelude.{◌≡◌, ◌⊎◌, ◌<◌, ◌≤◌, ◌+◌, ℕ, length, OnOk, OnErr, IsErrOf};
+    ghost use Rattle.std.specs.Prelude.{◌≡◌, ◌⊎◌, ◌<◌, ◌≤◌, ◌+◌, ℕ, length, OnOk, OnErr, IsErrOf, MatchBool};
     ghost use Rattle.ec_disk.specs.declared.disk.DiskAnswer.TheVariants as said;
     ghost use Rattle.ec_disk.specs.Disk.{IsSynced, LeavesOnly, Counted, Called};
     ghost use Rattle.ec_journal.specs.Records.{max_record_bytes};
@@ -40,6 +40,14 @@ impl Selected {
         ensures { result ≡ side_now self.now }
     {
         self.side
+    }
+
+    /// Whether the side's journal has room for a record with this body.
+    pub fn has_room(&self, body: &[u8]) -> bool
+        requires { length body.now ≤ max_record_bytes }
+        ensures { MatchBool result (need_of body.now ≤ free_now self.now) (free_now self.now < need_of body.now) }
+    {
+        self.journal.has_room(body)
     }
 
     /// Adds a record, by four calls of the disk. At `Ok` it is there after each crash.

@@ -1,0 +1,5 @@
+pub mod Members
+pub mod Placing
+pub mod Images
+pub mod Holding
+pub mod Planning

@@ -1,0 +1,252 @@
+// Records are committed: each is on the disk whole, or not at all.
+ghost use Rattle.std.specs.Prelude.{◌≡◌, ◌≤◌, ℕ, None, if◌then◌else◌, length, OnOk, IsErrOf};
+ghost use Rattle.ec_base.specs.Tables.{at};
+ghost use Rattle.ec_volume.specs.Update.{member};
+ghost use Rattle.ec_volume.specs.Volume.{WellFormed, images};
+ghost use Rattle.ec_durable.specs.WellFormed.{IsInOrder};
+ghost use Rattle.ec_disk.specs.Disk.{IsSynced, LeavesOnly, Counted, Called};
+ghost use Rattle.ec_journal.specs.Records.{max_record_bytes};
+ghost use Rattle.ec_journal.specs.Journal.{need_of};
+ghost use Rattle.ec_layout.specs.Layout.{Layout};
+ghost use Rattle.ec_layout.specs.Appends.{with_body, LeavesBody};
+ghost use Rattle.ec_layout.specs.Selected.{IsOn, free_now};
+ghost use Rattle.ec_store.specs.Faults.{IsDiskFault};
+ghost use Rattle.ec_store.specs.Places.{ArePlaces};
+ghost use Rattle.ec_store.specs.declared.fault.StoreFault.TheVariants as fault;
+
+use crate::fault::{StoreFault, done, of_disk};
+use crate::plan::{Plan, lay_out, touched};
+use ec_base::{Duplicate, NoMemory, ObjId, SortedMap};
+use ec_disk::Disk;
+use ec_durable::{Durable, Record, encode};
+use ec_layout::{Selected, Side, prepare, write_head};
+use std::alloc::Global;
+
+/// The durable state that a disk stands for, and where its images stand there.
+#[derive(Drop)]
+pub struct Store {
+    state: Durable,
+    selected: Selected,
+    // The slots that the selected table names.
+    named: Vec<u32>,
+    // The slots of the objects that no record of the selected journal has as an operand.
+    kept: SortedMap<ObjId, u32>,
+    ghost formed: { ∥ WellFormed (images state.volume) ∥₁ },
+    ghost order: { IsInOrder state },
+    ghost places: { ArePlaces state.max_objects named.items kept },
+}
+
+impl Store {
+    ghost use Rattle.std.specs.Prelude.{◌≡◌, ◌⊎◌, ◌<◌, ◌≤◌, ℕ, Ok, Err, Some, true, false, List, length, IfOk, OnOk, IsErrOf};
+    ghost use Rattle.ec_base.specs.Tables.{at};
+    ghost use Rattle.ec_disk.specs.Disk.{IsSynced, LeavesOnly, Counted, Called};
+    ghost use Rattle.ec_journal.specs.Journal.{need_of};
+    ghost use Rattle.ec_volume.specs.Image.{is_gone};
+    ghost use Rattle.ec_volume.specs.Update.{member};
+    ghost use Rattle.ec_volume.specs.Volume.{images};
+    ghost use Rattle.ec_durable.specs.declared.record.RecordFault.{RecordFault};
+    ghost use Rattle.ec_durable.specs.declared.record.RecordFault.TheVariants as record_fault;
+    ghost use Rattle.ec_durable.specs.declared.state.Durable.{Durable};
+    ghost use Rattle.ec_durable.specs.Durable.{step, formatted};
+    ghost use Rattle.ec_durable.specs.WellFormed.{least_max_objects, most_max_objects};
+    ghost use Rattle.ec_durable.specs.Codes.{is_sound_record, record_code, max_record_code};
+    ghost use Rattle.ec_layout.specs.Selected.{free_now};
+    ghost use Rattle.ec_stands.specs.Stands.{StandsFor};
+    ghost use Rattle.ec_store.specs.declared.fault.StoreFault.TheVariants as fault;
+    ghost use Rattle.ec_store.specs.Places.{touched};
+    ghost use Rattle.ec_store.specs.Plan.{PlansFor};
+    ghost use Rattle.ec_store.specs.Store.{IsHeld, StandsForEither, view_of};
+
+    /// The state.
+    pub fn view(&self) -> &Durable
+        ensures { result.now ≡ view_of self.now }
+    {
+        &self.state
+    }
+
+    /// Lays an empty disk out for a volume of 32 to 1,024 objects, which has the root alone.
+    ///
+    /// The disk is bad until its first word is written, which is written last.
+    pub fn format<D: Disk>(
+        alloc: Global,
+        disk: &mut D,
+        max_objects: u32,
+    ) -> Result<Store, StoreFault>
+        requires least { least_max_objects ≤ max_objects }
+        requires limit { max_objects ≤ most_max_objects }
+        requires empty { D.tells → length (D.view disk.old).gives ≡ 0 }
+        ensures view { IfOk result (λ store. view_of store ≡ formatted max_objects) }
+        ensures ok { IfOk result (λ store. D.tells → IsHeld (D.view disk.new) store) }
+        ensures stands { OnOk result (D.tells → (image : List ℕ) → (D.view disk.new).may_leave image → StandsFor image (formatted max_objects)) }
+        ensures synced { OnOk result (D.tells → IsSynced (D.view disk.new)) }
+        ensures no_bad { (place : ℕ) → IsErrOf result (fault.BadDisk place) → ⊥ }
+        ensures no_refusal { (f : RecordFault) → IsErrOf result (fault.Refused f) → ⊥ }
+        ensures counts { Counted (D.counts disk.old) (D.counts disk.new) (IsErrOf result fault.DiskFailed) (IsErrOf result fault.DiskStopped) }
+    {
+        let state = Durable::formatted(alloc, max_objects)?;
+        let plan = lay_out(alloc, &state, &[], &SortedMap::new(alloc))?;
+        done(prepare(
+            disk,
+            Side::Even,
+            plan.pieces.as_slice(),
+            plan.table.as_slice(),
+        ))?;
+        if let Err(fault) = write_head(disk, max_objects) {
+            return Err(of_disk(fault));
+        }
+        Ok(Store {
+            state,
+            selected: Selected::new(Side::Even, 0),
+            named: plan.named,
+            kept: plan.kept,
+        })
+    }
+
+    /// Steps the state by a record whose updates are sound, of which a batch has 1 to 64, and brings the record to the disk: by four calls
+    /// where the journal has room, else by a checkpoint before them.
+    ///
+    /// A record that is refused makes no call and changes nothing. After a fault of the disk, or want of memory behind the first call, the
+    /// record is there whole or not at all: open the disk again.
+    pub fn commit<D: Disk>(&mut self, disk: &mut D, change: &Record) -> Result<(), StoreFault>
+        requires { is_sound_record change.now ≡ true }
+        // The stepped state is shown, and the disk stands for it, whatever a crash leaves.
+        ensures view { OnOk result (step change.now (view_of self.old) ≡ Ok (view_of self.new)) }
+        ensures ok { OnOk result (D.tells → IsHeld (D.view disk.old) self.old → IsHeld (D.view disk.new) self.new) }
+        ensures stands { OnOk result (D.tells → IsHeld (D.view disk.old) self.old → (image : List ℕ) → (D.view disk.new).may_leave image → StandsFor image (view_of self.new)) }
+        ensures synced { OnOk result (D.tells → IsSynced (D.view disk.new)) }
+        ensures any_moment { D.tells → IsHeld (D.view disk.old) self.old → LeavesOnly (D.view disk.old) (D.view disk.new) (StandsForEither change.now (view_of self.old)) }
+        // Exactly what the step refuses is refused.
+        ensures refused { (f : RecordFault) → IsErrOf result (fault.Refused f) → step change.now (view_of self.old) ≡ Err f }
+        ensures refuses { (f : RecordFault) → step change.now (view_of self.old) ≡ Err f → (disk.new ≡ disk.old) × (self.new ≡ self.old) × (IsErrOf result (fault.Refused f) ⊎ IsErrOf result fault.NoMemory) }
+        ensures no_bad { (place : ℕ) → IsErrOf result (fault.BadDisk place) → ⊥ }
+        ensures counts { Counted (D.counts disk.old) (D.counts disk.new) (IsErrOf result fault.DiskFailed) (IsErrOf result fault.DiskStopped) }
+        ensures calls { OnOk result (need_of (record_code.spell change.now) ≤ free_now self.old.selected → Called 4 (D.counts disk.old) (D.counts disk.new)) }
+        // A live object that neither this record nor one of the journal's names keeps its slot.
+        ensures kept { OnOk result ((o slot : ℕ) → at o self.old.kept ≡ Some slot → is_gone (images (view_of self.old).volume o) ≡ false → member o (touched change.now) ≡ false → at o self.new.kept ≡ Some slot) }
+    {
+        let alloc = *self.kept.allocator();
+        let body = encode(alloc, change)?;
+        let ids = touched(alloc, change)?;
+        if self.selected.has_room(body.as_slice()) {
+            self.add(disk, change, body.as_slice(), ids.as_slice())
+        } else {
+            let plan = self.plan_without(ids.as_slice())?;
+            self.turn_and_add(disk, change, body.as_slice(), ids.as_slice(), plan)
+        }
+    }
+
+    // Where the journal has room.
+    fn add<D: Disk>(
+        &mut self,
+        disk: &mut D,
+        change: &Record,
+        body: &[u8],
+        ids: &[ObjId],
+    ) -> Result<(), StoreFault>
+        requires sound { is_sound_record change.now ≡ true }
+        requires fits { record_code.fits change.now ≡ true }
+        requires spelled { body.now ≡ record_code.spell change.now }
+        requires short { length body.now ≤ max_record_code }
+        requires ids { ids.now ≡ touched change.now }
+        requires room { need_of body.now ≤ free_now self.old.selected }
+        ensures view { OnOk result (step change.now (view_of self.old) ≡ Ok (view_of self.new)) }
+        ensures ok { OnOk result (D.tells → IsHeld (D.view disk.old) self.old → IsHeld (D.view disk.new) self.new) }
+        ensures synced { OnOk result (D.tells → IsSynced (D.view disk.new)) }
+        ensures any_moment { D.tells → IsHeld (D.view disk.old) self.old → LeavesOnly (D.view disk.old) (D.view disk.new) (StandsForEither change.now (view_of self.old)) }
+        ensures refused { (f : RecordFault) → IsErrOf result (fault.Refused f) → step change.now (view_of self.old) ≡ Err f }
+        ensures refuses { (f : RecordFault) → step change.now (view_of self.old) ≡ Err f → (disk.new ≡ disk.old) × (self.new ≡ self.old) × (IsErrOf result (fault.Refused f) ⊎ IsErrOf result fault.NoMemory) }
+        ensures no_bad { (place : ℕ) → IsErrOf result (fault.BadDisk place) → ⊥ }
+        ensures counts { Counted (D.counts disk.old) (D.counts disk.new) (IsErrOf result fault.DiskFailed) (IsErrOf result fault.DiskStopped) }
+        ensures calls { OnOk result (Called 4 (D.counts disk.old) (D.counts disk.new)) }
+        ensures kept { OnOk result ((o slot : ℕ) → at o self.old.kept ≡ Some slot → is_gone (images (view_of self.old).volume o) ≡ false → member o (touched change.now) ≡ false → at o self.new.kept ≡ Some slot) }
+    {
+        let alloc = *self.kept.allocator();
+        self.state.step(change)?;
+        append(&mut self.selected, alloc, disk, body)?;
+        forget(&mut self.kept, ids);
+        Ok(())
+    }
+
+    // A checkpoint of the state, where the images of these objects aren't kept.
+    fn plan_without(&self, ids: &[ObjId]) -> Result<Plan, NoMemory>
+        ensures { IfOk result (λ plan. PlansFor self.now.state self.now.named.items self.now.kept ids.now plan) }
+    {
+        let mut kept = self.kept.duplicate()?;
+        forget(&mut kept, ids);
+        lay_out(
+            *self.kept.allocator(),
+            &self.state,
+            self.named.as_slice(),
+            &kept,
+        )
+    }
+
+    // Where it has none: the checkpoint, laid out before the state steps, selects the other side.
+    fn turn_and_add<D: Disk>(
+        &mut self,
+        disk: &mut D,
+        change: &Record,
+        body: &[u8],
+        ids: &[ObjId],
+        plan: Plan,
+    ) -> Result<(), StoreFault>
+        requires plan { PlansFor self.old.state self.old.named.items self.old.kept ids.now plan }
+        requires sound { is_sound_record change.now ≡ true }
+        requires fits { record_code.fits change.now ≡ true }
+        requires spelled { body.now ≡ record_code.spell change.now }
+        requires short { length body.now ≤ max_record_code }
+        requires ids { ids.now ≡ touched change.now }
+        ensures view { OnOk result (step change.now (view_of self.old) ≡ Ok (view_of self.new)) }
+        ensures ok { OnOk result (D.tells → IsHeld (D.view disk.old) self.old → IsHeld (D.view disk.new) self.new) }
+        ensures synced { OnOk result (D.tells → IsSynced (D.view disk.new)) }
+        ensures any_moment { D.tells → IsHeld (D.view disk.old) self.old → LeavesOnly (D.view disk.old) (D.view disk.new) (StandsForEither change.now (view_of self.old)) }
+        ensures refused { (f : RecordFault) → IsErrOf result (fault.Refused f) → step change.now (view_of self.old) ≡ Err f }
+        ensures refuses { (f : RecordFault) → step change.now (view_of self.old) ≡ Err f → (disk.new ≡ disk.old) × (self.new ≡ self.old) × (IsErrOf result (fault.Refused f) ⊎ IsErrOf result fault.NoMemory) }
+        ensures no_bad { (place : ℕ) → IsErrOf result (fault.BadDisk place) → ⊥ }
+        ensures counts { Counted (D.counts disk.old) (D.counts disk.new) (IsErrOf result fault.DiskFailed) (IsErrOf result fault.DiskStopped) }
+        ensures kept { OnOk result ((o slot : ℕ) → at o self.old.kept ≡ Some slot → is_gone (images (view_of self.old).volume o) ≡ false → member o (touched change.now) ≡ false → at o self.new.kept ≡ Some slot) }
+    {
+        let alloc = *self.kept.allocator();
+        self.state.step(change)?;
+        done(
+            self.selected
+                .checkpoint(disk, plan.pieces.as_slice(), plan.table.as_slice()),
+        )?;
+        self.named = plan.named;
+        self.kept = plan.kept;
+        append(&mut self.selected, alloc, disk, body)?;
+        forget(&mut self.kept, ids);
+        Ok(())
+    }
+}
+
+// The map without these ids.
+fn forget(kept: &mut SortedMap<ObjId, u32>, ids: &[ObjId])
+    ensures { (o : ℕ) → at o kept.new ≡ (if member o ids.now then None else at o kept.old) }
+{
+    'ids: for id in ids {
+        kept.remove(id);
+    }
+}
+
+// Adds a record to the selected journal, which has room.
+fn append<D: Disk>(
+    selected: &mut Selected,
+    alloc: Global,
+    disk: &mut D,
+    body: &[u8],
+) -> Result<(), StoreFault>
+    requires short { length body.now ≤ max_record_bytes }
+    requires room { need_of body.now ≤ free_now selected.old }
+    ensures ok { OnOk result (D.tells → (l : Layout) → IsOn (D.view disk.old) selected.old l → IsOn (D.view disk.new) selected.new (with_body body.now l)) }
+    ensures any_moment { D.tells → (l : Layout) → IsOn (D.view disk.old) selected.old l → LeavesOnly (D.view disk.old) (D.view disk.new) (LeavesBody l body.now) }
+    ensures synced { OnOk result (D.tells → IsSynced (D.view disk.new)) }
+    ensures calls { OnOk result (Called 4 (D.counts disk.old) (D.counts disk.new)) }
+    ensures disk { IsDiskFault result }
+    ensures counts { Counted (D.counts disk.old) (D.counts disk.new) (IsErrOf result fault.DiskFailed) (IsErrOf result fault.DiskStopped) }
+{
+    match selected.append(alloc, disk, body) {
+        Ok(()) => Ok(()),
+        Err(fault) => Err(of_disk(fault)),
+    }
+}
