@@ -8,5 +8,6 @@ mod order;
 #[cfg(test)]
 mod tests;
 
+pub use needed::Needed;
 pub use operand::has_operand;
 pub use order::{Order, OrderFault};
