@@ -11,5 +11,6 @@ mod order;
 mod tests;
 
 pub use closure::Ask;
+pub use needed::Needed;
 pub use operand::has_operand;
 pub use order::{Order, OrderFault};

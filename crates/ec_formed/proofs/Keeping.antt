@@ -158,11 +158,24 @@ module _ (formed : (v : Images) (us : List Update) → WellFormed v → T (list_
       let w' : LeaveWellFormed base (kept base (past ++ e ∷ [])) = subst (LeaveWellFormed base) same behind.0 in
       (w', from most (past ++ e ∷ []) h w' (subst (Each (Stands h)) same behind.1) one.1 (right (not (member e.0 (places h))) _ apart) (right (is_bounded_entry e.1) _ bounded) legal.1)
 
+  next-gone : (most : ℕ) (past h : History) (e : ℕ × Entry) → LeaveWellFormed base (kept base past) → Each (Stands (h ++ e ∷ [])) (kept base past) → Each (λ p. 1 ≤ p) (places (h ++ e ∷ [])) → T (distinct (places (h ++ e ∷ [])))
+      → T (list_all (λ x. is_bounded_entry x.1) (h ++ e ∷ [])) → Throughout (IsLegalNext base most) past h → T (is_gone (after base.volume (updates (kept base (past ++ h))) (base.fresh e.0)))
+  next-gone most past [] e w s one apart bounded legal =
+      subst (λ g. T (is_gone (after base.volume (updates (kept base g)) (base.fresh e.0)))) (sym (append-nil past)) (fresh-gone e [] (kept base past) s one.0)
+  next-gone most past (x ∷ h) e w s one apart bounded legal =
+      let behind = next most past x (h ++ e ∷ []) w s one.0 (left (not (member x.0 (places (h ++ e ∷ [])))) _ apart) (left (is_bounded_entry x.1) _ bounded) legal.0 in
+      let same : kept_next base (kept base past) x ≡ kept base (past ++ x ∷ []) = sym (kept-step base past x) in
+      subst (λ g. T (is_gone (after base.volume (updates (kept base g)) (base.fresh e.0)))) (append_assoc past (x ∷ []) h)
+      (next-gone most (past ++ x ∷ []) h e (subst (LeaveWellFormed base) same behind.0) (subst (Each (Stands (h ++ e ∷ []))) same behind.1) one.1 (right (not (member x.0 (places (h ++ e ∷ [])))) _ apart) (right (is_bounded_entry x.1) _ bounded) legal.1)
+
   nothing : LeaveWellFormed base []
   nothing = leave [] tt (λ o. tt)
 
   pub throughout : (most : ℕ) (h : History) → AreAtLines h → IsLegal base most h → Throughout (λ past e. LeaveWellFormed base (kept base (past ++ e ∷ []))) [] h
   throughout most h lines legal = from most [] h nothing tt lines.from_one lines.apart lines.bounded legal
+
+  pub gone : (most : ℕ) (h : History) (e : ℕ × Entry) → AreAtLines (h ++ e ∷ []) → IsLegal base most h → T (is_gone (after base.volume (updates (kept base h)) (base.fresh e.0)))
+  gone most h e lines legal = next-gone most [] h e nothing tt lines.from_one lines.apart lines.bounded legal
 
   pub whole : (most : ℕ) (h : History) → AreAtLines h → IsLegal base most h → LeaveWellFormed base (kept base h)
   whole most h lines legal = whole-of (λ g. LeaveWellFormed base (kept base g)) [] h nothing (throughout most h lines legal)

@@ -1,9 +1,12 @@
 // What legal histories keep.
 ghost use Rattle.std.specs.Prelude.{◌≡◌, ℕ, T, Bool, false, not, List, [], ◌∷◌, ◌++◌};
 ghost use Rattle.std.specs.List.{filter, list_all};
-ghost use Rattle.ec_history.specs.History.{Base, History, Op, Throughout, of_start, is_one_of, is_entry_of, kept, without};
+ghost use Rattle.ec_volume.specs.Image.{is_gone};
+ghost use Rattle.ec_volume.specs.Volume.{after};
+ghost use Rattle.ec_history.specs.History.{Base, History, Op, Throughout, updates, of_start, is_one_of, is_entry_of, kept, without};
 ghost use Rattle.ec_history.specs.Legal.{touches_none, IsLegal, is_closed, from_formatted};
 ghost use Rattle.ec_history.specs.Placing.{place};
+ghost use Rattle.ec_history.specs.declared.entry.Entry.{Entry};
 ghost use Rattle.ec_history.specs.declared.shown.Shown.{Shown};
 ghost use Rattle.ec_laws.specs.Needs.{holds_needed};
 ghost use Rattle.ec_formed.specs.Bases.{IsBase, AreAtLines, LeaveWellFormed, is_bounded_entry};
@@ -24,8 +27,14 @@ pub fn what_is_kept_is_well_formed()
         → IsLegal base most (place ss) → LeaveWellFormed base (kept base (place ss)) }
 {}
 
-/// So does a set of these operations that holds what its members need, such as the durable ones,
-/// and what a closed set leaves of them.
+/// Behind a legal history the fresh id of a further line's place is Gone.
+pub fn fresh_ids_are_gone()
+    ensures { (base : Base) (most : ℕ) (h : History) (e : ℕ × Entry) → IsBase base → AreAtLines (h ++ e ∷ []) → IsLegal base most h
+        → T (is_gone (after base.volume (updates (kept base h)) (base.fresh e.0))) }
+{}
+
+/// A set of the operations that a legal history keeps leaves a well-formed volume, if it holds what
+/// its members need, such as the durable ones; so does what a closed set leaves of them.
 pub fn closed_sets_leave_well_formed_volumes()
     ensures part { (base : Base) (inside : Op → Bool) (ks : List Op) → IsBase base → LeaveWellFormed base ks
         → T (holds_needed (λ k. k.update) inside ks) → LeaveWellFormed base (filter inside ks) }

@@ -1,0 +1,151 @@
+-- What a call asks to be durable, by what its start issued.
+use Rattle.std.proofs.Common.{◌≡◌, refl, sym, ap, ◌∙◌, arith, ℕ, suc, Bool, true, false, ◌&&◌, cond, map, List, [], ◌∷◌, Option, Some, None, length, get_or, ◌+◌, ◌-◌, ◌<◌}
+use Rattle.std.specs.Prelude.{nat_le, slice_get}
+use Rattle.std.specs.List.{filter}
+use Rattle.std.proofs.lemmas.List.{get_or-map}
+use Rattle.ec_volume.specs.Entries.{entry}
+use Rattle.ec_volume.specs.Image.{is_gone}
+use Rattle.ec_volume.specs.declared.image.Image.{Image}
+use Rattle.ec_volume.specs.declared.image.Image.TheVariants.{Gone, File, Dir}
+use Rattle.ec_plain.specs.declared.call.Refusal.{Refusal}
+use Rattle.ec_plain.specs.declared.call.Refusal.TheVariants as no
+use Rattle.ec_volume.specs.Update.{root, has_operand}
+use Rattle.ec_volume.specs.Volume.{Images, after}
+use Rattle.ec_volume.specs.declared.update.Update.{Update}
+use Rattle.ec_plain.specs.Walk.{walk, walk_from, Walk, Reached, At, Not, stop}
+use Rattle.ec_plain.specs.Plain.{plain, on_reached, answers}
+use Rattle.ec_plain.specs.declared.call.Outcome.{Outcome}
+use Rattle.ec_plain.specs.declared.call.Call.{Call}
+use Rattle.ec_plain.specs.declared.call.Call.TheVariants as call
+use Rattle.ec_plain.specs.declared.call.Reply.TheVariants as reply
+use Rattle.ec_history.specs.History.{Base, History, Op, updates, numbers, of_start, of_issue, kept, issued, asks}
+use Rattle.ec_history.specs.Legal.{IsReply}
+use Rattle.ec_history.specs.declared.entry.Answer.{Answer}
+use Rattle.ec_history.specs.declared.entry.Answer.TheVariants as answer
+use Rattle.ec_history.specs.declared.entry.Entry.TheVariants as entry
+use Rattle.ec_judge.specs.declared.carried.Issue.{Issue}
+use Rattle.ec_judge.specs.Carried.{op_at, numbered}
+use Rattle.ec_judge.specs.Rules.{asked_by, asked_of}
+
+regroup : (p q r : Op → Bool) (ks : List Op) → filter (λ k. (p k && q k) && r k) ks ≡ filter (λ k. p k && (q k && r k)) ks
+regroup p q r [] = refl
+regroup p q r (k ∷ ks) = ap (λ l. cond ((p k && q k) && r k) (k ∷ l) l) (regroup p q r ks) ∙ ap (λ x. cond x (k ∷ filter (λ k. p k && (q k && r k)) ks) (filter (λ k. p k && (q k && r k)) ks)) (go (p k))
+  where
+    go : (x : Bool) → ((x && q k) && r k) ≡ (x && (q k && r k))
+    go true = refl
+    go false = refl
+
+module _ (c b : ℕ) where
+  own-part : (q : Op → Bool) (ks : List Op) → filter (λ k. of_start c b k && q k) ks ≡ filter q (filter (of_start c b) ks)
+  own-part q [] = refl
+  own-part q (k ∷ ks) = go (of_start c b k) (own-part q ks)
+    where
+      go : (x : Bool) → filter (λ k. of_start c b k && q k) ks ≡ filter q (filter (of_start c b) ks) → cond (x && q k) (k ∷ filter (λ k. of_start c b k && q k) ks) (filter (λ k. of_start c b k && q k) ks) ≡ filter q (cond x (k ∷ filter (of_start c b) ks) (filter (of_start c b) ks))
+      go true r = ap (λ l. cond (q k) (k ∷ l) l) r
+      go false r = r
+
+  of-issues : (q : Op → Bool) (is : List Issue) → numbers (filter q (map (op_at c b) is)) ≡ map (λ i. i.number) (filter (λ i. q (op_at c b i)) is)
+  of-issues q [] = refl
+  of-issues q (i ∷ is) = go (q (op_at c b i)) (of-issues q is)
+    where
+      go : (x : Bool) → numbers (filter q (map (op_at c b) is)) ≡ map (λ i. i.number) (filter (λ i. q (op_at c b i)) is) → numbers (cond x (op_at c b i ∷ filter q (map (op_at c b) is)) (filter q (map (op_at c b) is))) ≡ map (λ i. i.number) (cond x (i ∷ filter (λ i. q (op_at c b i)) is) (filter (λ i. q (op_at c b i)) is))
+      go true r = ap (λ l. i.number ∷ l) r
+      go false r = r
+
+  pub issues-numbered : (is : List Issue) → map {B = ℕ × Update} (λ k. (k.number, k.update)) (map (op_at c b) is) ≡ numbered is
+  issues-numbered [] = refl
+  issues-numbered (i ∷ is) = ap (λ l. (i.number, i.update) ∷ l) (issues-numbered is)
+
+  module _ (base : Base) (past : History) (is : List Issue) (same : map (op_at c b) is ≡ filter (of_start c b) (issued base past)) where
+    all-of : (q : Op → Bool) → numbers (filter (λ k. of_start c b k && q k) (issued base past)) ≡ map (λ i. i.number) (filter (λ i. q (op_at c b i)) is)
+    all-of q = ap numbers (own-part q (issued base past)) ∙ ap (λ ks. numbers (filter q ks)) (sym same) ∙ of-issues q is
+
+    pub asks-same : (p l g : ℕ) (cl : Call) (a : Answer) (op : Option ℕ) → asks base past (p, entry.Call c b l g cl a op) ≡ asked_by (after base.volume (updates (kept base past))) is g cl a
+    asks-same p l g (call.Fsync path) (answer.Reply reply.Ok) op = go ((walk (after base.volume (updates (kept base past))) path).to)
+      where
+        go : (r : Reached) → ◌≡◌ {A = List ℕ} (elim r [ At o ↦ numbers (filter (λ k. of_start c b k && nat_le k.place g && has_operand o k.update) (issued base past)) | Not n ↦ [] ])
+            (elim r [ At o ↦ map (λ i. i.number) (filter (λ i. nat_le i.place g && has_operand o i.update) is) | Not n ↦ [] ])
+        go (At o) = ap numbers (regroup (λ k. of_start c b k) (λ k. nat_le k.place g) (λ k. has_operand o k.update) (issued base past)) ∙ all-of (λ k. nat_le k.place g && has_operand o k.update)
+        go (Not n) = refl
+    asks-same p l g call.Sync (answer.Reply reply.Ok) op = all-of (λ k. nat_le k.place g)
+    asks-same p l g cl a op = refl
+
+    pub issue-same : of_issue c b (issued base past) ≡ numbered is
+    issue-same = ap (map (λ k. (k.number, k.update))) (sym same) ∙ issues-numbered is
+
+-- A walk that reaches an object read it last.
+
+abbrev last-of : List ℕ → Option ℕ
+last-of os = slice_get os (length os - 1)
+
+last-more : (o : ℕ) (os : List ℕ) (p : ℕ) → last-of os ≡ Some p → last-of (o ∷ os) ≡ Some p
+last-more o [] p e = absurd (none e)
+  where
+    none : ◌≡◌ {A = Option ℕ} None (Some p) → ⊥
+    none e = cc
+last-more o (n ∷ os) p e = ap (slice_get (o ∷ n ∷ os)) (count (length os)) ∙ e
+  where
+    count : (k : ℕ) → suc (suc k) - 1 ≡ suc (suc k - 1)
+    count k = omega arith
+
+same-at : (p q : ℕ) → At p ≡ At q → p ≡ q
+same-at p q e = cc
+
+abbrev read-of : Walk → List ℕ
+read-of w = w.read
+
+-- one more name, by what the object is
+module _ (v : Images) (p : ℕ) (n : List ℕ) where
+  abbrev next-of : ℕ → Image → (ℕ → Walk) → Walk
+  next-of i x f = elim x [ Gone ↦ stop (Not (no.NotFound i)) | File m s w bs ↦ stop (Not (no.NotDir i)) | Dir m s w es ↦ elim (entry es n) [ None ↦ stop (Not (no.NotFound (i + 1))) | Some q ↦ f q ] ]
+
+  not-at : (r : Refusal) → ◌≡◌ {A = Reached} (Not r) (At p) → ⊥
+  not-at r e = cc
+
+  abbrev found-of : Refusal → Option ℕ → (ℕ → Walk) → Walk
+  found-of r x f = elim x [ None ↦ stop (Not r) | Some q ↦ f q ]
+
+  found-last : (r : Refusal) (x : Option ℕ) (f : ℕ → Walk) → ((q : ℕ) → (f q).to ≡ At p → last-of (f q).read ≡ Some p) → (found-of r x f).to ≡ At p → last-of (found-of r x f).read ≡ Some p
+  found-last r None f h e = absurd (not-at r e)
+  found-last r (Some q) f h e = h q e
+
+  next-last : (i : ℕ) (x : Image) (f : ℕ → Walk) → ((q : ℕ) → (f q).to ≡ At p → last-of (f q).read ≡ Some p) → (next-of i x f).to ≡ At p → last-of (next-of i x f).read ≡ Some p
+  next-last i Gone f h e = absurd (not-at _ e)
+  next-last i (File m s w bs) f h e = absurd (not-at _ e)
+  next-last i (Dir m s w es) f h e = found-last _ (entry es n) f h e
+
+end-last : (i o p : ℕ) (b : Bool) → cond b (Not (no.NotFound i)) (At o) ≡ At p → Some o ≡ Some p
+end-last i o p true e = absurd (not e)
+  where
+    not : ◌≡◌ {A = Reached} (Not (no.NotFound i)) (At p) → ⊥
+    not e = cc
+end-last i o p false e = ap Some (same-at o p e)
+
+pub walk-last : (v : Images) (i o : ℕ) (ns : List (List ℕ)) (p : ℕ) → (walk_from v i o ns).to ≡ At p → last-of (walk_from v i o ns).read ≡ Some p
+walk-last v i o [] p e = end-last i o p (is_gone (v o)) e
+walk-last v i o (n ∷ ns) p e = last-more o (next-of v p n i (v o) (λ q. walk_from v (i + 1) q ns)).read p (next-last v p n i (v o) (λ q. walk_from v (i + 1) q ns) (λ q h. walk-last v (i + 1) q ns p h) e)
+
+-- What an answered call asks, by what it touched.
+pub asked-same : (v : Images) (f : ℕ) (out : Outcome) (is : List Issue) (g : ℕ) (cl : Call) (a : Answer) (op : Option ℕ) → out ≡ plain v cl f → IsReply out a op → asked_of out.touched is g cl a ≡ asked_by v is g cl a
+asked-same v f out is g (call.Fsync path) (answer.Reply reply.Ok) op e r = reached ((walk v path).to) refl
+  where
+    ok : reply.Ok ≡ (plain v (call.Fsync path) f).reply
+    ok = r.0 ∙ ap (λ o. o.reply) e
+
+    not-ok : (n : Refusal) → reply.Ok ≡ reply.Refused n → ⊥
+    not-ok n e = cc
+
+    reached : (t : Reached) → (walk v path).to ≡ t → asked_of out.touched is g (call.Fsync path) (answer.Reply reply.Ok) ≡ elim t [ At o ↦ map (λ i. i.number) (filter (λ i. nat_le i.place g && has_operand o i.update) is) | Not n ↦ [] ]
+    reached (At o) q =
+        ap (λ os. elim (slice_get os (length os - 1)) [ Some o ↦ map (λ i. i.number) (filter (λ i. nat_le i.place g && has_operand o i.update) is) | None ↦ [] ]) (ap (λ x. x.touched) e ∙ ap (λ t. (on_reached (record { to = t; read = (walk v path).read }) (λ o os. answers reply.Ok os)).touched) q)
+        ∙ ap (λ x. elim x [ Some o ↦ map (λ i. i.number) (filter (λ i. nat_le i.place g && has_operand o i.update) is) | None ↦ [] ]) (walk-last v 0 root path o q)
+    reached (Not n) q = absurd (not-ok n (ok ∙ ap (λ t. (on_reached (record { to = t; read = (walk v path).read }) (λ o os. answers reply.Ok os)).reply) q))
+asked-same v f out is g call.Sync (answer.Reply reply.Ok) op e r = refl
+asked-same v f out is g cl a op e r = refl
+
+pub numbered-at : (is : List Issue) (n : ℕ) (i : Issue) → n < length is → i ≡ get_or is n i → (i.number, i.update) ≡ get_or (numbered is) n (i.number, i.update)
+numbered-at is n i l e = ap {B = ℕ × Update} (λ x. (x.number, x.update)) e ∙ sym (get_or-map {Y = ℕ × Update} (λ x. (x.number, x.update)) is n i (i.number, i.update) l)
+
+pub numbered-length : (is : List Issue) → length (numbered is) ≡ length is
+numbered-length [] = refl
+numbered-length (i ∷ is) = ap suc (numbered-length is)

@@ -1,0 +1,124 @@
+-- Histories, entry by entry.
+use Rattle.std.proofs.Common.{◌≡◌, refl, sym, ap, subst, ◌∙◌, arith, ◌<◌, ◌≤◌, ◌+◌, ℕ, suc, zero, T, Bool, true, false, not, map, List, [], ◌∷◌, ◌++◌, length, take, drop, get_or, Some, None, append_assoc, add-one, drop-cons}
+use Rattle.std.specs.Prelude.{nat_lt, ◌==◌, ◌||◌}
+use Rattle.std.proofs.lemmas.Bool.Decides.{nat_tests}
+use Rattle.ec_plain.specs.declared.call.Outcome.{Outcome}
+use Rattle.ec_laws.proofs.Objects.{holds}
+use Rattle.std.specs.List.{list_all}
+use Rattle.std.proofs.lemmas.List.{take_more, take-append-drop}
+use Rattle.ec_volume.specs.Image.{is_gone}
+use Rattle.ec_volume.specs.Update.{distinct, member, is_sound}
+use Rattle.ec_volume.specs.Volume.{images, after, WellFormed}
+use Rattle.ec_formed.specs.Bases.{AreAtLines, LeaveWellFormed, is_bounded_entry}
+use Rattle.ec_formed.proofs.Bases.{base-formatted}
+use Rattle.ec_formed.proofs.Kept.{kept-formed, kept-held}
+use Rattle.ec_formed.proofs.Laws.{kept-reached, call-sound, call-fits}
+use Rattle.ec_formed.proofs.Keeping.{whole, gone}
+use Rattle.ec_history.specs.History.{History, Throughout, Each, updates, kept, outcome}
+use Rattle.ec_history.specs.Legal.{IsFull, IsLegal, IsLegalNext, from_formatted}
+use Rattle.ec_history.specs.declared.entry.Answer.{Answer}
+use Rattle.ec_history.specs.declared.entry.Answer.TheVariants as answer
+use Rattle.ec_history.specs.declared.entry.Entry.{Entry}
+use Rattle.ec_history.specs.declared.entry.Entry.TheVariants as entry
+use Rattle.ec_history.specs.declared.rule.Rule.{Rule}
+use Rattle.ec_laws.proofs.Cuts.{legal-step}
+use Rattle.ec_laws.proofs.Numbers.{each-front}
+use Rattle.ec_laws.proofs.Removed.{both, left, right}
+use Rattle.ec_judge.specs.declared.carried.Judge.{Judge}
+use Rattle.ec_judge.specs.Faults.{IsFirstEntry}
+use Rattle.ec_judge.specs.Carried.{Carries, IsReady, Judges}
+use Rattle.ec_judge.proofs.Volumes.{all-same}
+
+abbrev places : History → List ℕ
+places h = map (λ e. e.0) h
+
+places-append : (h g : History) → places (h ++ g) ≡ places h ++ places g
+places-append [] g = refl
+places-append (e ∷ h) g = ap (λ l. e.0 ∷ l) (places-append h g)
+
+member-more : (n : ℕ) (xs ys : List ℕ) → T (not (member n (xs ++ ys))) → T (not (member n xs))
+member-more n [] ys t = tt
+member-more n (x ∷ xs) ys t = go (n == x) t (member-more n xs ys)
+  where
+    go : (b : Bool) → T (not (b || member n (xs ++ ys))) → (T (not (member n (xs ++ ys))) → T (not (member n xs))) → T (not (b || member n xs))
+    go true t f = absurd t
+    go false t f = f t
+
+distinct-front : (xs ys : List ℕ) → T (distinct (xs ++ ys)) → T (distinct xs)
+distinct-front [] ys t = tt
+distinct-front (x ∷ xs) ys t = both (not (member x xs)) _ (member-more x xs ys (left (not (member x (xs ++ ys))) _ t)) (distinct-front xs ys (right (not (member x (xs ++ ys))) _ t))
+
+all-front : (h g : History) → T (list_all (λ e. is_bounded_entry e.1) (h ++ g)) → T (list_all (λ e. is_bounded_entry e.1) h)
+all-front [] g t = tt
+all-front (e ∷ h) g t = both (is_bounded_entry e.1) _ (left (is_bounded_entry e.1) _ t) (all-front h g (right (is_bounded_entry e.1) _ t))
+
+all-last : (h : History) (e : ℕ × Entry) → T (list_all (λ e. is_bounded_entry e.1) (h ++ e ∷ [])) → T (is_bounded_entry e.1)
+all-last [] e t = left (is_bounded_entry e.1) true t
+all-last (x ∷ h) e t = all-last h e (right (is_bounded_entry x.1) _ t)
+
+lines-front : (h g : History) → AreAtLines (h ++ g) → AreAtLines h
+lines-front h g a = record {
+  from_one = each-front (λ p. 1 ≤ p) (places h) (places g) (subst (Each (λ p. 1 ≤ p)) (places-append h g) a.from_one);
+  apart = distinct-front (places h) (places g) (subst (λ l. T (distinct l)) (places-append h g) a.apart);
+  bounded = all-front h g a.bounded;
+}
+
+-- An entry behind a legal history can be judged.
+ready : (most : ℕ) (past : History) (e : ℕ × Entry) (j : Judge) → AreAtLines (past ++ e ∷ []) → Carries from_formatted past j → IsLegal from_formatted most past → IsReady j e
+ready most past e j lines h legal =
+    let w : LeaveWellFormed from_formatted (kept from_formatted past) = whole kept-formed kept-reached call-sound call-fits kept-held from_formatted base-formatted most past (lines-front past (e ∷ []) lines) legal in
+    let same : after from_formatted.volume (updates (kept from_formatted past)) ≡ images j.volume = sym (all-same (images j.volume) (after from_formatted.volume (updates (kept from_formatted past))) h.volume) in
+    record {
+      formed = subst WellFormed same w.formed;
+      gone = subst (λ v. T (is_gone (v (1 + e.0)))) same (gone kept-formed kept-reached call-sound call-fits kept-held from_formatted base-formatted most past e lines legal);
+      bounded = all-last past e lines.bounded;
+      sound = subst (λ ks. T (list_all is_sound (updates ks))) (sym h.kept) w.sound;
+    }
+
+-- The entries up to a place.
+module _ (h : History) (i : ℕ) (e : ℕ × Entry) (within : i < length h) (is : e ≡ get_or h i e) where
+  front-more : take (i + 1) h ≡ take i h ++ e ∷ []
+  front-more = take_more h i e within ∙ ap (λ x. take i h ++ x ∷ []) (sym is)
+
+  cut-at : take i h ++ e ∷ drop (i + 1) h ≡ h
+  cut-at = ap (λ l. take i h ++ l) (sym (drop-cons h i e within ∙ ap (λ x. x ∷ drop (suc i) h) (sym is) ∙ ap (λ n. e ∷ drop n h) (sym (add-one i)))) ∙ take-append-drop i h
+
+  lines-at : AreAtLines h → AreAtLines (take i h ++ e ∷ [])
+  lines-at a = lines-front (take i h ++ e ∷ []) (drop (i + 1) h) (subst AreAtLines (sym (append_assoc (take i h) (e ∷ []) (drop (i + 1) h) ∙ cut-at)) a)
+
+  pub ready-at : (most : ℕ) (j : Judge) → AreAtLines h → Carries from_formatted (take i h) j → IsLegal from_formatted most (take i h) → IsReady j e
+  ready-at most j a c l = ready most (take i h) e j (lines-at a) c l
+
+  pub few-at : Each (λ x. x.0 < 2147483648) h → e.0 < 2147483648
+  few-at f = subst (λ x. x.0 < 2147483648) (sym is) (at h i within f)
+    where
+      at : (g : History) (n : ℕ) → n < length g → Each (λ x. x.0 < 2147483648) g → (get_or g n e).0 < 2147483648
+      at [] n l f = absurd (omega (arith, l))
+      at (x ∷ g) zero l f = f.0
+      at (x ∷ g) (suc n) l f = at g n (omega (arith, l)) f.1
+
+  pub judged-next : (most : ℕ) (j j' : Judge) → Carries from_formatted (take i h) j → IsLegal from_formatted most (take i h) → Judges most j j' e None → Carries from_formatted (take (i + 1) h) j' × IsLegal from_formatted most (take (i + 1) h)
+  judged-next most j j' c l f =
+      let both = f (take i h) c l in
+      (subst (λ g. Carries from_formatted g j') (sym front-more) both.1, subst (IsLegal from_formatted most) (sym front-more) (legal-step from_formatted most (take i h) e l both.0))
+
+  pub judged-fault : (most : ℕ) (j j' : Judge) (r : Rule) → Carries from_formatted (take i h) j → IsLegal from_formatted most (take i h) → Judges most j j' e (Some r) → IsFirstEntry from_formatted most h e.0 r
+  judged-fault most j j' r c l f = record { before = take i h; its = e.1; after = drop (i + 1) h; parts = cut-at; legal = l; broken = f (take i h) c l }
+
+-- Legal for some greatest number of objects: legal for none.
+full-less : (most : ℕ) (out : Outcome) (a : Answer) → IsFull most out a → IsFull 0 out a
+full-less most out (answer.NoRoom x y) k = (k.0, holds above)
+  where
+    above : nat_lt 0 (x + y + 16) ≡ true
+    above = grind (arith, nat_tests)
+full-less most out (answer.Reply r) k = tt
+full-less most out (answer.Lost ns) k = tt
+
+less-from : (most : ℕ) (past h : History) → Throughout (IsLegalNext from_formatted most) past h → Throughout (IsLegalNext from_formatted 0) past h
+less-from most past [] t = tt
+less-from most past ((p, entry.Call c b l g cl a op) ∷ h) t =
+    (record { number = (t.0).number; report = (t.0).report; room = full-less most (outcome from_formatted (kept from_formatted past) p cl) a (t.0).room; reply = (t.0).reply }, less-from most (past ++ (p, entry.Call c b l g cl a op) ∷ []) h t.1)
+less-from most past ((p, entry.Loss c b ns) ∷ h) t = (t.0, less-from most (past ++ (p, entry.Loss c b ns) ∷ []) h t.1)
+
+pub legal-less : (most : ℕ) (h : History) → IsLegal from_formatted most h → IsLegal from_formatted 0 h
+legal-less most h t = less-from most [] h t

@@ -1,0 +1,11 @@
+pub mod Stable
+pub mod Firsts
+pub mod Numbers
+pub mod Flags
+pub mod Asked
+pub mod AllStarts
+pub mod Lost
+pub mod Volumes
+pub mod Loops
+pub mod Steps
+pub mod Checks

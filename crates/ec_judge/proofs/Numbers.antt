@@ -1,0 +1,315 @@
+-- What the numbers of a legal history's operations say: they rise, none is kept twice, and what is kept wasn't lost.
+use Rattle.std.proofs.Common.{◌≡◌, refl, sym, ap, subst, ◌∙◌, arith, ◌≤◌, ◌<◌, ℕ, T, Bool, true, false, not, ◌==◌, ◌&&◌, ◌||◌, cond, map, List, [], ◌∷◌, ◌++◌, Option, Some, None, append-nil, append_assoc}
+use Rattle.std.specs.Prelude.{nat_lt, ⊤}
+use Rattle.std.specs.Ordering.{nat_cmp}
+use Rattle.std.specs.FinMap.{is_sorted}
+use Rattle.std.specs.List.{filter, list_all, list_any}
+use Rattle.std.proofs.lemmas.Bool.{and_parts, eqb-true, true≢false}
+use Rattle.std.proofs.lemmas.Bool.Decides.{nat_tests}
+use Rattle.std.proofs.lemmas.List.Elements.{filter-append}
+use Rattle.ec_volume.specs.Update.{member}
+use Rattle.ec_volume.specs.declared.update.Update.{Update}
+use Rattle.ec_chains.specs.Held.{is_behind}
+use Rattle.ec_chains.proofs.Held.{sorted_more}
+use Rattle.ec_history.specs.History.{Base, History, Op, Throughout, Each, Covers, same_start, of_start, is_one_of, of_issue, outcome, kept, kept_next, issued, issued_by, without, is_lost, names}
+use Rattle.ec_history.specs.Legal.{IsLegal, IsLegalNext, leaves, is_call_of_other}
+use Rattle.ec_history.specs.declared.entry.Answer.{Answer}
+use Rattle.ec_history.specs.declared.entry.Entry.{Entry}
+use Rattle.ec_history.specs.declared.entry.Entry.TheVariants as entry
+use Rattle.ec_laws.proofs.Cuts.{legal-step, throughout-append}
+use Rattle.ec_laws.proofs.More.{kept-step, issued-step, is_lost-append, count-step}
+use Rattle.ec_laws.proofs.Numbers.{count, IsUpTo, issued-up_to, kept-up_to, kept-each, throughout-issued, covers-up_to, each-append, each-map}
+use Rattle.ec_laws.proofs.Removed.{left, right}
+use Rattle.ec_laws.proofs.Objects.{holds, is-true}
+use Rattle.ec_judge.specs.Carried.{IsUncovered, IsUntouched}
+
+-- Lists.
+
+pub each-kept : {A : Type 0} (P Q : A → Type 0) (p : A → Bool) → ((x : A) → p x ≡ true → P x → Q x) → (xs : List A) → Each P xs → Each Q (filter p xs)
+each-kept P Q p f [] h = tt
+each-kept P Q p f (x ∷ xs) h = go (p x) refl (each-kept P Q p f xs h.1)
+  where
+    go : (b : Bool) → p x ≡ b → Each Q (filter p xs) → Each Q (cond b (x ∷ filter p xs) (filter p xs))
+    go true e r = (f x e h.0, r)
+    go false e r = r
+
+pub each-both : {A : Type 0} (P Q : A → Type 0) (xs : List A) → Each P xs → Each Q xs → Each (λ x. P x × Q x) xs
+each-both P Q [] h k = tt
+each-both P Q (x ∷ xs) h k = ((h.0, k.0), each-both P Q xs h.1 k.1)
+
+filter-swap : {A : Type 0} (p q : A → Bool) (xs : List A) → filter p (filter q xs) ≡ filter q (filter p xs)
+filter-swap p q [] = refl
+filter-swap p q (x ∷ xs) = go (p x) (q x) refl refl (filter-swap p q xs)
+  where
+    go : (a b : Bool) → p x ≡ a → q x ≡ b → filter p (filter q xs) ≡ filter q (filter p xs) → filter p (cond b (x ∷ filter q xs) (filter q xs)) ≡ filter q (cond a (x ∷ filter p xs) (filter p xs))
+    go true true d e r = ap (λ c. cond c (x ∷ filter p (filter q xs)) (filter p (filter q xs))) d ∙ ap (λ l. x ∷ l) r ∙ sym (ap (λ c. cond c (x ∷ filter q (filter p xs)) (filter q (filter p xs))) e)
+    go true false d e r = r ∙ sym (ap (λ c. cond c (x ∷ filter q (filter p xs)) (filter q (filter p xs))) e)
+    go false true d e r = ap (λ c. cond c (x ∷ filter p (filter q xs)) (filter p (filter q xs))) d ∙ r
+    go false false d e r = r
+
+filter-none : {A : Type 0} (p : A → Bool) (xs : List A) → Each (λ x. p x ≡ false) xs → filter p xs ≡ []
+filter-none p [] h = refl
+filter-none p (x ∷ xs) h = ap (λ c. cond c (x ∷ filter p xs) (filter p xs)) h.0 ∙ filter-none p xs h.1
+
+pub all-member : (p : ℕ → Bool) (ns : List ℕ) (n : ℕ) → T (list_all p ns) → T (member n ns) → T (p n)
+all-member p [] n h m = absurd m
+all-member p (k ∷ ns) n h m = go (n == k) refl m (all-member p ns n (right (p k) _ h))
+  where
+    go : (b : Bool) → (n == k) ≡ b → T (b || member n ns) → (T (member n ns) → T (p n)) → T (p n)
+    go true e t r = subst (λ x. T (p x)) (sym (eqb-true n k e)) (left (p k) _ h)
+    go false e t r = r t
+
+-- Numbers.
+
+one-parts : (c b n : ℕ) (k : Op) → is_one_of c b (n ∷ []) k ≡ true → (of_start c b k ≡ true) × (k.number ≡ n)
+one-parts c b n k e =
+    let parts = and_parts (of_start c b k) ((k.number == n) || false) e in
+    (parts.0, go (k.number == n) refl parts.1)
+  where
+    go : (x : Bool) → (k.number == n) ≡ x → (x || false) ≡ true → k.number ≡ n
+    go true f t = eqb-true k.number n f
+    go false f t = absurd (true≢false (sym t))
+
+not-one : (c b m n : ℕ) (k : Op) → IsUpTo c b m k → m < n → is_one_of c b (n ∷ []) k ≡ false
+not-one c b m n k u l = go (is_one_of c b (n ∷ []) k) refl
+  where
+    go : (x : Bool) → is_one_of c b (n ∷ []) k ≡ x → x ≡ false
+    go false e = refl
+    go true e =
+        let parts = one-parts c b n k e in
+        absurd (omega (arith, u parts.0, parts.1, l))
+
+any-up_to : (c b m n : ℕ) (ks : List Op) → Each (IsUpTo c b m) ks → T (list_any (is_one_of c b (n ∷ [])) ks) → n ≤ m
+any-up_to c b m n [] u t = absurd t
+any-up_to c b m n (k ∷ ks) u t = go (is_one_of c b (n ∷ []) k) refl t (any-up_to c b m n ks u.1)
+  where
+    go : (x : Bool) → is_one_of c b (n ∷ []) k ≡ x → T (x || list_any (is_one_of c b (n ∷ [])) ks) → (T (list_any (is_one_of c b (n ∷ [])) ks) → n ≤ m) → n ≤ m
+    go false e r f = f r
+    go true e r f =
+        let parts = one-parts c b n k e in
+        omega (arith, u.0 parts.0, parts.1)
+
+abbrev pub only : List Op → Op → Type 0
+only ks k = filter (is_one_of k.clerk k.boot (k.number ∷ [])) ks ≡ k ∷ []
+
+same-self : (n : ℕ) → (n == n) ≡ true
+same-self n = grind (arith, nat_tests)
+
+own-one : (k : Op) → is_one_of k.clerk k.boot (k.number ∷ []) k ≡ true
+own-one k = ap (λ x. (x && (k.boot == k.boot)) && ((k.number == k.number) || false)) (same-self k.clerk) ∙ ap (λ x. x && ((k.number == k.number) || false)) (same-self k.boot) ∙ ap (λ x. x || false) (same-self k.number)
+
+-- one more operation, with a number above those of its start
+only-more : (ks : List Op) (j : Op) (m : ℕ) → Each (only ks) ks → Each (IsUpTo j.clerk j.boot m) ks → m < j.number → Each (only (ks ++ j ∷ [])) (ks ++ j ∷ [])
+only-more ks j m h u l =
+    each-append (only (ks ++ j ∷ [])) ks (j ∷ []) (old ks h u) (
+      filter-append (is_one_of j.clerk j.boot (j.number ∷ [])) ks (j ∷ [])
+          ∙ ap (λ l. l ++ filter (is_one_of j.clerk j.boot (j.number ∷ [])) (j ∷ [])) (filter-none _ ks (each-map (IsUpTo j.clerk j.boot m) _ (λ k v. not-one j.clerk j.boot m j.number k v l) ks u))
+          ∙ ap (λ x. cond x (j ∷ []) []) (own-one j),
+      tt,
+    )
+  where
+    apart : (k : Op) → IsUpTo j.clerk j.boot m k → is_one_of k.clerk k.boot (k.number ∷ []) j ≡ false
+    apart k v = go (is_one_of k.clerk k.boot (k.number ∷ []) j) refl
+      where
+        go : (x : Bool) → is_one_of k.clerk k.boot (k.number ∷ []) j ≡ x → x ≡ false
+        go false e = refl
+        go true e =
+            let parts = one-parts k.clerk k.boot k.number j e in
+            let both = and_parts (k.clerk == j.clerk) (k.boot == j.boot) parts.0 in
+            let own : of_start j.clerk j.boot k ≡ true = ap (λ x. (x == k.clerk) && (j.boot == k.boot)) (sym (eqb-true k.clerk j.clerk both.0)) ∙ ap (λ x. (k.clerk == k.clerk) && (x == k.boot)) (sym (eqb-true k.boot j.boot both.1))
+            ∙ ap (λ x. x && (k.boot == k.boot)) (same-self k.clerk) ∙ same-self k.boot in
+            absurd (omega (arith, v own, parts.1, l))
+
+    old : (xs : List Op) → Each (only ks) xs → Each (IsUpTo j.clerk j.boot m) xs → Each (only (ks ++ j ∷ [])) xs
+    old [] h u = tt
+    old (k ∷ xs) h u = (
+      filter-append (is_one_of k.clerk k.boot (k.number ∷ [])) ks (j ∷ [])
+          ∙ ap (λ x. filter (is_one_of k.clerk k.boot (k.number ∷ [])) ks ++ cond x (j ∷ []) []) (apart k u.0)
+          ∙ append-nil _
+          ∙ h.0,
+      old xs h.1 u.1,
+    )
+
+only-without : (c b : ℕ) (ns : List ℕ) (ks : List Op) → Each (only ks) ks → Each (only (without c b ns ks)) (without c b ns ks)
+only-without c b ns ks h =
+    each-kept (only ks) (only (without c b ns ks)) (λ k. not (is_one_of c b ns k)) (λ k e o.
+    filter-swap (is_one_of k.clerk k.boot (k.number ∷ [])) (λ k. not (is_one_of c b ns k)) ks
+    ∙ ap (filter (λ k. not (is_one_of c b ns k))) o
+    ∙ ap (λ x. cond x (k ∷ []) []) e) ks h
+
+module _ (base : Base) (most : ℕ) where
+  module _ (Q : History → Type 0) (more : (past : History) (e : ℕ × Entry) → IsLegal base most past → IsLegalNext base most past e → Q past → Q (past ++ e ∷ [])) where
+    steps-from : (past h : History) → IsLegal base most past → Q past → Throughout (IsLegalNext base most) past h → Q (past ++ h)
+    steps-from past [] l q t = subst Q (sym (append-nil past)) q
+    steps-from past (e ∷ h) l q t = subst Q (append_assoc past (e ∷ []) h) (steps-from (past ++ e ∷ []) h (legal-step base most past e l t.0) (more past e l t.0 q) t.1)
+
+    by-steps : Q [] → (h : History) → IsLegal base most h → Q h
+    by-steps q h l = steps-from [] h tt q l
+
+  -- a new operation is behind those of its start
+  new-number : (past : History) (p c b l g : ℕ) (cl : _) (a : Answer) (n : ℕ) → IsLegalNext base most past (p, entry.Call c b l g cl a (Some n)) → count c b past < n
+  new-number past p c b l g cl a n k = omega (arith, k.number)
+
+  -- No operation is kept twice.
+
+  only-next : (past : History) (e : ℕ × Entry) → IsLegal base most past → IsLegalNext base most past e → Each (only (kept base past)) (kept base past) → Each (only (kept_next base (kept base past) e)) (kept_next base (kept base past) e)
+  only-next past (p, entry.Loss c b ns) l k h = only-without c b ns (kept base past) h
+  only-next past (p, entry.Call c b li g cl a None) l k h = subst (λ ks. Each (only ks) ks) (sym (append-nil (kept base past))) h
+  only-next past (p, entry.Call c b li g cl a (Some n)) l k h = go ((outcome base (kept base past) p cl).update)
+    where
+      go : (u : Option Update) → Each (only (kept base past ++ elim u [ None ↦ [] | Some w ↦ record { clerk = c; boot = b; number = n; place = p; update = w } ∷ [] ]))
+          (kept base past ++ elim u [ None ↦ [] | Some w ↦ record { clerk = c; boot = b; number = n; place = p; update = w } ∷ [] ])
+      go None = subst (λ ks. Each (only ks) ks) (sym (append-nil (kept base past))) h
+      go (Some w) =
+          let j : Op = record { clerk = c; boot = b; number = n; place = p; update = w } in
+          only-more (kept base past) j (count c b past) h (kept-up_to base most c b past l) (new-number past p c b li g cl a n k)
+
+  pub kept-only : (h : History) → IsLegal base most h → Each (only (kept base h)) (kept base h)
+  kept-only = by-steps (λ h. Each (only (kept base h)) (kept base h)) (λ past e l k h. subst (λ ks. Each (only ks) ks) (sym (kept-step base past e)) (only-next past e l k h)) tt
+
+  -- The numbers of a start's operations rise.
+
+  module _ (c b : ℕ) where
+    behind-all : (m n : ℕ) (ks : List Op) → Each (IsUpTo c b m) ks → m < n → is_behind n (of_issue c b ks) ≡ true
+    behind-all m n [] u l = refl
+    behind-all m n (k ∷ ks) u l = go (of_start c b k) refl (behind-all m n ks u.1 l)
+      where
+        lower : (x : ℕ) → x ≤ m → nat_lt x n ≡ true
+        lower x f = grind (arith, nat_tests, f, l)
+
+        go : (x : Bool) → of_start c b k ≡ x → is_behind n (of_issue c b ks) ≡ true → is_behind n (map (λ j. (j.number, j.update)) (cond x (k ∷ filter (of_start c b) ks) (filter (of_start c b) ks))) ≡ true
+        go true e r = ap (λ z. z && is_behind n (of_issue c b ks)) (lower k.number (u.0 e)) ∙ r
+        go false e r = r
+
+    issue-more : (ks : List Op) (j : Op) (m : ℕ) → T (is_sorted nat_cmp (of_issue c b ks)) → Each (IsUpTo c b m) ks → (of_start c b j ≡ true → m < j.number) → T (is_sorted nat_cmp (of_issue c b (ks ++ j ∷ [])))
+    issue-more ks j m s u l = subst (λ x. T (is_sorted nat_cmp x)) (sym (split ks)) (go (of_start c b j) refl)
+      where
+        pair : Op → ℕ × Update
+        pair k = (k.number, k.update)
+
+        map-append : (xs ys : List Op) → map {B = ℕ × Update} (λ k. (k.number, k.update)) (xs ++ ys) ≡ map (λ k. (k.number, k.update)) xs ++ map (λ k. (k.number, k.update)) ys
+        map-append [] ys = refl
+        map-append (x ∷ xs) ys = ap (λ z. (x.number, x.update) ∷ z) (map-append xs ys)
+
+        split : (xs : List Op) → of_issue c b (xs ++ j ∷ []) ≡ of_issue c b xs ++ of_issue c b (j ∷ [])
+        split xs = ap (map (λ k. (k.number, k.update))) (filter-append (of_start c b) xs (j ∷ [])) ∙ map-append (filter (of_start c b) xs) (filter (of_start c b) (j ∷ []))
+
+        go : (x : Bool) → of_start c b j ≡ x → T (is_sorted nat_cmp (of_issue c b ks ++ map (λ k. (k.number, k.update)) (cond x (j ∷ []) [])))
+        go true e = sorted_more (of_issue c b ks) j.number j.update s (behind-all m j.number ks u (l e))
+        go false e = subst (λ x. T (is_sorted nat_cmp x)) (sym (append-nil (of_issue c b ks))) s
+
+    issue-next : (past : History) (e : ℕ × Entry) → IsLegal base most past → IsLegalNext base most past e → T (is_sorted nat_cmp (of_issue c b (issued base past))) → T (is_sorted nat_cmp (of_issue c b (issued base past ++ issued_by base (kept base past) e)))
+    issue-next past (p, entry.Loss d f ns) l k h = subst (λ ks. T (is_sorted nat_cmp (of_issue c b ks))) (sym (append-nil (issued base past))) h
+    issue-next past (p, entry.Call d f li g cl a None) l k h = subst (λ ks. T (is_sorted nat_cmp (of_issue c b ks))) (sym (append-nil (issued base past))) h
+    issue-next past (p, entry.Call d f li g cl a (Some n)) l k h = go ((outcome base (kept base past) p cl).update)
+      where
+        own : same_start c b d f ≡ true → count c b past < n
+        own e =
+            let parts = and_parts (c == d) (b == f) e in
+            let same : count c b past ≡ count d f past = ap (λ x. count x b past) (eqb-true c d parts.0) ∙ ap (λ x. count d x past) (eqb-true b f parts.1) in
+            omega (arith, k.number, same)
+
+        go : (u : Option Update) → T (is_sorted nat_cmp (of_issue c b (issued base past ++ elim u [ None ↦ [] | Some w ↦ record { clerk = d; boot = f; number = n; place = p; update = w } ∷ [] ])))
+        go None = subst (λ ks. T (is_sorted nat_cmp (of_issue c b ks))) (sym (append-nil (issued base past))) h
+        go (Some w) = issue-more (issued base past) (record { clerk = d; boot = f; number = n; place = p; update = w }) (count c b past) h (issued-up_to base most c b past l) own
+
+    pub issue-sorted : (h : History) → IsLegal base most h → T (is_sorted nat_cmp (of_issue c b (issued base h)))
+    issue-sorted = by-steps (λ h. T (is_sorted nat_cmp (of_issue c b (issued base h)))) (λ past e l k h. subst (λ ks. T (is_sorted nat_cmp (of_issue c b ks))) (sym (issued-step base past e)) (issue-next past e l k h)) tt
+
+    -- What was lost has a number of the start.
+
+    named-up_to : (past : History) (e : ℕ × Entry) (n : ℕ) → IsLegal base most past → IsLegalNext base most past e → T (names c b n e.1) → n ≤ count c b past
+    named-up_to past (p, entry.Call d f li g cl a op) n l k t = absurd t
+    named-up_to past (p, entry.Loss d f ns) n l k t =
+        let own = and_parts (c == d) (b == f) (is-true _ (left (same_start c b d f) (member n ns) t)) in
+        let there : T (list_any (is_one_of d f (n ∷ [])) (kept base past)) = all-member (λ m. list_any (is_one_of d f (m ∷ [])) (kept base past)) ns n k.kept_so_far (right (same_start c b d f) (member n ns) t) in
+        any-up_to c b (count c b past) n (kept base past) (kept-up_to base most c b past l)
+        (subst (λ x. T (list_any (is_one_of x b (n ∷ [])) (kept base past))) (sym (eqb-true c d own.0)) (subst (λ x. T (list_any (is_one_of d x (n ∷ [])) (kept base past))) (sym (eqb-true b f own.1)) there))
+
+    lost-up_to : (h : History) → IsLegal base most h → (n : ℕ) → T (is_lost c b n h) → n ≤ count c b h
+    lost-up_to = by-steps (λ h. (n : ℕ) → T (is_lost c b n h) → n ≤ count c b h) next (λ n t. absurd t)
+      where
+        next : (past : History) (e : ℕ × Entry) → IsLegal base most past → IsLegalNext base most past e → ((n : ℕ) → T (is_lost c b n past) → n ≤ count c b past) → (n : ℕ) → T (is_lost c b n (past ++ e ∷ [])) → n ≤ count c b (past ++ e ∷ [])
+        next past e l k q n t = go (is_lost c b n past) (names c b n e.1) refl refl (subst T (is_lost-append c b n past (e ∷ [])) t)
+          where
+            go : (x y : Bool) → is_lost c b n past ≡ x → names c b n e.1 ≡ y → T (x || (y || false)) → n ≤ count c b (past ++ e ∷ [])
+            go true y d f r = omega (arith, q n (holds d), count-step c b past e)
+            go false true d f r = omega (arith, named-up_to past e n l k (holds f), count-step c b past e)
+            go false false d f r = absurd r
+
+  -- What is kept wasn't lost.
+
+  abbrev pub unlost : History → Op → Type 0
+  unlost h k = is_lost k.clerk k.boot k.number h ≡ false
+
+  named-not : (p c b : ℕ) (ns : List ℕ) (k : Op) → not (is_one_of c b ns k) ≡ true → names k.clerk k.boot k.number (entry.Loss c b ns) ≡ false
+  named-not p c b ns k e = go (is_one_of c b ns k) refl e
+    where
+      turn : (names k.clerk k.boot k.number (entry.Loss c b ns)) ≡ is_one_of c b ns k
+      turn = ap (λ x. (x && (k.boot == b)) && member k.number ns) (flip k.clerk c) ∙ ap (λ x. ((c == k.clerk) && x) && member k.number ns) (flip k.boot b)
+        where
+          flip : (x y : ℕ) → (x == y) ≡ (y == x)
+          flip x y = grind (arith, nat_tests)
+
+      go : (x : Bool) → is_one_of c b ns k ≡ x → not x ≡ true → names k.clerk k.boot k.number (entry.Loss c b ns) ≡ false
+      go false d r = turn ∙ d
+      go true d r = absurd (true≢false (sym r))
+
+  unlost-more : (past : History) (e : ℕ × Entry) (k : Op) → unlost past k → names k.clerk k.boot k.number e.1 ≡ false → unlost (past ++ e ∷ []) k
+  unlost-more past e k h f = is_lost-append k.clerk k.boot k.number past (e ∷ []) ∙ ap (λ x. x || (names k.clerk k.boot k.number e.1 || false)) h ∙ ap (λ x. x || false) f
+
+  unlost-next : (past : History) (e : ℕ × Entry) → IsLegal base most past → IsLegalNext base most past e → Each (unlost past) (kept base past) → Each (unlost (past ++ e ∷ [])) (kept_next base (kept base past) e)
+  unlost-next past (p, entry.Loss c b ns) l k h =
+      each-kept (unlost past) (unlost (past ++ (p, entry.Loss c b ns) ∷ [])) (λ k. not (is_one_of c b ns k)) (λ k e o. unlost-more past (p, entry.Loss c b ns) k o (named-not p c b ns k e)) (kept base past) h
+  unlost-next past (p, entry.Call c b li g cl a op) l k h =
+      each-append (unlost longer) (kept base past) (issued_by base (kept base past) (p, entry.Call c b li g cl a op)) (each-map (unlost past) (unlost longer) (λ k o. unlost-more past (p, entry.Call c b li g cl a op) k o refl) (kept base past) h) (new op k)
+    where
+      longer : History
+      longer = past ++ (p, entry.Call c b li g cl a op) ∷ []
+
+      new : (op : Option ℕ) → IsLegalNext base most past (p, entry.Call c b li g cl a op) → Each (unlost (past ++ (p, entry.Call c b li g cl a op) ∷ [])) (issued_by base (kept base past) (p, entry.Call c b li g cl a op))
+      new None k = tt
+      new (Some n) k = go ((outcome base (kept base past) p cl).update)
+        where
+          fresh : is_lost c b n past ≡ false
+          fresh = at (is_lost c b n past) refl
+            where
+              at : (x : Bool) → is_lost c b n past ≡ x → x ≡ false
+              at false e = refl
+              at true e = absurd (omega (arith, lost-up_to c b past l n (holds e), k.number))
+
+          go : (u : Option Update) → Each (unlost (past ++ (p, entry.Call c b li g cl a (Some n)) ∷ [])) (elim u [ None ↦ [] | Some w ↦ record { clerk = c; boot = b; number = n; place = p; update = w } ∷ [] ])
+          go None = tt
+          go (Some w) = (unlost-more past (p, entry.Call c b li g cl a (Some n)) (record { clerk = c; boot = b; number = n; place = p; update = w }) fresh refl, tt)
+
+  pub kept-unlost : (h : History) → IsLegal base most h → Each (unlost h) (kept base h)
+  kept-unlost = by-steps (λ h. Each (unlost h) (kept base h)) (λ past e l k h. subst (Each (unlost (past ++ e ∷ []))) (sym (kept-step base past e)) (unlost-next past e l k h)) tt
+
+  -- A new operation isn't covered or touched.
+
+  anything : (past h : History) → Throughout (λ h e. ⊤) past h
+  anything past [] = tt
+  anything past (e ∷ h) = (tt, anything (past ++ e ∷ []) h)
+
+  module _ (past : History) (e : ℕ × Entry) (k : Op) (l : IsLegal base most past) (new : count k.clerk k.boot past < k.number) where
+    up_to : Each (IsUpTo k.clerk k.boot (count k.clerk k.boot past)) (issued base past)
+    up_to = issued-up_to base most k.clerk k.boot past l
+
+    not-covered : (h : History) (f : ℕ × Entry) → Each (IsUpTo k.clerk k.boot (count k.clerk k.boot past)) (issued base h) → ¬ (Covers base h f k.clerk k.boot k.number)
+    not-covered h f i v = omega (arith, covers-up_to base h f k.clerk k.boot (count k.clerk k.boot past) k.number i v, new)
+
+    pub new-uncovered : IsUncovered base (past ++ e ∷ []) k
+    new-uncovered = throughout-append _ [] past (e ∷ []) (throughout-issued base (IsUpTo k.clerk k.boot (count k.clerk k.boot past)) (λ h f. ⊤) (λ h f. ¬ (Covers base h f k.clerk k.boot k.number)) (λ h f i t. not-covered h f i) [] past up_to (anything [] past)) (not-covered past e up_to, tt)
+
+    not-touched : (h : History) (f : ℕ × Entry) → Each (IsUpTo k.clerk k.boot (count k.clerk k.boot past)) (issued base h) → T (leaves base (kept base h) k.clerk (filter (is_one_of k.clerk k.boot (k.number ∷ [])) (kept base h)) f)
+    not-touched h f i =
+        let none : filter (is_one_of k.clerk k.boot (k.number ∷ [])) (kept base h) ≡ [] =
+        filter-none _ (kept base h) (each-map (IsUpTo k.clerk k.boot (count k.clerk k.boot past)) _ (λ j u. not-one k.clerk k.boot (count k.clerk k.boot past) k.number j u new) (kept base h) (kept-each base (IsUpTo k.clerk k.boot (count k.clerk k.boot past)) h i)) in
+        subst (λ ls. T (leaves base (kept base h) k.clerk ls f)) (sym none) (go (not (is_call_of_other k.clerk f.1)))
+      where
+        go : (x : Bool) → T (x || true)
+        go true = tt
+        go false = tt
+
+    pub new-untouched : IsUntouched base (past ++ e ∷ []) k
+    new-untouched = throughout-append _ [] past (e ∷ []) (throughout-issued base (IsUpTo k.clerk k.boot (count k.clerk k.boot past)) (λ h f. ⊤) _ (λ h f i t. not-touched h f i) [] past up_to (anything [] past)) (not-touched past e up_to, tt)

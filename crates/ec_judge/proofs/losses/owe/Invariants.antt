@@ -1,0 +1,14 @@
+use Rattle.std.proofs.Common.{◌≡◌, ◌++◌, take}
+use Rattle.std.specs.List.{filter}
+use Rattle.ec_history.specs.History.{is_one_of, pairs_of}
+use Rattle.ec_judge.specs.Carried.{ops_of}
+use Rattle.ec_judge.proofs.losses.owe.Given as goal
+
+abbrev pub invariant-loop-lost : goal.invariant-loop-lost
+invariant-loop-lost l = record {
+  clerk : l.start.clerk ≡ l.fn.start.clerk;
+  boot : l.start.boot ≡ l.fn.start.boot;
+  count : l.start.count ≡ l.fn.start.count;
+  owed : l.start.owed.items ≡ l.fn.start.owed.items ++ pairs_of (filter (is_one_of l.clerk l.boot l.ops) (ops_of (take l.lost-index l.kept)));
+  issued : l.start.issued.items ≡ l.fn.start.issued.items;
+}

@@ -1,0 +1,119 @@
+// The judge of histories.
+ghost use Rattle.std.specs.Prelude.{◌≡◌, ◌<◌, ◌^◌, [], ℕ, T, IfOk};
+ghost use Rattle.std.specs.List.{list_all};
+ghost use Rattle.ec_volume.specs.Update.{is_sound};
+ghost use Rattle.ec_history.specs.History.{updates};
+ghost use Rattle.ec_history.specs.Legal.{from_formatted};
+ghost use Rattle.ec_history.specs.declared.entry.Entry.TheVariants as entry;
+ghost use Rattle.ec_judge.specs.Carried.{Carries, IsReady, Judges, ops_of};
+
+use crate::carried::{Issuer, Judge};
+use crate::{calls, covers, losses, starts};
+use ec_base::{ClerkId, NoMemory, ObjId, OpNo};
+use ec_history::{Answer, Entry, Rule};
+use ec_plain::{Call, Outcome, plain};
+use ec_volume::Volume;
+use std::alloc::Global;
+
+impl Judge {
+    /// Nothing was done yet.
+    pub fn new(alloc: Global) -> Result<Judge, NoMemory>
+        ensures { IfOk result (λ judge. Carries from_formatted [] judge) }
+    {
+        Ok(Judge {
+            alloc,
+            volume: Volume::formatted(alloc)?,
+            kept: Vec::new(alloc),
+            starts: Vec::new(alloc),
+        })
+    }
+
+    /// The first rule that the entry breaks; else it is carried.
+    pub fn judge(&mut self, most: u32, place: u32, entry: &Entry) -> Result<Option<Rule>, NoMemory>
+        requires place { place < 2 ^ 31 }
+        requires ready { IsReady self.old (place, entry.now) }
+        ensures { IfOk result (λ found. Judges most self.old self.new (place, entry.now) found) }
+    {
+        match entry {
+            Entry::Call {
+                clerk,
+                boot,
+                line: _,
+                begun,
+                call,
+                answer,
+                op,
+            } => {
+                let issuer = Issuer {
+                    clerk: *clerk,
+                    boot: *boot,
+                    place,
+                };
+                self.judge_call(most, &issuer, *begun, call, answer, op)
+            }
+            Entry::Loss { clerk, boot, ops } => self.judge_loss(*clerk, *boot, ops.as_slice()),
+        }
+    }
+
+    fn judge_call(
+        &mut self,
+        most: u32,
+        issuer: &Issuer,
+        begun: u32,
+        call: &Call,
+        answer: &Answer,
+        op: &Option<OpNo>,
+    ) -> Result<Option<Rule>, NoMemory>
+        requires place { issuer.now.place < 2 ^ 31 }
+        requires ready { (l : ℕ) → IsReady self.old (issuer.now.place, entry.Call issuer.now.clerk issuer.now.boot l begun call.now answer.now op.now) }
+        ensures { IfOk result (λ found. (l : ℕ) → Judges most self.old self.new (issuer.now.place, entry.Call issuer.now.clerk issuer.now.boot l begun call.now answer.now op.now) found) }
+    {
+        let Some(fresh) = ObjId::new(issuer.place + 1) else {
+            unreachable!();
+        };
+        let outcome = plain(self.alloc, &self.volume, call, fresh)?;
+        let at = starts::index_of(self.alloc, &mut self.starts, issuer.clerk, issuer.boot)?;
+        let start = &self.starts[at];
+        if let Some(rule) = calls::broken(self.alloc, most, start, call, &outcome, answer, op)? {
+            return Ok(Some(rule));
+        }
+        let issued = &start.issued;
+        let ops = covers::covered(self.alloc, issued, begun, call, &outcome, answer, op)?;
+        covers::mark_all(&mut self.kept, issuer.clerk, issuer.boot, &ops);
+        losses::touch_all(&mut self.kept, issuer.clerk, outcome.touched.as_slice());
+        starts::note_at(&mut self.starts, at, issuer.place, op, call, &outcome)?;
+        let Outcome { update, .. } = outcome;
+        starts::keep(&mut self.volume, &mut self.kept, issuer, op, update)?;
+        Ok(None)
+    }
+
+    fn judge_loss(
+        &mut self,
+        clerk: ClerkId,
+        boot: u64,
+        ops: &[OpNo],
+    ) -> Result<Option<Rule>, NoMemory>
+        requires { T (list_all is_sound (updates (ops_of self.old.kept.items))) }
+        ensures { IfOk result (λ found. (most p : ℕ) → Judges most self.old self.new (p, entry.Loss clerk boot ops.now) found) }
+    {
+        if let Some(rule) = losses::broken(self.alloc, &self.kept, clerk, boot, ops)? {
+            return Ok(Some(rule));
+        }
+        let Some(volume) = losses::volume_without(self.alloc, &self.kept, clerk, boot, ops)? else {
+            return Ok(Some(Rule::Fits));
+        };
+        let at = starts::index_of(self.alloc, &mut self.starts, clerk, boot)?;
+        losses::owe_at(
+            self.alloc,
+            &mut self.starts,
+            at,
+            &self.kept,
+            clerk,
+            boot,
+            ops,
+        )?;
+        losses::forget(&mut self.kept, clerk, boot, ops);
+        self.volume = volume;
+        Ok(None)
+    }
+}

@@ -1,0 +1,19 @@
+//! Judges histories, entry by entry.
+#![tactic(auto)]
+
+mod calls;
+mod carried;
+mod checking;
+mod covers;
+mod examples;
+mod fault;
+mod judge;
+mod laws;
+mod losses;
+mod replies;
+mod starts;
+
+pub use checking::{check, kept, owed};
+pub use examples::each_rule_can_break;
+pub use fault::HistoryFault;
+pub use laws::{faults_are_single, legal_is_without_fault};

@@ -1,0 +1,285 @@
+// The rules of a loss.
+ghost use Rattle.std.specs.Prelude.{◌≡◌, ℕ, T, ◌||◌, ◌&&◌, ◌++◌, ◌∷◌, [], ◌<◌, ◌+◌, not, map, drop, length, slice_index_or, slice_set, Some, None, IfOk, OnOk, MatchBool, MatchOption};
+ghost use Rattle.std.specs.List.{filter, list_any, list_all};
+ghost use Rattle.ec_volume.specs.Update.{member, operands, is_sound, first_unfit};
+ghost use Rattle.ec_volume.specs.Volume.{images, formatted, after, Fits};
+ghost use Rattle.ec_order.specs.Order as order;
+ghost use Rattle.ec_history.specs.History.{updates, of_start, is_one_of, pairs_of};
+ghost use Rattle.ec_judge.specs.Carried.{ops_of, op_of, is_among, touching, are_kept, are_uncovered, are_untouched, are_closed, KeepsMarks, BreaksMarks, IsOwing};
+ghost use Rattle.ec_judge.specs.declared.carried.Start.{Start as StartOf};
+
+use crate::carried::{Kept, Start};
+use ec_base::{ClerkId, NoMemory, ObjId, OpNo};
+use ec_chains::has_operand;
+use ec_history::Rule;
+use ec_order::is_overwrite;
+use ec_volume::{ApplyFault, Update, Volume, operands};
+use std::alloc::Global;
+
+/// The first rule that a loss of these operations breaks, but for what is left of the others.
+pub fn broken(
+    alloc: Global,
+    kept: &[Kept],
+    clerk: ClerkId,
+    boot: u64,
+    ops: &[OpNo],
+) -> Result<Option<Rule>, NoMemory>
+    ensures { IfOk result (λ found. MatchOption found (KeepsMarks clerk boot ops.now kept.now) (λ rule. BreaksMarks clerk boot ops.now kept.now rule)) }
+{
+    if !are_kept(kept, clerk, boot, ops) {
+        return Ok(Some(Rule::Named));
+    }
+    if !are_uncovered(kept, clerk, boot, ops) {
+        return Ok(Some(Rule::Covered));
+    }
+    if !are_untouched(kept, clerk, boot, ops) {
+        return Ok(Some(Rule::Touched));
+    }
+    if !are_closed(alloc, kept, clerk, boot, ops)? {
+        return Ok(Some(Rule::Closed));
+    }
+    Ok(None)
+}
+
+// Whether the kept operation is one of these of the start.
+fn is_among(kept: &Kept, clerk: ClerkId, boot: u64, ops: &[OpNo]) -> bool
+    ensures { result ≡ is_among clerk boot ops.now kept.now }
+{
+    clerk == kept.clerk && boot == kept.boot && ops.contains(&kept.number)
+}
+
+// Whether each of the operations is kept.
+fn are_kept(kept: &[Kept], clerk: ClerkId, boot: u64, ops: &[OpNo]) -> bool
+    ensures { result ≡ are_kept clerk boot ops.now kept.now }
+{
+    ops.iter().all(|op| is_kept(kept, clerk, boot, *op))
+}
+
+fn is_kept(kept: &[Kept], clerk: ClerkId, boot: u64, op: OpNo) -> bool
+    ensures { result ≡ list_any (λ k. is_among clerk boot (op ∷ []) k) kept.now }
+{
+    kept.iter().any(|kept| is_among(kept, clerk, boot, &[op]))
+}
+
+// Whether none of the operations is covered.
+fn are_uncovered(kept: &[Kept], clerk: ClerkId, boot: u64, ops: &[OpNo]) -> bool
+    ensures { result ≡ are_uncovered clerk boot ops.now kept.now }
+{
+    kept.iter()
+        .all(|kept| !(kept.covered && is_among(kept, clerk, boot, ops)))
+}
+
+// Whether none of the operations was touched.
+fn are_untouched(kept: &[Kept], clerk: ClerkId, boot: u64, ops: &[OpNo]) -> bool
+    ensures { result ≡ are_untouched clerk boot ops.now kept.now }
+{
+    kept.iter()
+        .all(|kept| !(kept.touched && is_among(kept, clerk, boot, ops)))
+}
+
+// Whether no other operation of the start is ordered after one of these.
+fn are_closed(
+    alloc: Global,
+    kept: &[Kept],
+    clerk: ClerkId,
+    boot: u64,
+    ops: &[OpNo],
+) -> Result<bool, NoMemory>
+    ensures { IfOk result (λ closed. closed ≡ are_closed clerk boot ops.now kept.now) }
+{
+    for (at, lost) in kept.iter().enumerate() {
+        if is_among(lost, clerk, boot, ops) {
+            let objs = operands(alloc, &lost.update)?;
+            if !is_last(behind(kept, at), clerk, boot, ops, &lost.update, &objs) {
+                return Ok(false);
+            }
+        }
+    }
+    Ok(true)
+}
+
+// The operations behind an index.
+fn behind(kept: &[Kept], at: usize) -> &[Kept]
+    requires { at < length kept.now }
+    ensures { result.now ≡ drop (at + 1) kept.now }
+{
+    kept.split_at(at + 1).1
+}
+
+// Whether no other operation of the start among these is ordered after the lost one.
+fn is_last(
+    later: &[Kept],
+    clerk: ClerkId,
+    boot: u64,
+    ops: &[OpNo],
+    lost: &Update,
+    objs: &[ObjId],
+) -> bool
+    requires { objs.now ≡ operands lost.now }
+    ensures { result ≡ list_all (λ k. is_one_of clerk boot ops.now k || not (order.before lost.now k.update)) (filter (of_start clerk boot) (ops_of later.now)) }
+{
+    for kept in later {
+        if is_left(kept, clerk, boot, ops, lost, objs) {
+            return false;
+        }
+    }
+    true
+}
+
+// Whether this is another operation of the start, and ordered after the lost one.
+fn is_left(
+    kept: &Kept,
+    clerk: ClerkId,
+    boot: u64,
+    ops: &[OpNo],
+    lost: &Update,
+    objs: &[ObjId],
+) -> bool
+    requires { objs.now ≡ operands lost.now }
+    ensures { result ≡ (of_start clerk boot (op_of kept.now) && not (is_one_of clerk boot ops.now (op_of kept.now) || not (order.before lost.now kept.now.update))) }
+{
+    clerk == kept.clerk
+        && boot == kept.boot
+        && !(is_among(kept, clerk, boot, ops) || !is_before(lost, objs, &kept.update))
+}
+
+// Whether the earlier update, with these operands, is ordered before the later one.
+fn is_before(earlier: &Update, objs: &[ObjId], later: &Update) -> bool
+    requires { objs.now ≡ operands earlier.now }
+    ensures { result ≡ order.before earlier.now later.now }
+{
+    shares(objs, later) && !(is_overwrite(earlier) && is_overwrite(later))
+}
+
+fn shares(objs: &[ObjId], update: &Update) -> bool
+    ensures { result ≡ list_any (λ o. member o (operands update.now)) objs.now }
+{
+    objs.iter().any(|obj| has_operand(update, *obj))
+}
+
+/// The volume without the operations, or `None` where the others don't fit.
+pub fn volume_without(
+    alloc: Global,
+    kept: &[Kept],
+    clerk: ClerkId,
+    boot: u64,
+    ops: &[OpNo],
+) -> Result<Option<Volume>, NoMemory>
+    requires { T (list_all is_sound (updates (ops_of kept.now))) }
+    ensures { IfOk result (λ found. MatchOption found (¬ (Fits formatted (updates (filter (λ k. not (is_one_of clerk boot ops.now k)) (ops_of kept.now)))))
+        (λ volume. Fits formatted (updates (filter (λ k. not (is_one_of clerk boot ops.now k)) (ops_of kept.now)))
+        × ((o : ℕ) → images volume o ≡ after formatted (updates (filter (λ k. not (is_one_of clerk boot ops.now k)) (ops_of kept.now))) o))) }
+{
+    let mut volume = Volume::formatted(alloc)?;
+    for kept in kept {
+        if is_among(kept, clerk, boot, ops) {
+            continue;
+        }
+        if !carry_out(&mut volume, &kept.update)? {
+            return Ok(None);
+        }
+    }
+    Ok(Some(volume))
+}
+
+// Carries the update out, if it fits.
+fn carry_out(volume: &mut Volume, update: &Update) -> Result<bool, NoMemory>
+    requires { T (is_sound update.now) }
+    ensures { IfOk result (λ fits. MatchBool fits ((first_unfit update.now (images volume.old) (operands update.now) ≡ None)
+        × ((o : ℕ) → images volume.new o ≡ after (images volume.old) (update.now ∷ []) o)) ((o : ℕ) × (first_unfit update.now (images volume.old) (operands update.now) ≡ Some o))) }
+{
+    match volume.apply(update) {
+        Ok(()) => Ok(true),
+        Err(ApplyFault::Unfit(_)) => Ok(false),
+        Err(ApplyFault::NoMemory) => Err(NoMemory),
+    }
+}
+
+/// Adds the pairs of the lost operations to what the start at this index owes.
+pub fn owe_at(
+    alloc: Global,
+    starts: &mut Vec<Start>,
+    at: usize,
+    kept: &[Kept],
+    clerk: ClerkId,
+    boot: u64,
+    ops: &[OpNo],
+) -> Result<(), NoMemory>
+    requires { at < length starts.old.items }
+    ensures { OnOk result ((s : StartOf) × IsOwing (pairs_of (filter (is_one_of clerk boot ops.now) (ops_of kept.now))) (slice_index_or starts.old.items at s) s
+        × (starts.new.items ≡ slice_set starts.old.items at s)) }
+{
+    owe(alloc, &mut starts[at], kept, clerk, boot, ops)
+}
+
+// Adds the pairs of the lost operations to what is owed.
+fn owe(
+    alloc: Global,
+    start: &mut Start,
+    kept: &[Kept],
+    clerk: ClerkId,
+    boot: u64,
+    ops: &[OpNo],
+) -> Result<(), NoMemory>
+    ensures clerk { start.new.clerk ≡ start.old.clerk }
+    ensures boot { start.new.boot ≡ start.old.boot }
+    ensures count { start.new.count ≡ start.old.count }
+    ensures owed { OnOk result (start.new.owed.items ≡ start.old.owed.items ++ pairs_of (filter (is_one_of clerk boot ops.now) (ops_of kept.now))) }
+    ensures issued { start.new.issued.items ≡ start.old.issued.items }
+{
+    for lost in kept {
+        if is_among(lost, clerk, boot, ops) {
+            push_pairs(
+                &mut start.owed,
+                lost.number,
+                &operands(alloc, &lost.update)?,
+            )?;
+        }
+    }
+    Ok(())
+}
+
+fn push_pairs(owed: &mut Vec<(OpNo, ObjId)>, op: OpNo, objs: &[ObjId]) -> Result<(), NoMemory>
+    ensures { OnOk result (owed.new.items ≡ owed.old.items ++ map (λ o. (op, o)) objs.now) }
+{
+    for obj in objs {
+        owed.push((op, *obj))?;
+    }
+    Ok(())
+}
+
+/// Takes the lost operations out.
+pub fn forget(kept: &mut Vec<Kept>, clerk: ClerkId, boot: u64, ops: &[OpNo])
+    ensures { kept.new.items ≡ filter (λ k. not (is_among clerk boot ops.now k)) kept.old.items }
+{
+    kept.retain(|kept| !is_among(kept, clerk, boot, ops));
+}
+
+/// Marks the kept operations of other clerks that a call of this one touched.
+pub fn touch_all(kept: &mut Vec<Kept>, clerk: ClerkId, objs: &[ObjId])
+    ensures { kept.new.items ≡ map (touching clerk objs.now) kept.old.items }
+{
+    touch(kept, clerk, objs);
+}
+
+fn touch(kept: &mut [Kept], clerk: ClerkId, objs: &[ObjId])
+    ensures { kept.new ≡ map (touching clerk objs.now) kept.old }
+{
+    for at in 0..kept.len() {
+        touch_one(&mut kept[at], clerk, objs);
+    }
+}
+
+fn touch_one(kept: &mut Kept, clerk: ClerkId, objs: &[ObjId])
+    ensures { kept.new ≡ touching clerk objs.now kept.old }
+{
+    if kept.clerk != clerk && !kept.touched && is_on_one(&kept.update, objs) {
+        kept.touched = true;
+    }
+}
+
+fn is_on_one(update: &Update, objs: &[ObjId]) -> bool
+    ensures { result ≡ list_any (λ o. member o objs.now) (operands update.now) }
+{
+    shares(objs, update)
+}
