@@ -1,9 +1,8 @@
 -- What a call of a server leaves. No public clause cites this file.
-use Rattle.std.proofs.Common.{◌≡◌, ◌≤◌, refl, sym, ap, subst, ◌∙◌, arith, ℕ, Bool, true, false, not, ◌&&◌, List, [], ◌∷◌, Option, None, Some, Result, Ok, Err, length, map}
-use Rattle.std.specs.Prelude.{◌==◌, ◌↔◌, nat_lt, nat_le, OnOk, IfOk, IfErr, IsOk, IsTrue, T}
+use Rattle.std.proofs.Common.{◌≡◌, ◌≤◌, refl, sym, ap, subst, ◌∙◌, arith, ℕ, Bool, true, false, not, ◌&&◌, List, [], ◌∷◌, Option, None, Some, Result, Ok, Err, length}
+use Rattle.std.specs.Prelude.{◌↔◌, nat_lt, nat_le, OnOk, IfOk, IfErr, IsOk, IsTrue, T}
 use Rattle.std.specs.List.{list_all}
 use Rattle.std.proofs.lemmas.Bool.{and_parts, lt-ltb}
-use Rattle.ec_base.specs.declared.counter.Counter.{Counter}
 use Rattle.ec_base.specs.declared.ids.Hold.{Hold}
 use Rattle.ec_base.specs.declared.ids.Hold.TheVariants.{Free, Read, Write}
 use Rattle.ec_base.specs.Holds.{is_free}
@@ -20,7 +19,7 @@ use Rattle.ec_durable.specs.Durable.{slot}
 use Rattle.ec_durable.specs.Steps.{AreSoundOps}
 use Rattle.ec_durable.specs.declared.state.Durable.{Durable}
 use Rattle.ec_durable.specs.declared.record.Record.{Record}
-use Rattle.ec_protocol.specs.Server.{Serving, serving, taken, in_session, end_open, serve, take, end}
+use Rattle.ec_protocol.specs.Server.{Serving, serving, taken, in_session, end_open, serve, end}
 use Rattle.ec_protocol.specs.declared.server.Server.{Server}
 use Rattle.ec_protocol.specs.declared.server.Served.{Served}
 use Rattle.ec_server.specs.Clerks.{HaveClerks, Records, Goes}

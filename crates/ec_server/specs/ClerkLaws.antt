@@ -1,7 +1,6 @@
 -- Each session with a token or a want stays open in a clerk's slot, and a step commits at most one record. No public clause cites this file.
-use Rattle.std.proofs.Common.{◌≡◌, ◌≢◌, refl, sym, ap, subst, ◌∙◌, arith, ℕ, zero, suc, Bool, true, false, cond, not, ◌&&◌, ◌||◌, List, [], ◌∷◌, ◌++◌, map, filter, Option, None, Some, Result, Ok, Err, length}
+use Rattle.std.proofs.Common.{◌≡◌, ◌≢◌, refl, sym, ap, subst, ◌∙◌, arith, ℕ, Bool, true, false, cond, not, ◌&&◌, ◌||◌, List, [], ◌∷◌, ◌++◌, map, filter, Option, None, Some, Result, Ok, Err, length}
 use Rattle.std.specs.Prelude.{◌==◌, ◌+◌, nat_lt, nat_le, is_some, is_none}
-use Rattle.std.specs.List.{list_any}
 use Rattle.std.specs.Ordering.{nat_cmp, eq_by_cmp}
 use Rattle.std.specs.Cmp.{unsigned_ties}
 use Rattle.std.specs.FinMap.Entries.{put, by_order}
@@ -10,12 +9,10 @@ use Rattle.std.proofs.lemmas.Bool.Decides.{nat_tests}
 use Rattle.ec_base.specs.Limits.{last_counter}
 use Rattle.ec_base.specs.Sorted.{without}
 use Rattle.ec_base.specs.Tables as tables
-use Rattle.ec_base.specs.declared.counter.Counter.{Counter}
 use Rattle.ec_base.specs.declared.counter.Counter.TheVariants as counter
 use Rattle.ec_base.specs.declared.ids.Age.{Age}
 use Rattle.ec_base.specs.declared.ids.Hold.{Hold}
 use Rattle.ec_base.specs.declared.ids.Hold.TheVariants.{Write}
-use Rattle.ec_base.specs.Holds.{is_free}
 use Rattle.ec_sessions.specs.Slots as slots
 use Rattle.ec_sessions.specs.Limits.{ids_per_grant}
 use Rattle.ec_sessions.specs.declared.slot.Slot.{Slot}
@@ -25,11 +22,10 @@ use Rattle.ec_sessions.specs.Windows.{has}
 use Rattle.ec_tokens.specs.Tokens.{Row, Tokens, Holder, row, held_by, holders, conflicts, is_conflict, token, granted, with_row, lowered, lowered_in, claimed_in, is_clear, fits_back, first_clash, claimed as with_claim}
 use Rattle.ec_tokens.specs.declared.token.Token.{Token}
 use Rattle.ec_recall.specs.declared.want.Want.{Want}
-use Rattle.ec_recall.specs.declared.want.Action.{Action}
 use Rattle.ec_recall.specs.declared.want.Action.TheVariants as action
 use Rattle.ec_recall.specs.Wants.{noted, is_of}
 use Rattle.ec_base.specs.Holds.{stronger}
-use Rattle.ec_recall.specs.Due.{actions, actions_from, wants_after, wants_from, is_due, given_to, is_told, told_of, news, recall_of}
+use Rattle.ec_recall.specs.Due.{actions_from, wants_from, is_due, given_to, is_told, told_of, news, recall_of}
 use Rattle.ec_volume.specs.declared.update.Update.{Update}
 use Rattle.ec_wire.specs.declared.msg.Msg.{Msg}
 use Rattle.ec_wire.specs.declared.msg.Msg.TheVariants as msg
@@ -38,11 +34,11 @@ use Rattle.ec_durable.specs.declared.state.Durable.{Durable}
 use Rattle.ec_durable.specs.declared.record.Record.{Record}
 use Rattle.ec_durable.specs.declared.record.Record.TheVariants as record_of
 use Rattle.ec_durable.specs.declared.record.RecordFault.{RecordFault}
-use Rattle.ec_protocol.specs.Server.{Serving, slot_of, commit, stay, tell, with_server, forget, forget_old, add_claimed, finish, tell_ended, tell_opened, open_new, greet, hello, spend, first_spent, want, note, send_grant, back, claim, has_claimed, flush, may_write, epoch, in_session}
-use Rattle.ec_protocol.specs.Server.{is_last_number, next_number, with_ids, record_ids, send_ids, ids_are_spent, grant_ids, resend_ids, room, taken, clerk_of, grant, act, act_all, is_grant, serve_rounds, serve, all_claimed}
+use Rattle.ec_protocol.specs.Server.{Serving, slot_of, commit, stay, tell, with_server, forget, forget_old, add_claimed, finish, tell_ended, tell_opened, open_new, greet, hello, spend, want, note, send_grant, back, claim, has_claimed, flush, may_write, epoch, in_session}
+use Rattle.ec_protocol.specs.Server.{is_last_number, next_number, with_ids, record_ids, send_ids, ids_are_spent, grant_ids, resend_ids, room, taken}
 use Rattle.ec_protocol.specs.declared.server.Server.{Server}
 use Rattle.ec_server.specs.Clerks.{IsOpenIn, Each, HaveClerks, session_of, Records, Goes}
-use Rattle.ec_server.specs.SlotLaws.{Spares, stays_open, one_session, ends_one, greeted_ends}
+use Rattle.ec_server.specs.SlotLaws.{stays_open, ends_one, greeted_ends}
 
 -- Lists.
 

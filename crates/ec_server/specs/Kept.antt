@@ -1,6 +1,5 @@
 -- What a keeper of the durable state promises.
-use Rattle.std.specs.Prelude.{◌≡◌, ◌+◌, ◌≤◌, ℕ, Err, Option, Some, IsSome}
-use Rattle.ec_base.specs.Outside.{Rose}
+use Rattle.std.specs.Prelude.{◌≡◌, ◌+◌, ◌≤◌, ℕ, Err, Some, IsSome}
 use Rattle.ec_disk.specs.Disk.{Counts}
 use Rattle.ec_sessions.specs.Limits.{ids_per_grant}
 use Rattle.ec_sessions.specs.declared.slot.Slot.{Slot}

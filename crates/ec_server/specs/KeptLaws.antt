@@ -1,11 +1,9 @@
 -- The next id never falls. No public clause cites this file.
-use Rattle.std.proofs.Common.{◌≡◌, ◌≤◌, refl, sym, ap, subst, ◌∙◌, arith, ℕ, Bool, true, false, List, [], ◌∷◌, Option, None, Some, Result, Ok, Err}
+use Rattle.std.proofs.Common.{◌≡◌, ◌≤◌, refl, sym, ap, subst, arith, ℕ, Bool, true, false, List, [], ◌∷◌, Option, None, Some, Result, Ok, Err}
 use Rattle.std.specs.Prelude.{◌==◌, ◌+◌, OnOk, OnErr}
-use Rattle.std.proofs.lemmas.Bool.{eqb-true}
 use Rattle.ec_sessions.specs.Slots as slots
 use Rattle.ec_volume.specs.declared.update.Update.{Update}
 use Rattle.ec_durable.specs.Durable.{step, slot, operations, op_fault, carried_out, marked, low, has_batch, is_beyond, is_session, is_next_session, is_next_grant, is_full, live, reserved, with_slot}
-use Rattle.ec_durable.specs.Steps.{AreSound}
 use Rattle.ec_durable.specs.StepLaws.{first_next}
 use Rattle.ec_durable.specs.WellFormed.{IsInOrder}
 use Rattle.ec_durable.specs.declared.state.Durable.{Durable}

@@ -1,5 +1,5 @@
 -- What one turn of a loop does. No public clause cites this file.
-use Rattle.std.proofs.Common.{◌≡◌, ◌<◌, ◌≤◌, refl, sym, ap, subst, ◌∙◌, arith, ℕ, zero, suc, Bool, true, false, ◌&&◌, List, [], ◌∷◌, Option, None, Some, length, drop, get_or, drop-cons, add-one}
+use Rattle.std.proofs.Common.{◌≡◌, ◌<◌, ◌≤◌, refl, sym, ap, subst, ◌∙◌, arith, ℕ, zero, suc, Bool, true, false, List, [], ◌∷◌, Option, None, Some, length, drop, drop-cons, add-one}
 use Rattle.std.specs.Prelude.{◌==◌, ◌+◌, ◌-◌}
 use Rattle.std.specs.List.{list_any}
 use Rattle.std.proofs.lemmas.Bool.{and_parts}
@@ -10,8 +10,8 @@ use Rattle.ec_recall.specs.declared.want.Action.{Action}
 use Rattle.ec_recall.specs.declared.want.Action.TheVariants as action
 use Rattle.ec_recall.specs.Rounds.{GrantsGoIn}
 use Rattle.ec_durable.specs.Durable.{is_session}
-use Rattle.ec_protocol.specs.Server.{Serving, with_ids, act, act_all, is_grant, serve_rounds, tell_start, tell_all}
-use Rattle.ec_server.specs.Clerks.{IsOpenIn, HaveClerks, Each}
+use Rattle.ec_protocol.specs.Server.{Serving, with_ids, is_grant, serve_rounds, tell_start, tell_all}
+use Rattle.ec_server.specs.Clerks.{IsOpenIn, HaveClerks}
 use Rattle.ec_server.specs.ServeLaws.{due, round, goes_round, ends_round, fewer, round_clerks}
 use Rattle.ec_server.specs.Steps.{is_last}
 

@@ -1,15 +1,14 @@
 -- What serving keeps, and how often it goes on. No public clause cites this file.
-use Rattle.std.proofs.Common.{◌≡◌, ◌≢◌, ◌<◌, refl, sym, ap, subst, ◌∙◌, arith, ℕ, zero, suc, Bool, true, false, not, ◌||◌, ◌&&◌, List, [], ◌∷◌, Option, None, Some, Result, Ok, Err, length}
+use Rattle.std.proofs.Common.{◌≡◌, ◌<◌, refl, sym, ap, subst, ◌∙◌, arith, ℕ, zero, suc, Bool, true, false, ◌&&◌, List, [], ◌∷◌, Option, None, Some, Result, Ok, Err, length}
 use Rattle.std.specs.Prelude.{◌==◌, ◌+◌, ◌↔◌, nat_le}
 use Rattle.std.specs.List.{list_any}
 use Rattle.std.proofs.lemmas.Bool.{eq-eqb}
 use Rattle.ec_base.specs.declared.counter.Counter.{Counter}
 use Rattle.ec_base.specs.declared.counter.Counter.TheVariants as counter
-use Rattle.ec_base.specs.declared.ids.Hold.{Hold}
 use Rattle.ec_base.specs.Limits.{last_counter}
 use Rattle.ec_sessions.specs.Slots as slots
 use Rattle.ec_sessions.specs.declared.slot.Slot.{Slot}
-use Rattle.ec_tokens.specs.Tokens.{Tokens, granted}
+use Rattle.ec_tokens.specs.Tokens.{granted}
 use Rattle.ec_recall.specs.declared.want.Want.{Want}
 use Rattle.ec_recall.specs.declared.want.Action.{Action}
 use Rattle.ec_recall.specs.declared.want.Action.TheVariants as action
@@ -23,11 +22,11 @@ use Rattle.ec_durable.specs.declared.state.Durable.{Durable}
 use Rattle.ec_durable.specs.declared.record.Record.{Record}
 use Rattle.ec_durable.specs.declared.record.Record.TheVariants as record_of
 use Rattle.ec_durable.specs.declared.record.RecordFault.{RecordFault}
-use Rattle.ec_durable.specs.declared.record.RecordFault.TheVariants.{NoSession, BadNumber}
-use Rattle.ec_protocol.specs.Server.{Serving, serving, commit, stay, tell, with_server, spend, finish, forget, tell_ended, is_last_number, next_number, taken, clerk_of, send_grant, grant, act, act_all, is_grant, serve_rounds, serve, all_claimed, take, end, end_open, new_server, tell_start, tell_all, start}
+use Rattle.ec_durable.specs.declared.record.RecordFault.TheVariants.{NoSession}
+use Rattle.ec_protocol.specs.Server.{Serving, serving, commit, stay, tell, with_server, spend, finish, forget, tell_ended, is_last_number, next_number, taken, clerk_of, send_grant, act, act_all, is_grant, serve_rounds, serve, all_claimed, take, end, end_open, new_server, tell_start, tell_all, start}
 use Rattle.ec_protocol.specs.declared.server.Server.{Server}
 use Rattle.ec_server.specs.Clerks.{IsOpenIn, Each, HaveClerks, session_of, Records, Goes}
-use Rattle.ec_server.specs.ClerkLaws.{each_moved, each_put, each_action, each_stay, begins, goes_by, either, behind, taken_goes, finish_goes}
+use Rattle.ec_server.specs.ClerkLaws.{each_put, each_action, each_stay, begins, goes_by, either, behind, taken_goes, finish_goes}
 
 -- What serving leaves: the durable state and the record, and what was spent.
 pub record Serves (t u : Serving) : Type 0 where

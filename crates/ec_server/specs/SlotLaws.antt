@@ -1,12 +1,11 @@
 -- Which sessions stay open behind a record. No public clause cites this file.
-use Rattle.std.proofs.Common.{◌≡◌, ◌≢◌, refl, sym, ap, subst, ◌∙◌, arith, ℕ, zero, suc, Bool, true, false, cond, ◌&&◌, List, [], ◌∷◌, Option, None, Some, Result, Ok, Err}
+use Rattle.std.proofs.Common.{◌≡◌, ◌≢◌, refl, ap, subst, ◌∙◌, arith, ℕ, zero, suc, Bool, true, false, cond, ◌&&◌, List, [], ◌∷◌, Option, None, Some, Result, Ok, Err}
 use Rattle.std.specs.Prelude.{◌==◌, ◌+◌}
 use Rattle.std.proofs.lemmas.Bool.{eqb-true}
 use Rattle.ec_base.specs.declared.ids.Age.{Age}
 use Rattle.ec_base.specs.Ages.{is_older}
 use Rattle.ec_sessions.specs.Slots as slots
 use Rattle.ec_sessions.specs.declared.slot.Slot.{Slot}
-use Rattle.ec_sessions.specs.declared.slot.Greeting.{Greeting}
 use Rattle.ec_sessions.specs.declared.slot.Greeting.TheVariants as greeted
 use Rattle.ec_volume.specs.declared.update.Update.{Update}
 use Rattle.ec_durable.specs.Durable.{step, slot, operations, op_fault, carried_out, made, spent, marked, low, has_batch, is_beyond, is_session, is_next_session, is_next_grant, is_full, live, reserved, with_slot}

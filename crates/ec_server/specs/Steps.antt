@@ -1,5 +1,5 @@
 -- What the code's server is to the machine, and what its faults leave.
-use Rattle.std.specs.Prelude.{◌≡◌, ◌==◌, ℕ, Bool, true, false, List, [], Option, None, Some, Ok, Err, is_some, IsSome}
+use Rattle.std.specs.Prelude.{◌≡◌, ◌==◌, ℕ, Bool, true, false, Option, None, Some, Ok, Err, is_some, IsSome}
 use Rattle.ec_base.specs.Outside.{Rose}
 use Rattle.ec_disk.specs.Disk.{Counts}
 use Rattle.ec_wire.specs.declared.msg.Msg.{Msg}

@@ -1,4 +1,3 @@
-use Rattle.ec_protocol.specs.Server as machine
 use Rattle.ec_server.specs.CallLaws.{answers_ok, answers_err, answers_stand, answers_record}
 use Rattle.ec_server.specs.ServeLaws.{take_goes}
 use Rattle.ec_server.specs.Servers.{standing}
