@@ -4,6 +4,8 @@
 mod fault;
 mod plan;
 mod store;
+#[cfg(test)]
+mod tests;
 
 pub use fault::StoreFault;
 pub use store::Store;
