@@ -17,8 +17,6 @@ mod resends;
 mod rooms;
 mod rounds;
 mod step;
-#[cfg(test)]
-mod tests;
 mod tries;
 mod wants;
 
