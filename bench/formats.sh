@@ -1,5 +1,5 @@
 #!/bin/sh
-# Times the reading and printing of lines and the coding of messages, each of two lengths that differ eightfold, over as many bytes
+# Times the reading and printing of lines and the coding of messages (decoded, and encoded again), each of two lengths that differ eightfold, over as many bytes
 # in all, and prints the rates in MB (10^6 bytes) a second and how many times as long a byte takes in the longer ones.
 # Each time is the least of five runs.
 # Usage: bench/formats.sh PROGRAM   (the ec_bench program; `rt run` in crates/ec_bench builds it)
@@ -28,5 +28,4 @@ rates() {
 rates read_line 4096 5000 30
 rates read 4096 5000 30
 rates print 4096 5000 30
-rates encode 65536 2000 500
-rates decode 65536 2000 500
+rates recode 65536 4000 250

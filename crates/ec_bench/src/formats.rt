@@ -1,7 +1,4 @@
 // One line or one message, read or written again and again.
-ghost use Rattle.std.specs.Prelude.{◌≡◌, true};
-ghost use Rattle.ec_wire.specs.Messages.{is_sound};
-
 use anyhow::bail;
 use ec_base::NoMemory;
 use ec_history::Shown;
@@ -9,7 +6,7 @@ use ec_script::LineFault;
 use ec_script::full::read_line;
 use ec_shown::read;
 use ec_text::print;
-use ec_wire::{Msg, WireFault, decode, encode};
+use ec_wire::{WireFault, decode, encode};
 use std::alloc::Global;
 
 // A file's image in a Grant to the first session: up to the length of the file.
@@ -19,7 +16,7 @@ const GRANT: [u8; 45] = [
 ];
 
 /// Reads or writes one thing of so many bytes so many times. The format is `read_line` or `print`,
-/// `read` for a transcript line, `encode` or `decode`.
+/// `read` for a transcript line, or `recode` for a message that is decoded and encoded again.
 pub fn repeat(alloc: Global, format: &str, size: u32, rounds: u32) -> anyhow::Result<()> {
     if format == "read_line" {
         let line = padded(alloc, b"A write /file 0 ", size, b"")?;
@@ -31,13 +28,12 @@ pub fn repeat(alloc: Global, format: &str, size: u32, rounds: u32) -> anyhow::Re
         let line = padded(alloc, b"1 A write /file 0 ", size, b" -> ok op 1")?;
         let shown = read(alloc, &line)?;
         print_lines(alloc, &shown, rounds)?;
-    } else if format == "decode" {
+    } else if format == "recode" {
         let bytes = grant(alloc, size)?;
-        decode_messages(alloc, &bytes, rounds)?;
-    } else if format == "encode" {
-        let bytes = grant(alloc, size)?;
-        let message = decode(alloc, &bytes)?;
-        encode_messages(alloc, &message, rounds)?;
+        let again = recode(alloc, bytes, rounds)?;
+        if again.is_empty() {
+            bail!("no bytes");
+        }
     } else {
         bail!("no such format");
     }
@@ -80,18 +76,15 @@ fn print_lines(alloc: Global, shown: &Shown, rounds: u32) -> Result<(), NoMemory
     Ok(())
 }
 
-fn decode_messages(alloc: Global, bytes: &[u8], rounds: u32) -> Result<(), WireFault> {
+// Decodes a message and encodes it again, so many times, each time what the last one left.
+fn recode(alloc: Global, bytes: Vec<u8>, rounds: u32) -> Result<Vec<u8>, WireFault> {
+    let mut bytes = bytes;
     for _ in 0..rounds {
-        decode(alloc, bytes)?;
+        let message = decode(alloc, &bytes)?;
+        let Ok(again) = encode(alloc, &message) else {
+            return Err(WireFault::NoMemory);
+        };
+        bytes = again;
     }
-    Ok(())
-}
-
-fn encode_messages(alloc: Global, message: &Msg, rounds: u32) -> Result<(), NoMemory>
-    requires { is_sound message.now ≡ true }
-{
-    for _ in 0..rounds {
-        encode(alloc, message)?;
-    }
-    Ok(())
+    Ok(bytes)
 }
