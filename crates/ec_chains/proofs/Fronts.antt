@@ -183,7 +183,7 @@ module _ (ask : Ask) (held : Issued) (s : T (is_sorted nat_cmp held)) where
   front-of : (place most : ℕ) → NeedsAsked q (drop place held) → ((most ≤ length (filter q (take place held))) ⊎ (filter q (drop place held) ≡ [])) → IsFront ask held most (keys (walk q (take place held)))
   front-of place most a r =
       let found : keys (closure_for ask held) ≡ keys (walk q (take place held)) ++ keys (filter q (drop place held)) =
-        ap keys (sym (walk-passing q held s) ∙ ap (walk q) (split place held) ∙ walk-parts q (take place held) (drop place held) a) ∙ keys-both (walk q (take place held)) (filter q (drop place held)) in
+      ap keys (sym (walk-passing q held s) ∙ ap (walk q) (split place held) ∙ walk-parts q (take place held) (drop place held) a) ∙ keys-both (walk q (take place held)) (filter q (drop place held)) in
       record {
         first = sym (ap (take most) found ∙ enough r);
         members = λ n. ap (member n) found ∙ member-both n (keys (walk q (take place held))) (keys (filter q (drop place held))) ∙ parts n;

@@ -71,8 +71,8 @@ alike-more ops held place a l x i y j e =
       within = omega (arith, l);
       enough = enough;
       alike =
-        ap keys (take_more held place x (omega (arith, l, enough)) ∙ ap (λ z. take place held ++ z ∷ []) (sym i)) ∙ keys-more (take place held) x ∙ ap (λ os. os ++ x.0 ∷ []) a.alike
-        ∙ ap (λ z. take place ops ++ z ∷ []) (e ∙ j) ∙ sym (take_more ops place y l);
+          ap keys (take_more held place x (omega (arith, l, enough)) ∙ ap (λ z. take place held ++ z ∷ []) (sym i)) ∙ keys-more (take place held) x ∙ ap (λ os. os ++ x.0 ∷ []) a.alike
+          ∙ ap (λ z. take place ops ++ z ∷ []) (e ∙ j) ∙ sym (take_more ops place y l);
     }
 
 pub alike-all : (ops : List ℕ) (held : Issued) (place : ℕ) → AreAlike ops held place → length ops ≤ place → keys (take (length ops) held) ≡ ops
@@ -105,8 +105,7 @@ pub order-more : (gone : ℕ) (items : Issued) (old new : Table ℕ) (op : ℕ) 
 order-more gone items old new op u inv b raised its =
     let within : gone ≤ length items = inv.0 in
     let more = longer items (op, u) in
-    let same : drop gone (items ++ (op, u) ∷ []) ≡ drop gone items ++ (op, u) ∷ [] = drop-more gone items ((op, u) ∷ []) inv.0 in
-    (
+    let same : drop gone (items ++ (op, u) ∷ []) ≡ drop gone items ++ (op, u) ∷ [] = drop-more gone items ((op, u) ∷ []) inv.0 in (
       omega (arith, within, more),
       subst (λ l. T (is_sorted nat_cmp l)) (sym same) (sorted_more (drop gone items) op u inv.1 b),
       subst (Covers new) (sym same) (covers-more old new (drop gone items) op u b inv.2 raised its),
@@ -139,8 +138,7 @@ pub order-less : (gone count : ℕ) (items : Issued) (shared : Table ℕ) → Is
 order-less gone count items shared inv l =
     let within : gone ≤ length items = inv.0 in
     let left = length-drop gone items in
-    let same = sym (drop-twice gone count items) in
-    (
+    let same = sym (drop-twice gone count items) in (
       omega (arith, within, left, l),
       subst (λ xs. T (is_sorted nat_cmp xs)) same (sorted-behind count (drop gone items) inv.1),
       subst (Covers shared) same (λ n u h. inv.2 n u (holds-behind count (drop gone items) n u h)),

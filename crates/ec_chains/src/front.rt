@@ -84,11 +84,7 @@ pub fn note(
     note_all(shared, &objs, op)
 }
 
-fn note_all(
-    shared: &mut SortedMap<ObjId, OpNo>,
-    objs: &[ObjId],
-    op: OpNo,
-) -> Result<(), NoMemory>
+fn note_all(shared: &mut SortedMap<ObjId, OpNo>, objs: &[ObjId], op: OpNo) -> Result<(), NoMemory>
     ensures old { (o n : ℕ) → n ≤ at_or 0 o shared.old → n ≤ op → n ≤ at_or 0 o shared.new }
     ensures new { OnOk result ((o : ℕ) → T (member o objs.now) → op ≤ at_or 0 o shared.new) }
 {

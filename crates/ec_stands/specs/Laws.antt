@@ -186,9 +186,10 @@ slot-is = then_is id (λ o. image_code) id-is (λ o. image-is)
 -- a part that begins with these bytes
 stands_in : (image : List ℕ) (at n : ℕ) (xs : List ℕ) → length xs ≤ n → part image at (length xs) ≡ xs → StandsAt (part image at n) 0 xs
 stands_in image at n xs le is =
-    let whole : length xs + (n - length xs) ≡ n = omega arith in
-    (part image (at + length xs) (n - length xs),
-    ap (λ (k : ℕ). part image at k) (sym whole) ∙ part-add image at (length xs) (n - length xs) ∙ ap (λ (ys : List ℕ). ys ++ part image (at + length xs) (n - length xs)) is)
+    let whole : length xs + (n - length xs) ≡ n = omega arith in (
+      part image (at + length xs) (n - length xs),
+      ap (λ (k : ℕ). part image at k) (sym whole) ∙ part-add image at (length xs) (n - length xs) ∙ ap (λ (ys : List ℕ). ys ++ part image (at + length xs) (n - length xs)) is,
+    )
 
 have_images : (image : List ℕ) (slots : List (ℕ × List ℕ)) (places : List (ℕ × ℕ)) (es : List (ℕ × Image)) → HasSlots image slots → AreSlots slots places es → HasImages Two image places es
 have_images image [] [] [] has are = tt

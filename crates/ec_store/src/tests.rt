@@ -13,7 +13,10 @@ fn end_without_a_session_is_refused(rt: HostRuntime) {
     assert_eq!(rt; store.view().next_id, 2);
     let clerk = ClerkId::new(0).expect(&rt, "clerk");
     let refused = Err(StoreFault::Refused(RecordFault::NoSession));
-    assert_eq!(rt; store.commit(&mut disk, &Record::End(clerk, SessionNo(1))), refused);
+    assert_eq!(rt;
+        store.commit(&mut disk, &Record::End(clerk, SessionNo(1))),
+        refused
+    );
     assert_eq!(rt; disk.steps().len(), 8);
 }
 

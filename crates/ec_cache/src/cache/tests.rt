@@ -3,8 +3,8 @@ ghost use Rattle.ec_cache.specs.Cache.{images_held};
 ghost use Rattle.ec_volume.specs.Update.{fits};
 
 use super::*;
-use ec_base::List;
 use Hold::{Free, Read, Write};
+use ec_base::List;
 use std::process::Abort;
 use std::test::Fail;
 

@@ -19,7 +19,7 @@ returns c =
     let same : c.held-held.result.now ≡ held = c.held-held.ensures.value in
     let sorted : T (is_sorted nat_cmp held) = c.held-held.ensures.sorted in
     let reaches : Reaches ask held (wanted ask most) bound place =
-      subst (λ m. Reaches ask held m bound place) c.wanted.ensures (subst (λ l. Reaches ask l c.wanted.result bound place) same c.reach-place.ensures.reaches) in
+    subst (λ m. Reaches ask held m bound place) c.wanted.ensures (subst (λ l. Reaches ask l c.wanted.result bound place) same c.reach-place.ensures.reaches) in
     IfOk-weaker c.closure.result _ _ (λ ops is.
     subst (IsFront ask held most) (sym (is ∙ ap (λ l. keys (walk (passes ask) (take place l))) same))
     (front-reached ask held most bound place sorted c.bound-bound.ensures.bound reaches c.bound-bound.ensures.op))
