@@ -37,7 +37,7 @@ some-at : {A : Type 0} (o : Option A) → T (is_some o) → (x : A) × (o ≡ So
 some-at None t = absurd t
 some-at (Some x) t = (x, refl)
 
--- C5
+-- no batch under way is refused
 pub every-flush-steps : (g : System) → SessionsAgree g → TokensAgree (view g) → LogsAgree g → ImagesAgree g → (c s e b : ℕ) (ops : List (ℕ × Update)) → log.Fits g (Flush s e b ops)
     → (sl : Slot) (k : Clerk) → slot g.durable c ≡ Some sl → sl.session ≡ s → T sl.is_open → clerk_in g s ≡ Some k → T (not (has sl.window b)) → (d : Durable) × (step (record_of.Batch c s b ops) g.durable ≡ Ok d)
 every-flush-steps g sa ta lo im c s e b ops f sl k here of opened there unmarked =

@@ -188,7 +188,7 @@ module _ (g : System) (sa : SessionsAgree g) (ta : TokensAgree (view g)) (lo : L
       none [] = refl
       none (x ∷ xs) = ap (λ ys. x ∷ ys) (none xs)
 
-  -- C1
+  -- its Write tokens stay
 
   writes-old : (o : Op) → HasWrites g o → HasWrites h o
   writes-old o w = elim (cases_eq w.session s) [

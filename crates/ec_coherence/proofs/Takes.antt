@@ -41,7 +41,7 @@ module _ (g : System) (c b : ℕ) (d : Doing) (γ : Ghost) (fits : SessionsAgree
   boot : d.clerk.age.boot ≡ b
   boot = (fits.starts c b d.clerk place).1
 
-  -- A2: it wasn't taken before
+  -- it wasn't taken before
   untaken : (s : ℕ) (age : Age) → d.clerk.session ≡ None → γ.owner s ≡ Some (c, age) → age ≡ d.clerk.age → T (not (γ.taken s))
   untaken s age none owner p = off (γ.taken s) (λ t. elim ((fits.told s (c, age) d.clerk owner (ap (λ a. with_start c b d.clerk g.clerks c a) (ap (λ z. z.boot) p ∙ boot) ∙ place)).0 t) [
     | inl q ↦ none_some (sym none ∙ q)

@@ -32,7 +32,7 @@ cut_in g (Some s) = g.ghost.frozen s
 abbrev pub Frees : System → ℕ → Op → Type 0
 Frees g s o = Each (λ x. T (is_free (eff_hold (eff (view g) s x)))) (operands o.update)
 
--- E4, E5: a start that is cut off has a loss and no entry behind it, and owes what it owed before it. Its tokens don't meet the operations kept before its
+-- a start that is cut off has a loss and no entry behind it, and owes what it owed before it. Its tokens don't meet the operations kept before its
 -- loss that others lost behind it, or may still lose.
 pub record CutAgrees (g : System) (c b s : ℕ) (k : Clerk) (ks : List Op) : Type 0 where
   pub before : History
@@ -52,21 +52,21 @@ abbrev pub Untouched : System → ℕ → ℕ × Age → History → ℕ × Entr
 Untouched g s o h e = T (leaves (base_of g) (kept (base_of g) h) o.0 (filter (is_one_of o.0 (shown_boot g o.0 (o.1).boot) (numbers (undurable g.ghost s))) (kept (base_of g) h)) e)
 
 pub record EventsAgree (g : System) : Type 0 where
-  -- E7: the lines place the history, and count the starts
+  -- the lines place the history, and count the starts
   pub placeable : ArePlaceable [] g.ghost.shown
   pub placed : place g.ghost.shown ≡ g.ghost.history
   pub starts : (c b : ℕ) → g.running c ≡ Some b → (begun (watch c g.ghost.shown)).starts ≡ shown_boot g c b
   pub untold : (c b : ℕ) (k : Clerk) → g.running c ≡ Some b → g.clerks c b ≡ Some k → cut_in g k.session ≡ None → (watch c g.ghost.shown).untold ≡ None
   -- what is kept, by the clerks' boots
   pub keeps : kept (base_of g) g.ghost.history ≡ map (shown_op g) g.ghost.kept
-  -- E1
+  -- it's legal
   pub legal : IsLegal (base_of g) g.durable.max_objects g.ghost.history
-  -- E2, of the starts that aren't cut off, and how many operations each start issued
+  -- what each start that isn't cut off owes, and how many operations it issued
   pub owes : (c b : ℕ) (k : Clerk) → g.running c ≡ Some b → g.clerks c b ≡ Some k → cut_in g k.session ≡ None → owed (base_of g) g.ghost.history c (shown_boot g c b) ≡ k.owed
   pub counts : (c b : ℕ) (k : Clerk) → g.running c ≡ Some b → g.clerks c b ≡ Some k → length (filter (is_op_of c (shown_boot g c b)) g.ghost.history) + 1 ≡ k.log.next
-  -- E3
+  -- what is covered is durable
   pub covered : Throughout (λ h e. (o : Op) → Covers (base_of g) h e o.clerk (shown_boot g o.clerk o.boot) o.number → T (g.ghost.is_durable o)) [] g.ghost.history
-  -- E6
+  -- no other clerk touched what an open session may still lose
   pub untouched : (s : ℕ) (o : ℕ × Age) → g.ghost.owner s ≡ Some o → T (is_open g s) → Throughout (Untouched g s o) [] g.ghost.history
-  -- E4, E5: of the running starts whose session has ended
+  -- of the running starts whose session has ended
   pub cuts : (c b s : ℕ) (k : Clerk) (ks : List Op) → g.running c ≡ Some b → g.clerks c b ≡ Some k → k.session ≡ Some s → g.ghost.frozen s ≡ Some ks → CutAgrees g c b s k ks

@@ -35,11 +35,11 @@ Fits g c (Flush s e b ops) = IsOf g c s
 Fits g c (Room s e got ask) = IsOf g c s
 Fits g c (Claim s e l) = IsOf g c s
 Fits g c (Bye s e) = IsOf g c s
--- A2
+-- it's told the age with which the session was opened
 Fits g c (Opened age s e) = g.ghost.owner s ≡ Some (c, age)
 Fits g c (Grant s e x n h i) = IsOf g c s
 Fits g c (Recall s e x n h) = IsOf g c s
--- A5
+-- a batch that is acknowledged is in the window, and the end of a session tells its last window
 Fits g c (Kept s e b) = IsOf g c s × OfSlot g c s (λ sl. T (has sl.window b))
 Fits g c (Ids s e got n first) = IsOf g c s
 Fits g c (Ended s low mask) = (s < g.durable.next_session) × T (not (is_open g s)) × OfSlot g c s (λ sl. (sl.window.low ≡ low) × (sl.window.mask ≡ mask))
@@ -61,12 +61,12 @@ pub record HasNone (k : Clerk) : Type 0 where
 pub record SessionsAgree (g : System) : Type 0 where
   pub sixteen : length g.durable.sessions ≡ 16
   pub next : suc zero ≤ g.durable.next_session
-  -- A1: each slot's session is numbered, and opened with the slot's age
+  -- each slot's session is numbered, and opened with the slot's age
   pub slots : (c : ℕ) (sl : Slot) → slot g.durable c ≡ Some sl → (suc zero ≤ sl.session) × (sl.session < g.durable.next_session) × (g.ghost.owner sl.session ≡ Some (c, sl.age))
   -- a session that was opened is that of its clerk's slot, or an older one
   pub owned : (s : ℕ) (o : ℕ × Age) → g.ghost.owner s ≡ Some o →
       (s < g.durable.next_session) × ((o.1).boot ≤ g.boots o.0) × (sl : Slot) × (slot g.durable o.0 ≡ Some sl) × ((sl.session ≡ s) ⊎ T (is_older o.1 sl.age))
-  -- A1: an age opens one session
+  -- an age opens one session
   pub once : (s t : ℕ) (o : ℕ × Age) → g.ghost.owner s ≡ Some o → g.ghost.owner t ≡ Some o → s ≡ t
   pub taken : (s : ℕ) → T (g.ghost.taken s) → T (is_some (g.ghost.owner s))
   -- a session is taken where its start is in it, or was
@@ -77,10 +77,10 @@ pub record SessionsAgree (g : System) : Type 0 where
   -- a start's round rises only behind a session of its age
   pub rounds : (c b n : ℕ) (k : Clerk) → g.clerks c b ≡ Some k → n < k.age.round → (s : ℕ) × (g.ghost.owner s ≡ Some (c, record { boot = b; round = n }))
   pub running : (c b : ℕ) → g.running c ≡ Some b → (b ≡ g.boots c) × T (is_some (g.clerks c b))
-  -- A2: a clerk in a session took it with its own age
+  -- a clerk in a session took it with its own age
   pub in_session : (c b s : ℕ) (k : Clerk) → g.clerks c b ≡ Some k → k.session ≡ Some s → (g.ghost.owner s ≡ Some (c, k.age)) × T (g.ghost.taken s)
   pub without : (c b : ℕ) (k : Clerk) → g.clerks c b ≡ Some k → k.session ≡ None → HasNone k
-  -- A1: a running clerk in a session is in that of its slot
+  -- a running clerk in a session is in that of its slot
   pub current : (c b s : ℕ) (k : Clerk) → g.running c ≡ Some b → g.clerks c b ≡ Some k → k.session ≡ Some s → (sl : Slot) × (slot g.durable c ≡ Some sl) × (sl.session ≡ s)
   -- the fields of messages are within their ranges
   pub sound : Each (λ m. T (is_sound m.1)) g.pool

@@ -127,11 +127,11 @@ Names w x = (x < w.next_id) × ((s : ℕ) → T (not (is_hidden w s x)))
 
 -- Facts about one row: what a session's clerk has of an object, its effective token, and the image to be seen.
 
--- B1: no conflict
+-- no conflict
 abbrev pub Apart : Option Eff → Option Eff → Type 0
 Apart e f = T (not (clash (eff_hold e) (eff_hold f)))
 
--- B2: an effective token allows what is held; it was recorded in the clerk's epoch, or before and not claimed yet. Of what is held the number is the last one.
+-- an effective token allows what is held; it was recorded in the clerk's epoch, or before and not claimed yet. Of what is held the number is the last one.
 abbrev pub Allows : ℕ → ℕ → Held → Eff → Type 0
 Allows epoch n h f = (rank h.hold ≤ rank f.hold) × (h.number ≡ n)
     × (((f.epoch ≡ epoch) × (h.number ≤ f.number) × (h.number < f.number → T (not (is_write h.hold)))) ⊎ ((f.epoch < epoch) × (h.number ≡ 0)))
@@ -145,11 +145,11 @@ abbrev pub IsWrite : Option Held → Type 0
 IsWrite None = ⊥
 IsWrite (Some h) = T (is_write h.hold)
 
--- B4: a Grant above the last number is the effective token, with the image to be seen
+-- a Grant above the last number is the effective token, with the image to be seen
 abbrev pub GrantFits : ℕ → ℕ → ℕ → Hold → Image → Option Held → Option Eff → Image → ℕ → Type 0
 GrantFits epoch e n h i held f image l = e ≡ epoch → l < n → (f ≡ Some (record { hold = h; number = n; epoch = e })) × (i ≡ image) × ¬ (IsWrite held)
 
--- B6: what a Back says was true, and less is held since
+-- what a Back says was true, and less is held since
 abbrev pub HeldAtMost : Option Held → ℕ → Hold → Type 0
 HeldAtMost None n h = ⊤
 HeldAtMost (Some k) n h = (n ≤ k.number) × (n ≡ k.number → rank k.hold ≤ rank h)
@@ -157,7 +157,7 @@ HeldAtMost (Some k) n h = (n ≤ k.number) × (n ≡ k.number → rank k.hold �
 abbrev pub BackFits : ℕ → ℕ → ℕ → Hold → Option Held → ℕ → Type 0
 BackFits epoch e n h held l = e ≡ epoch → (n ≤ l) × HeldAtMost held n h
 
--- B7: a Want was sent below the mode wanted, and what is held at its number is below it
+-- a Want was sent below the mode wanted, and what is held at its number is below it
 abbrev pub HeldBelow : Option Held → ℕ → Hold → Type 0
 HeldBelow None n h = ⊤
 HeldBelow (Some k) n h = k.number ≤ n → rank k.hold < rank h
@@ -165,7 +165,7 @@ HeldBelow (Some k) n h = k.number ≤ n → rank k.hold < rank h
 abbrev pub WantFits : ℕ → ℕ → Hold → ℕ → Option Held → ℕ → Type 0
 WantFits epoch e h n held l = e ≡ epoch → (n ≤ l) × HeldBelow held n h
 
--- B8: of a noted want, the clerk knows the recorded token and holds less than is wanted
+-- of a noted want, the clerk knows the recorded token and holds less than is wanted
 abbrev pub Lacks : Option Held → ℕ → Hold → Type 0
 Lacks None n h = ⊤
 Lacks (Some k) n h = (k.number ≡ n) × (rank k.hold < rank h)
@@ -174,14 +174,14 @@ abbrev pub NotedFits : Hold → Option Token → Option Held → ℕ → Type 0
 NotedFits h None held l = held ≡ None
 NotedFits h (Some t) held l = (t.number ≤ l) × Lacks held t.number h
 
--- B5: sixteen ids that go to the clerk are its own Write tokens, new to it, and of no live object
+-- sixteen ids that go to the clerk are its own Write tokens, new to it, and of no live object
 abbrev pub IdFits : ℕ → ℕ → Option Held → Option Eff → Image → ℕ → Type 0
 IdFits e n held f image l = (f ≡ Some (record { hold = Write; number = n; epoch = e })) × (held ≡ None) × (l < n) × (image ≡ Gone)
 
 abbrev pub IdsFit : View → ℕ → ℕ → ℕ → ℕ → ℕ → Side → Type 0
 IdsFit w s e got n first k = e ≡ k.epoch → got ≡ k.got → (x : ℕ) → T (in_sixteen first x) → IdFits e n (at x k.cache.held) (eff w s x) (w.seen s x) (last x k.cache)
 
--- B9: what is claimed lies between what is held and what is effective
+-- what is claimed lies between what is held and what is effective
 abbrev pub ClaimFits : View → ℕ → ℕ → Table Hold → Side → Type 0
 ClaimFits w s e l k = (k.epoch ≡ e) × ((x : ℕ) → (rank (mode x k.cache) ≤ rank (at_or Free x l)) × (rank (at_or Free x l) ≤ rank (eff_hold (eff w s x))))
 
@@ -191,11 +191,11 @@ RoomFits w s e got k = (got ≤ k.got) × (e ≡ w.epoch → T (w.is_open s) →
 
 -- Facts about one message.
 
--- A3: a session's message is of a session that was taken, and of an epoch that its clerk has reached
+-- a session's message is of a session that was taken, and of an epoch that its clerk has reached
 abbrev pub Passed : View → ℕ → ℕ → Type 0
 Passed w s e = T (w.taken s) × (e ≤ w.epoch) × InSession w s (λ k. e ≤ k.epoch)
 
--- A3, A4: a token of this epoch goes to a session that has claimed, with a number given out
+-- a token of this epoch goes to a session that has claimed, with a number given out
 abbrev pub OfNow : View → ℕ → ℕ → ℕ → Type 0
 OfNow w s e n = e ≡ w.epoch → T (w.is_open s) → WhileUp w.tables (λ v. T (member s v.claimed) × (n ≤ v.number))
 
@@ -226,7 +226,7 @@ abbrev pub IsEarlier : ℕ → Option Eff → Type 0
 IsEarlier e None = ⊤
 IsEarlier e (Some f) = f.epoch < e
 
--- B8: a want that may be granted
+-- a want that may be granted
 abbrev pub Wanted : View → Tables → ℕ → ℕ → Hold → Type 0
 Wanted w v s x h =
     T (member s v.claimed) × T (w.taken s) × T (is_held_mode h) × Names w x
@@ -243,36 +243,36 @@ AreApart (q ∷ qs) = Each (λ r. T (not (is_of q.session q.obj r))) qs × AreAp
 pub record TablesAgree (w : View) (v : Tables) : Type 0 where
   -- no two recorded tokens conflict, and none is Free
   pub sound : tokens.IsSound v.tokens
-  -- B3, A3: a session that has claimed is open, and its clerk is in this epoch; another one has nothing recorded
+  -- a session that has claimed is open, and its clerk is in this epoch; another one has nothing recorded
   pub are_open : (s : ℕ) → T (member s v.claimed) → T (w.is_open s)
   pub epochs : (s : ℕ) → T (member s v.claimed) → InSession w s (λ k. k.epoch ≡ w.epoch)
   pub others : (s x : ℕ) → T (not (member s v.claimed)) → (tokens.token v.tokens s x ≡ None) × (T (w.is_open s) → IsEarlier w.epoch (w.old s x))
-  -- B8, and one want for a session and an object
+  -- each want that is noted may be granted, and a session has one for an object
   pub wants : Each (Noted w v) v.recalls
   pub apart : AreApart v.recalls
-  -- A4
+  -- each recorded number was given out
   pub numbers : (s x : ℕ) (t : Token) → tokens.token v.tokens s x ≡ Some t → t.number ≤ v.number
-  -- B5: the last ids, as they were recorded in this epoch, may go out again
+  -- the last ids, as they were recorded in this epoch, may go out again
   pub recorded : (s n : ℕ) → at s v.recorded ≡ Some n →
       T (member s v.claimed) × (n ≤ v.number) × ((got : ℕ) → got + 1 ≡ w.grants s → InSession w s (IdsFit w s w.epoch got n (w.first s)))
   pub unrecorded : (s x : ℕ) → T (member s v.claimed) → at s v.recorded ≡ None → T (is_hidden w s x) → tokens.token v.tokens s x ≡ None
 
 -- All of it.
 pub record TokensAgree (w : View) : Type 0 where
-  -- B0: no token is Free
+  -- no token is Free
   pub held : (s x : ℕ) (f : Eff) → eff w s x ≡ Some f → T (is_held_mode f.hold)
   pub holds : (s x : ℕ) → InSession w s (λ k. (h : Held) → at x k.cache.held ≡ Some h → T (is_held_mode h.hold))
   -- tokens are of sessions that were taken, on objects with ids given out
   pub known : (s x : ℕ) (f : Eff) → eff w s x ≡ Some f → (x < w.next_token) × T (w.taken s) × (f.epoch ≤ w.epoch)
   pub next : w.next_id ≤ w.next_token
-  -- B1
+  -- effective tokens of two open sessions don't conflict
   pub exclusive : (s t x : ℕ) → s ≢ t → T (w.is_open s) → T (w.is_open t) → Apart (eff w s x) (eff w t x)
-  -- B2
+  -- what a clerk holds is allowed by its effective token
   pub below : (s x : ℕ) → InSession w s (λ k. Below k.epoch (last x k.cache) (at x k.cache.held) (eff w s x))
   -- a session's clerk took all ids but the last sixteen
   pub got : (s : ℕ) → InSession w s (λ k. (k.epoch ≤ w.epoch) × T (w.taken s) × (k.got ≤ w.grants s) × (w.grants s ≤ k.got + 1))
   pub given : (s : ℕ) → suc zero ≤ w.grants s → (w.first s + 16 ≤ w.next_id) × T (w.taken s)
-  -- C8: hidden ids are nobody's, and of no live object
+  -- hidden ids are nobody's, and of no live object
   pub alone : (s x : ℕ) → T (is_hidden w s x) → ((t : ℕ) → t ≢ s → (eff w t x ≡ None) × T (not (is_hidden w t x)))
       × InSession w s (λ k. (at x k.cache.held ≡ None) × (last x k.cache ≡ 0)) × (w.seen s x ≡ Gone)
   -- of an id that wasn't given out, no number is known
