@@ -88,3 +88,4 @@ pub mod Beginning
 pub mod FinishAgrees
 pub mod FlushAgrees
 pub mod OpenAgrees
+pub mod GiveAgrees
