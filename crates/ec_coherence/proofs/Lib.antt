@@ -89,3 +89,4 @@ pub mod FinishAgrees
 pub mod FlushAgrees
 pub mod OpenAgrees
 pub mod GiveAgrees
+pub mod OverAgrees

@@ -10,11 +10,11 @@ use Rattle.ec_volume.specs.declared.update.Update.{Update}
 use Rattle.ec_sessions.specs.Windows.{has}
 use Rattle.ec_sessions.specs.declared.slot.Slot.{Slot}
 use Rattle.ec_wire.specs.declared.msg.Msg.TheVariants.{Flush, Kept, Ended}
-use Rattle.ec_durable.specs.Durable.{slot, step}
+use Rattle.ec_durable.specs.Durable.{is_full, slot, step}
 use Rattle.ec_durable.specs.declared.state.Durable.{Durable}
 use Rattle.ec_durable.specs.declared.record.Record.TheVariants as record_of
 use Rattle.ec_log.specs.Log.{batch}
-use Rattle.ec_protocol.specs.Server.{Serving, finish, flush, open_new}
+use Rattle.ec_protocol.specs.Server.{Serving, finish, flush, grant_ids, ids_are_spent, is_last_number, open_new}
 use Rattle.ec_protocol.specs.declared.clerk.Clerk.{Clerk}
 use Rattle.ec_protocol.specs.declared.server.Server.{Server}
 use Rattle.ec_coherence.specs.System.{System, Ghost, clerk_in}
@@ -23,7 +23,7 @@ use Rattle.ec_coherence.specs.Tokens.{TokensAgree, view}
 use Rattle.ec_coherence.specs.Log as log
 use Rattle.ec_coherence.specs.Log.{LogsAgree}
 use Rattle.ec_coherence.specs.Images.{ImagesAgree}
-use Rattle.ec_coherence.specs.Steps.{end_session, keep_batch, open_session, serving_in, Under}
+use Rattle.ec_coherence.specs.Steps.{end_session, give_ids, keep_batch, open_session, serving_in, Under}
 
 -- The facts that these laws rest on.
 pub record Agrees (g : System) : Type 0 where
@@ -77,3 +77,16 @@ OpenKeeps = (g : System) (γ : Ghost) (t : Serving) → Under g t γ → (c : �
     → ((sl : Slot) → slot t.server.durable c ≡ Some sl → T (not sl.is_open)) → ((sl : Slot) → slot t.server.durable c ≡ Some sl → T (is_older sl.age age))
     → IsReached (serving_in t γ g) c age → nat_le last_counter t.server.durable.next_session ≡ false
     → Agrees (serving_in (open_new c age None t) (open_session c age t.server.durable.next_session γ) g)
+
+-- or one with an open session does, which ends by the same record
+abbrev pub OpenOverKeeps : Type 0
+OpenOverKeeps = (g : System) (γ : Ghost) (t : Serving) → Under g t γ → (c : ℕ) (sl : Slot) → slot t.server.durable c ≡ Some sl → T sl.is_open
+    → (age : Age) → c < 16 → T (is_older sl.age age) → IsReached (serving_in t γ g) c age → nat_le last_counter t.server.durable.next_session ≡ false
+    → Agrees (serving_in (open_new c age (Some sl.session) t) (open_session c age t.server.durable.next_session (end_session (serving_in t γ g) sl.session γ)) g)
+
+-- a session that has claimed, and whose clerk took all ids that it was given, is given sixteen more, where there is room
+abbrev pub GiveKeeps : Type 0
+GiveKeeps = (g : System) (γ : Ghost) (t : Serving) → Under g t γ → (c : ℕ) (sl : Slot) → slot t.server.durable c ≡ Some sl → T sl.is_open
+    → (k : Clerk) → clerk_in (serving_in t γ g) sl.session ≡ Some k → T (member sl.session t.server.claimed) → T (γ.taken sl.session) → k.got ≡ sl.grants
+    → (ask : ℕ) → is_full t.server.durable ≡ false → ids_are_spent sl.grants t ≡ false → is_last_number t ≡ false
+    → Agrees (serving_in (grant_ids c sl.session sl.grants ask t) (give_ids sl.session t.server.durable.next_id γ) g)

@@ -4,7 +4,9 @@ use Rattle.ec_tokens.specs.Tokens.{token}
 use Rattle.ec_coherence.specs.System.{eff_from}
 use Rattle.ec_coherence.proofs.FinishAgrees.{finish-agrees}
 use Rattle.ec_coherence.proofs.FlushAgrees.{flush-agrees}
+use Rattle.ec_coherence.proofs.GiveAgrees.{give-agrees}
 use Rattle.ec_coherence.proofs.OpenAgrees.{open-agrees}
+use Rattle.ec_coherence.proofs.OverAgrees.{over-agrees}
 use Rattle.ec_coherence.proofs.Tables.{is-true}
 use Rattle.ec_coherence.proofs.batches.records_keep_nodes_in_agreement.Goals as goal
 
@@ -17,3 +19,9 @@ returns-clause-flush z g γ t u c sl k here opened there claimed b ns under unma
 
 pub returns-clause-open : goal.returns-clause-open
 returns-clause-open z = open-agrees
+
+pub returns-clause-over : goal.returns-clause-over
+returns-clause-over z = over-agrees
+
+pub returns-clause-give : goal.returns-clause-give
+returns-clause-give z g γ t u c sl here opened k there claimed taken current ask room enough small = give-agrees g γ t u c sl here opened k there claimed taken current ask room enough small
