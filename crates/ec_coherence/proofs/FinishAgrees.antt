@@ -1,6 +1,6 @@
 -- Behind the end of a session, with its record and its message, sessions, tokens, logs and images agree.
 use Rattle.std.proofs.Common.{append-nil, ◌≡◌, ◌≢◌, refl, sym, ap, subst, ◌∙◌, cond, ℕ, T, List, [], ◌∷◌, ◌++◌}
-use Rattle.std.specs.Prelude.{◌==◌, Some}
+use Rattle.std.specs.Prelude.{Some}
 use Rattle.std.proofs.lemmas.Bool.{ne_eqb}
 use Rattle.std.proofs.lemmas.List.{append_assoc}
 use Rattle.ec_sessions.specs.declared.slot.Slot.{Slot}

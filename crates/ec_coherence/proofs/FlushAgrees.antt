@@ -1,7 +1,6 @@
 -- Behind a batch under way, with its record and its message, sessions, tokens, logs and images agree.
-use Rattle.std.proofs.Common.{◌≡◌, ◌≢◌, refl, sym, ap, subst, ◌∙◌, cond, arith, length-set, ℕ, zero, suc, Bool, true, false, not, T, List, [], ◌∷◌, ◌++◌, length}
-use Rattle.std.specs.Prelude.{◌==◌, Option, None, Some}
-use Rattle.std.proofs.lemmas.Bool.{ne_eqb, cases_eq}
+use Rattle.std.proofs.Common.{◌≡◌, refl, sym, ap, subst, ◌∙◌, cond, arith, length-set, ℕ, suc, Bool, true, false, not, T, List, [], ◌∷◌, ◌++◌, length}
+use Rattle.std.specs.Prelude.{◌==◌, Some}
 use Rattle.std.proofs.lemmas.List.{append_assoc}
 use Rattle.ec_base.specs.Tables.{at, keys}
 use Rattle.ec_volume.specs.declared.update.Update.{Update}

@@ -1,6 +1,6 @@
 -- Behind sixteen ids that a session is given, with their record, their tokens and the message, sessions, tokens, logs and images agree.
 use Rattle.std.proofs.Common.{◌≡◌, ◌≢◌, refl, sym, ap, subst, ◌∙◌, cond, arith, ℕ, Bool, true, false, not, ◌&&◌, ◌||◌, T, ◌≤◌, List, [], ◌∷◌, ◌++◌}
-use Rattle.std.specs.Prelude.{◌==◌, ◌+◌, nat_le, nat_lt, Option, None, Some, Result, Ok, Err}
+use Rattle.std.specs.Prelude.{◌==◌, ◌+◌, nat_le, nat_lt, Some, Result, Ok, Err}
 use Rattle.std.proofs.lemmas.Bool.{ne_eqb}
 use Rattle.std.proofs.lemmas.List.{append_assoc}
 use Rattle.ec_base.specs.Tables.{at, or_else, put}
@@ -27,13 +27,13 @@ use Rattle.ec_protocol.specs.declared.clerk.Clerk.{Clerk}
 use Rattle.ec_coherence.specs.System.{System, Ghost, clerk_in, is_open, seen_ops}
 use Rattle.ec_coherence.specs.Sessions as sessions
 use Rattle.ec_coherence.specs.Sessions.{SessionsAgree}
-use Rattle.ec_coherence.specs.Tokens.{InSession, Side, TokensAgree, view, side_in}
+use Rattle.ec_coherence.specs.Tokens.{InSession, TokensAgree, view, side_in}
 use Rattle.ec_coherence.specs.Log.{LogsAgree}
 use Rattle.ec_coherence.specs.Images.{ImagesAgree}
 use Rattle.ec_coherence.specs.Steps.{serving_in, give_ids, Under}
 use Rattle.ec_coherence.specs.BatchLaws.{Agrees}
 use Rattle.ec_coherence.proofs.Carried.{gone-is}
-use Rattle.ec_coherence.proofs.GiveIds.{given_step, give-ids-tokens}
+use Rattle.ec_coherence.proofs.GiveIds.{give-ids-tokens}
 use Rattle.ec_coherence.proofs.GivenIds.{given-logs, given-images}
 use Rattle.ec_coherence.proofs.Marked.{marked-sessions}
 use Rattle.ec_coherence.proofs.SlotLaws.{in-range, slot-changed, open-at}
