@@ -46,10 +46,10 @@ module _ (g : System) (γ : Ghost) (t : Serving) (u : Under g t γ) (c : ℕ) (s
   abbrev s : ℕ
   s = sl.session
 
-  abbrev sm : Slot
+  abbrev pub sm : Slot
   sm = record sl { is_open = false; unspent = [] }
 
-  abbrev d' : Durable
+  abbrev pub d' : Durable
   d' = record (t.server.durable) { sessions = with_slot c (Some sm) t.server.durable.sessions }
 
   abbrev pub ended_step : Serving
@@ -175,7 +175,7 @@ module _ (g : System) (γ : Ghost) (t : Serving) (u : Under g t γ) (c : ℕ) (s
 
   -- family A behind the end
 
-  abbrev later : System
+  abbrev pub later : System
   later = serving_in (tell_ended c sl ended_step) γ' g
 
   pub slot-now : (e : ℕ) → slot d' e ≡ cond (e == c) (Some sm) (slot t.server.durable e)

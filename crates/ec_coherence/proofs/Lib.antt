@@ -85,3 +85,8 @@ pub mod HeldChange
 pub mod TakenIds
 pub mod Records
 pub mod Beginning
+pub mod FinishAgrees
+pub mod FlushAgrees
+pub mod OpenAgrees
+pub mod GiveAgrees
+pub mod OverAgrees

@@ -23,13 +23,13 @@ twice (o ∷ slots) (suc c) a b = ap (λ l. o ∷ l) (twice slots c a b)
 
 module _ (g : System) (γ : Ghost) (t : Serving) (u : Under g t γ) (c : ℕ) (sl : Slot) (in_slot : slot t.server.durable c ≡ Some sl) (opened : T sl.is_open)
     (age : Age) (within : c < 16) (greater : T (is_older sl.age age)) (reached : IsReached (serving_in t γ g) c age) where
-  abbrev between : Serving
+  abbrev pub between : Serving
   between = finish.ended_step g γ t u c sl in_slot opened
 
-  abbrev γ-between : Ghost
+  abbrev pub γ-between : Ghost
   γ-between = finish.γ' g γ t u c sl in_slot opened
 
-  abbrev s : ℕ
+  abbrev pub s : ℕ
   s = t.server.durable.next_session
 
   -- one record: the slot is the new session's
@@ -49,10 +49,10 @@ module _ (g : System) (γ : Ghost) (t : Serving) (u : Under g t γ) (c : ℕ) (s
   now-closed : (so : Slot) → slot between.server.durable c ≡ Some so → Some (record sl { is_open = false; unspent = [] }) ≡ Some so
   now-closed so p = sym (finish.slot-now g γ t u c sl in_slot opened c ∙ ap (λ b. cond b (Some (record sl { is_open = false; unspent = [] })) (slot t.server.durable c)) (same c)) ∙ p
 
-  idle : (so : Slot) → slot between.server.durable c ≡ Some so → T (not so.is_open)
+  pub idle : (so : Slot) → slot between.server.durable c ≡ Some so → T (not so.is_open)
   idle so p = subst (λ z. T (not z.is_open)) (same_some (now-closed so p)) tt
 
-  older : (so : Slot) → slot between.server.durable c ≡ Some so → T (is_older so.age age)
+  pub older : (so : Slot) → slot between.server.durable c ≡ Some so → T (is_older so.age age)
   older so p = subst (λ z. T (is_older z.age age)) (same_some (now-closed so p)) greater
 
   pub over-tokens : TokensAgree (view (serving_in over_step γ-over g))

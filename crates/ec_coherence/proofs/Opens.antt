@@ -44,10 +44,10 @@ module _ (g : System) (γ : Ghost) (t : Serving) (b : TokensAgree (view (serving
   abbrev s : ℕ
   s = t.server.durable.next_session
 
-  abbrev sm : Slot
+  abbrev pub sm : Slot
   sm = new_slot age s
 
-  abbrev d' : Durable
+  abbrev pub d' : Durable
   d' = record (t.server.durable) { next_session = s + 1; sessions = with_slot c (Some sm) t.server.durable.sessions }
 
   abbrev pub open_step : Serving
@@ -56,10 +56,10 @@ module _ (g : System) (γ : Ghost) (t : Serving) (b : TokensAgree (view (serving
   abbrev pub γ' : Ghost
   γ' = open_session c age s γ
 
-  room : c < length t.server.durable.sessions
+  pub room : c < length t.server.durable.sessions
   room = let z = a.sixteen in omega arith
 
-  no-owner : γ.owner s ≡ None
+  pub no-owner : γ.owner s ≡ None
   no-owner = go (γ.owner s) refl
     where
       go : (o : Option (ℕ × Age)) → γ.owner s ≡ o → o ≡ None
@@ -126,7 +126,7 @@ module _ (g : System) (γ : Ghost) (t : Serving) (b : TokensAgree (view (serving
 
   -- Sessions.
 
-  abbrev later : System
+  abbrev pub later : System
   later = serving_in open_step γ' g
 
   slot-new : slot d' c ≡ Some sm

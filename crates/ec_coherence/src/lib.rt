@@ -7,7 +7,7 @@ mod clerk;
 mod opening;
 mod server;
 
-pub use batches::records_keep_logs_and_images;
+pub use batches::{records_keep_logs_and_images, records_keep_nodes_in_agreement};
 pub use clerk::clerks_keep_tokens;
 pub use opening::the_opening_agrees;
 pub use server::server_steps_stand;
