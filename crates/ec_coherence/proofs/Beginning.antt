@@ -22,7 +22,7 @@ use Rattle.ec_coherence.proofs.Tables.{equal, none_some}
 abbrev no-slots : ℕ → List (Option Slot)
 no-slots n = replicate n None
 
-none-in : (n c : ℕ) → slice_index_or (no-slots n) c None ≡ None
+pub none-in : (n c : ℕ) → slice_index_or (no-slots n) c None ≡ None
 none-in zero c = refl
 none-in (suc n) zero = refl
 none-in (suc n) (suc c) = none-in n c

@@ -58,13 +58,13 @@ module _ (g : System) (γ : Ghost) (t : Serving) (u : Under g t γ) (c : ℕ) (s
   abbrev s : ℕ
   s = sl.session
 
-  abbrev ops : List (ℕ × Update)
+  abbrev pub ops : List (ℕ × Update)
   ops = batch b k.log
 
-  abbrev now : Durable
+  abbrev pub now : Durable
   now = committed here u.invariant.sessions u.invariant.tokens u.invariant.logs u.invariant.images c s sl k in_slot refl opened there b ns under unmarked
 
-  abbrev newslot : Slot
+  abbrev pub newslot : Slot
   newslot = record sl { window = after_mark sl.window b; unspent = less (Rattle.ec_coherence.specs.Log.makes (updates_in ops)) sl.unspent }
 
   abbrev γ' : Ghost
@@ -74,13 +74,13 @@ module _ (g : System) (γ : Ghost) (t : Serving) (u : Under g t γ) (c : ℕ) (s
   kept = (c, Kept s now.epoch b) ∷ []
 
   -- the server behind this durable state
-  abbrev committed_step : Durable → Serving
+  abbrev pub committed_step : Durable → Serving
   committed_step d = record t { server = record (t.server) { durable = d }; rec = Some (record_of.Batch c s b ops) }
 
-  abbrev behind : Durable → System
+  abbrev pub behind : Durable → System
   behind d = serving_in (tell c (Kept s now.epoch b) (committed_step d)) γ' g
 
-  done : Commits here c s b ops sl (Rattle.ec_coherence.specs.System.is_of (γ.owner s)) now
+  pub done : Commits here c s b ops sl (Rattle.ec_coherence.specs.System.is_of (γ.owner s)) now
   done = commits here u.invariant.sessions u.invariant.tokens u.invariant.logs u.invariant.images c s sl k in_slot refl opened there b ns under unmarked
 
   more : (n : ℕ) → T (has sl.window n) → T (has newslot.window n)
@@ -94,7 +94,7 @@ module _ (g : System) (γ : Ghost) (t : Serving) (u : Under g t γ) (c : ℕ) (s
   abbrev seen : Durable
   seen = record (t.server.durable) { volume = now.volume; next_id = now.next_id; sessions = with_slot c (Some newslot) t.server.durable.sessions }
 
-  slots-now : now.sessions ≡ with_slot c (Some newslot) t.server.durable.sessions
+  pub slots-now : now.sessions ≡ with_slot c (Some newslot) t.server.durable.sessions
   slots-now = same-slots now.sessions (with_slot c (Some newslot) t.server.durable.sessions)
       (length-set (all_carried c ops t.server.durable).sessions c _ ∙ carried-length c ops t.server.durable ∙ sym (length-set t.server.durable.sessions c (Some newslot)))
       (λ i. shows i ∙ sym (slot-changed t.server.durable.sessions c i (Some newslot) (in-range t.server.durable.sessions c sl in_slot)))

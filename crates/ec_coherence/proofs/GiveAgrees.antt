@@ -74,10 +74,10 @@ module _ (g : System) (γ : Ghost) (t : Serving) (u : Under g t γ) (c : ℕ) (s
   abbrev newslot : Slot
   newslot = record sl { grants = sl.grants + 1; last_first = Some first; unspent = slots.with_ids first sl.unspent }
 
-  abbrev d' : Durable
+  abbrev pub d' : Durable
   d' = record (t.server.durable) { next_id = first + 16; sessions = slots.with_slot c (Some newslot) t.server.durable.sessions }
 
-  abbrev γ' : Ghost
+  abbrev pub γ' : Ghost
   γ' = give_ids s first γ
 
   granted : sl.grants ≡ γ.grants s
@@ -97,7 +97,7 @@ module _ (g : System) (γ : Ghost) (t : Serving) (u : Under g t γ) (c : ℕ) (s
       dead false e = absurd (let z = u.invariant.images.known x (subst (λ o. T (not o)) (sym e) tt) in omega arith)
 
   -- the step, by what the session was given before
-  abbrev given : ℕ → Serving
+  abbrev pub given : ℕ → Serving
   given got =
       record t {
         server = record (t.server) { durable = d'; tokens = with_ids s n (run first 16) t.server.tokens; number = n; recorded = put s n t.server.recorded };
@@ -114,7 +114,7 @@ module _ (g : System) (γ : Ghost) (t : Serving) (u : Under g t γ) (c : ℕ) (s
   next = both-true _ _ (both-true _ _ (both-true _ _ (ap (λ o. sl.grants == Rattle.ec_durable.specs.Durable.grants o) in_slot ∙ same sl.grants)
       (not-above last_grants sl.grants (second-off (nat_lt last_first_id first) _ enough))) (same first)) (not-less last_first_id first (first-off _ (nat_le last_grants sl.grants) enough))
 
-  steps : step (record_of.Ids c s sl.grants first) t.server.durable ≡ Ok d'
+  pub steps : step (record_of.Ids c s sl.grants first) t.server.durable ≡ Ok d'
   steps = ap (λ b. elim b as (λ z. Result Durable RecordFault) [
     | false ↦ Err fault.NoSession
     | true ↦ elim (is_next_grant c sl.grants first t.server.durable) as (λ z. Result Durable RecordFault) [
@@ -147,7 +147,7 @@ module _ (g : System) (γ : Ghost) (t : Serving) (u : Under g t γ) (c : ℕ) (s
       (record stepped { server = record (stepped.server) { tokens = with_ids s n (run first 16) t.server.tokens; number = n; recorded = put s n t.server.recorded } }))
       (at-put s s n t.server.recorded ∙ ap (λ b. cond b (Some n) (at s t.server.recorded)) (same s))
 
-  grant-is : grant_ids c s sl.grants ask t ≡ given sl.grants
+  pub grant-is : grant_ids c s sl.grants ask t ≡ given sl.grants
   grant-is = ap (λ b. elim b as (λ z. Serving) [
     | true ↦ tell c (NoRoom s (epoch t) ask (live t.server.durable) (reserved t.server.durable)) t
     | false ↦ elim (ids_are_spent sl.grants t) as (λ z. Serving) [
@@ -164,10 +164,10 @@ module _ (g : System) (γ : Ghost) (t : Serving) (u : Under g t γ) (c : ℕ) (s
   abbrev behind : ℕ → System
   behind got = serving_in (given got) γ' g
 
-  own : slot d' c ≡ Some newslot
+  pub own : slot d' c ≡ Some newslot
   own = slot-changed t.server.durable.sessions c c (Some newslot) (in-range t.server.durable.sessions c sl in_slot) ∙ ap (λ z. cond z (Some newslot) (slot t.server.durable c)) (same c)
 
-  others : (j : ℕ) → j ≢ c → slot d' j ≡ slot t.server.durable j
+  pub others : (j : ℕ) → j ≢ c → slot d' j ≡ slot t.server.durable j
   others j m = slot-changed t.server.durable.sessions c j (Some newslot) (in-range t.server.durable.sessions c sl in_slot) ∙ ap (λ z. cond z (Some newslot) (slot t.server.durable j)) (ne_eqb j c m)
 
   given-sessions : (got : ℕ) → SessionsAgree (behind got)

@@ -45,31 +45,31 @@ module _ (g : System) (γ : Ghost) (t : Serving) (u : Under g t γ) (c : ℕ) (a
   abbrev s : ℕ
   s = t.server.durable.next_session
 
-  abbrev d : Durable
+  abbrev pub d : Durable
   d = d' g γ t u.invariant.tokens u.invariant.sessions c age within idle greater reached
 
   abbrev opening : Serving
   opening = open_step g γ t u.invariant.tokens u.invariant.sessions c age within idle greater reached
 
-  abbrev γ' : Ghost
+  abbrev pub γ' : Ghost
   γ' = open_session c age s γ
 
   abbrev told : List (ℕ × Msg)
   told = (c, Opened age s t.server.durable.epoch) ∷ []
 
-  abbrev opened : Serving
+  abbrev pub opened : Serving
   opened = tell c (Opened age s t.server.durable.epoch) opening
 
   abbrev behind : System
   behind = serving_in opened γ' g
 
-  fresh : γ.owner s ≡ None
+  pub fresh : γ.owner s ≡ None
   fresh = no-owner g γ t u.invariant.tokens u.invariant.sessions c age within idle greater reached
 
-  own : slot d c ≡ Some (new_slot age s)
+  pub own : slot d c ≡ Some (new_slot age s)
   own = slot-changed t.server.durable.sessions c c (Some (new_slot age s)) (room g γ t u.invariant.tokens u.invariant.sessions c age within idle greater reached) ∙ ap (λ z. cond z (Some (new_slot age s)) (slot t.server.durable c)) (same c)
 
-  others : (j : ℕ) → j ≢ c → slot d j ≡ slot t.server.durable j
+  pub others : (j : ℕ) → j ≢ c → slot d j ≡ slot t.server.durable j
   others j n = slot-changed t.server.durable.sessions c j (Some (new_slot age s)) (room g γ t u.invariant.tokens u.invariant.sessions c age within idle greater reached) ∙ ap (λ z. cond z (Some (new_slot age s)) (slot t.server.durable j)) (ne_eqb j c n)
 
   is-greater-now : is_greater (slot t.server.durable c) age ≡ true
@@ -79,7 +79,7 @@ module _ (g : System) (γ : Ghost) (t : Serving) (u : Under g t γ) (c : ℕ) (a
       go None p = refl
       go (Some sl) p = is-true (is_older sl.age age) (greater sl p)
 
-  steps : step (record_of.Open c age s) t.server.durable ≡ Ok d
+  pub steps : step (record_of.Open c age s) t.server.durable ≡ Ok d
   steps = ap (λ b. elim b as (λ z. Result Durable RecordFault) [
     | false ↦ Err BadAge
     | true ↦ elim (is_next_session s t.server.durable) as (λ z. Result Durable RecordFault) [ false ↦ Err BadNumber | true ↦ Ok d ]
@@ -88,13 +88,13 @@ module _ (g : System) (γ : Ghost) (t : Serving) (u : Under g t γ) (c : ℕ) (a
       next : is_next_session s t.server.durable ≡ true
       next = ap (λ z. z && nat_lt s last_counter) (same s) ∙ below last_counter s small
 
-  open-is : open_new c age None t ≡ opened
+  pub open-is : open_new c age None t ≡ opened
   open-is = ap (λ b. elim b as (λ z. Serving) [
     | true ↦ spend counter.Session t
     | false ↦ elim (step (record_of.Open c age s) t.server.durable) as (λ z. Serving) [ Ok e ↦ tell_opened c age s None (record t { server = record (t.server) { durable = e }; rec = Some (record_of.Open c age s) }) | Err f ↦ t ]
   ]) small ∙ ap (λ r. elim r as (λ z. Serving) [ Ok e ↦ tell_opened c age s None (record t { server = record (t.server) { durable = e }; rec = Some (record_of.Open c age s) }) | Err f ↦ t ]) steps
 
-  own-session : γ'.owner s ≡ Some (c, age)
+  pub own-session : γ'.owner s ≡ Some (c, age)
   own-session = ap (λ b. elim b as (λ z. Option (ℕ × Age)) [ true ↦ Some (c, age) | false ↦ γ.owner s ]) (same s)
 
   opened-sessions : SessionsAgree behind

@@ -28,6 +28,10 @@ abbrev pub cut_in : System → Option ℕ → Option (List Op)
 cut_in g None = None
 cut_in g (Some s) = g.ghost.frozen s
 
+-- no session of the start's age has ended, whether its clerk took it or not
+abbrev pub IsUncut : System → ℕ → Clerk → Type 0
+IsUncut g c k = (s : ℕ) → g.ghost.owner s ≡ Some (c, k.age) → g.ghost.frozen s ≡ None
+
 -- the session's token on each operand is Free
 abbrev pub Frees : System → ℕ → Op → Type 0
 Frees g s o = Each (λ x. T (is_free (eff_hold (eff (view g) s x)))) (operands o.update)
@@ -56,17 +60,17 @@ pub record EventsAgree (g : System) : Type 0 where
   pub placeable : ArePlaceable [] g.ghost.shown
   pub placed : place g.ghost.shown ≡ g.ghost.history
   pub starts : (c b : ℕ) → g.running c ≡ Some b → (begun (watch c g.ghost.shown)).starts ≡ shown_boot g c b
-  pub untold : (c b : ℕ) (k : Clerk) → g.running c ≡ Some b → g.clerks c b ≡ Some k → cut_in g k.session ≡ None → (watch c g.ghost.shown).untold ≡ None
+  pub untold : (c b : ℕ) (k : Clerk) → g.running c ≡ Some b → g.clerks c b ≡ Some k → IsUncut g c k → (watch c g.ghost.shown).untold ≡ None
   -- what is kept, by the clerks' boots
   pub keeps : kept (base_of g) g.ghost.history ≡ map (shown_op g) g.ghost.kept
   -- it's legal
   pub legal : IsLegal (base_of g) g.durable.max_objects g.ghost.history
   -- what each start that isn't cut off owes, and how many operations it issued
-  pub owes : (c b : ℕ) (k : Clerk) → g.running c ≡ Some b → g.clerks c b ≡ Some k → cut_in g k.session ≡ None → owed (base_of g) g.ghost.history c (shown_boot g c b) ≡ k.owed
+  pub owes : (c b : ℕ) (k : Clerk) → g.running c ≡ Some b → g.clerks c b ≡ Some k → IsUncut g c k → owed (base_of g) g.ghost.history c (shown_boot g c b) ≡ k.owed
   pub counts : (c b : ℕ) (k : Clerk) → g.running c ≡ Some b → g.clerks c b ≡ Some k → length (filter (is_op_of c (shown_boot g c b)) g.ghost.history) + 1 ≡ k.log.next
   -- what is covered is durable
   pub covered : Throughout (λ h e. (o : Op) → Covers (base_of g) h e o.clerk (shown_boot g o.clerk o.boot) o.number → T (g.ghost.is_durable o)) [] g.ghost.history
   -- no other clerk touched what an open session may still lose
   pub untouched : (s : ℕ) (o : ℕ × Age) → g.ghost.owner s ≡ Some o → T (is_open g s) → Throughout (Untouched g s o) [] g.ghost.history
-  -- of the running starts whose session has ended
-  pub cuts : (c b s : ℕ) (k : Clerk) (ks : List Op) → g.running c ≡ Some b → g.clerks c b ≡ Some k → k.session ≡ Some s → g.ghost.frozen s ≡ Some ks → CutAgrees g c b s k ks
+  -- of the running starts whose session has ended, also before its clerk took it
+  pub cuts : (c b s : ℕ) (k : Clerk) (ks : List Op) → g.running c ≡ Some b → g.clerks c b ≡ Some k → g.ghost.owner s ≡ Some (c, k.age) → g.ghost.frozen s ≡ Some ks → CutAgrees g c b s k ks

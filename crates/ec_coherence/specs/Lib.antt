@@ -11,5 +11,6 @@ pub mod Laws
 pub mod Caches
 pub mod Clerks
 pub mod BatchLaws
+pub mod ChangeLaws
 pub mod ClerkLaws
 pub mod Opening

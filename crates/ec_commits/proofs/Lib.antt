@@ -1,0 +1,9 @@
+pub mod Framed
+pub mod Stopping
+pub mod Shown
+pub mod Watched
+pub mod Given
+pub mod Opened
+pub mod Durables
+pub mod Flushed
+pub mod Opening

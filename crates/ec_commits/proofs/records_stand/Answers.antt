@@ -1,0 +1,19 @@
+use Rattle.ec_commits.proofs.Flushed.{flush-stands}
+use Rattle.ec_commits.proofs.Given.{give-stands, give-watches}
+use Rattle.ec_commits.proofs.Opened.{open-stands, open-watches}
+use Rattle.ec_commits.proofs.records_stand.Goals as goal
+
+pub returns-clause-give : goal.returns-clause-give
+returns-clause-give z g γ t u none c sl in_slot opened k there claimed taken current ask room enough small = (
+  give-stands g γ t u.0 none c sl in_slot opened k there claimed taken current ask room enough small,
+  give-watches g γ t u.0 none c sl in_slot opened k there claimed taken current ask room enough small u.1,
+)
+
+pub returns-clause-open : goal.returns-clause-open
+returns-clause-open z g γ t u none c age within idle greater reached small = (
+  open-stands g γ t u.0 none c age within idle greater reached small,
+  open-watches g γ t u.0 none c age within idle greater reached small u.1,
+)
+
+pub returns-clause-flush : goal.returns-clause-flush
+returns-clause-flush z g γ t u none c sl k in_slot opened there claimed b ns under unmarked = flush-stands g γ t u.0 none u.1 c sl k in_slot opened there claimed b ns under unmarked

@@ -1,0 +1,21 @@
+//! The whole invariant behind a server's functions that commit a record, with what the lines show of
+//! each clerk. Each function has an empty body, and its contract is a law.
+#![tactic(auto)]
+
+ghost use Rattle.ec_commits.specs.Laws.{FlushStands, GiveStands, LinesStand, OpeningShows, OpenStands};
+
+/// Which start runs, which session is open and what it may still lose is what the lines show: before
+/// anything happened, and behind each change of the server that leaves the slots.
+pub fn lines_show_what_stands()
+    ensures opening { OpeningShows }
+    ensures tables { LinesStand }
+{}
+
+/// A step of a server that hasn't committed a record yet stands, with all facts, behind ids that a
+/// session is given, behind a session that it opens for a clerk without an open one, and behind a
+/// batch that it takes.
+pub fn records_stand()
+    ensures give { GiveStands }
+    ensures open { OpenStands }
+    ensures flush { FlushStands }
+{}
