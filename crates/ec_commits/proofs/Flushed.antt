@@ -139,7 +139,7 @@ module _ (g : System) (γ : Ghost) (t : Serving) (u : Under g t γ) (none : t.re
   events : EventsAgree behind
   events = durable-events here u.invariant.events c (sl.age).boot (keys ops) now (Some done.server) behind.pool ((flushing.done g γ t u c sl k in_slot opened there b ns under unmarked tokens-now).most) named was-open same-tokens
 
-  flush-is : flush c s b ops sl t ≡ done
+  pub flush-is : flush c s b ops sl t ≡ done
   flush-is = flushes here u.invariant.sessions u.invariant.tokens u.invariant.logs u.invariant.images c s sl k in_slot refl opened there b ns under unmarked t refl claimed
 
   agrees : Agrees behind

@@ -7,3 +7,4 @@ pub mod Opened
 pub mod Durables
 pub mod Flushed
 pub mod Opening
+pub mod Taking

@@ -1,11 +1,13 @@
 -- The whole invariant behind each want, token given back and batch that a server takes.
 use Rattle.std.proofs.Common.{◌≡◌, refl, sym, ap, subst, ◌∙◌, inl, inr, ◌⊎◌, ℕ, Bool, true, false, not, ◌==◌, ◌&&◌, ◌||◌, T, List, [], ◌∷◌, ◌++◌, Option, Some, None, append-nil}
-use Rattle.std.specs.Prelude.{Contains, is_some}
+use Rattle.std.specs.Prelude.{Contains, is_some, nat_lt}
 use Rattle.std.proofs.lemmas.Bool.{and_parts}
 use Rattle.ec_base.specs.Tables.{at, keys}
 use Rattle.ec_base.specs.declared.ids.Hold.{Hold}
 use Rattle.ec_volume.specs.Update.{member}
 use Rattle.ec_volume.specs.declared.update.Update.{Update}
+use Rattle.ec_tokens.specs.Tokens.{fits_back, lowered, token}
+use Rattle.ec_tokens.specs.declared.token.Token.{Token}
 use Rattle.ec_sessions.specs.Windows.{has}
 use Rattle.ec_sessions.specs.declared.slot.Slot.{Slot}
 use Rattle.ec_wire.specs.declared.msg.Msg.{Msg}
@@ -13,11 +15,12 @@ use Rattle.ec_wire.specs.declared.msg.Msg.TheVariants.{Want, Back, Flush, Kept, 
 use Rattle.ec_durable.specs.Durable.{slot}
 use Rattle.ec_durable.specs.declared.state.Durable.{Durable}
 use Rattle.ec_durable.specs.declared.record.Record.{Record}
+use Rattle.ec_durable.specs.declared.record.Record.TheVariants as record_of
 use Rattle.ec_log.specs.Log.{batch}
 use Rattle.ec_protocol.specs.declared.server.Server.{Server}
 use Rattle.ec_protocol.specs.declared.clerk.Clerk.{Clerk}
-use Rattle.ec_protocol.specs.Server.{Serving, back, epoch, flush, has_claimed, in_session, serve, serving, take, taken, tell, tell_ended, want}
-use Rattle.ec_coherence.specs.System.{System, Ghost, clerk_in}
+use Rattle.ec_protocol.specs.Server.{Serving, back, commit, epoch, finish, flush, has_claimed, in_session, may_write, note, send_grant, serve, serving, take, taken, tell, tell_ended, want}
+use Rattle.ec_coherence.specs.System.{System, Ghost, clerk_in, is_open}
 use Rattle.ec_coherence.specs.Sessions as sessions
 use Rattle.ec_coherence.specs.Tokens as tokens
 use Rattle.ec_coherence.specs.Tokens.{side_in, view}
@@ -28,6 +31,7 @@ use Rattle.ec_coherence.specs.Steps.{Committed, record_lines, serving_in, Under}
 use Rattle.ec_coherence.proofs.Frames.{tell-stands}
 use Rattle.ec_coherence.proofs.Handlers.{back-stands, want-stands}
 use Rattle.ec_coherence.proofs.Needs.{each-of}
+use Rattle.ec_coherence.proofs.OpenSlots.{at-open}
 use Rattle.ec_coherence.proofs.Replies.{restarted-stands, tell-ended-stands}
 use Rattle.ec_coherence.proofs.ServeStands.{serve-serves}
 use Rattle.ec_coherence.proofs.Tables.{equal, fails, holds, is-true, same_some}
@@ -141,22 +145,84 @@ module _ (g : System) (v : Server) (i : Invariant g) (wa : WatchesAgree g) (up :
   ends : (m : Msg) → Going g (taken c m t) → T (is_some (taken c m t).spent) ⊎ (T (is_some (take c m v).spent) ⊎ ((γ : Ghost) × Stands g (take c m v) γ))
   ends m w = elim (served g (taken c m t) w) [ inl p ↦ inr (inl p) | inr q ↦ elim q [ inl z ↦ inr (inr z) | inr p ↦ inl p ] ]
 
-  pub takes-back : (s e x n : ℕ) (h : Hold) → Contains g.pool (c, Back s e x n h) → Takes g c (Back s e x n h) v
-  takes-back s e x n h p = ends (Back s e x n h) (within g g.ghost t st refl c s e false (λ sl. back s x n h) (λ sl q r o now claimed. went sl (back-stands g g.ghost t st.0 s x claimed e n h (of-tokens (Back s e x n h) p) now)))
-    where
-      went : (sl : Slot) → Under g (back s x n h t) g.ghost → Going g (back s x n h t)
-      went sl u = inr (g.ghost, (u, watches-read here (back s x n h t).server.durable (Some (back s x n h t).server) (g.pool ++ (back s x n h t).sent) same st.1), unspent)
-        where
-          same : (back s x n h t).server.durable.sessions ≡ v.durable.sessions
-          same = go (Rattle.ec_tokens.specs.Tokens.fits_back (Rattle.ec_tokens.specs.Tokens.token v.tokens s x) n h)
-            where
-              go : (b : Bool) → (elim b as (λ z. Serving) [ true ↦ record t { server = record v { tokens = Rattle.ec_tokens.specs.Tokens.lowered s x h n v.tokens } } | false ↦ t ]).server.durable.sessions ≡ v.durable.sessions
-              go true = refl
-              go false = refl
+  -- a step of the tables alone
+  went : (f : Serving) → Under g f g.ghost → f.server.durable.sessions ≡ v.durable.sessions → f.spent ≡ None → Going g f
+  went f u same unspent = inr (g.ghost, (u, watches-read here f.server.durable (Some f.server) (g.pool ++ f.sent) same st.1), unspent)
 
-          unspent : (back s x n h t).spent ≡ None
-          unspent = go (Rattle.ec_tokens.specs.Tokens.fits_back (Rattle.ec_tokens.specs.Tokens.token v.tokens s x) n h)
-            where
-              go : (b : Bool) → (elim b as (λ z. Serving) [ true ↦ record t { server = record v { tokens = Rattle.ec_tokens.specs.Tokens.lowered s x h n v.tokens } } | false ↦ t ]).spent ≡ None
-              go true = refl
-              go false = refl
+  pub takes-back : (s e x n : ℕ) (h : Hold) → Contains g.pool (c, Back s e x n h) → Takes g c (Back s e x n h) v
+  takes-back s e x n h p = ends (Back s e x n h) (within g g.ghost t st refl c s e false (λ sl. back s x n h)
+      (λ sl q r o now claimed. went (back s x n h t) (back-stands g g.ghost t st.0 s x claimed e n h (of-tokens (Back s e x n h) p) now) (same (fits_back (token v.tokens s x) n h)) (unspent (fits_back (token v.tokens s x) n h))))
+    where
+      abbrev by : Bool → Serving
+      by b = elim b as (λ z. Serving) [ true ↦ record t { server = record v { tokens = lowered s x h n v.tokens } } | false ↦ t ]
+
+      same : (b : Bool) → (by b).server.durable.sessions ≡ v.durable.sessions
+      same true = refl
+      same false = refl
+
+      unspent : (b : Bool) → (by b).spent ≡ None
+      unspent true = refl
+      unspent false = refl
+
+  pub takes-want : (s e x l : ℕ) (h : Hold) → Contains g.pool (c, Want s e x h l) → Takes g c (Want s e x h l) v
+  takes-want s e x l h p = ends (Want s e x h l) (within g g.ghost t st refl c s e false (λ sl. want c s x h l)
+      (λ sl q r o now claimed. went (want c s x h l t) (want-stands g g.ghost t st.0 s x claimed c e l h (of-sessions (Want s e x h l) p) (of-tokens (Want s e x h l) p) now)
+      (same (token v.tokens s x)) (unspent (token v.tokens s x))))
+    where
+      abbrev again : Token → Bool → Serving
+      again k b = elim b as (λ z. Serving) [ true ↦ send_grant c s x k.hold k.number t | false ↦ note s x h t ]
+
+      abbrev by : Option Token → Serving
+      by o = elim o as (λ z. Serving) [ None ↦ note s x h t | Some k ↦ again k (nat_lt l k.number) ]
+
+      same : (o : Option Token) → (by o).server.durable.sessions ≡ v.durable.sessions
+      same None = refl
+      same (Some k) = go (nat_lt l k.number)
+        where
+          go : (b : Bool) → (again k b).server.durable.sessions ≡ v.durable.sessions
+          go true = refl
+          go false = refl
+
+      unspent : (o : Option Token) → (by o).spent ≡ None
+      unspent None = refl
+      unspent (Some k) = go (nat_lt l k.number)
+        where
+          go : (b : Bool) → (again k b).spent ≡ None
+          go true = refl
+          go false = refl
+
+  -- the clerk that took an open session
+  its-clerk : (s : ℕ) → T (is_some ((view here).clerk s)) → (k : Clerk) × (clerk_in here s ≡ Some k)
+  its-clerk s y = go (clerk_in here s) refl y
+    where
+      go : (o : Option Clerk) → clerk_in here s ≡ o → T (is_some (side_in o)) → (k : Clerk) × (clerk_in here s ≡ Some k)
+      go None q y = absurd y
+      go (Some k) q y = (k, q)
+
+  some-at : (o : Option (List ℕ)) → T (is_some o) → (ns : List ℕ) × (o ≡ Some ns)
+  some-at None y = absurd y
+  some-at (Some ns) y = (ns, refl)
+
+  pub takes-flush : (s e b : ℕ) (ops : List (ℕ × Update)) → Contains g.pool (c, Flush s e b ops) → Takes g c (Flush s e b ops) v
+  takes-flush s e b ops p = ends (Flush s e b ops) (within g g.ghost t st refl c s e false (flush c s b ops) (λ sl q r o now claimed. comes sl q r o claimed (has sl.window b) refl))
+    where
+      passed : tokens.Passed (view here) s e
+      passed = of-tokens (Flush s e b ops) p
+
+      comes : (sl : Slot) → slot v.durable c ≡ Some sl → sl.session ≡ s → T sl.is_open → T (member s v.claimed) → (z : Bool) → has sl.window b ≡ z → Going g (flush c s b ops sl t)
+      comes sl q r o claimed true m =
+          subst (λ z. Going g (elim z as (λ y. Serving) [
+            | true ↦ tell c (Kept s (epoch t) b) t
+            | false ↦ elim (may_write v.tokens s ops) as (λ y. Serving) [ true ↦ commit (record_of.Batch c s b ops) (λ u. tell c (Kept s (epoch u) b) u) (finish c sl) t | false ↦ finish c sl t ]
+          ])) (sym m) (said g g.ghost t st refl c s e (Kept s (epoch t) b) (tell-stands g g.ghost t c (Kept s (epoch t) b) st.0
+              (of-sessions (Flush s e b ops) p, λ so y w. subst (λ z. T (has z.window b)) (same_some (sym q ∙ y)) (holds (has sl.window b) m)) tt tt tt))
+      comes sl q r o claimed false m =
+          let unmarked : T (not (has sl.window b)) = fails (has sl.window b) m in
+          let is-open : T (is_open here s) = at-open s v.durable.sessions c sl (q, r, o) in
+          let k = its-clerk s ((st.0).invariant.tokens.present s is-open passed.0) in
+          let its = of-logs (Flush s e b ops) p c sl q r o unmarked k.0 k.1 in
+          let ns = some-at (at b (k.0).log.batches) its.1 in
+          subst (λ x. Going g (flush c x b ops sl t)) r (subst (λ x. Going g (flush c sl.session b x sl t)) (sym its.0)
+              (let done = flush-stands g g.ghost t st.0 refl st.1 c sl k.0 q o (ap (clerk_in here) r ∙ k.1) (subst (λ x. T (member x v.claimed)) (sym r) claimed) b ns.0 ns.1 unmarked in
+              inr (show_batch c (sl.age).boot (keys (batch b (k.0).log)) g.ghost, done,
+              ap (λ z. z.spent) (flush-is g g.ghost t st.0 refl st.1 c sl k.0 q o (ap (clerk_in here) r ∙ k.1) (subst (λ x. T (member x v.claimed)) (sym r) claimed) b ns.0 ns.1 unmarked))))

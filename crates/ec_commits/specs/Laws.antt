@@ -1,5 +1,5 @@
 -- What is proved of a server's functions that commit a record, as contracts name it: the whole invariant stands behind them, with what the lines show.
-use Rattle.std.specs.Prelude.{◌≡◌, ◌<◌, ℕ, T, false, nat_le, not, List, [], ◌∷◌, ◌++◌, Option, None, Some}
+use Rattle.std.specs.Prelude.{◌≡◌, ◌<◌, ◌⊎◌, ℕ, T, false, nat_le, not, List, [], ◌∷◌, ◌++◌, Contains, Option, None, Some, is_some, ⊤}
 use Rattle.ec_base.specs.Ages.{is_older}
 use Rattle.ec_base.specs.Limits.{last_counter}
 use Rattle.ec_base.specs.Tables.{at, keys}
@@ -11,12 +11,14 @@ use Rattle.ec_sessions.specs.declared.slot.Slot.{Slot}
 use Rattle.ec_durable.specs.Durable.{is_full, slot}
 use Rattle.ec_durable.specs.declared.state.Durable.{Durable}
 use Rattle.ec_wire.specs.declared.msg.Msg.{Msg}
+use Rattle.ec_wire.specs.declared.msg.Msg.TheVariants.{Want, Back, Flush}
 use Rattle.ec_log.specs.Log.{batch}
-use Rattle.ec_protocol.specs.Server.{Serving, flush, grant_ids, ids_are_spent, is_last_number, open_new}
+use Rattle.ec_protocol.specs.Server.{Serving, flush, grant_ids, ids_are_spent, is_last_number, open_new, serving, take, taken}
 use Rattle.ec_protocol.specs.declared.clerk.Clerk.{Clerk}
 use Rattle.ec_protocol.specs.declared.server.Server.{Server}
 use Rattle.ec_coherence.specs.System.{System, Ghost, clerk_in}
 use Rattle.ec_coherence.specs.Sessions.{IsReached}
+use Rattle.ec_coherence.specs.Invariant.{Invariant}
 use Rattle.ec_coherence.specs.Steps.{give_ids, keep_batch, open_session, serving_in, Under}
 use Rattle.ec_coherence.specs.Opening.{opening}
 use Rattle.ec_commits.specs.Watches.{WatchesAgree}
@@ -56,3 +58,26 @@ abbrev pub FlushStands : Type 0
 FlushStands = (g : System) (γ : Ghost) (t : Serving) → Stands g t γ → t.rec ≡ None → (c : ℕ) (sl : Slot) (k : Clerk) → slot t.server.durable c ≡ Some sl → T sl.is_open
     → clerk_in (serving_in t γ g) sl.session ≡ Some k → T (member sl.session t.server.claimed) → (b : ℕ) (ns : List ℕ) → at b k.log.batches ≡ Some ns → T (not (has sl.window b))
     → Stands g (flush c sl.session b (batch b k.log) sl t) (show_batch c (sl.age).boot (keys (batch b k.log)) γ)
+
+-- Whole messages.
+
+-- The step that a server makes of a message stands, unless it's refused because a counter is spent.
+abbrev pub Takes : System → ℕ → Msg → Server → Type 0
+Takes g c m v = T (is_some (taken c m (serving v)).spent) ⊎ (T (is_some (take c m v).spent) ⊎ ((γ : Ghost) × Stands g (take c m v) γ))
+
+-- a running server takes a message that was sent
+abbrev pub TakesEach : (Msg → Type 0) → Type 0
+TakesEach P = (g : System) (v : Server) → Invariant g → WatchesAgree g → g.server ≡ Some v → (c : ℕ) (m : Msg) → P m → Contains g.pool (c, m) → Takes g c m v
+
+-- a want, a token given back, and a batch
+abbrev pub IsWant : Msg → Type 0
+IsWant (Want s e x h l) = ⊤
+IsWant _ = ⊥
+
+abbrev pub IsBack : Msg → Type 0
+IsBack (Back s e x n h) = ⊤
+IsBack _ = ⊥
+
+abbrev pub IsFlush : Msg → Type 0
+IsFlush (Flush s e b ops) = ⊤
+IsFlush _ = ⊥

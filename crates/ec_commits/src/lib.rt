@@ -1,8 +1,9 @@
-//! The whole invariant behind a server's functions that commit a record, with what the lines show of
-//! each clerk. Each function has an empty body, and its contract is a law.
+//! The whole invariant behind a server's functions that commit a record, and behind messages that it
+//! takes, with what the lines show of each clerk. Each function has an empty body, and its contract
+//! is a law.
 #![tactic(auto)]
 
-ghost use Rattle.ec_commits.specs.Laws.{FlushStands, GiveStands, LinesStand, OpeningShows, OpenStands};
+ghost use Rattle.ec_commits.specs.Laws.{FlushStands, GiveStands, LinesStand, OpeningShows, OpenStands, TakesEach, IsWant, IsBack, IsFlush};
 
 /// Which start runs, which session is open and what it may still lose is what the lines show: before
 /// anything happened, and behind each change of the server that leaves the slots.
@@ -18,4 +19,12 @@ pub fn records_stand()
     ensures give { GiveStands }
     ensures open { OpenStands }
     ensures flush { FlushStands }
+{}
+
+/// A running server takes a want, a token given back or a batch, of any session and epoch, and
+/// serves what is due: all facts stand behind the whole step, with its record and its messages.
+pub fn messages_stand()
+    ensures wants { TakesEach IsWant }
+    ensures backs { TakesEach IsBack }
+    ensures batches { TakesEach IsFlush }
 {}

@@ -6,7 +6,7 @@ use Rattle.std.proofs.lemmas.Bool.{cases_Bool, and_from, cond-true, true≢false
 use Rattle.std.proofs.lemmas.Bool.Decides.{nat_tests}
 use Rattle.std.proofs.lemmas.List.Folds.{list_any-append}
 use Rattle.ec_base.specs.Tables.{at, once, or_else}
-use Rattle.ec_base.specs.Holds.{is_below}
+use Rattle.ec_base.specs.Holds.{is_below, weaker}
 use Rattle.ec_base.specs.declared.ids.Hold.{Hold}
 use Rattle.ec_base.specs.declared.ids.Hold.TheVariants.{Free, Read, Write}
 use Rattle.ec_volume.specs.Image.{is_id}
@@ -43,12 +43,12 @@ use Rattle.ec_events.specs.Answers.{IsAt, IsAnswered, IsUnowed, id_of}
 pub held-token : (k : CacheState) (x : ℕ) → T (cache.holds x Read k) → (h : Held) × (at x k.held ≡ Some h)
 held-token k x t = go (at x k.held) refl t
   where
-    free : (l : Hold) → T (not (is_below (cache.weaker Free l) Read)) → ⊥
+    free : (l : Hold) → T (not (is_below (weaker Free l) Read)) → ⊥
     free Free t = t
     free Read t = t
     free Write t = t
 
-    go : (o : Option Held) → at x k.held ≡ o → T (not (is_below (cache.weaker (cache.held_mode o) (or_else Write (at x k.limits))) Read)) → (h : Held) × (at x k.held ≡ Some h)
+    go : (o : Option Held) → at x k.held ≡ o → T (not (is_below (weaker (cache.held_mode o) (or_else Write (at x k.limits))) Read)) → (h : Held) × (at x k.held ≡ Some h)
     go None e t = absurd (free (or_else Write (at x k.limits)) t)
     go (Some h) e t = (h, e)
 

@@ -1,0 +1,31 @@
+use Rattle.std.specs.Prelude.{ℕ, Contains, Some, ◌≡◌}
+use Rattle.ec_wire.specs.declared.msg.Msg.{Msg}
+use Rattle.ec_wire.specs.declared.msg.Msg.TheVariants.{Want, Back, Flush}
+use Rattle.ec_protocol.specs.declared.server.Server.{Server}
+use Rattle.ec_coherence.specs.Invariant.{Invariant}
+use Rattle.ec_coherence.specs.System.{System}
+use Rattle.ec_commits.specs.Laws.{Takes, IsWant, IsBack, IsFlush}
+use Rattle.ec_commits.specs.Watches.{WatchesAgree}
+use Rattle.ec_commits.proofs.Taking.{takes-back, takes-flush, takes-want}
+use Rattle.ec_commits.proofs.messages_stand.Goals as goal
+
+wants : (g : System) (v : Server) → Invariant g → WatchesAgree g → g.server ≡ Some v → (c : ℕ) (m : Msg) → IsWant m → Contains g.pool (c, m) → Takes g c m v
+wants g v i wa up c (Want s e x h l) is p = takes-want g v i wa up c s e x l h p
+wants g v i wa up c _ is p = absurd is
+
+backs : (g : System) (v : Server) → Invariant g → WatchesAgree g → g.server ≡ Some v → (c : ℕ) (m : Msg) → IsBack m → Contains g.pool (c, m) → Takes g c m v
+backs g v i wa up c (Back s e x n h) is p = takes-back g v i wa up c s e x n h p
+backs g v i wa up c _ is p = absurd is
+
+batches : (g : System) (v : Server) → Invariant g → WatchesAgree g → g.server ≡ Some v → (c : ℕ) (m : Msg) → IsFlush m → Contains g.pool (c, m) → Takes g c m v
+batches g v i wa up c (Flush s e b ops) is p = takes-flush g v i wa up c s e b ops p
+batches g v i wa up c _ is p = absurd is
+
+pub returns-clause-wants : goal.returns-clause-wants
+returns-clause-wants c = wants
+
+pub returns-clause-backs : goal.returns-clause-backs
+returns-clause-backs c = backs
+
+pub returns-clause-batches : goal.returns-clause-batches
+returns-clause-batches c = batches
