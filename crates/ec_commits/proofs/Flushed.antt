@@ -81,7 +81,7 @@ module _ (g : System) (γ : Ghost) (t : Serving) (u : Under g t γ) (none : t.re
   abbrev ops : List (ℕ × Update)
   ops = batch b k.log
 
-  tokens-now : (x : ℕ) → eff (view here) s x ≡ eff_from true (tokens.token t.server.tokens s x) t.server.durable.epoch (γ.old s x)
+  pub tokens-now : (x : ℕ) → eff (view here) s x ≡ eff_from true (tokens.token t.server.tokens s x) t.server.durable.epoch (γ.old s x)
   tokens-now x = ap (λ o. eff_from o (tokens.token t.server.tokens s x) t.server.durable.epoch (γ.old s x)) (is-true (member s t.server.claimed) claimed)
 
   abbrev now : Durable
@@ -140,7 +140,7 @@ module _ (g : System) (γ : Ghost) (t : Serving) (u : Under g t γ) (none : t.re
   events = durable-events here u.invariant.events c (sl.age).boot (keys ops) now (Some done.server) behind.pool ((flushing.done g γ t u c sl k in_slot opened there b ns under unmarked tokens-now).most) named was-open same-tokens
 
   pub flush-is : flush c s b ops sl t ≡ done
-  flush-is = flushes here u.invariant.sessions u.invariant.tokens u.invariant.logs u.invariant.images c s sl k in_slot refl opened there b ns under unmarked t refl claimed
+  flush-is = flushes here u.invariant.sessions u.invariant.tokens u.invariant.logs u.invariant.images c s sl k in_slot refl opened there b ns under unmarked t refl tokens-now
 
   agrees : Agrees behind
   agrees = lines-agree (serving_in done γ1 g) γ'.shown γ.history γ.fresh

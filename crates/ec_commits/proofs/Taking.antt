@@ -56,24 +56,23 @@ module _ (g : System) (v : Server) (i : Invariant g) (wa : WatchesAgree g) (up :
     watches-read g v.durable (Some v) (g.pool ++ []) (ap (λ d. d.sessions) runs-on.0) wa,
   )
 
--- the step is refused where a counter is spent; else it stands
+-- no counter is spent so far, and the step stands
 abbrev pub Going : System → Serving → Type 0
-Going g f = T (is_some f.spent) ⊎ ((γ : Ghost) × Stands g f γ × (f.spent ≡ None))
+Going g f = (γ : Ghost) × Stands g f γ × (f.spent ≡ None)
 
-pub served : (g : System) (f : Serving) → Going g f → T (is_some (serve f).spent) ⊎ ((γ : Ghost) × Stands g (serve f) γ) ⊎ T (is_some f.spent)
-served g f (inl p) = inr (inr p)
-served g f (inr (γ, s, n)) = elim (serve-serves g γ f s.0 n) [
+pub served : (g : System) (f : Serving) → Going g f → T (is_some (serve f).spent) ⊎ ((γ : Ghost) × Stands g (serve f) γ)
+served g f (γ, s, n) = elim (serve-serves g γ f s.0 n) [
   | inl p ↦ inl p
-  | inr q ↦ inr (inl (γ, q.0, watches-read (serving_in f γ g) (serve f).server.durable (Some (serve f).server) (g.pool ++ (serve f).sent) (ap (λ d. d.sessions) q.1) s.1))
+  | inr q ↦ inr (γ, (q.0, watches-read (serving_in f γ g) (serve f).server.durable (Some (serve f).server) (g.pool ++ (serve f).sent) (ap (λ d. d.sessions) q.1) s.1))
 ]
 
 -- A message by its session.
 module _ (g : System) (γ : Ghost) (t : Serving) (st : Stands g t γ) (unspent : t.spent ≡ None) (c s e : ℕ) where
   said : (m : Msg) → Under g (tell c m t) γ → Going g (tell c m t)
-  said m u = inr (γ, (u, watches-read (serving_in t γ g) t.server.durable (Some t.server) (g.pool ++ (tell c m t).sent) refl st.1), unspent)
+  said m u = (γ, (u, watches-read (serving_in t γ g) t.server.durable (Some t.server) (g.pool ++ (tell c m t).sent) refl st.1), unspent)
 
   pub as-it-is : Going g t
-  as-it-is = inr (γ, st, unspent)
+  as-it-is = (γ, st, unspent)
 
   pub within : (needs_no_claim : Bool) (f : Slot → Serving → Serving)
       → ((sl : Slot) → slot t.server.durable c ≡ Some sl → sl.session ≡ s → T sl.is_open → e ≡ t.server.durable.epoch → T (needs_no_claim || has_claimed s t.server) → Going g (f sl t)) → Going g (in_session c s e needs_no_claim f t)
@@ -86,13 +85,13 @@ module _ (g : System) (γ : Ghost) (t : Serving) (st : Stands g t γ) (unspent :
           let both = and_parts (e == t.server.durable.epoch) (needs_no_claim || has_claimed s t.server) x in
           here sl p q o (equal e t.server.durable.epoch both.0) (holds (needs_no_claim || has_claimed s t.server) both.1)
 
-      open : (sl : Slot) → slot t.server.durable c ≡ Some sl → sl.session ≡ s → (b : Bool) → sl.is_open ≡ b
+      opened : (sl : Slot) → slot t.server.durable c ≡ Some sl → sl.session ≡ s → (b : Bool) → sl.is_open ≡ b
           → Going g (elim b as (λ z. Serving) [
             | false ↦ tell_ended c sl t
             | true ↦ elim ((e == t.server.durable.epoch) && (needs_no_claim || has_claimed s t.server)) as (λ z. Serving) [ false ↦ tell c (Restarted s (epoch t)) t | true ↦ f sl t ]
           ])
-      open sl p q false o = said _ (tell-ended-stands g γ t st.0 c sl p (fails sl.is_open o))
-      open sl p q true o = current sl p q (holds sl.is_open o) ((e == t.server.durable.epoch) && (needs_no_claim || has_claimed s t.server)) refl
+      opened sl p q false o = said _ (tell-ended-stands g γ t st.0 c sl p (fails sl.is_open o))
+      opened sl p q true o = current sl p q (holds sl.is_open o) ((e == t.server.durable.epoch) && (needs_no_claim || has_claimed s t.server)) refl
 
       its : (sl : Slot) → slot t.server.durable c ≡ Some sl → (b : Bool) → (sl.session == s) ≡ b
           → Going g (elim b as (λ z. Serving) [
@@ -103,7 +102,7 @@ module _ (g : System) (γ : Ghost) (t : Serving) (st : Stands g t γ) (unspent :
             ]
           ])
       its sl p false q = as-it-is
-      its sl p true q = open sl p (equal sl.session s q) sl.is_open refl
+      its sl p true q = opened sl p (equal sl.session s q) sl.is_open refl
 
       go : (o : Option Slot) → slot t.server.durable c ≡ o
           → Going g (elim o as (λ z. Serving) [
@@ -142,25 +141,31 @@ module _ (g : System) (v : Server) (i : Invariant g) (wa : WatchesAgree g) (up :
   of-logs : (m : Msg) → Contains g.pool (c, m) → log.Fits here m
   of-logs m p = each-of (λ z. log.Fits here z.1) here.pool (c, m) (st.0).invariant.logs.messages (in-pool m p)
 
-  ends : (m : Msg) → Going g (taken c m t) → T (is_some (taken c m t).spent) ⊎ (T (is_some (take c m v).spent) ⊎ ((γ : Ghost) × Stands g (take c m v) γ))
-  ends m w = elim (served g (taken c m t) w) [ inl p ↦ inr (inl p) | inr q ↦ elim q [ inl z ↦ inr (inr z) | inr p ↦ inl p ] ]
+  ends : (m : Msg) → Going g (taken c m t) → Takes g c m v
+  ends m w = served g (taken c m t) w
 
   -- a step of the tables alone
   went : (f : Serving) → Under g f g.ghost → f.server.durable.sessions ≡ v.durable.sessions → f.spent ≡ None → Going g f
-  went f u same unspent = inr (g.ghost, (u, watches-read here f.server.durable (Some f.server) (g.pool ++ f.sent) same st.1), unspent)
+  went f u same unspent = (g.ghost, (u, watches-read here f.server.durable (Some f.server) (g.pool ++ f.sent) same st.1), unspent)
+
+  abbrev lowering : ℕ → ℕ → ℕ → Hold → Bool → Serving
+  lowering s x n h b = elim b as (λ z. Serving) [ true ↦ record t { server = record v { tokens = lowered s x h n v.tokens } } | false ↦ t ]
+
+  abbrev granting : ℕ → ℕ → Hold → Token → Bool → Serving
+  granting s x h k b = elim b as (λ z. Serving) [ true ↦ send_grant c s x k.hold k.number t | false ↦ note s x h t ]
+
+  abbrev wanting : ℕ → ℕ → Hold → ℕ → Option Token → Serving
+  wanting s x h l o = elim o as (λ z. Serving) [ None ↦ note s x h t | Some k ↦ granting s x h k (nat_lt l k.number) ]
 
   pub takes-back : (s e x n : ℕ) (h : Hold) → Contains g.pool (c, Back s e x n h) → Takes g c (Back s e x n h) v
   takes-back s e x n h p = ends (Back s e x n h) (within g g.ghost t st refl c s e false (λ sl. back s x n h)
       (λ sl q r o now claimed. went (back s x n h t) (back-stands g g.ghost t st.0 s x claimed e n h (of-tokens (Back s e x n h) p) now) (same (fits_back (token v.tokens s x) n h)) (unspent (fits_back (token v.tokens s x) n h))))
     where
-      abbrev by : Bool → Serving
-      by b = elim b as (λ z. Serving) [ true ↦ record t { server = record v { tokens = lowered s x h n v.tokens } } | false ↦ t ]
-
-      same : (b : Bool) → (by b).server.durable.sessions ≡ v.durable.sessions
+      same : (b : Bool) → (lowering s x n h b).server.durable.sessions ≡ v.durable.sessions
       same true = refl
       same false = refl
 
-      unspent : (b : Bool) → (by b).spent ≡ None
+      unspent : (b : Bool) → (lowering s x n h b).spent ≡ None
       unspent true = refl
       unspent false = refl
 
@@ -169,25 +174,19 @@ module _ (g : System) (v : Server) (i : Invariant g) (wa : WatchesAgree g) (up :
       (λ sl q r o now claimed. went (want c s x h l t) (want-stands g g.ghost t st.0 s x claimed c e l h (of-sessions (Want s e x h l) p) (of-tokens (Want s e x h l) p) now)
       (same (token v.tokens s x)) (unspent (token v.tokens s x))))
     where
-      abbrev again : Token → Bool → Serving
-      again k b = elim b as (λ z. Serving) [ true ↦ send_grant c s x k.hold k.number t | false ↦ note s x h t ]
-
-      abbrev by : Option Token → Serving
-      by o = elim o as (λ z. Serving) [ None ↦ note s x h t | Some k ↦ again k (nat_lt l k.number) ]
-
-      same : (o : Option Token) → (by o).server.durable.sessions ≡ v.durable.sessions
+      same : (o : Option Token) → (wanting s x h l o).server.durable.sessions ≡ v.durable.sessions
       same None = refl
       same (Some k) = go (nat_lt l k.number)
         where
-          go : (b : Bool) → (again k b).server.durable.sessions ≡ v.durable.sessions
+          go : (b : Bool) → (granting s x h k b).server.durable.sessions ≡ v.durable.sessions
           go true = refl
           go false = refl
 
-      unspent : (o : Option Token) → (by o).spent ≡ None
+      unspent : (o : Option Token) → (wanting s x h l o).spent ≡ None
       unspent None = refl
       unspent (Some k) = go (nat_lt l k.number)
         where
-          go : (b : Bool) → (again k b).spent ≡ None
+          go : (b : Bool) → (granting s x h k b).spent ≡ None
           go true = refl
           go false = refl
 
@@ -224,5 +223,5 @@ module _ (g : System) (v : Server) (i : Invariant g) (wa : WatchesAgree g) (up :
           let ns = some-at (at b (k.0).log.batches) its.1 in
           subst (λ x. Going g (flush c x b ops sl t)) r (subst (λ x. Going g (flush c sl.session b x sl t)) (sym its.0)
               (let done = flush-stands g g.ghost t st.0 refl st.1 c sl k.0 q o (ap (clerk_in here) r ∙ k.1) (subst (λ x. T (member x v.claimed)) (sym r) claimed) b ns.0 ns.1 unmarked in
-              inr (show_batch c (sl.age).boot (keys (batch b (k.0).log)) g.ghost, done,
+              (show_batch c (sl.age).boot (keys (batch b (k.0).log)) g.ghost, done,
               ap (λ z. z.spent) (flush-is g g.ghost t st.0 refl st.1 c sl k.0 q o (ap (clerk_in here) r ∙ k.1) (subst (λ x. T (member x v.claimed)) (sym r) claimed) b ns.0 ns.1 unmarked))))

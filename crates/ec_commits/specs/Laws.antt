@@ -13,7 +13,7 @@ use Rattle.ec_durable.specs.declared.state.Durable.{Durable}
 use Rattle.ec_wire.specs.declared.msg.Msg.{Msg}
 use Rattle.ec_wire.specs.declared.msg.Msg.TheVariants.{Want, Back, Flush}
 use Rattle.ec_log.specs.Log.{batch}
-use Rattle.ec_protocol.specs.Server.{Serving, flush, grant_ids, ids_are_spent, is_last_number, open_new, serving, take, taken}
+use Rattle.ec_protocol.specs.Server.{Serving, flush, grant_ids, ids_are_spent, is_last_number, open_new, take}
 use Rattle.ec_protocol.specs.declared.clerk.Clerk.{Clerk}
 use Rattle.ec_protocol.specs.declared.server.Server.{Server}
 use Rattle.ec_coherence.specs.System.{System, Ghost, clerk_in}
@@ -63,7 +63,7 @@ FlushStands = (g : System) (γ : Ghost) (t : Serving) → Stands g t γ → t.re
 
 -- The step that a server makes of a message stands, unless it's refused because a counter is spent.
 abbrev pub Takes : System → ℕ → Msg → Server → Type 0
-Takes g c m v = T (is_some (taken c m (serving v)).spent) ⊎ (T (is_some (take c m v).spent) ⊎ ((γ : Ghost) × Stands g (take c m v) γ))
+Takes g c m v = T (is_some (take c m v).spent) ⊎ ((γ : Ghost) × Stands g (take c m v) γ)
 
 -- a running server takes a message that was sent
 abbrev pub TakesEach : (Msg → Type 0) → Type 0
