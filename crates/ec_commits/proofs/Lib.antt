@@ -7,4 +7,6 @@ pub mod Opened
 pub mod Durables
 pub mod Flushed
 pub mod Opening
+pub mod Spending
+pub mod Claiming
 pub mod Taking

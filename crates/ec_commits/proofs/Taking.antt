@@ -1,17 +1,25 @@
 -- The whole invariant behind each want, token given back and batch that a server takes.
-use Rattle.std.proofs.Common.{◌≡◌, refl, sym, ap, subst, ◌∙◌, inl, inr, ◌⊎◌, ℕ, Bool, true, false, not, ◌==◌, ◌&&◌, ◌||◌, T, List, [], ◌∷◌, ◌++◌, Option, Some, None, append-nil}
-use Rattle.std.specs.Prelude.{Contains, is_some, nat_lt}
-use Rattle.std.proofs.lemmas.Bool.{and_parts}
-use Rattle.ec_base.specs.Tables.{at, keys}
+use Rattle.std.proofs.Common.{◌≡◌, refl, sym, ap, subst, ◌∙◌, inl, inr, ◌⊎◌, ℕ, Bool, true, false, not, ◌==◌, ◌&&◌, ◌||◌, T, List, [], ◌∷◌, ◌++◌, Option, Some, None, append-nil, cond}
+use Rattle.std.specs.Prelude.{Contains, is_none, is_some, nat_le, nat_lt}
+use Rattle.std.specs.List.{list_all}
+use Rattle.std.proofs.lemmas.Bool.{and_parts, true≢false}
+use Rattle.ec_base.specs.Tables.{Table, at, keys}
+use Rattle.ec_base.specs.Ages.{is_older}
+use Rattle.ec_base.specs.Limits.{last_counter}
+use Rattle.ec_base.specs.declared.counter.Counter.TheVariants as counter
+use Rattle.ec_base.specs.declared.ids.Age.{Age}
 use Rattle.ec_base.specs.declared.ids.Hold.{Hold}
 use Rattle.ec_volume.specs.Update.{member}
 use Rattle.ec_volume.specs.declared.update.Update.{Update}
-use Rattle.ec_tokens.specs.Tokens.{fits_back, lowered, token}
+use Rattle.ec_tokens.specs.Tokens.{claimed, first_clash, fits_back, lowered, token}
 use Rattle.ec_tokens.specs.declared.token.Token.{Token}
+use Rattle.ec_sessions.specs.Slots.{greeting, session_if_open}
 use Rattle.ec_sessions.specs.Windows.{has}
+use Rattle.ec_sessions.specs.declared.slot.Greeting.TheVariants as greeted_of
 use Rattle.ec_sessions.specs.declared.slot.Slot.{Slot}
 use Rattle.ec_wire.specs.declared.msg.Msg.{Msg}
-use Rattle.ec_wire.specs.declared.msg.Msg.TheVariants.{Want, Back, Flush, Kept, Restarted}
+use Rattle.ec_wire.specs.Messages.{is_held_mode, is_sound, rises}
+use Rattle.ec_wire.specs.declared.msg.Msg.TheVariants.{Hello, Want, Back, Flush, Claim, Opened, Kept, Restarted}
 use Rattle.ec_durable.specs.Durable.{slot}
 use Rattle.ec_durable.specs.declared.state.Durable.{Durable}
 use Rattle.ec_durable.specs.declared.record.Record.{Record}
@@ -19,25 +27,30 @@ use Rattle.ec_durable.specs.declared.record.Record.TheVariants as record_of
 use Rattle.ec_log.specs.Log.{batch}
 use Rattle.ec_protocol.specs.declared.server.Server.{Server}
 use Rattle.ec_protocol.specs.declared.clerk.Clerk.{Clerk}
-use Rattle.ec_protocol.specs.Server.{Serving, back, commit, epoch, finish, flush, has_claimed, in_session, may_write, note, send_grant, serve, serving, take, taken, tell, tell_ended, want}
+use Rattle.ec_protocol.specs.Server.{Serving, back, claim, commit, epoch, finish, flush, greet, has_claimed, in_session, may_write, note, open_new, send_grant, serve, serving, spend, stay, take, taken, tell, tell_ended, tell_opened, want}
 use Rattle.ec_coherence.specs.System.{System, Ghost, clerk_in, is_open}
 use Rattle.ec_coherence.specs.Sessions as sessions
 use Rattle.ec_coherence.specs.Tokens as tokens
-use Rattle.ec_coherence.specs.Tokens.{side_in, view}
+use Rattle.ec_coherence.specs.Tokens.{ClaimFits, side, side_in, tables_of, view}
 use Rattle.ec_coherence.specs.Log as log
 use Rattle.ec_coherence.specs.Invariant.{Invariant}
 use Rattle.ec_coherence.specs.Stops.{RunsOn}
-use Rattle.ec_coherence.specs.Steps.{Committed, record_lines, serving_in, Under}
+use Rattle.ec_coherence.specs.Steps.{open_session, serving_in, Under}
 use Rattle.ec_coherence.proofs.Frames.{tell-stands}
-use Rattle.ec_coherence.proofs.Handlers.{back-stands, want-stands}
+use Rattle.ec_coherence.proofs.Handlers.{back-stands, claim-stands, want-stands}
 use Rattle.ec_coherence.proofs.Needs.{each-of}
 use Rattle.ec_coherence.proofs.OpenSlots.{at-open}
-use Rattle.ec_coherence.proofs.Replies.{restarted-stands, tell-ended-stands}
+use Rattle.ec_coherence.proofs.Replies.{old-boot-stands, opened-again-stands, restarted-stands, tell-ended-stands}
 use Rattle.ec_coherence.proofs.ServeStands.{serve-serves}
-use Rattle.ec_coherence.proofs.Tables.{equal, fails, holds, is-true, same_some}
+use Rattle.ec_coherence.proofs.Tables.{equal, fails, holds, none_some, same_some}
+use Rattle.ec_coherence.proofs.Lists.{and_first}
+use Rattle.ec_coherence.proofs.OpenAgrees.{open-is}
 use Rattle.ec_commits.specs.Laws.{Stands, Takes, show_batch}
 use Rattle.ec_commits.specs.Watches.{WatchesAgree}
+use Rattle.ec_commits.proofs.Claiming.{claims-clear}
 use Rattle.ec_commits.proofs.Flushed.{flush-is, flush-stands}
+use Rattle.ec_commits.proofs.Opened.{open-stands, open-watches}
+use Rattle.ec_commits.proofs.Spending.{serve-kept}
 use Rattle.ec_commits.proofs.Watched.{watches-read}
 
 -- A step of a running server begins.
@@ -56,12 +69,13 @@ module _ (g : System) (v : Server) (i : Invariant g) (wa : WatchesAgree g) (up :
     watches-read g v.durable (Some v) (g.pool ++ []) (ap (λ d. d.sessions) runs-on.0) wa,
   )
 
--- no counter is spent so far, and the step stands
+-- a counter is spent, or none is so far, and the step stands
 abbrev pub Going : System → Serving → Type 0
-Going g f = (γ : Ghost) × Stands g f γ × (f.spent ≡ None)
+Going g f = T (is_some f.spent) ⊎ ((γ : Ghost) × Stands g f γ × (f.spent ≡ None))
 
 pub served : (g : System) (f : Serving) → Going g f → T (is_some (serve f).spent) ⊎ ((γ : Ghost) × Stands g (serve f) γ)
-served g f (γ, s, n) = elim (serve-serves g γ f s.0 n) [
+served g f (inl p) = inl (serve-kept f p)
+served g f (inr (γ, s, n)) = elim (serve-serves g γ f s.0 n) [
   | inl p ↦ inl p
   | inr q ↦ inr (γ, (q.0, watches-read (serving_in f γ g) (serve f).server.durable (Some (serve f).server) (g.pool ++ (serve f).sent) (ap (λ d. d.sessions) q.1) s.1))
 ]
@@ -69,10 +83,10 @@ served g f (γ, s, n) = elim (serve-serves g γ f s.0 n) [
 -- A message by its session.
 module _ (g : System) (γ : Ghost) (t : Serving) (st : Stands g t γ) (unspent : t.spent ≡ None) (c s e : ℕ) where
   said : (m : Msg) → Under g (tell c m t) γ → Going g (tell c m t)
-  said m u = (γ, (u, watches-read (serving_in t γ g) t.server.durable (Some t.server) (g.pool ++ (tell c m t).sent) refl st.1), unspent)
+  said m u = inr (γ, (u, watches-read (serving_in t γ g) t.server.durable (Some t.server) (g.pool ++ (tell c m t).sent) refl st.1), unspent)
 
   pub as-it-is : Going g t
-  as-it-is = (γ, st, unspent)
+  as-it-is = inr (γ, st, unspent)
 
   pub within : (needs_no_claim : Bool) (f : Slot → Serving → Serving)
       → ((sl : Slot) → slot t.server.durable c ≡ Some sl → sl.session ≡ s → T sl.is_open → e ≡ t.server.durable.epoch → T (needs_no_claim || has_claimed s t.server) → Going g (f sl t)) → Going g (in_session c s e needs_no_claim f t)
@@ -146,7 +160,7 @@ module _ (g : System) (v : Server) (i : Invariant g) (wa : WatchesAgree g) (up :
 
   -- a step of the tables alone
   went : (f : Serving) → Under g f g.ghost → f.server.durable.sessions ≡ v.durable.sessions → f.spent ≡ None → Going g f
-  went f u same unspent = (g.ghost, (u, watches-read here f.server.durable (Some f.server) (g.pool ++ f.sent) same st.1), unspent)
+  went f u same unspent = inr (g.ghost, (u, watches-read here f.server.durable (Some f.server) (g.pool ++ f.sent) same st.1), unspent)
 
   abbrev lowering : ℕ → ℕ → ℕ → Hold → Bool → Serving
   lowering s x n h b = elim b as (λ z. Serving) [ true ↦ record t { server = record v { tokens = lowered s x h n v.tokens } } | false ↦ t ]
@@ -223,5 +237,81 @@ module _ (g : System) (v : Server) (i : Invariant g) (wa : WatchesAgree g) (up :
           let ns = some-at (at b (k.0).log.batches) its.1 in
           subst (λ x. Going g (flush c x b ops sl t)) r (subst (λ x. Going g (flush c sl.session b x sl t)) (sym its.0)
               (let done = flush-stands g g.ghost t st.0 refl st.1 c sl k.0 q o (ap (clerk_in here) r ∙ k.1) (subst (λ x. T (member x v.claimed)) (sym r) claimed) b ns.0 ns.1 unmarked in
-              (show_batch c (sl.age).boot (keys (batch b (k.0).log)) g.ghost, done,
+              inr (show_batch c (sl.age).boot (keys (batch b (k.0).log)) g.ghost, done,
               ap (λ z. z.spent) (flush-is g g.ghost t st.0 refl st.1 c sl k.0 q o (ap (clerk_in here) r ∙ k.1) (subst (λ x. T (member x v.claimed)) (sym r) claimed) b ns.0 ns.1 unmarked))))
+
+  -- what a claim names was the session's own
+  pub takes-claim : (s e : ℕ) (l : Table Hold) → Contains g.pool (c, Claim s e l) → Takes g c (Claim s e l) v
+  takes-claim s e l p = ends (Claim s e l) (within g g.ghost t st refl c s e true (claim c s l) (λ sl q r o now claimed. comes sl q r o now (member s v.claimed) refl))
+    where
+      sound : T (is_sound (Claim s e l))
+      sound = each-of (λ z. T (is_sound z.1)) here.pool (c, Claim s e l) (st.0).invariant.sessions.sound (in-pool (Claim s e l) p)
+
+      fits : tokens.Fits (view here) (Claim s e l)
+      fits = of-tokens (Claim s e l) p
+
+      comes : (sl : Slot) → slot v.durable c ≡ Some sl → sl.session ≡ s → T sl.is_open → e ≡ v.durable.epoch → (b : Bool) → member s v.claimed ≡ b → Going g (claim c s l sl t)
+      comes sl q r o now true m = subst (λ z. Going g (elim z as (λ y. Serving) [
+        | true ↦ t
+        | false ↦ elim (is_none (first_clash v.tokens s l)) as (λ y. Serving) [ true ↦ record t { server = record v { tokens = claimed s l v.tokens; claimed = s ∷ v.claimed } } | false ↦ finish c sl t ]
+      ])) (sym m) (as-it-is g g.ghost t st refl c s e)
+      comes sl q r o now false m =
+          let is-open : T (is_open here s) = at-open s v.durable.sessions c sl (q, r, o) in
+          let new : T (not (member s v.claimed)) = fails (member s v.claimed) m in
+          let k = its-clerk s ((st.0).invariant.tokens.present s is-open (fits.0).0) in
+          let of-clerk = fits.1 now is-open new (side k.0) (ap side_in k.1) in
+          let clear = claims-clear (view here) (tables_of v) s l refl (st.0).invariant.tokens (st.0).invariant.tokens.tables is-open (side k.0) (subst (λ z. ClaimFits (view here) s z l (side k.0)) now of-clerk)
+              (and_first (rises (keys l)) (list_all (λ z. is_held_mode z.1) l) sound) in
+          subst (λ z. Going g (elim z as (λ y. Serving) [
+            | true ↦ t
+            | false ↦ elim (is_none (first_clash v.tokens s l)) as (λ y. Serving) [ true ↦ record t { server = record v { tokens = claimed s l v.tokens; claimed = s ∷ v.claimed } } | false ↦ finish c sl t ]
+          ])) (sym m) (subst (λ z. Going g (elim (is_none z) as (λ y. Serving) [ true ↦ record t { server = record v { tokens = claimed s l v.tokens; claimed = s ∷ v.claimed } } | false ↦ finish c sl t ])) (sym clear)
+              (went (record t { server = record v { tokens = claimed s l v.tokens; claimed = s ∷ v.claimed } }) (claim-stands g g.ghost t st.0 s e l fits sound now is-open new clear) refl refl))
+
+  -- a clerk greets, and no session is open in whose place a new one would come
+  pub takes-hello : (from : ℕ) (age : Age) → ((sl : Slot) → slot v.durable c ≡ Some sl → T sl.is_open → is_older sl.age age ≡ false) → Contains g.pool (c, Hello from age) → Takes g c (Hello from age) v
+  takes-hello from age alone p = ends (Hello from age) (own (c == from) refl)
+    where
+      fits : sessions.Fits here c (Hello from age)
+      fits = of-sessions (Hello from age) p
+
+      opens : ((sl : Slot) → slot v.durable c ≡ Some sl → T (not sl.is_open)) → ((sl : Slot) → slot v.durable c ≡ Some sl → T (is_older sl.age age)) → Going g (open_new c age None t)
+      opens idle greater = by (nat_le last_counter v.durable.next_session) refl
+        where
+          by : (b : Bool) → nat_le last_counter v.durable.next_session ≡ b → Going g (open_new c age None t)
+          by true m = subst (λ z. Going g (elim z as (λ y. Serving) [ true ↦ spend counter.Session t | false ↦ commit (record_of.Open c age v.durable.next_session) (tell_opened c age v.durable.next_session None) stay t ])) (sym m) (inl tt)
+          by false m = inr (
+            open_session c age v.durable.next_session g.ghost,
+            (open-stands g g.ghost t st.0 refl c age fits.1 idle greater fits.2 m, open-watches g g.ghost t st.0 refl c age fits.1 idle greater fits.2 m st.1),
+            ap (λ z. z.spent) (open-is g g.ghost t st.0 c age fits.1 idle greater fits.2 m),
+          )
+
+      greeted : (o : Option Slot) → slot v.durable c ≡ o → Going g (greet c age (greeting o age) t)
+      greeted None q = opens (λ sl r. absurd (none_some (sym q ∙ r))) (λ sl r. absurd (none_some (sym q ∙ r)))
+      greeted (Some sl) q = older (is_older sl.age age) refl
+        where
+          here-slot : (so : Slot) → slot v.durable c ≡ Some so → sl ≡ so
+          here-slot so r = same_some (sym q ∙ r)
+
+          again : (a : Bool) → sl.is_open ≡ a → is_older sl.age age ≡ false → is_older age sl.age ≡ false → Going g (greet c age (cond a (greeted_of.Same sl.session) (greeted_of.Ended sl.session sl.window)) t)
+          again true r m n = said g g.ghost t st refl c 0 0 _ (opened-again-stands g g.ghost t st.0 c sl q age m n)
+          again false r m n =
+              let one = opened-again-stands g g.ghost t st.0 c sl q age m n in
+              let two = tell-ended-stands g g.ghost (tell c (Opened age sl.session (epoch t)) t) one c sl q (fails sl.is_open r) in
+              inr (g.ghost, (two, watches-read here v.durable (Some v) (g.pool ++ (tell_ended c sl (tell c (Opened age sl.session (epoch t)) t)).sent) refl st.1), refl)
+
+          younger : (b : Bool) → is_older age sl.age ≡ b → is_older sl.age age ≡ false → Going g (greet c age (cond b (greeted_of.OldBoot sl.age) (cond sl.is_open (greeted_of.Same sl.session) (greeted_of.Ended sl.session sl.window))) t)
+          younger true n m = said g g.ghost t st refl c 0 0 _ (old-boot-stands g g.ghost t st.0 c age sl.age)
+          younger false n m = again sl.is_open refl m n
+
+          idle : is_older sl.age age ≡ true → (b : Bool) → sl.is_open ≡ b → Going g (greet c age (greeted_of.Greater (cond b (Some sl.session) None)) t)
+          idle m true r = absurd (true≢false (sym m ∙ alone sl q (holds sl.is_open r)))
+          idle m false r = opens (λ so w. subst (λ z. T (not z.is_open)) (here-slot so w) (fails sl.is_open r)) (λ so w. subst (λ z. T (is_older z.age age)) (here-slot so w) (holds (is_older sl.age age) m))
+
+          older : (b : Bool) → is_older sl.age age ≡ b → Going g (greet c age (cond b (greeted_of.Greater (session_if_open sl)) (cond (is_older age sl.age) (greeted_of.OldBoot sl.age) (cond sl.is_open (greeted_of.Same sl.session) (greeted_of.Ended sl.session sl.window)))) t)
+          older true m = idle m sl.is_open refl
+          older false m = younger (is_older age sl.age) refl m
+
+      own : (b : Bool) → (c == from) ≡ b → Going g (elim b as (λ z. Serving) [ true ↦ greet c age (greeting (slot v.durable c) age) t | false ↦ t ])
+      own true m = greeted (slot v.durable c) refl
+      own false m = as-it-is g g.ghost t st refl c 0 0

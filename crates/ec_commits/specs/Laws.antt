@@ -11,7 +11,7 @@ use Rattle.ec_sessions.specs.declared.slot.Slot.{Slot}
 use Rattle.ec_durable.specs.Durable.{is_full, slot}
 use Rattle.ec_durable.specs.declared.state.Durable.{Durable}
 use Rattle.ec_wire.specs.declared.msg.Msg.{Msg}
-use Rattle.ec_wire.specs.declared.msg.Msg.TheVariants.{Want, Back, Flush}
+use Rattle.ec_wire.specs.declared.msg.Msg.TheVariants.{Hello, Want, Back, Flush, Claim}
 use Rattle.ec_log.specs.Log.{batch}
 use Rattle.ec_protocol.specs.Server.{Serving, flush, grant_ids, ids_are_spent, is_last_number, open_new, take}
 use Rattle.ec_protocol.specs.declared.clerk.Clerk.{Clerk}
@@ -81,3 +81,13 @@ IsBack _ = ⊥
 abbrev pub IsFlush : Msg → Type 0
 IsFlush (Flush s e b ops) = ⊤
 IsFlush _ = ⊥
+
+-- a claim: it never ends its session
+abbrev pub IsClaim : Msg → Type 0
+IsClaim (Claim s e l) = ⊤
+IsClaim _ = ⊥
+
+-- a greeting, where no session is open in whose place a new one would come
+abbrev pub TakesHellos : Type 0
+TakesHellos = (g : System) (v : Server) → Invariant g → WatchesAgree g → g.server ≡ Some v → (c from : ℕ) (age : Age)
+    → ((sl : Slot) → slot v.durable c ≡ Some sl → T sl.is_open → is_older sl.age age ≡ false) → Contains g.pool (c, Hello from age) → Takes g c (Hello from age) v

@@ -1,12 +1,12 @@
 use Rattle.std.specs.Prelude.{ℕ, Contains, Some, ◌≡◌}
 use Rattle.ec_wire.specs.declared.msg.Msg.{Msg}
-use Rattle.ec_wire.specs.declared.msg.Msg.TheVariants.{Want, Back, Flush}
+use Rattle.ec_wire.specs.declared.msg.Msg.TheVariants.{Want, Back, Flush, Claim}
 use Rattle.ec_protocol.specs.declared.server.Server.{Server}
 use Rattle.ec_coherence.specs.Invariant.{Invariant}
 use Rattle.ec_coherence.specs.System.{System}
-use Rattle.ec_commits.specs.Laws.{Takes, IsWant, IsBack, IsFlush}
+use Rattle.ec_commits.specs.Laws.{Takes, IsWant, IsBack, IsClaim, IsFlush}
 use Rattle.ec_commits.specs.Watches.{WatchesAgree}
-use Rattle.ec_commits.proofs.Taking.{takes-back, takes-flush, takes-want}
+use Rattle.ec_commits.proofs.Taking.{takes-back, takes-claim, takes-flush, takes-hello, takes-want}
 use Rattle.ec_commits.proofs.messages_stand.Goals as goal
 
 wants : (g : System) (v : Server) → Invariant g → WatchesAgree g → g.server ≡ Some v → (c : ℕ) (m : Msg) → IsWant m → Contains g.pool (c, m) → Takes g c m v
@@ -21,6 +21,10 @@ batches : (g : System) (v : Server) → Invariant g → WatchesAgree g → g.ser
 batches g v i wa up c (Flush s e b ops) is p = takes-flush g v i wa up c s e b ops p
 batches g v i wa up c _ is p = absurd is
 
+claims : (g : System) (v : Server) → Invariant g → WatchesAgree g → g.server ≡ Some v → (c : ℕ) (m : Msg) → IsClaim m → Contains g.pool (c, m) → Takes g c m v
+claims g v i wa up c (Claim s e l) is p = takes-claim g v i wa up c s e l p
+claims g v i wa up c _ is p = absurd is
+
 pub returns-clause-wants : goal.returns-clause-wants
 returns-clause-wants c = wants
 
@@ -29,3 +33,9 @@ returns-clause-backs c = backs
 
 pub returns-clause-batches : goal.returns-clause-batches
 returns-clause-batches c = batches
+
+pub returns-clause-claims : goal.returns-clause-claims
+returns-clause-claims c = claims
+
+pub returns-clause-greetings : goal.returns-clause-greetings
+returns-clause-greetings z g v i wa up c from age alone p = takes-hello g v i wa up c from age alone p
