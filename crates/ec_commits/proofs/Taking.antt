@@ -1,6 +1,6 @@
 -- The whole invariant behind each want, token given back and batch that a server takes.
-use Rattle.std.proofs.Common.{◌≡◌, refl, sym, ap, subst, ◌∙◌, inl, inr, ◌⊎◌, ℕ, Bool, true, false, not, ◌==◌, ◌&&◌, ◌||◌, T, List, [], ◌∷◌, ◌++◌, Option, Some, None, append-nil, cond}
-use Rattle.std.specs.Prelude.{Contains, is_none, is_some, nat_le, nat_lt}
+use Rattle.std.proofs.Common.{◌≡◌, refl, sym, ap, subst, ◌∙◌, inl, inr, ◌⊎◌, ℕ, Bool, true, false, not, ◌==◌, ◌&&◌, ◌||◌, T, List, [], ◌∷◌, ◌++◌, Option, Some, None, append-nil, cond, arith}
+use Rattle.std.specs.Prelude.{◌+◌, ◌≤◌, Contains, is_none, is_some, nat_le, nat_lt, Result, Ok, Err}
 use Rattle.std.specs.List.{list_all}
 use Rattle.std.proofs.lemmas.Bool.{and_parts, true≢false}
 use Rattle.ec_base.specs.Tables.{Table, at, keys}
@@ -19,15 +19,16 @@ use Rattle.ec_sessions.specs.declared.slot.Greeting.TheVariants as greeted_of
 use Rattle.ec_sessions.specs.declared.slot.Slot.{Slot}
 use Rattle.ec_wire.specs.declared.msg.Msg.{Msg}
 use Rattle.ec_wire.specs.Messages.{is_held_mode, is_sound, rises}
-use Rattle.ec_wire.specs.declared.msg.Msg.TheVariants.{Hello, Want, Back, Flush, Claim, Opened, Kept, Restarted}
-use Rattle.ec_durable.specs.Durable.{slot}
+use Rattle.ec_wire.specs.declared.msg.Msg.TheVariants.{Hello, Want, Back, Flush, Room, Claim, Opened, Kept, NoRoom, Restarted}
+use Rattle.ec_durable.specs.Durable.{is_full, live, reserved, slot, step}
+use Rattle.ec_durable.specs.declared.record.RecordFault.{RecordFault}
 use Rattle.ec_durable.specs.declared.state.Durable.{Durable}
 use Rattle.ec_durable.specs.declared.record.Record.{Record}
 use Rattle.ec_durable.specs.declared.record.Record.TheVariants as record_of
 use Rattle.ec_log.specs.Log.{batch}
 use Rattle.ec_protocol.specs.declared.server.Server.{Server}
 use Rattle.ec_protocol.specs.declared.clerk.Clerk.{Clerk}
-use Rattle.ec_protocol.specs.Server.{Serving, back, claim, commit, epoch, finish, flush, greet, has_claimed, in_session, may_write, note, open_new, send_grant, serve, serving, spend, stay, take, taken, tell, tell_ended, tell_opened, want}
+use Rattle.ec_protocol.specs.Server.{Serving, back, claim, commit, epoch, finish, flush, grant_ids, greet, has_claimed, ids_are_spent, in_session, is_last_number, may_write, note, open_new, record_ids, resend_ids, room, send_grant, send_ids, serve, serving, spend, stay, take, taken, tell, tell_ended, tell_opened, want}
 use Rattle.ec_coherence.specs.System.{System, Ghost, clerk_in, is_open}
 use Rattle.ec_coherence.specs.Sessions as sessions
 use Rattle.ec_coherence.specs.Tokens as tokens
@@ -35,7 +36,7 @@ use Rattle.ec_coherence.specs.Tokens.{ClaimFits, side, side_in, tables_of, view}
 use Rattle.ec_coherence.specs.Log as log
 use Rattle.ec_coherence.specs.Invariant.{Invariant}
 use Rattle.ec_coherence.specs.Stops.{RunsOn}
-use Rattle.ec_coherence.specs.Steps.{open_session, serving_in, Under}
+use Rattle.ec_coherence.specs.Steps.{give_ids, open_session, serving_in, Under}
 use Rattle.ec_coherence.proofs.Frames.{tell-stands}
 use Rattle.ec_coherence.proofs.Handlers.{back-stands, claim-stands, want-stands}
 use Rattle.ec_coherence.proofs.Needs.{each-of}
@@ -44,11 +45,13 @@ use Rattle.ec_coherence.proofs.Replies.{old-boot-stands, opened-again-stands, re
 use Rattle.ec_coherence.proofs.ServeStands.{serve-serves}
 use Rattle.ec_coherence.proofs.Tables.{equal, fails, holds, none_some, same_some}
 use Rattle.ec_coherence.proofs.Lists.{and_first}
+use Rattle.ec_coherence.proofs.GiveAgrees.{grant-is}
 use Rattle.ec_coherence.proofs.OpenAgrees.{open-is}
 use Rattle.ec_commits.specs.Laws.{Stands, Takes, show_batch}
 use Rattle.ec_commits.specs.Watches.{WatchesAgree}
 use Rattle.ec_commits.proofs.Claiming.{claims-clear}
 use Rattle.ec_commits.proofs.Flushed.{flush-is, flush-stands}
+use Rattle.ec_commits.proofs.Given.{give-stands, give-watches}
 use Rattle.ec_commits.proofs.Opened.{open-stands, open-watches}
 use Rattle.ec_commits.proofs.Spending.{serve-kept}
 use Rattle.ec_commits.proofs.Watched.{watches-read}
@@ -315,3 +318,63 @@ module _ (g : System) (v : Server) (i : Invariant g) (wa : WatchesAgree g) (up :
       own : (b : Bool) → (c == from) ≡ b → Going g (elim b as (λ z. Serving) [ true ↦ greet c age (greeting (slot v.durable c) age) t | false ↦ t ])
       own true m = greeted (slot v.durable c) refl
       own false m = as-it-is g g.ghost t st refl c 0 0
+
+  -- the next ids are asked for, and not the last ones again
+  pub takes-room : (s e got ask : ℕ) → ((sl : Slot) → slot v.durable c ≡ Some sl → (got + 1 == sl.grants) ≡ false) → Contains g.pool (c, Room s e got ask) → Takes g c (Room s e got ask) v
+  takes-room s e got ask anew p = ends (Room s e got ask) (within g g.ghost t st refl c s e false (room c s got ask) (λ sl q r o now claimed. comes sl q r o claimed (got == sl.grants) refl))
+    where
+      fits : tokens.Fits (view here) (Room s e got ask)
+      fits = of-tokens (Room s e got ask) p
+
+      as-many : (a b c d : ℕ) → a ≡ b → a ≤ c → c ≤ d → b ≡ d → c ≡ b
+      as-many a b c d w x y z = omega arith
+
+      gives : (sl : Slot) → slot v.durable c ≡ Some sl → sl.session ≡ s → T sl.is_open → T (member s v.claimed) → got ≡ sl.grants → is_full v.durable ≡ false → ids_are_spent sl.grants t ≡ false → is_last_number t ≡ false → Going g (grant_ids c s got ask t)
+      gives sl q r o claimed now room enough small =
+          let is-open : T (is_open here s) = at-open s v.durable.sessions c sl (q, r, o) in
+          let k = its-clerk s ((st.0).invariant.tokens.present s is-open (fits.0).0) in
+          let granted = ((st.0).invariant.logs.logs s c sl q r o k.0 k.1).ids.granted in
+          let of-clerk = fits.1 (side k.0) (ap side_in k.1) in
+          let of-got = (st.0).invariant.tokens.got s (side k.0) (ap side_in k.1) in
+          let current : (k.0).got ≡ sl.grants = as-many got sl.grants (k.0).got (g.ghost.grants s) now of-clerk.0 of-got.2 granted in
+          let its = ap (clerk_in here) r ∙ k.1 in
+          let mine = subst (λ x. T (member x v.claimed)) (sym r) claimed in
+          let taken-now = subst (λ x. T (g.ghost.taken x)) (sym r) (fits.0).0 in
+          subst (λ x. Going g (grant_ids c x got ask t)) r (subst (λ n. Going g (grant_ids c sl.session n ask t)) (sym now) (inr (
+            give_ids sl.session v.durable.next_id g.ghost,
+            (give-stands g g.ghost t st.0 refl c sl q o k.0 its mine taken-now current ask room enough small, give-watches g g.ghost t st.0 refl c sl q o k.0 its mine taken-now current ask room enough small st.1),
+            ap (λ z. z.spent) (grant-is g g.ghost t st.0 c sl q o k.0 its mine taken-now current ask room enough small),
+          )))
+
+      -- what the record comes to, where the numbers of tokens are spent
+      recorded-or : (x : Result Durable RecordFault) → is_last_number t ≡ true → Going g (elim x as (λ z. Serving) [
+        | Ok d ↦ send_ids c s got v.durable.next_id (record_ids s v.durable.next_id (record t { server = record v { durable = d }; rec = Some (record_of.Ids c s got v.durable.next_id) }))
+        | Err f ↦ t
+      ])
+      recorded-or (Ok d) m = inl (subst (λ b. T (is_some (elim b as (λ z. Serving) [
+        | true ↦ spend counter.Number (record t { server = record v { durable = d }; rec = Some (record_of.Ids c s got v.durable.next_id) })
+        | false ↦ record t { server = record v { durable = d; number = v.number + 1 }; rec = Some (record_of.Ids c s got v.durable.next_id) }
+      ]).spent)) (sym m) tt)
+      recorded-or (Err f) m = as-it-is g g.ghost t st refl c s e
+
+      grants : (sl : Slot) → slot v.durable c ≡ Some sl → sl.session ≡ s → T sl.is_open → T (member s v.claimed) → got ≡ sl.grants → (a b d : Bool) → is_full v.durable ≡ a → ids_are_spent got t ≡ b → is_last_number t ≡ d → Going g (grant_ids c s got ask t)
+      grants sl q r o claimed now true b d x y z = subst (λ w. Going g (elim w as (λ y. Serving) [
+        | true ↦ tell c (NoRoom s (epoch t) ask (live v.durable) (reserved v.durable)) t
+        | false ↦ elim (ids_are_spent got t) as (λ y. Serving) [ true ↦ spend counter.Id t | false ↦ commit (record_of.Ids c s got v.durable.next_id) (λ u. send_ids c s got v.durable.next_id (record_ids s v.durable.next_id u)) stay t ]
+      ])) (sym x) (said g g.ghost t st refl c s e (NoRoom s (epoch t) ask (live v.durable) (reserved v.durable)) (tell-stands g g.ghost t c (NoRoom s (epoch t) ask (live v.durable) (reserved v.durable)) st.0 tt tt tt tt))
+      grants sl q r o claimed now false true d x y z = subst (λ w. Going g (elim w as (λ y. Serving) [
+        | true ↦ tell c (NoRoom s (epoch t) ask (live v.durable) (reserved v.durable)) t
+        | false ↦ elim (ids_are_spent got t) as (λ y. Serving) [ true ↦ spend counter.Id t | false ↦ commit (record_of.Ids c s got v.durable.next_id) (λ u. send_ids c s got v.durable.next_id (record_ids s v.durable.next_id u)) stay t ]
+      ])) (sym x) (subst (λ w. Going g (elim w as (λ y. Serving) [ true ↦ spend counter.Id t | false ↦ commit (record_of.Ids c s got v.durable.next_id) (λ u. send_ids c s got v.durable.next_id (record_ids s v.durable.next_id u)) stay t ])) (sym y) (inl tt))
+      grants sl q r o claimed now false false true x y z = subst (λ w. Going g (elim w as (λ y. Serving) [
+        | true ↦ tell c (NoRoom s (epoch t) ask (live v.durable) (reserved v.durable)) t
+        | false ↦ elim (ids_are_spent got t) as (λ y. Serving) [ true ↦ spend counter.Id t | false ↦ commit (record_of.Ids c s got v.durable.next_id) (λ u. send_ids c s got v.durable.next_id (record_ids s v.durable.next_id u)) stay t ]
+      ])) (sym x) (subst (λ w. Going g (elim w as (λ y. Serving) [ true ↦ spend counter.Id t | false ↦ commit (record_of.Ids c s got v.durable.next_id) (λ u. send_ids c s got v.durable.next_id (record_ids s v.durable.next_id u)) stay t ])) (sym y)
+          (recorded-or (step (record_of.Ids c s got v.durable.next_id) v.durable) z))
+      grants sl q r o claimed now false false false x y z = gives sl q r o claimed now x (ap (λ n. ids_are_spent n t) (sym now) ∙ y) z
+
+      comes : (sl : Slot) → slot v.durable c ≡ Some sl → sl.session ≡ s → T sl.is_open → T (member s v.claimed) → (b : Bool) → (got == sl.grants) ≡ b → Going g (room c s got ask sl t)
+      comes sl q r o claimed true m = subst (λ w. Going g (elim w as (λ y. Serving) [ true ↦ grant_ids c s got ask t | false ↦ elim (got + 1 == sl.grants) as (λ y. Serving) [ true ↦ resend_ids c s got sl.last_first t | false ↦ t ] ])) (sym m)
+          (grants sl q r o claimed (equal got sl.grants m) (is_full v.durable) (ids_are_spent got t) (is_last_number t) refl refl refl)
+      comes sl q r o claimed false m = subst (λ w. Going g (elim w as (λ y. Serving) [ true ↦ grant_ids c s got ask t | false ↦ elim (got + 1 == sl.grants) as (λ y. Serving) [ true ↦ resend_ids c s got sl.last_first t | false ↦ t ] ])) (sym m)
+          (subst (λ w. Going g (elim w as (λ y. Serving) [ true ↦ resend_ids c s got sl.last_first t | false ↦ t ])) (sym (anew sl q)) (as-it-is g g.ghost t st refl c s e))

@@ -1,5 +1,5 @@
 -- What is proved of a server's functions that commit a record, as contracts name it: the whole invariant stands behind them, with what the lines show.
-use Rattle.std.specs.Prelude.{◌≡◌, ◌<◌, ◌⊎◌, ℕ, T, false, nat_le, not, List, [], ◌∷◌, ◌++◌, Contains, Option, None, Some, is_some, ⊤}
+use Rattle.std.specs.Prelude.{◌≡◌, ◌<◌, ◌⊎◌, ◌==◌, ◌+◌, ℕ, T, false, nat_le, not, List, [], ◌∷◌, ◌++◌, Contains, Option, None, Some, is_some, ⊤}
 use Rattle.ec_base.specs.Ages.{is_older}
 use Rattle.ec_base.specs.Limits.{last_counter}
 use Rattle.ec_base.specs.Tables.{at, keys}
@@ -11,7 +11,7 @@ use Rattle.ec_sessions.specs.declared.slot.Slot.{Slot}
 use Rattle.ec_durable.specs.Durable.{is_full, slot}
 use Rattle.ec_durable.specs.declared.state.Durable.{Durable}
 use Rattle.ec_wire.specs.declared.msg.Msg.{Msg}
-use Rattle.ec_wire.specs.declared.msg.Msg.TheVariants.{Hello, Want, Back, Flush, Claim}
+use Rattle.ec_wire.specs.declared.msg.Msg.TheVariants.{Hello, Want, Back, Flush, Room, Claim}
 use Rattle.ec_log.specs.Log.{batch}
 use Rattle.ec_protocol.specs.Server.{Serving, flush, grant_ids, ids_are_spent, is_last_number, open_new, take}
 use Rattle.ec_protocol.specs.declared.clerk.Clerk.{Clerk}
@@ -91,3 +91,8 @@ IsClaim _ = ⊥
 abbrev pub TakesHellos : Type 0
 TakesHellos = (g : System) (v : Server) → Invariant g → WatchesAgree g → g.server ≡ Some v → (c from : ℕ) (age : Age)
     → ((sl : Slot) → slot v.durable c ≡ Some sl → T sl.is_open → is_older sl.age age ≡ false) → Contains g.pool (c, Hello from age) → Takes g c (Hello from age) v
+
+-- a session asks for its next ids, and not for the last ones again
+abbrev pub TakesRooms : Type 0
+TakesRooms = (g : System) (v : Server) → Invariant g → WatchesAgree g → g.server ≡ Some v → (c s e got ask : ℕ)
+    → ((sl : Slot) → slot v.durable c ≡ Some sl → (got + 1 == sl.grants) ≡ false) → Contains g.pool (c, Room s e got ask) → Takes g c (Room s e got ask) v

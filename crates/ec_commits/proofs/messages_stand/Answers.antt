@@ -6,7 +6,7 @@ use Rattle.ec_coherence.specs.Invariant.{Invariant}
 use Rattle.ec_coherence.specs.System.{System}
 use Rattle.ec_commits.specs.Laws.{Takes, IsWant, IsBack, IsClaim, IsFlush}
 use Rattle.ec_commits.specs.Watches.{WatchesAgree}
-use Rattle.ec_commits.proofs.Taking.{takes-back, takes-claim, takes-flush, takes-hello, takes-want}
+use Rattle.ec_commits.proofs.Taking.{takes-back, takes-claim, takes-flush, takes-hello, takes-room, takes-want}
 use Rattle.ec_commits.proofs.messages_stand.Goals as goal
 
 wants : (g : System) (v : Server) → Invariant g → WatchesAgree g → g.server ≡ Some v → (c : ℕ) (m : Msg) → IsWant m → Contains g.pool (c, m) → Takes g c m v
@@ -39,3 +39,6 @@ returns-clause-claims c = claims
 
 pub returns-clause-greetings : goal.returns-clause-greetings
 returns-clause-greetings z g v i wa up c from age alone p = takes-hello g v i wa up c from age alone p
+
+pub returns-clause-rooms : goal.returns-clause-rooms
+returns-clause-rooms z g v i wa up c s e got ask anew p = takes-room g v i wa up c s e got ask anew p
