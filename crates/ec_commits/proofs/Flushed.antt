@@ -218,5 +218,8 @@ module _ (g : System) (γ : Ghost) (t : Serving) (u : Under g t γ) (none : t.re
       none-left true h = ap (filter (λ n. not (member n (keys ops)))) h
       none-left false h = h
 
-  pub flush-stands : Under g (flush c s b ops sl t) γ' × WatchesAgree (serving_in (flush c s b ops sl t) γ' g)
-  flush-stands = (subst (λ z. Under g z γ') (sym flush-is) flushed, subst (λ z. WatchesAgree (serving_in z γ' g)) (sym flush-is) flush-watches)
+  pub flush-stands : Under g (flush c s b ops sl t) γ'
+  flush-stands = subst (λ z. Under g z γ') (sym flush-is) flushed
+
+  pub flush-shows : WatchesAgree (serving_in (flush c s b ops sl t) γ' g)
+  flush-shows = subst (λ z. WatchesAgree (serving_in z γ' g)) (sym flush-is) flush-watches

@@ -1,8 +1,9 @@
 -- The whole invariant behind sixteen ids that a session is given.
-use Rattle.std.proofs.Common.{◌≡◌, ◌≢◌, refl, sym, ap, subst, ◌∙◌, inl, inr, ◌⊎◌, ℕ, Bool, true, false, not, T, List, [], ◌∷◌, ◌++◌, Option, Some, None}
-use Rattle.std.specs.Prelude.{◌+◌, is_some, Ok}
-use Rattle.std.proofs.lemmas.Bool.{cases_eq}
+use Rattle.std.proofs.Common.{◌≡◌, ◌≢◌, refl, sym, ap, subst, ◌∙◌, inl, inr, ◌⊎◌, arith, ℕ, Bool, true, false, not, T, List, [], ◌∷◌, ◌++◌, Option, Some, None}
+use Rattle.std.specs.Prelude.{◌+◌, ◌≤◌, ◌==◌, ◌||◌, zero, suc, nat_le, nat_lt, Ok}
+use Rattle.std.proofs.lemmas.Bool.{cases_eq, true≢false}
 use Rattle.ec_volume.specs.Update.{member}
+use Rattle.ec_sessions.specs.Limits.{last_first_id, last_grants}
 use Rattle.ec_sessions.specs.Slots.{with_ids}
 use Rattle.ec_sessions.specs.declared.slot.Slot.{Slot}
 use Rattle.ec_durable.specs.Durable.{is_full, slot, step}
@@ -25,7 +26,7 @@ use Rattle.ec_coherence.proofs.Lists.{no_both}
 use Rattle.ec_coherence.proofs.OpenSlots.{at-open, open-at}
 use Rattle.ec_coherence.proofs.SlotLaws.{in-range, slot-changed}
 use Rattle.ec_coherence.proofs.Tables.{holds, none_some, same, same_some}
-use Rattle.ec_commits.specs.Watches.{WatchesAgree, still_in}
+use Rattle.ec_commits.specs.Watches.{FirstsAgree, WatchesAgree, still_in}
 use Rattle.ec_commits.proofs.Framed.{framed-events}
 use Rattle.ec_commits.proofs.Stopping.{stops-behind}
 use Rattle.ec_commits.proofs.Watched.{reslotted-watches}
@@ -37,6 +38,26 @@ ended-unclaimed g γ t i s fs f = go (member s t.server.claimed) refl
     go : (b : Bool) → member s t.server.claimed ≡ b → member s t.server.claimed ≡ false
     go true e = absurd (none_some (sym (i.images.unfrozen s (i.tokens.tables.are_open s (holds (member s t.server.claimed) e))) ∙ f))
     go false e = e
+
+-- the ids that are given are in their range
+
+pub ids-in-range : (got : ℕ) (t : Serving) → ids_are_spent got t ≡ false → T (nat_le t.server.durable.next_id last_first_id)
+ids-in-range got t e = holds (nat_le t.server.durable.next_id last_first_id) (low last_first_id t.server.durable.next_id (first-off (nat_lt last_first_id t.server.durable.next_id) (nat_le last_grants got) e))
+  where
+    first-off : (a b : Bool) → (a || b) ≡ false → a ≡ false
+    first-off true b e = absurd (true≢false e)
+    first-off false b e = refl
+
+    low : (a b : ℕ) → nat_lt a b ≡ false → nat_le b a ≡ true
+    low a b e = grind arith
+
+pub give-firsts : (γ : Ghost) (s first : ℕ) → T (nat_le first last_first_id) → FirstsAgree γ → FirstsAgree (give_ids s first γ)
+give-firsts γ s first small f r = go (r == s) (f r)
+  where
+    go : (b : Bool) → (suc zero ≤ γ.grants r → T (nat_le (γ.first r) last_first_id)) → suc zero ≤ (elim b as (λ z. ℕ) [ true ↦ γ.grants s + 1 | false ↦ γ.grants r ])
+        → T (nat_le (elim b as (λ z. ℕ) [ true ↦ first | false ↦ γ.first r ]) last_first_id)
+    go true h l = small
+    go false h l = h l
 
 -- behind a step without a record there is the first durable state, and no line
 pub before-record : (g : System) (γ : Ghost) (t : Serving) → Under g t γ → t.rec ≡ None → t.server.durable ≡ g.durable

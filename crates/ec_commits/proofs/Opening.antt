@@ -3,7 +3,7 @@ use Rattle.std.proofs.Common.{refl, sym, ap, ℕ, arith}
 use Rattle.ec_coherence.specs.Opening.{opening}
 use Rattle.ec_coherence.proofs.Beginning.{none-in}
 use Rattle.ec_coherence.proofs.Tables.{none_some}
-use Rattle.ec_commits.specs.Watches.{WatchesAgree, still_in}
+use Rattle.ec_commits.specs.Watches.{FirstsAgree, WatchesAgree, still_in}
 
 pub opening-watches : (most : ℕ) → WatchesAgree (opening most)
 opening-watches most c = record {
@@ -14,3 +14,6 @@ opening-watches most c = record {
   open_start = λ b q. absurd (none_some q);
   crashed = λ b l m r. absurd (omega (arith, l, m));
 }
+
+pub opening-firsts : (most : ℕ) → FirstsAgree (opening most).ghost
+opening-firsts most s l = absurd (omega (arith, l))

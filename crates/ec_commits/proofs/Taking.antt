@@ -1,9 +1,9 @@
 -- The whole invariant behind each want, token given back and batch that a server takes.
 use Rattle.std.proofs.Common.{◌≡◌, refl, sym, ap, subst, ◌∙◌, inl, inr, ◌⊎◌, ℕ, Bool, true, false, not, ◌==◌, ◌&&◌, ◌||◌, T, List, [], ◌∷◌, ◌++◌, Option, Some, None, append-nil, cond, arith}
-use Rattle.std.specs.Prelude.{◌+◌, ◌≤◌, Contains, is_none, is_some, nat_le, nat_lt, Result, Ok, Err}
+use Rattle.std.specs.Prelude.{◌+◌, ◌≤◌, zero, suc, Contains, is_none, is_some, nat_le, nat_lt, Result, Ok, Err}
 use Rattle.std.specs.List.{list_all}
 use Rattle.std.proofs.lemmas.Bool.{and_parts, true≢false}
-use Rattle.ec_base.specs.Tables.{Table, at, keys}
+use Rattle.ec_base.specs.Tables.{Table, at, keys, or_else, put}
 use Rattle.ec_base.specs.Ages.{is_older}
 use Rattle.ec_base.specs.Limits.{last_counter}
 use Rattle.ec_base.specs.declared.counter.Counter.TheVariants as counter
@@ -13,13 +13,13 @@ use Rattle.ec_volume.specs.Update.{member}
 use Rattle.ec_volume.specs.declared.update.Update.{Update}
 use Rattle.ec_tokens.specs.Tokens.{claimed, first_clash, fits_back, lowered, token}
 use Rattle.ec_tokens.specs.declared.token.Token.{Token}
-use Rattle.ec_sessions.specs.Slots.{greeting, session_if_open}
+use Rattle.ec_sessions.specs.Slots.{greeting, run, session_if_open}
 use Rattle.ec_sessions.specs.Windows.{has}
 use Rattle.ec_sessions.specs.declared.slot.Greeting.TheVariants as greeted_of
 use Rattle.ec_sessions.specs.declared.slot.Slot.{Slot}
 use Rattle.ec_wire.specs.declared.msg.Msg.{Msg}
 use Rattle.ec_wire.specs.Messages.{is_held_mode, is_sound, rises}
-use Rattle.ec_wire.specs.declared.msg.Msg.TheVariants.{Hello, Want, Back, Flush, Room, Claim, Opened, Kept, NoRoom, Restarted}
+use Rattle.ec_wire.specs.declared.msg.Msg.TheVariants.{Hello, Want, Back, Flush, Room, Claim, Opened, Kept, Ids, NoRoom, Restarted}
 use Rattle.ec_durable.specs.Durable.{is_full, live, reserved, slot, step}
 use Rattle.ec_durable.specs.declared.record.RecordFault.{RecordFault}
 use Rattle.ec_durable.specs.declared.state.Durable.{Durable}
@@ -28,7 +28,7 @@ use Rattle.ec_durable.specs.declared.record.Record.TheVariants as record_of
 use Rattle.ec_log.specs.Log.{batch}
 use Rattle.ec_protocol.specs.declared.server.Server.{Server}
 use Rattle.ec_protocol.specs.declared.clerk.Clerk.{Clerk}
-use Rattle.ec_protocol.specs.Server.{Serving, back, claim, commit, epoch, finish, flush, grant_ids, greet, has_claimed, ids_are_spent, in_session, is_last_number, may_write, note, open_new, record_ids, resend_ids, room, send_grant, send_ids, serve, serving, spend, stay, take, taken, tell, tell_ended, tell_opened, want}
+use Rattle.ec_protocol.specs.Server.{Serving, back, claim, commit, epoch, finish, flush, grant_ids, greet, has_claimed, ids_are_spent, in_session, is_last_number, may_write, note, open_new, record_ids, resend_ids, room, send_grant, send_ids, serve, serving, spend, stay, take, taken, tell, tell_ended, tell_opened, want, with_ids, with_server}
 use Rattle.ec_coherence.specs.System.{System, Ghost, clerk_in, is_open}
 use Rattle.ec_coherence.specs.Sessions as sessions
 use Rattle.ec_coherence.specs.Tokens as tokens
@@ -38,26 +38,26 @@ use Rattle.ec_coherence.specs.Invariant.{Invariant}
 use Rattle.ec_coherence.specs.Stops.{RunsOn}
 use Rattle.ec_coherence.specs.Steps.{give_ids, open_session, serving_in, Under}
 use Rattle.ec_coherence.proofs.Frames.{tell-stands}
-use Rattle.ec_coherence.proofs.Handlers.{back-stands, claim-stands, want-stands}
+use Rattle.ec_coherence.proofs.Handlers.{back-stands, claim-stands, record-ids-stands, send-ids-stands, want-stands}
 use Rattle.ec_coherence.proofs.Needs.{each-of}
 use Rattle.ec_coherence.proofs.OpenSlots.{at-open}
 use Rattle.ec_coherence.proofs.Replies.{old-boot-stands, opened-again-stands, restarted-stands, tell-ended-stands}
 use Rattle.ec_coherence.proofs.ServeStands.{serve-serves}
-use Rattle.ec_coherence.proofs.Tables.{equal, fails, holds, none_some, same_some}
+use Rattle.ec_coherence.proofs.Tables.{at-put, equal, fails, holds, none_some, same, same_some}
 use Rattle.ec_coherence.proofs.Lists.{and_first}
 use Rattle.ec_coherence.proofs.GiveAgrees.{grant-is}
 use Rattle.ec_coherence.proofs.OpenAgrees.{open-is}
 use Rattle.ec_commits.specs.Laws.{Stands, Takes, show_batch}
-use Rattle.ec_commits.specs.Watches.{WatchesAgree}
+use Rattle.ec_commits.specs.Watches.{FirstsAgree, WatchesAgree}
 use Rattle.ec_commits.proofs.Claiming.{claims-clear}
-use Rattle.ec_commits.proofs.Flushed.{flush-is, flush-stands}
-use Rattle.ec_commits.proofs.Given.{give-stands, give-watches}
+use Rattle.ec_commits.proofs.Flushed.{flush-is, flush-shows, flush-stands}
+use Rattle.ec_commits.proofs.Given.{give-firsts, give-stands, give-watches, ids-in-range}
 use Rattle.ec_commits.proofs.Opened.{open-stands, open-watches}
 use Rattle.ec_commits.proofs.Spending.{serve-kept}
 use Rattle.ec_commits.proofs.Watched.{watches-read}
 
 -- A step of a running server begins.
-module _ (g : System) (v : Server) (i : Invariant g) (wa : WatchesAgree g) (up : g.server ≡ Some v) where
+module _ (g : System) (v : Server) (i : Invariant g) (wa : WatchesAgree g) (fa : FirstsAgree g.ghost) (up : g.server ≡ Some v) where
   runs-on : (v.durable ≡ g.durable) × (g.unshown ≡ None)
   runs-on = subst (RunsOn g) up i.stops.runs
 
@@ -70,6 +70,7 @@ module _ (g : System) (v : Server) (i : Invariant g) (wa : WatchesAgree g) (up :
           (subst (λ s. Invariant (record g { durable = v.durable; server = s })) up (subst (λ d. Invariant (record g { durable = d })) (sym runs-on.0) i));
     },
     watches-read g v.durable (Some v) (g.pool ++ []) (ap (λ d. d.sessions) runs-on.0) wa,
+    fa,
   )
 
 -- a counter is spent, or none is so far, and the step stands
@@ -80,13 +81,13 @@ pub served : (g : System) (f : Serving) → Going g f → T (is_some (serve f).s
 served g f (inl p) = inl (serve-kept f p)
 served g f (inr (γ, s, n)) = elim (serve-serves g γ f s.0 n) [
   | inl p ↦ inl p
-  | inr q ↦ inr (γ, (q.0, watches-read (serving_in f γ g) (serve f).server.durable (Some (serve f).server) (g.pool ++ (serve f).sent) (ap (λ d. d.sessions) q.1) s.1))
+  | inr q ↦ inr (γ, (q.0, watches-read (serving_in f γ g) (serve f).server.durable (Some (serve f).server) (g.pool ++ (serve f).sent) (ap (λ d. d.sessions) q.1) s.1, s.2))
 ]
 
 -- A message by its session.
 module _ (g : System) (γ : Ghost) (t : Serving) (st : Stands g t γ) (unspent : t.spent ≡ None) (c s e : ℕ) where
   said : (m : Msg) → Under g (tell c m t) γ → Going g (tell c m t)
-  said m u = inr (γ, (u, watches-read (serving_in t γ g) t.server.durable (Some t.server) (g.pool ++ (tell c m t).sent) refl st.1), unspent)
+  said m u = inr (γ, (u, watches-read (serving_in t γ g) t.server.durable (Some t.server) (g.pool ++ (tell c m t).sent) refl st.1, st.2), unspent)
 
   pub as-it-is : Going g t
   as-it-is = inr (γ, st, unspent)
@@ -136,7 +137,7 @@ module _ (g : System) (γ : Ghost) (t : Serving) (st : Stands g t γ) (unspent :
       go (Some sl) p = its sl p (sl.session == s) refl
 
 -- Each message.
-module _ (g : System) (v : Server) (i : Invariant g) (wa : WatchesAgree g) (up : g.server ≡ Some v) (c : ℕ) where
+module _ (g : System) (v : Server) (i : Invariant g) (wa : WatchesAgree g) (fa : FirstsAgree g.ghost) (up : g.server ≡ Some v) (c : ℕ) where
   abbrev t : Serving
   t = serving v
 
@@ -144,7 +145,7 @@ module _ (g : System) (v : Server) (i : Invariant g) (wa : WatchesAgree g) (up :
   here = serving_in t g.ghost g
 
   st : Stands g t g.ghost
-  st = begins g v i wa up
+  st = begins g v i wa fa up
 
   in-pool : (m : Msg) → Contains g.pool (c, m) → Contains here.pool (c, m)
   in-pool m p = subst (λ ms. Contains ms (c, m)) (sym (append-nil g.pool)) p
@@ -163,7 +164,7 @@ module _ (g : System) (v : Server) (i : Invariant g) (wa : WatchesAgree g) (up :
 
   -- a step of the tables alone
   went : (f : Serving) → Under g f g.ghost → f.server.durable.sessions ≡ v.durable.sessions → f.spent ≡ None → Going g f
-  went f u same unspent = inr (g.ghost, (u, watches-read here f.server.durable (Some f.server) (g.pool ++ f.sent) same st.1), unspent)
+  went f u same unspent = inr (g.ghost, (u, watches-read here f.server.durable (Some f.server) (g.pool ++ f.sent) same st.1, st.2), unspent)
 
   abbrev lowering : ℕ → ℕ → ℕ → Hold → Bool → Serving
   lowering s x n h b = elim b as (λ z. Serving) [ true ↦ record t { server = record v { tokens = lowered s x h n v.tokens } } | false ↦ t ]
@@ -239,9 +240,13 @@ module _ (g : System) (v : Server) (i : Invariant g) (wa : WatchesAgree g) (up :
           let its = of-logs (Flush s e b ops) p c sl q r o unmarked k.0 k.1 in
           let ns = some-at (at b (k.0).log.batches) its.1 in
           subst (λ x. Going g (flush c x b ops sl t)) r (subst (λ x. Going g (flush c sl.session b x sl t)) (sym its.0)
-              (let done = flush-stands g g.ghost t st.0 refl st.1 c sl k.0 q o (ap (clerk_in here) r ∙ k.1) (subst (λ x. T (member x v.claimed)) (sym r) claimed) b ns.0 ns.1 unmarked in
-              inr (show_batch c (sl.age).boot (keys (batch b (k.0).log)) g.ghost, done,
-              ap (λ z. z.spent) (flush-is g g.ghost t st.0 refl st.1 c sl k.0 q o (ap (clerk_in here) r ∙ k.1) (subst (λ x. T (member x v.claimed)) (sym r) claimed) b ns.0 ns.1 unmarked))))
+              (let its-in = ap (clerk_in here) r ∙ k.1 in
+              let mine = subst (λ x. T (member x v.claimed)) (sym r) claimed in
+              inr (
+                show_batch c (sl.age).boot (keys (batch b (k.0).log)) g.ghost,
+                (flush-stands g g.ghost t st.0 refl st.1 c sl k.0 q o its-in mine b ns.0 ns.1 unmarked, flush-shows g g.ghost t st.0 refl st.1 c sl k.0 q o its-in mine b ns.0 ns.1 unmarked, st.2),
+                ap (λ z. z.spent) (flush-is g g.ghost t st.0 refl st.1 c sl k.0 q o its-in mine b ns.0 ns.1 unmarked),
+              )))
 
   -- what a claim names was the session's own
   pub takes-claim : (s e : ℕ) (l : Table Hold) → Contains g.pool (c, Claim s e l) → Takes g c (Claim s e l) v
@@ -285,7 +290,7 @@ module _ (g : System) (v : Server) (i : Invariant g) (wa : WatchesAgree g) (up :
           by true m = subst (λ z. Going g (elim z as (λ y. Serving) [ true ↦ spend counter.Session t | false ↦ commit (record_of.Open c age v.durable.next_session) (tell_opened c age v.durable.next_session None) stay t ])) (sym m) (inl tt)
           by false m = inr (
             open_session c age v.durable.next_session g.ghost,
-            (open-stands g g.ghost t st.0 refl c age fits.1 idle greater fits.2 m, open-watches g g.ghost t st.0 refl c age fits.1 idle greater fits.2 m st.1),
+            (open-stands g g.ghost t st.0 refl c age fits.1 idle greater fits.2 m, open-watches g g.ghost t st.0 refl c age fits.1 idle greater fits.2 m st.1, st.2),
             ap (λ z. z.spent) (open-is g g.ghost t st.0 c age fits.1 idle greater fits.2 m),
           )
 
@@ -301,7 +306,7 @@ module _ (g : System) (v : Server) (i : Invariant g) (wa : WatchesAgree g) (up :
           again false r m n =
               let one = opened-again-stands g g.ghost t st.0 c sl q age m n in
               let two = tell-ended-stands g g.ghost (tell c (Opened age sl.session (epoch t)) t) one c sl q (fails sl.is_open r) in
-              inr (g.ghost, (two, watches-read here v.durable (Some v) (g.pool ++ (tell_ended c sl (tell c (Opened age sl.session (epoch t)) t)).sent) refl st.1), refl)
+              inr (g.ghost, (two, watches-read here v.durable (Some v) (g.pool ++ (tell_ended c sl (tell c (Opened age sl.session (epoch t)) t)).sent) refl st.1, st.2), refl)
 
           younger : (b : Bool) → is_older age sl.age ≡ b → is_older sl.age age ≡ false → Going g (greet c age (cond b (greeted_of.OldBoot sl.age) (cond sl.is_open (greeted_of.Same sl.session) (greeted_of.Ended sl.session sl.window))) t)
           younger true n m = said g g.ghost t st refl c 0 0 _ (old-boot-stands g g.ghost t st.0 c age sl.age)
@@ -319,9 +324,9 @@ module _ (g : System) (v : Server) (i : Invariant g) (wa : WatchesAgree g) (up :
       own true m = greeted (slot v.durable c) refl
       own false m = as-it-is g g.ghost t st refl c 0 0
 
-  -- the next ids are asked for, and not the last ones again
-  pub takes-room : (s e got ask : ℕ) → ((sl : Slot) → slot v.durable c ≡ Some sl → (got + 1 == sl.grants) ≡ false) → Contains g.pool (c, Room s e got ask) → Takes g c (Room s e got ask) v
-  takes-room s e got ask anew p = ends (Room s e got ask) (within g g.ghost t st refl c s e false (room c s got ask) (λ sl q r o now claimed. comes sl q r o claimed (got == sl.grants) refl))
+  -- the next ids are asked for, or the last ones again
+  pub takes-room : (s e got ask : ℕ) → Contains g.pool (c, Room s e got ask) → Takes g c (Room s e got ask) v
+  takes-room s e got ask p = ends (Room s e got ask) (within g g.ghost t st refl c s e false (room c s got ask) (λ sl q r o now claimed. comes sl q r o now claimed (got == sl.grants) refl))
     where
       fits : tokens.Fits (view here) (Room s e got ask)
       fits = of-tokens (Room s e got ask) p
@@ -342,7 +347,7 @@ module _ (g : System) (v : Server) (i : Invariant g) (wa : WatchesAgree g) (up :
           let taken-now = subst (λ x. T (g.ghost.taken x)) (sym r) (fits.0).0 in
           subst (λ x. Going g (grant_ids c x got ask t)) r (subst (λ n. Going g (grant_ids c sl.session n ask t)) (sym now) (inr (
             give_ids sl.session v.durable.next_id g.ghost,
-            (give-stands g g.ghost t st.0 refl c sl q o k.0 its mine taken-now current ask room enough small, give-watches g g.ghost t st.0 refl c sl q o k.0 its mine taken-now current ask room enough small st.1),
+            (give-stands g g.ghost t st.0 refl c sl q o k.0 its mine taken-now current ask room enough small, give-watches g g.ghost t st.0 refl c sl q o k.0 its mine taken-now current ask room enough small st.1, give-firsts g.ghost sl.session v.durable.next_id (ids-in-range sl.grants t enough) st.2),
             ap (λ z. z.spent) (grant-is g g.ghost t st.0 c sl q o k.0 its mine taken-now current ask room enough small),
           )))
 
@@ -373,8 +378,55 @@ module _ (g : System) (v : Server) (i : Invariant g) (wa : WatchesAgree g) (up :
           (recorded-or (step (record_of.Ids c s got v.durable.next_id) v.durable) z))
       grants sl q r o claimed now false false false x y z = gives sl q r o claimed now x (ap (λ n. ids_are_spent n t) (sym now) ∙ y) z
 
-      comes : (sl : Slot) → slot v.durable c ≡ Some sl → sl.session ≡ s → T sl.is_open → T (member s v.claimed) → (b : Bool) → (got == sl.grants) ≡ b → Going g (room c s got ask sl t)
-      comes sl q r o claimed true m = subst (λ w. Going g (elim w as (λ y. Serving) [ true ↦ grant_ids c s got ask t | false ↦ elim (got + 1 == sl.grants) as (λ y. Serving) [ true ↦ resend_ids c s got sl.last_first t | false ↦ t ] ])) (sym m)
+      -- the last ids go out again
+
+      recorded-is : is_last_number t ≡ false → record_ids s (g.ghost.first s) t
+          ≡ record t { server = record v { tokens = with_ids s (v.number + 1) (run (g.ghost.first s) 16) v.tokens; number = v.number + 1; recorded = put s (v.number + 1) v.recorded } }
+      recorded-is m = ap (λ b. with_server (λ z. record z { tokens = with_ids s z.number (run (g.ghost.first s) 16) z.tokens; recorded = put s z.number z.recorded })
+          (elim b as (λ z. Serving) [ true ↦ spend counter.Number t | false ↦ record t { server = record v { number = v.number + 1 } } ])) m
+
+      -- they are recorded, and told
+      told : (f : Serving) → Under g f g.ghost → f.server.durable ≡ v.durable → f.spent ≡ None → (n : ℕ) → at s f.server.recorded ≡ Some n → got + 1 ≡ g.ghost.grants s → Going g (send_ids c s got (g.ghost.first s) f)
+      told f u same unspent n z grants = inr (
+        g.ghost,
+        (subst (λ x. Under g (tell c (Ids s f.server.durable.epoch got x (g.ghost.first s)) f) g.ghost) (sym (ap (or_else 0) z))
+            (send-ids-stands g g.ghost f u c s got n (g.ghost.first s) (of-sessions (Room s e got ask) p) z grants refl (fits.0).0 (fa s (some-grants got (g.ghost.grants s) grants))),
+        watches-read here f.server.durable (Some f.server) (g.pool ++ (send_ids c s got (g.ghost.first s) f).sent) (ap (λ d. d.sessions) same) st.1, st.2),
+        unspent,
+      )
+        where
+          some-grants : (a b : ℕ) → a + 1 ≡ b → suc zero ≤ b
+          some-grants a b q = omega arith
+
+      again : (sl : Slot) → slot v.durable c ≡ Some sl → sl.session ≡ s → T sl.is_open → e ≡ v.durable.epoch → T (member s v.claimed) → got + 1 ≡ g.ghost.grants s → (o : Option ℕ) → at s v.recorded ≡ o → (b : Bool) → is_last_number t ≡ b
+          → Going g (send_ids c s got (g.ghost.first s) (elim (is_some o) as (λ z. Serving) [ true ↦ t | false ↦ record_ids s (g.ghost.first s) t ]))
+      again sl q r o now claimed grants (Some n) z b m = told t st.0 refl refl n z grants
+      again sl q r o now claimed grants None z true m = inl (subst (λ b. T (is_some (elim b as (λ z. Serving) [ true ↦ spend counter.Number t | false ↦ record t { server = record v { number = v.number + 1 } } ]).spent)) (sym m) tt)
+      again sl q r o now claimed grants None z false m =
+          let is-open : T (is_open here s) = at-open s v.durable.sessions c sl (q, r, o) in
+          let k = its-clerk s ((st.0).invariant.tokens.present s is-open (fits.0).0) in
+          let same-got : got ≡ (k.0).got = (fits.1 (side k.0) (ap side_in k.1)).1 now is-open z grants in
+          let u = record-ids-stands g g.ghost t st.0 s (side k.0) claimed (ap side_in k.1) (ap (λ n. n + 1) (sym same-got) ∙ grants) z m in
+          subst (λ f. Going g (send_ids c s got (g.ghost.first s) f)) (sym (recorded-is m))
+              (told _ (subst (λ f. Under g f g.ghost) (recorded-is m) u) refl refl (v.number + 1) (at-put s s (v.number + 1) v.recorded ∙ ap (λ b. cond b (Some (v.number + 1)) (at s v.recorded)) (same s)) grants)
+
+      resends : (sl : Slot) → slot v.durable c ≡ Some sl → sl.session ≡ s → T sl.is_open → e ≡ v.durable.epoch → T (member s v.claimed) → got + 1 ≡ sl.grants → Going g (resend_ids c s got sl.last_first t)
+      resends sl q r o now claimed grants =
+          let is-open : T (is_open here s) = at-open s v.durable.sessions c sl (q, r, o) in
+          let k = its-clerk s ((st.0).invariant.tokens.present s is-open (fits.0).0) in
+          let ids = ((st.0).invariant.logs.logs s c sl q r o k.0 k.1).ids in
+          let given : got + 1 ≡ g.ghost.grants s = grants ∙ ids.granted in
+          subst (λ z. Going g (resend_ids c s got z t)) (sym (ids.last (one-more got (g.ghost.grants s) given))) (again sl q r o now claimed given (at s v.recorded) refl (is_last_number t) refl)
+        where
+          one-more : (a b : ℕ) → a + 1 ≡ b → suc zero ≤ b
+          one-more a b q = omega arith
+
+      comes : (sl : Slot) → slot v.durable c ≡ Some sl → sl.session ≡ s → T sl.is_open → e ≡ v.durable.epoch → T (member s v.claimed) → (b : Bool) → (got == sl.grants) ≡ b → Going g (room c s got ask sl t)
+      comes sl q r o now claimed true m = subst (λ w. Going g (elim w as (λ y. Serving) [ true ↦ grant_ids c s got ask t | false ↦ elim (got + 1 == sl.grants) as (λ y. Serving) [ true ↦ resend_ids c s got sl.last_first t | false ↦ t ] ])) (sym m)
           (grants sl q r o claimed (equal got sl.grants m) (is_full v.durable) (ids_are_spent got t) (is_last_number t) refl refl refl)
-      comes sl q r o claimed false m = subst (λ w. Going g (elim w as (λ y. Serving) [ true ↦ grant_ids c s got ask t | false ↦ elim (got + 1 == sl.grants) as (λ y. Serving) [ true ↦ resend_ids c s got sl.last_first t | false ↦ t ] ])) (sym m)
-          (subst (λ w. Going g (elim w as (λ y. Serving) [ true ↦ resend_ids c s got sl.last_first t | false ↦ t ])) (sym (anew sl q)) (as-it-is g g.ghost t st refl c s e))
+      comes sl q r o now claimed false m = subst (λ w. Going g (elim w as (λ y. Serving) [ true ↦ grant_ids c s got ask t | false ↦ elim (got + 1 == sl.grants) as (λ y. Serving) [ true ↦ resend_ids c s got sl.last_first t | false ↦ t ] ])) (sym m)
+          (last (got + 1 == sl.grants) refl)
+        where
+          last : (b : Bool) → (got + 1 == sl.grants) ≡ b → Going g (elim b as (λ y. Serving) [ true ↦ resend_ids c s got sl.last_first t | false ↦ t ])
+          last true x = resends sl q r o now claimed (equal (got + 1) sl.grants x)
+          last false x = as-it-is g g.ghost t st refl c s e

@@ -1,5 +1,5 @@
 -- What is proved of a server's functions that commit a record, as contracts name it: the whole invariant stands behind them, with what the lines show.
-use Rattle.std.specs.Prelude.{◌≡◌, ◌<◌, ◌⊎◌, ◌==◌, ◌+◌, ℕ, T, false, nat_le, not, List, [], ◌∷◌, ◌++◌, Contains, Option, None, Some, is_some, ⊤}
+use Rattle.std.specs.Prelude.{◌≡◌, ◌<◌, ◌⊎◌, ℕ, T, false, nat_le, not, List, [], ◌∷◌, ◌++◌, Contains, Option, None, Some, is_some, ⊤}
 use Rattle.ec_base.specs.Ages.{is_older}
 use Rattle.ec_base.specs.Limits.{last_counter}
 use Rattle.ec_base.specs.Tables.{at, keys}
@@ -21,15 +21,15 @@ use Rattle.ec_coherence.specs.Sessions.{IsReached}
 use Rattle.ec_coherence.specs.Invariant.{Invariant}
 use Rattle.ec_coherence.specs.Steps.{give_ids, keep_batch, open_session, serving_in, Under}
 use Rattle.ec_coherence.specs.Opening.{opening}
-use Rattle.ec_commits.specs.Watches.{WatchesAgree}
+use Rattle.ec_commits.specs.Watches.{FirstsAgree, WatchesAgree}
 
--- A step under way stands, and the lines show what they are to show.
+-- A step under way stands, the lines show what they are to show, and ids are in their range.
 abbrev pub Stands : System → Serving → Ghost → Type 0
-Stands g t γ = Under g t γ × WatchesAgree (serving_in t γ g)
+Stands g t γ = Under g t γ × WatchesAgree (serving_in t γ g) × FirstsAgree γ
 
 -- what the lines are to show they show before anything happened
 abbrev pub OpeningShows : Type 0
-OpeningShows = (most : ℕ) → WatchesAgree (opening most)
+OpeningShows = (most : ℕ) → WatchesAgree (opening most) × FirstsAgree (opening most).ghost
 
 -- a change of the server that leaves the slots, with messages that are sent, leaves that
 abbrev pub LinesStand : Type 0
@@ -67,7 +67,7 @@ Takes g c m v = T (is_some (take c m v).spent) ⊎ ((γ : Ghost) × Stands g (ta
 
 -- a running server takes a message that was sent
 abbrev pub TakesEach : (Msg → Type 0) → Type 0
-TakesEach P = (g : System) (v : Server) → Invariant g → WatchesAgree g → g.server ≡ Some v → (c : ℕ) (m : Msg) → P m → Contains g.pool (c, m) → Takes g c m v
+TakesEach P = (g : System) (v : Server) → Invariant g → WatchesAgree g → FirstsAgree g.ghost → g.server ≡ Some v → (c : ℕ) (m : Msg) → P m → Contains g.pool (c, m) → Takes g c m v
 
 -- a want, a token given back, and a batch
 abbrev pub IsWant : Msg → Type 0
@@ -89,10 +89,10 @@ IsClaim _ = ⊥
 
 -- a greeting, where no session is open in whose place a new one would come
 abbrev pub TakesHellos : Type 0
-TakesHellos = (g : System) (v : Server) → Invariant g → WatchesAgree g → g.server ≡ Some v → (c from : ℕ) (age : Age)
+TakesHellos = (g : System) (v : Server) → Invariant g → WatchesAgree g → FirstsAgree g.ghost → g.server ≡ Some v → (c from : ℕ) (age : Age)
     → ((sl : Slot) → slot v.durable c ≡ Some sl → T sl.is_open → is_older sl.age age ≡ false) → Contains g.pool (c, Hello from age) → Takes g c (Hello from age) v
 
--- a session asks for its next ids, and not for the last ones again
-abbrev pub TakesRooms : Type 0
-TakesRooms = (g : System) (v : Server) → Invariant g → WatchesAgree g → g.server ≡ Some v → (c s e got ask : ℕ)
-    → ((sl : Slot) → slot v.durable c ≡ Some sl → (got + 1 == sl.grants) ≡ false) → Contains g.pool (c, Room s e got ask) → Takes g c (Room s e got ask) v
+-- an asking for ids
+abbrev pub IsRoom : Msg → Type 0
+IsRoom (Room s e got ask) = ⊤
+IsRoom _ = ⊥

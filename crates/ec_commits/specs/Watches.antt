@@ -1,8 +1,9 @@
--- What the lines show of each clerk, beside the facts on the history: which start runs, which session is open, and what it may still lose.
-use Rattle.std.specs.Prelude.{◌≡◌, ◌==◌, ◌<◌, ◌≤◌, ◌&&◌, ℕ, T, true, false, List, [], Option, None, Some, is_some}
+-- What the lines show of each clerk, beside the facts on the history: which start runs, which session is open, and what it may still lose. And how large ids get.
+use Rattle.std.specs.Prelude.{◌≡◌, ◌==◌, ◌<◌, ◌≤◌, ◌&&◌, nat_le, ℕ, zero, suc, T, true, false, List, [], Option, None, Some, is_some}
 use Rattle.ec_history.specs.History.{numbers}
 use Rattle.ec_history.specs.Placing.{watch}
 use Rattle.ec_history.specs.declared.watch.Watch.{Watch}
+use Rattle.ec_sessions.specs.Limits.{last_first_id}
 use Rattle.ec_sessions.specs.declared.slot.Slot.{Slot}
 use Rattle.ec_durable.specs.Durable.{slot}
 use Rattle.ec_coherence.specs.System.{System, Ghost, undurable}
@@ -27,3 +28,7 @@ pub record WatchAgrees (g : System) (c : ℕ) (w : Watch) : Type 0 where
 
 abbrev pub WatchesAgree : System → Type 0
 WatchesAgree g = (c : ℕ) → WatchAgrees g c (watch c g.ghost.shown)
+
+-- the first ids that each session was given leave room for sixteen
+abbrev pub FirstsAgree : Ghost → Type 0
+FirstsAgree γ = (s : ℕ) → suc zero ≤ γ.grants s → T (nat_le (γ.first s) last_first_id)

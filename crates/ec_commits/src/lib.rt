@@ -3,7 +3,7 @@
 //! is a law.
 #![tactic(auto)]
 
-ghost use Rattle.ec_commits.specs.Laws.{FlushStands, GiveStands, LinesStand, OpeningShows, OpenStands, TakesEach, TakesHellos, TakesRooms, IsWant, IsBack, IsClaim, IsFlush};
+ghost use Rattle.ec_commits.specs.Laws.{FlushStands, GiveStands, LinesStand, OpeningShows, OpenStands, TakesEach, TakesHellos, IsWant, IsBack, IsClaim, IsFlush, IsRoom};
 
 /// Which start runs, which session is open and what it may still lose is what the lines show: before
 /// anything happened, and behind each change of the server that leaves the slots.
@@ -21,14 +21,14 @@ pub fn records_stand()
     ensures flush { FlushStands }
 {}
 
-/// A running server takes a want, a token given back, a batch or a claim, of any session and epoch,
-/// a greeting of a clerk that has no session open in whose place a new one would come, or an asking
-/// for the next ids, and serves what is due: all facts stand behind the whole step, with its record and its messages.
+/// A running server takes a want, a token given back, a batch, a claim or an asking for ids, of any
+/// session and epoch, or a greeting of a clerk that has no session open in whose place a new one would
+/// come, and serves what is due: all facts stand behind the whole step, with its record and its messages.
 pub fn messages_stand()
     ensures wants { TakesEach IsWant }
     ensures backs { TakesEach IsBack }
     ensures batches { TakesEach IsFlush }
     ensures claims { TakesEach IsClaim }
     ensures greetings { TakesHellos }
-    ensures rooms { TakesRooms }
+    ensures rooms { TakesEach IsRoom }
 {}
