@@ -1,85 +1,121 @@
--- Operations that leave from the front.
+-- Operations that leave.
 use Rattle.std.proofs.Common.{◌≡◌, ◌≤◌, ◌<◌, ◌+◌, ◌-◌, ◌∙◌, refl, sym, ap, subst, arith, ℕ, zero, suc, T, Bool, true, false, cond, not, List, [], ◌∷◌, ◌++◌, length, take, drop, get_or, inl, inr}
-use Rattle.std.specs.Prelude.{◌==◌, ◌||◌}
+use Rattle.std.specs.List.{swap}
 use Rattle.std.specs.Ordering.{nat_cmp, is_lt}
 use Rattle.std.specs.FinMap.{is_sorted}
 use Rattle.std.specs.FinMap.Entries.{below_all}
-use Rattle.std.specs.List.{filter}
 use Rattle.std.proofs.lemmas.Bool.Decides.{nat_tests}
-use Rattle.std.proofs.lemmas.List.{take_more, take_all, length-drop}
+use Rattle.std.proofs.Common.{set, drop-cons}
+use Rattle.std.proofs.lemmas.List.{length-drop, length-set, take-take, drop-drop, get_or-take, take-set, take-set-le, drop-set, drop-set-lt}
+use Rattle.std.proofs.lemmas.List.Edits.{length-swap, swap_is}
 use Rattle.std.proofs.Math.Seq.{take-append_seam}
 use Rattle.ec_base.specs.SortedLaws.{first, second}
-use Rattle.ec_base.specs.Tables.{Table, keys, at_or}
+use Rattle.ec_base.specs.Tables.{Table, at_or}
 use Rattle.ec_volume.specs.Update.{member, operands}
 use Rattle.ec_volume.specs.declared.update.Update.{Update}
-use Rattle.ec_order.specs.Order.{Issued, Holds}
-use Rattle.ec_chains.specs.ClosureLaws.{above-held}
-use Rattle.ec_chains.specs.Front.{is_alone, Covers}
+use Rattle.ec_order.specs.Order.{Issued}
+use Rattle.ec_chains.specs.Front.{is_alone, Covers, Reaches}
+use Rattle.ec_chains.specs.declared.closure.Ask.TheVariants.{All}
 use Rattle.ec_chains.specs.Held.{is_behind, settle}
-use Rattle.ec_chains.proofs.Fronts.{covers-more, covers-raised, covers-part, holds-behind}
+use Rattle.ec_chains.proofs.Fronts.{covers-more, covers-raised, covers-part}
 use Rattle.ec_chains.proofs.Held.{sorted_more, sorted_part}
 
-filter-same : (p q : ℕ × Update → Bool) (xs : Issued) → ((n : ℕ) (u : Update) → Holds xs n u → p (n, u) ≡ q (n, u)) → filter p xs ≡ filter q xs
-filter-same p q [] h = refl
-filter-same p q (x ∷ xs) h =
-    ap (λ b. cond b (x ∷ filter p xs) (filter p xs)) (h x.0 x.1 (inl (refl, refl))) ∙ ap (λ l. cond (q x) (x ∷ l) l) (filter-same p q xs (λ n u k. h n u (inr k)))
-
-all-stay : (xs : Issued) → filter (λ x. not (member x.0 [])) xs ≡ xs
-all-stay [] = refl
-all-stay (x ∷ xs) = ap (λ l. x ∷ l) (all-stay xs)
-
--- the first ones leave
-first-leave : (k : ℕ) (xs : Issued) → T (is_sorted nat_cmp xs) → drop k xs ≡ settle (keys (take k xs)) xs
-first-leave zero xs s = sym (all-stay xs)
-first-leave (suc k) [] s = refl
-first-leave (suc k) (x ∷ xs) s = first-leave k xs (second _ _ s) ∙ sym (here ∙ rest)
+-- What is above each of the numbers stays.
+pub stays-above : (ops : List ℕ) (bound : ℕ) (xs : Issued) → ((n : ℕ) → T (member n ops) → n ≤ bound) → T (below_all nat_cmp bound xs) → settle ops xs ≡ xs
+stays-above ops bound [] most t = refl
+stays-above ops bound (x ∷ xs) most t = ap (λ b. cond (not b) (x ∷ settle ops xs) (settle ops xs)) (none (member x.0 ops) refl) ∙ ap (λ l. x ∷ l) (stays-above ops bound xs most (second _ _ t))
   where
-    same : (x.0 == x.0) ≡ true
-    same = grind (arith, nat_tests)
+    above : T (is_lt (nat_cmp bound x.0)) → bound < x.0
+    above l = grind (arith, nat_tests, l)
 
-    here : settle (keys (take (suc k) (x ∷ xs))) (x ∷ xs) ≡ settle (x.0 ∷ keys (take k xs)) xs
-    here = ap (λ b. cond (not (b || member x.0 (keys (take k xs)))) (x ∷ settle (x.0 ∷ keys (take k xs)) xs) (settle (x.0 ∷ keys (take k xs)) xs)) same
+    none : (b : Bool) → member x.0 ops ≡ b → b ≡ false
+    none false e = refl
+    none true e = let m = most x.0 (subst T (sym e) tt) in let l = above (first _ _ t) in absurd (omega (arith, m, l))
 
-    apart : (n : ℕ) → x.0 < n → (n == x.0) ≡ false
-    apart n l = grind (arith, nat_tests, l)
+-- Behind the place that is reached all stays.
+pub reached-stays : (ops : List ℕ) (bound gone place : ℕ) (held items : Issued) → ((n : ℕ) → T (member n ops) → n ≤ bound) → held ≡ drop gone items → Reaches All held 0 bound place → settle ops (drop (gone + place) items) ≡ drop (gone + place) items
+reached-stays ops bound gone place held items most e r = subst (λ l. settle ops l ≡ l) (ap (drop place) e ∙ drop-drop place gone items) (go r)
+  where
+    go : Reaches All held 0 bound place → settle ops (drop place held) ≡ drop place held
+    go (inl none) = ap (settle ops) none ∙ sym none
+    go (inr behind) = stays-above ops bound (drop place held) most behind.1
 
-    rest : settle (x.0 ∷ keys (take k xs)) xs ≡ settle (keys (take k xs)) xs
-    rest = filter-same (λ y. not (member y.0 (x.0 ∷ keys (take k xs)))) (λ y. not (member y.0 (keys (take k xs)))) xs
-        (λ n u h. ap (λ b. not (b || member n (keys (take k xs)))) (apart n (above-held x.0 xs (first _ _ s) n u h)))
+-- What stays is moved up, one by one from the last.
+pub record AreMoved (ops : List ℕ) (old new : Issued) (from place to : ℕ) : Type 0 where
+  pub begun : from ≤ place
+  pub behind : place ≤ to
+  pub within : to ≤ length new
+  pub same : length new ≡ length old
+  pub front : take place new ≡ take place old
+  pub rest : drop to new ≡ settle ops (drop place old)
 
-pub first-settle : (ops : List ℕ) (xs : Issued) → T (is_sorted nat_cmp xs) → keys (take (length ops) xs) ≡ ops → drop (length ops) xs ≡ settle ops xs
-first-settle ops xs s e = first-leave (length ops) xs s ∙ ap (λ os. settle os xs) e
+pub moved-none : (ops : List ℕ) (old : Issued) (from end : ℕ) → from ≤ end → end ≤ length old → settle ops (drop end old) ≡ drop end old → AreMoved ops old old from end end
+moved-none ops old from end l m e = record { begun = l; behind = omega arith; within = m; same = refl; front = refl; rest = sym e }
 
--- One more of the first ones is the same.
+module _ (ops : List ℕ) (old new : Issued) (from place to next : ℕ) (moved : AreMoved ops old new from place to) (more : from < place) (is : place ≡ next + 1) (x : ℕ × Update) (at : x ≡ get_or new next x) where
+  abbrev before : next < length old
+  before = let b : place ≤ to = moved.behind in let w : to ≤ length new = moved.within in let s = moved.same in omega (arith, b, w, s, is)
 
-pub record AreAlike (ops : List ℕ) (held : Issued) (place : ℕ) : Type 0 where
-  pub within : place ≤ length ops
-  pub enough : length ops ≤ length held
-  pub alike : keys (take place held) ≡ take place ops
+  abbrev alike : take next new ≡ take next old
+  alike = sym (take-take next place new (omega (arith, is))) ∙ ap (take next) moved.front ∙ take-take next place old (omega (arith, is))
 
-pub alike-none : (ops : List ℕ) (held : Issued) → length ops ≤ length held → AreAlike ops held 0
-alike-none ops held l = record { within = omega arith; enough = l; alike = refl }
+  here : x ≡ get_or old next x
+  here = at ∙ sym (get_or-take place new next x (omega (arith, is))) ∙ ap (λ l. get_or l next x) moved.front ∙ get_or-take place old next x (omega (arith, is))
 
-keys-more : (xs : Issued) (x : ℕ × Update) → keys (xs ++ x ∷ []) ≡ keys xs ++ x.0 ∷ []
-keys-more [] x = refl
-keys-more (y ∷ ys) x = ap (λ l. y.0 ∷ l) (keys-more ys x)
+  one_more : drop next old ≡ x ∷ drop place old
+  one_more = drop-cons old next x before ∙ ap (λ y. y ∷ drop (suc next) old) (sym here) ∙ ap (λ n. x ∷ drop n old) (suc_is next ∙ sym is)
+    where
+      suc_is : (n : ℕ) → suc n ≡ n + 1
+      suc_is n = omega arith
 
-pub alike-more : (ops : List ℕ) (held : Issued) (place : ℕ) → AreAlike ops held place → place < length ops → (x : ℕ × Update) → x ≡ get_or held place x → (y : ℕ) → y ≡ get_or ops place y → x.0 ≡ y → AreAlike ops held (place + 1)
-alike-more ops held place a l x i y j e =
-    let enough : length ops ≤ length held = a.enough in
-    record {
-      within = omega (arith, l);
-      enough = enough;
-      alike =
-          ap keys (take_more held place x (omega (arith, l, enough)) ∙ ap (λ z. take place held ++ z ∷ []) (sym i)) ∙ keys-more (take place held) x ∙ ap (λ os. os ++ x.0 ∷ []) a.alike
-          ∙ ap (λ z. take place ops ++ z ∷ []) (e ∙ j) ∙ sym (take_more ops place y l);
-    }
+  settled : (b : Bool) → member x.0 ops ≡ b → settle ops (drop next old) ≡ cond (not b) (x ∷ settle ops (drop place old)) (settle ops (drop place old))
+  settled b e = ap (settle ops) one_more ∙ ap (λ t. cond (not t) (x ∷ settle ops (drop place old)) (settle ops (drop place old))) e
 
-pub alike-all : (ops : List ℕ) (held : Issued) (place : ℕ) → AreAlike ops held place → length ops ≤ place → keys (take (length ops) held) ≡ ops
-alike-all ops held place a l =
-    let within : place ≤ length ops = a.within in
-    let same : length ops ≡ place = omega (arith, l, within) in
-    ap (λ n. keys (take n held)) same ∙ a.alike ∙ take_all place ops l
+  -- an operation leaves
+  pub moved-past : member x.0 ops ≡ true → AreMoved ops old new from next to
+  moved-past e =
+      let b : place ≤ to = moved.behind in
+      let w : to ≤ length new = moved.within in
+      record {
+        begun = omega (arith, more, is);
+        behind = omega (arith, b, is);
+        within = w;
+        same = moved.same;
+        front = alike;
+        rest = moved.rest ∙ sym (settled true e);
+      }
+
+  -- one stays
+  pub moved-up : (after : Issued) (slot : ℕ) → to ≡ slot + 1 → member x.0 ops ≡ false → after ≡ swap new next slot → AreMoved ops old after from next slot
+  moved-up after slot down e swapped =
+      let b : place ≤ to = moved.behind in
+      let w : to ≤ length new = moved.within in
+      let long : length after ≡ length new = ap length swapped ∙ length-swap new next slot in
+      let low : next < length new = omega (arith, b, w, is) in
+      let high : slot < length new = omega (arith, w, down) in
+      let under : next ≤ slot = omega (arith, b, is, down) in
+      let sets : after ≡ set (set new next (get_or new slot x)) slot (get_or new next x) = swapped ∙ sym (swap_is new next slot x low high) in
+      record {
+        begun = omega (arith, more, is);
+        behind = under;
+        within = omega (arith, high, long);
+        same = long ∙ moved.same;
+        front = ap (take next) sets ∙ take-set-le next (set new next (get_or new slot x)) slot (get_or new next x) under ∙ take-set new next (get_or new slot x) ∙ alike;
+        rest =
+            ap (drop slot) sets
+            ∙ drop-set (set new next (get_or new slot x)) slot (get_or new next x) (subst (λ n. slot < n) (sym (length-set new next (get_or new slot x))) high)
+            ∙ ap (λ l. get_or new next x ∷ l) (drop-set-lt (slot + 1) new next (get_or new slot x) (omega (arith, under)))
+            ∙ ap (λ y. y ∷ drop (slot + 1) new) (sym at)
+            ∙ ap (λ n. x ∷ drop n new) (sym down)
+            ∙ ap (λ l. x ∷ l) moved.rest
+            ∙ sym (settled false e);
+      }
+
+pub moved-all : (ops : List ℕ) (old new : Issued) (from place to : ℕ) → AreMoved ops old new from place to → place ≤ from → drop to new ≡ settle ops (drop from old)
+moved-all ops old new from place to moved l = let b : from ≤ place = moved.begun in moved.rest ∙ ap (λ n. settle ops (drop n old)) (both b)
+  where
+    both : from ≤ place → place ≡ from
+    both b = omega (arith, b, l)
 
 -- The first ones go to the end, and are cut off.
 pub cut-off : (k n : ℕ) (xs turned rest : Issued) → k ≤ length xs → turned ≡ drop k xs ++ take k xs → n ≡ length xs - k → rest ≡ take n turned → rest ≡ drop k xs
@@ -114,42 +150,12 @@ order-more gone items old new op u inv b raised its =
 pub order-raised : (gone : ℕ) (items : Issued) (old new : Table ℕ) (op : ℕ) → IsOrder gone items old → is_behind op (drop gone items) ≡ true → ((o n : ℕ) → n ≤ at_or 0 o old → n ≤ op → n ≤ at_or 0 o new) → IsOrder gone items new
 order-raised gone items old new op inv b raised = (inv.0, inv.1, covers-raised old new (drop gone items) op b inv.2 raised)
 
-sorted-behind : (i : ℕ) (ys : Issued) → T (is_sorted nat_cmp ys) → T (is_sorted nat_cmp (drop i ys))
-sorted-behind zero ys t = t
-sorted-behind (suc i) [] t = t
-sorted-behind (suc i) (y ∷ ys) t = sorted-behind i ys (second _ _ t)
-
-drop-twice : (a b : ℕ) (xs : Issued) → drop (a + b) xs ≡ drop b (drop a xs)
-drop-twice zero b xs = ap (λ n. drop n xs) (none b)
-  where
-    none : (n : ℕ) → 0 + n ≡ n
-    none n = omega arith
-drop-twice (suc a) b [] = empty (suc a + b) ∙ sym (empty b)
-  where
-    empty : (n : ℕ) → drop {A = ℕ × Update} n [] ≡ []
-    empty zero = refl
-    empty (suc n) = refl
-drop-twice (suc a) b (x ∷ xs) = ap (λ n. drop n (x ∷ xs)) (next a) ∙ drop-twice a b xs
-  where
-    next : (n : ℕ) → suc n + b ≡ suc (n + b)
-    next n = omega arith
-
-pub order-less : (gone count : ℕ) (items : Issued) (shared : Table ℕ) → IsOrder gone items shared → count ≤ length (drop gone items) → IsOrder (gone + count) items shared
-order-less gone count items shared inv l =
-    let within : gone ≤ length items = inv.0 in
-    let left = length-drop gone items in
-    let same = sym (drop-twice gone count items) in (
-      omega (arith, within, left, l),
-      subst (λ xs. T (is_sorted nat_cmp xs)) same (sorted-behind count (drop gone items) inv.1),
-      subst (Covers shared) same (λ n u h. inv.2 n u (holds-behind count (drop gone items) n u h)),
-    )
-
 pub order-cut : (gone : ℕ) (items rest : Issued) (shared : Table ℕ) → IsOrder gone items shared → rest ≡ drop gone items → IsOrder 0 rest shared
 order-cut gone items rest shared inv e = (omega arith, subst (λ xs. T (is_sorted nat_cmp xs)) (sym e) inv.1, subst (Covers shared) (sym e) inv.2)
 
-pub order-part : (ops : List ℕ) (gone : ℕ) (items rest : Issued) (shared : Table ℕ) → IsOrder gone items shared → rest ≡ settle ops (drop gone items) → IsOrder 0 rest shared
-order-part ops gone items rest shared inv e = (
-  omega arith,
+pub order-part : (ops : List ℕ) (gone left : ℕ) (items rest : Issued) (shared : Table ℕ) → IsOrder gone items shared → left ≤ length rest → drop left rest ≡ settle ops (drop gone items) → IsOrder left rest shared
+order-part ops gone left items rest shared inv l e = (
+  l,
   subst (λ xs. T (is_sorted nat_cmp xs)) (sym e) (sorted_part (λ x. not (member x.0 ops)) (drop gone items) inv.1),
   subst (Covers shared) (sym e) (covers-part (λ x. not (member x.0 ops)) shared (drop gone items) inv.2),
 )

@@ -2,11 +2,11 @@
 #![tactic(auto)]
 
 mod closure;
-mod first;
 mod front;
 mod needed;
 mod operand;
 mod order;
+mod settling;
 #[cfg(test)]
 mod tests;
 

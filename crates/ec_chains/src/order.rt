@@ -10,8 +10,8 @@ ghost use Rattle.ec_chains.specs.declared.closure.Ask.TheVariants.{Op};
 ghost use Rattle.ec_chains.specs.declared.order.OrderFault.TheVariants as fault;
 
 use crate::closure::{Ask, closure};
-use crate::first::{are_first, remove_first};
 use crate::front::{last_on, note, reach, wanted};
+use crate::settling::{leave, remove_first};
 use ec_base::{Duplicate, NoMemory, ObjId, OpNo, SortedMap};
 use ec_volume::Update;
 use std::alloc::Global;
@@ -22,7 +22,7 @@ use thiserror::Error;
 #[derive(Drop)]
 pub struct Order {
     alloc: Global,
-    // by rising number; so many of the first ones have left
+    // so many of the first ones have left; the others by rising number
     held: Vec<(OpNo, Update)>,
     gone: usize,
     // for objects the last operation on them that is on others too, or a later number
@@ -148,26 +148,19 @@ impl Order {
         }
     }
 
-    /// The operations of these numbers leave. Where they are the first ones it takes time in
-    /// proportion to their number, and only now and then a walk over all. It takes no memory.
+    /// The operations of these numbers leave, in time in proportion to the place of the last one, and
+    /// only now and then by a walk over all. It takes no memory.
     pub fn settle(&mut self, ops: &[OpNo])
         ensures { self.new ≡ held.settle ops.now self.old }
     {
-        if are_first(ops, self.held()) {
-            self.leave(ops.len());
-        } else {
-            remove_first(&mut self.held, self.gone);
-            self.gone = 0;
-            self.held.retain(|held| !ops.contains(&held.0));
-        }
+        self.gone = leave(&mut self.held, self.gone, ops);
+        self.trim();
     }
 
-    // So many of the first operations leave. What has left is dropped once it is half of all.
-    fn leave(&mut self, count: usize)
-        requires { count ≤ length self.old }
-        ensures { self.new ≡ drop count self.old }
+    // What has left is dropped once it is half of all.
+    fn trim(&mut self)
+        ensures { self.new ≡ self.old }
     {
-        self.gone += count;
         if self.held.len() / 2 <= self.gone {
             remove_first(&mut self.held, self.gone);
             self.gone = 0;

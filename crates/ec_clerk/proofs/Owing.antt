@@ -1,5 +1,5 @@
 -- What is owed comes before the operations of the session, and the lost ones of those come behind it.
-use Rattle.std.proofs.Common.{◌≡◌, ◌<◌, ◌≤◌, ◌+◌, refl, sym, ap, ◌∙◌, inl, inr, arith, ℕ, Bool, true, false, cond, List, [], ◌∷◌, ◌++◌}
+use Rattle.std.proofs.Common.{◌≡◌, ◌<◌, ◌≤◌, ◌+◌, refl, sym, ap, ◌∙◌, inl, inr, arith, ℕ, Bool, true, false, cond, List, [], ◌∷◌, ◌++◌, length, drop, get_or}
 use Rattle.std.specs.Prelude.{T, not, nat_lt, nat_le, map, filter}
 use Rattle.std.specs.Ordering.{nat_cmp, is_lt}
 use Rattle.std.specs.FinMap.{is_sorted}
@@ -21,6 +21,7 @@ use Rattle.ec_sessions.specs.declared.window.Window.{Window}
 use Rattle.ec_report.specs.Report.{Owed, owe, pairs_of, come_behind}
 use Rattle.ec_protocol.specs.Clerk.{with_operands}
 use Rattle.ec_clerk.specs.Owing.{lost_of, owed_before}
+use Rattle.ec_clerk.proofs.Steps.{next_is}
 
 pub later : (n m : ℕ) (owed : Owed) → n ≤ m → owed_before n owed ≡ true → owed_before m owed ≡ true
 later n m [] l h = refl
@@ -105,6 +106,58 @@ same_filter p q (x ∷ xs) h =
 
 lost_of-keys : (p : ℕ × Update → Bool) (xs : Issued) → T (is_sorted nat_cmp xs) → lost_of (keys (filter p xs)) xs ≡ filter p xs
 lost_of-keys p xs s = same_filter (λ op. member op.0 (keys (filter p xs))) p xs (λ n u h. sym (passes-member p xs s n u h))
+
+-- so their numbers are these
+pub lost_are_some : (w : Window) (l : LogState) → logs.AreOwn l → (ns : List ℕ) (ops : Issued) → ns ≡ keys (logs.lost w l) → ops ≡ l.undurable → keys (lost_of ns ops) ≡ ns
+lost_are_some w l own ns ops at_ns at_ops =
+    ap (λ ms. keys (lost_of ms ops)) at_ns
+    ∙ ap (λ us. keys (lost_of (keys (logs.lost w l)) us)) at_ops
+    ∙ ap keys (lost_of-keys (λ op. not (logs.is_kept_by w l op.0)) l.undurable own.rising)
+    ∙ sym at_ns
+
+-- A walk over both lists.
+
+first_member : (ns : List ℕ) (ops : Issued) (n : ℕ) (rest : List ℕ) → keys (lost_of ns ops) ≡ n ∷ rest → member n ns ≡ true
+first_member ns [] n rest e = absurd (apart e)
+  where
+    apart : ◌≡◌ {A = List ℕ} [] (n ∷ rest) → ⊥
+    apart e = cc
+first_member ns (x ∷ xs) n rest e = go (member x.0 ns) refl e (first_member ns xs n rest)
+  where
+    head : (ms : List ℕ) → ◌≡◌ {A = List ℕ} (x.0 ∷ ms) (n ∷ rest) → x.0 ≡ n
+    head ms e = cc
+
+    go : (b : Bool) → member x.0 ns ≡ b → keys (cond b (x ∷ lost_of ns xs) (lost_of ns xs)) ≡ n ∷ rest → (keys (lost_of ns xs) ≡ n ∷ rest → member n ns ≡ true) → member n ns ≡ true
+    go true m e r = ap (λ k. member k ns) (sym (head (keys (lost_of ns xs)) e)) ∙ m
+    go false m e r = r e
+
+module _ (ns : List ℕ) (ops : Issued) (i : ℕ) (x : ℕ × Update) (within : i < length ops) (is : x ≡ get_or ops i x) (left : List ℕ) (walked : keys (lost_of ns (drop i ops)) ≡ left) where
+  next_left : keys (lost_of ns (x ∷ drop (i + 1) ops)) ≡ left
+  next_left = ap (λ l. keys (lost_of ns l)) (sym (next_is ops i x within is)) ∙ walked
+
+  by_test : (b : Bool) → member x.0 ns ≡ b → keys (cond b (x ∷ lost_of ns (drop (i + 1) ops)) (lost_of ns (drop (i + 1) ops))) ≡ left
+  by_test b e = sym (ap (λ t. keys (cond t (x ∷ lost_of ns (drop (i + 1) ops)) (lost_of ns (drop (i + 1) ops)))) e) ∙ next_left
+
+  -- the next one is lost
+  pub is_next : (rest : List ℕ) → left ≡ x.0 ∷ rest → member x.0 ns ≡ true
+  is_next rest e = first_member ns (x ∷ drop (i + 1) ops) x.0 rest (next_left ∙ e)
+
+  pub left_behind : (rest : List ℕ) → left ≡ x.0 ∷ rest → keys (lost_of ns (drop (i + 1) ops)) ≡ rest
+  left_behind rest e = tail (by_test true (is_next rest e) ∙ e)
+    where
+      tail : {ms : List ℕ} → ◌≡◌ {A = List ℕ} (x.0 ∷ ms) (x.0 ∷ rest) → ms ≡ rest
+      tail e = cc
+
+  -- it isn't
+  pub is_other : ((rest : List ℕ) → left ≡ x.0 ∷ rest → ⊥) → member x.0 ns ≡ false
+  is_other h = go (member x.0 ns) refl
+    where
+      go : (b : Bool) → member x.0 ns ≡ b → member x.0 ns ≡ false
+      go false e = e
+      go true e = absurd (h (keys (lost_of ns (drop (i + 1) ops))) (sym (by_test true e)))
+
+  pub left_same : ((rest : List ℕ) → left ≡ x.0 ∷ rest → ⊥) → keys (lost_of ns (drop (i + 1) ops)) ≡ left
+  left_same h = by_test false (is_other h)
 
 -- what the code finds of them
 module _ (w : Window) (l : LogState) (own : logs.AreOwn l) (ns : List ℕ) (ops : Issued) (lost : List (ℕ × List ℕ)) (at_ns : ns ≡ keys (logs.lost w l)) (at_ops : ops ≡ l.undurable) (at_lost : lost ≡ with_operands (lost_of ns ops)) where

@@ -1,5 +1,5 @@
 -- Steps that went well, and lists that are walked.
-use Rattle.std.proofs.Common.{◌≡◌, ◌<◌, ◌≤◌, ◌+◌, ◌-◌, arith, ◌∙◌, refl, sym, ap, ℕ, suc, zero, take, append_assoc, List, [], ◌∷◌, ◌++◌, length, drop, drop-cons, add-one, get_or, cond, Bool, true, false, Option, None, Some, OnOk, IfOk, Ok, Err, Result}
+use Rattle.std.proofs.Common.{◌≡◌, ◌<◌, ◌≤◌, ◌+◌, ◌-◌, arith, ◌∙◌, refl, sym, ap, ℕ, suc, zero, take, append-nil, append_assoc, List, [], ◌∷◌, ◌++◌, length, drop, drop-cons, add-one, get_or, cond, Bool, true, false, Option, None, Some, OnOk, IfOk, Ok, Err, Result}
 use Rattle.std.specs.Prelude.{T, ◌==◌, map, reverse, is_some, nat_lt, nat_le, ◌&&◌, not, filter}
 use Rattle.std.proofs.lemmas.Bool.{and_parts, lt-leb, le-leb, eq-eqb}
 use Rattle.std.proofs.lemmas.List.{reverse-append, drop_all}
@@ -149,6 +149,9 @@ one_owed ns op u objs before after lost at_objs more =
     more
     ∙ ap (λ xs. before ++ (op, xs) ∷ []) at_objs
     ∙ sym (ap (λ b. before ++ clerk.with_operands (cond b ((op, u) ∷ []) [])) lost)
+
+pub none_owed : (ns : List ℕ) (op : ℕ × Update) (before : List (ℕ × List ℕ)) → member op.0 ns ≡ false → before ≡ before ++ clerk.with_operands (lost_of ns (op ∷ []))
+none_owed ns op before kept = sym (append-nil before) ∙ sym (ap (λ b. before ++ clerk.with_operands (cond b (op ∷ []) [])) kept)
 
 -- one more of a list is walked
 pub walk_next : {X D : Type 0} (f : List X → D → D) (g : X → D → D) → ((x : X) (xs : List X) (d : D) → f (x ∷ xs) d ≡ f xs (g x d)) → (xs : List X) (i : ℕ) (x : X) (d e all : D) → i < length xs → x ≡ get_or xs i x → g x d ≡ e → f (drop i xs) d ≡ all → f (drop (i + 1) xs) e ≡ all

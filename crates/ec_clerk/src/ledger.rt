@@ -1,7 +1,6 @@
 // The operations of a session, and the lost ones of earlier sessions.
-ghost use Rattle.std.specs.Prelude.{◌≡◌, ◌++◌, [], ◌∷◌, true, IfOk, OnOk};
+ghost use Rattle.std.specs.Prelude.{◌≡◌, ◌∷◌, ℕ, List as Listed, true, IfOk, OnOk, MatchOption};
 ghost use Rattle.ec_base.specs.Tables.{keys};
-ghost use Rattle.ec_volume.specs.Update.{member};
 ghost use Rattle.ec_log.specs.Log as logs;
 ghost use Rattle.ec_report.specs.Report as report;
 ghost use Rattle.ec_protocol.specs.Clerk as clerk;
@@ -38,40 +37,33 @@ impl Ledger {
     }
 }
 
-// The lost operations, which rise, each with its operands.
+// The lost operations, each with its operands: by one walk over both lists, of which the lost ones
+// are some of the others, in the same order.
 fn with_operands(
     alloc: Global,
     ops: &[(OpNo, Update)],
     lost: &[OpNo],
 ) -> Result<Vec<(OpNo, List<ObjId>)>, NoMemory>
+    requires { keys (lost_of lost.now ops.now) ≡ lost.now }
     ensures { IfOk result (λ owed. owed.items ≡ clerk.with_operands (lost_of lost.now ops.now)) }
 {
     let mut owed = Vec::with_capacity(alloc, lost.len())?;
+    let mut left = lost;
     'ops: for (op, update) in ops {
-        add_if_lost(alloc, &mut owed, lost, *op, update)?;
+        if let Some(rest) = behind(left, *op) {
+            owed.push((*op, List::of(operands(alloc, update)?)))?;
+            left = rest;
+        }
     }
     Ok(owed)
 }
 
-fn add_if_lost(
-    alloc: Global,
-    owed: &mut Vec<(OpNo, List<ObjId>)>,
-    lost: &[OpNo],
-    op: OpNo,
-    update: &Update,
-) -> Result<(), NoMemory>
-    ensures { OnOk result (owed.new.items ≡ owed.old.items ++ clerk.with_operands (lost_of lost.now ((op, update.now) ∷ []))) }
+// What comes behind this operation, where it is the first one.
+fn behind(lost: &[OpNo], op: OpNo) -> Option<&[OpNo]>
+    ensures { MatchOption result ((rest : Listed ℕ) → lost.now ≡ op ∷ rest → ⊥) (λ rest. lost.now ≡ op ∷ rest.now) }
 {
-    if !is_lost(lost, op) {
-        return Ok(());
+    match lost {
+        [first, rest @ ..] if *first == op => Some(rest),
+        _ => None,
     }
-    let objs = List::of(operands(alloc, update)?);
-    owed.push((op, objs))?;
-    Ok(())
-}
-
-fn is_lost(lost: &[OpNo], op: OpNo) -> bool
-    ensures { result ≡ member op lost.now }
-{
-    lost.contains(&op)
 }

@@ -1,3 +1,4 @@
 pub mod Choices
 pub mod Fronts
 pub mod Logs
+pub mod Members

@@ -1,9 +1,9 @@
 -- A pick, by the numbers of the closure.
-use Rattle.std.specs.Prelude.{◌≡◌, ◌==◌, ◌||◌, ◌+◌, Bool, ℕ, not, ◌&&◌, if◌then◌else◌, List, [], ◌∷◌, filter, take as front, Option, None, Some}
+use Rattle.std.specs.Prelude.{◌≡◌, ◌==◌, ◌||◌, ◌+◌, Bool, true, ℕ, not, ◌&&◌, nat_lt, if◌then◌else◌, List, [], ◌∷◌, filter, take as front, Option, None, Some}
 use Rattle.ec_base.specs.Tables.{Table, keys, first as first_of}
 use Rattle.ec_volume.specs.Update.{member}
 use Rattle.ec_order.specs.Order.{Issued, closure}
-use Rattle.std.specs.List.{list_any}
+use Rattle.std.specs.List.{list_any, list_all}
 use Rattle.ec_sessions.specs.Windows.{has}
 use Rattle.ec_sessions.specs.declared.window.Window.{Window}
 use Rattle.ec_sessions.specs.Limits.{max_batch_ops, window_size}
@@ -49,6 +49,15 @@ chosen (n ∷ ns) next bs behind = unless_behind (n ∷ ns) next bs behind
 abbrev pub choice : List ℕ → ℕ → Table (List ℕ) → Pick
 choice [] next bs = pick_of.Settled
 choice (n ∷ ns) next bs = unless_behind (n ∷ ns) next bs (number_of (first_of (has_one_of (n ∷ ns)) bs))
+
+-- each number is below those behind it
+abbrev pub rises : List ℕ → Bool
+rises [] = true
+rises (n ∷ ns) = list_all (λ m. nat_lt n m) ns && rises ns
+
+-- the same of the operations of each batch
+abbrev pub all_rise : Table (List ℕ) → Bool
+all_rise bs = list_all (λ b. rises b.1) bs
 
 -- The first ones of a closure.
 

@@ -65,7 +65,8 @@ pub fn is_asked_for(asked: &Asked, ops: &[(OpNo, Update)], op: OpNo) -> bool
     }
 }
 
-fn update_of(ops: &[(OpNo, Update)], op: OpNo) -> Option<&Update>
+/// The update of an operation.
+pub fn update_of(ops: &[(OpNo, Update)], op: OpNo) -> Option<&Update>
     requires { T (is_sorted nat_cmp ops.now) }
     ensures { option_copied result ≡ at op ops.now }
 {

@@ -1,5 +1,5 @@
 // The batches under way, and whether a new one begins.
-ghost use Rattle.std.specs.Prelude.{◌≡◌, ◌&&◌, ◌||◌, T, filter, IfOk};
+ghost use Rattle.std.specs.Prelude.{◌≡◌, ◌&&◌, ◌||◌, T, true, filter, IfOk};
 ghost use Rattle.std.specs.Ordering.{nat_cmp};
 ghost use Rattle.std.specs.FinMap.{is_sorted};
 ghost use Rattle.std.specs.List.{list_any};
@@ -8,7 +8,7 @@ ghost use Rattle.ec_volume.specs.Update.{member};
 ghost use Rattle.ec_sessions.specs.Windows.{has};
 ghost use Rattle.ec_log.specs.Choice as choice;
 
-use crate::asked::is_asked_for;
+use crate::asked::{is_asked_for, update_of};
 use crate::limits::{MAX_BATCH_OPS, WINDOW_SIZE};
 use crate::state::{Asked, Pick};
 use ec_base::{Duplicate, List, NoMemory, OpNo};
@@ -85,27 +85,24 @@ fn full_from(next: u64, batches: &[(u64, List<OpNo>)]) -> Option<u64>
     }
 }
 
-/// Copies of the operations of these numbers.
+/// Copies of the operations of these numbers, each found in time of the logarithm of how many there
+/// are.
 pub fn those_in(
     alloc: Global,
     members: &[OpNo],
     ops: &[(OpNo, Update)],
 ) -> Result<Vec<(OpNo, Update)>, NoMemory>
+    requires rising { choice.rises members.now ≡ true }
+    requires sorted { T (is_sorted nat_cmp ops.now) }
     ensures { IfOk result (λ found. found.items ≡ filter (λ op. member op.0 members.now) ops.now) }
 {
     let mut found = Vec::new(alloc);
-    for (op, update) in ops {
-        if is_one_of(members, *op) {
+    'members: for op in members {
+        if let Some(update) = update_of(ops, *op) {
             found.push((*op, update.duplicate()?))?;
         }
     }
     Ok(found)
-}
-
-fn is_one_of(members: &[OpNo], op: OpNo) -> bool
-    ensures { result ≡ member op members.now }
-{
-    members.contains(&op)
 }
 
 /// The operations but those in batches that the window has.

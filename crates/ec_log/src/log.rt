@@ -33,13 +33,14 @@ impl Model for Log {
     ghost use Rattle.std.specs.Prelude.{◌≡◌, ◌≤◌, true};
     ghost use Rattle.ec_chains.specs.Held.{is_behind};
     ghost use Rattle.ec_log.specs.Log.{is_from};
+    ghost use Rattle.ec_log.specs.Choice.{all_rise};
     ghost use Rattle.ec_log.specs.declared.state.LogState.{LogState};
 
     ghost Value = { LogState };
 
     ghost view = { λ l. record { next = l.next; first = l.first; undurable = l.undurable; batches = l.batches; next_batch = l.next_batch } };
 
-    ghost invariant = { λ l. (l.first ≤ l.next) × (is_from l.first l.undurable ≡ true) × (is_behind l.next l.undurable ≡ true) };
+    ghost invariant = { λ l. (l.first ≤ l.next) × (is_from l.first l.undurable ≡ true) × (is_behind l.next l.undurable ≡ true) × (all_rise l.batches ≡ true) };
 }
 
 impl From<NoMemory> for LogFault {
@@ -113,7 +114,8 @@ impl Log {
         Ok(made)
     }
 
-    /// Copies of the operations of a batch under way, in the order of issue.
+    /// Copies of the operations of a batch under way, in the order of issue. Each is found in time of
+    /// the logarithm of how many are undurable.
     pub fn batch(&self, no: u64) -> Result<Option<List<(OpNo, Update)>>, NoMemory>
         ensures some { IfOk result (λ found. IfSome found (λ ops. ops ≡ log.batch no self.now)) }
         ensures under_way { IfOk result (λ found. is_some found ≡ is_some (at no self.now.batches)) }

@@ -86,3 +86,19 @@ fn is_of(pick: &Pick, expected: &[OpNo]) -> bool {
         _ => false,
     }
 }
+
+// Each pick walks over the first operations alone.
+#[test]
+fn operations_on_one_object_travel_batch_by_batch(rt: HostRuntime) -> Result<(), Fail> {
+    let mut log = Log::new(rt.alloc())?;
+    let obj = ObjId::root();
+    for _ in 0..MAX_UNDURABLE {
+        log.issue(Update::Stamp { obj, stamp: 0 })?;
+    }
+    for batch in 1..=1_024 {
+        assert!(rt; is_batch(&log.pick(Asked::Object(obj))?, batch, 64));
+        log.kept(batch);
+    }
+    assert!(rt; matches!(log.pick(Asked::All)?, Pick::Settled));
+    Ok(())
+}

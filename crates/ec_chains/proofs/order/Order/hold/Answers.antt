@@ -1,4 +1,4 @@
-use Rattle.std.proofs.Common.{◌≡◌, true, sym, subst, drop}
+use Rattle.std.proofs.Common.{◌≡◌, true, sym, subst}
 use Rattle.ec_chains.specs.Held.{is_behind}
 use Rattle.ec_chains.proofs.Leaving.{IsOrder, order-more, order-raised}
 use Rattle.ec_chains.proofs.order.Order.hold.Goals as goal

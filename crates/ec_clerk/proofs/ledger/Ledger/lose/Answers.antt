@@ -1,7 +1,10 @@
 use Rattle.std.proofs.Common.{ap, ◌∙◌}
 use Rattle.ec_report.specs.Report as report
-use Rattle.ec_clerk.proofs.Owing.{lost_are, lost_come_behind, lost_owed}
+use Rattle.ec_clerk.proofs.Owing.{lost_are, lost_are_some, lost_come_behind, lost_owed}
 use Rattle.ec_clerk.proofs.ledger.Ledger.lose.Goals as goal
+
+pub with_operands-requires : goal.with_operands-requires
+with_operands-requires c = lost_are_some c.args.window.now c.args.self.now.log c.undurable.ensures.own c.deref.result.now c.undurable.result.now (c.deref.ensures.value ∙ c.in_ok-lost.ensures) c.undurable.ensures.value
 
 pub owe-requires : goal.owe-requires
 owe-requires c =

@@ -1,6 +1,8 @@
 use Rattle.std.proofs.Common.{ap, sym, rules, ◌∙◌}
 use Rattle.ec_log.specs.Log.{is_new, pick}
+use Rattle.ec_log.specs.Choice.{rises, all_rise}
 use Rattle.ec_log.proofs.Fronts.{pick-front}
+use Rattle.ec_log.proofs.Members.{all_rise_put, batch_rises}
 use Rattle.ec_log.proofs.log.Log.pick.Goals as goal
 
 pub returns-clause-pick : goal.returns-clause-pick
@@ -18,4 +20,15 @@ returns-then-self-gt-LAST_COUNTER-clause-spent c = λ k e. (
       ∙ ap (λ l. pick c.args.asked l) c.self.view_is))
       ∙ ap is_new c.in-Batch.is,
   search rules,
+)
+
+pub invariant_of-self-in-Batch : goal.invariant_of-self-in-Batch
+invariant_of-self-in-Batch c = (
+  c.self.invariant.0,
+  c.self.invariant.1,
+  c.self.invariant.2,
+  ap all_rise c.in_ok-insert.ensures.ok
+      ∙ all_rise_put c.in-Batch.no c.in_ok-duplicate.field-0 c.self.inside.batches
+      (ap rises c.in_ok-duplicate.ensures ∙ batch_rises c.args.asked c.self.inside.undurable c.in_ok-ops.ops.items c.in-Batch.ops c.self.inside.next_batch c.in-Batch.no c.items-batches.result.now c.first_met-behind.result c.held.ensures.sorted c.in_ok-ops.ensures (sym c.in-Batch.is ∙ c.choose-made.ensures))
+      c.self.invariant.3,
 )
