@@ -123,7 +123,7 @@ more-next c w (Crashed d) = cond_both (c == d) _ w (λ v. v.starts ≤ w.starts 
 more-next c w s = omega arith
 
 pub few-starts : (c : ℕ) (ss : List Shown) → (watch c ss).starts ≤ length ss
-few-starts c ss = go unwatched 0 ss (omega arith)
+few-starts c ss = omega (arith, go unwatched 0 ss (omega arith))
   where
     go : (w : Watch) (n : ℕ) (ts : List Shown) → w.starts ≤ n → (watch_from c w ts).starts ≤ n + length ts
     go w n [] h = omega (arith, h)
