@@ -1,0 +1,10 @@
+//! Whether a transcript is legal, from its bytes.
+#![tactic(auto)]
+
+mod checking;
+mod lines;
+#[cfg(test)]
+mod tests;
+
+pub use checking::{CheckFault, Checked, check_transcript};
+pub use lines::MAX_TRANSCRIPT_BYTES;

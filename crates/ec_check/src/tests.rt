@@ -1,0 +1,1 @@
+//! Transcripts that are legal, and those with a fault.
