@@ -1,4 +1,0 @@
-pub mod Limits
-pub mod Lines
-pub mod Verdicts
-pub mod Checked

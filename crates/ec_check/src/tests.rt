@@ -1,1 +1,0 @@
-//! Transcripts that are legal, and those with a fault.
