@@ -3,7 +3,7 @@ use Rattle.std.proofs.Common.{◌≡◌, refl, sym, ap, subst, ◌∙◌, arith,
 use Rattle.std.specs.Prelude.{slice_get}
 use Rattle.std.proofs.lemmas.Option.{get_or_from_slice_get, slice_get_within}
 use Rattle.ec_laws.proofs.More.{watch-step}
-use Rattle.ec_laws.proofs.Watching.{IsHeld, held-ended}
+use Rattle.ec_laws.proofs.Watching.{held-ended}
 use Rattle.ec_history.specs.History.{History}
 use Rattle.ec_history.specs.declared.entry.Entry.TheVariants as entry
 use Rattle.ec_history.specs.Placing.{watch, watch_next, late, ops_in, or_zero, owner, is_running, line_entries, place_from, MayFollow, ArePlaceable}
@@ -11,13 +11,14 @@ use Rattle.ec_history.specs.declared.shown.Shown.{Shown}
 use Rattle.ec_history.specs.declared.shown.Shown.TheVariants.{Answered, Ended}
 use Rattle.ec_history.specs.declared.watch.Watch.{Watch}
 use Rattle.ec_legal.specs.Watches.{loss_of, answer_of}
-use Rattle.ec_legal.proofs.Late.{above-at, line-at}
-use Rattle.ec_legal.proofs.Watched.{few-at}
+use Rattle.ec_legal.proofs.Late.{above-at, line-at, from-laws}
+use Rattle.ec_watch.proofs.Watched.{few-at}
 use Rattle.std.proofs.lemmas.List.{take-append-drop}
 use Rattle.ec_base.specs.Limits.{clerk_count}
 use Rattle.ec_history.specs.declared.rule.Rule.{Rule}
 use Rattle.ec_legal.specs.Faults.{IsFirstLine, BreaksLine}
-use Rattle.ec_legal.specs.Watches.{AreWatched}
+use Rattle.ec_legal.specs.Watches.{IsHeld}
+use Rattle.ec_watch.specs.Watches.{AreWatched}
 
 pub front-at : (ss : List Shown) (i : ℕ) (s : Shown) → slice_get ss i ≡ Some s → take (i + 1) ss ≡ take i ss ++ s ∷ []
 front-at ss i s g = above-at ss i s s (slice_get_within ss i s g) (sym (get_or_from_slice_get ss i s s g))
@@ -35,7 +36,7 @@ loss-held c w ns ss i s g e v r =
     let past = take i ss in
     let now : watch c (take (i + 1) ss) ≡ watch_next c w (Ended c ns) =
     ap (watch c) (front-at ss i s g ∙ ap (λ x. past ++ x ∷ []) e) ∙ watch-step c past (Ended c ns) ∙ ap (λ u. watch_next c u (Ended c ns)) (sym v) in
-    subst (IsHeld w.starts) (sym now) (held-ended c w ns r)
+    subst (IsHeld w.starts) (sym now) (from-laws w.starts _ (held-ended c w ns r))
 
 abbrev ended_gives : ℕ → Watch → List ℕ → List Shown → List Shown → ℕ → History
 ended_gives c w ns front rest n =

@@ -4,7 +4,7 @@ use Rattle.std.proofs.lemmas.Bool.{cond-true, cond-false, eqb-true}
 use Rattle.std.proofs.lemmas.List.{take_more}
 use Rattle.std.proofs.Math.Seq.{drop-cons}
 use Rattle.ec_laws.proofs.More.{watch-step}
-use Rattle.ec_laws.proofs.Watching.{IsHeld, held-next}
+use Rattle.ec_laws.proofs.Watching as laws
 use Rattle.ec_volume.specs.Update.{listed}
 use Rattle.ec_history.specs.History.{History}
 use Rattle.ec_history.specs.declared.entry.Entry.TheVariants as entry
@@ -12,7 +12,13 @@ use Rattle.ec_history.specs.Placing.{watch, begun, late, ops_in, call_entry, is_
 use Rattle.ec_history.specs.declared.shown.Shown.{Shown}
 use Rattle.ec_history.specs.declared.shown.Shown.TheVariants.{Answered}
 use Rattle.ec_history.specs.declared.watch.Watch.{Watch}
-use Rattle.ec_legal.specs.Watches.{call_of_start, own_call}
+use Rattle.ec_legal.specs.Watches.{IsHeld, call_of_start, own_call}
+
+pub to-laws : (b : ℕ) (w : Watch) → IsHeld b w → laws.IsHeld b w
+to-laws b w h = record { untold = h.untold; open_start = h.open_start; running = h.running; starts = h.starts }
+
+pub from-laws : (b : ℕ) (w : Watch) → laws.IsHeld b w → IsHeld b w
+from-laws b w h = record { untold = h.untold; open_start = h.open_start; running = h.running; starts = h.starts }
 
 held-start : (b : ℕ) (w : Watch) → IsHeld b w → (begun w).starts ≡ b
 held-start b w h = ap (λ v. v.starts) (cond-true w.running w _ h.running) ∙ h.starts
@@ -46,7 +52,7 @@ pub late-end : (c : ℕ) (ss : List Shown) (i : ℕ) (s d : Shown) → i < lengt
 late-end c ss i s d l e n = ap (late c (take i ss)) (line-at ss i s d l e) ∙ cond-true (is_end_of c s) [] _ n
 
 pub held-step : (c b : ℕ) (ss : List Shown) (i : ℕ) (s d : Shown) → i < length ss → s ≡ get_or ss i d → is_end_of c s ≡ false → IsHeld b (watch c (take i ss)) → IsHeld b (watch c (take (i + 1) ss))
-held-step c b ss i s d l e n h = subst (λ p. IsHeld b (watch c p)) (sym (above-at ss i s d l e)) (subst (IsHeld b) (sym (watch-step c (take i ss) s)) (held-next c b (watch c (take i ss)) s n h))
+held-step c b ss i s d l e n h = subst (λ p. IsHeld b (watch c p)) (sym (above-at ss i s d l e)) (subst (IsHeld b) (sym (watch-step c (take i ss) s)) (from-laws b _ (laws.held-next c b (watch c (take i ss)) s n (to-laws b _ h))))
 
 pub ops-append : (h g : History) → ops_in (h ++ g) ≡ ops_in h ++ ops_in g
 ops-append [] g = refl

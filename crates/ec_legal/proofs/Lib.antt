@@ -1,3 +1,5 @@
 pub mod Watched
 pub mod Late
 pub mod Entries
+mod Bounded
+pub mod Excluded

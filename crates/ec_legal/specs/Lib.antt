@@ -1,3 +1,4 @@
 pub mod Faults
 pub mod Watches
 pub mod Placed
+pub mod Bounded

@@ -1,4 +1,4 @@
--- What single steps of a watch come to.
+-- What lines name and give, behind the watches of their clerks.
 use Rattle.std.specs.Prelude.{◌≡◌, ◌<◌, ◌+◌, ℕ, T, true, false, not, ◌||◌, if◌then◌else◌, take, drop, List, [], ◌∷◌, ◌++◌, length, slice_get, Option, Some, None, is_some, ⊤}
 use Rattle.std.specs.List.{list_all}
 use Rattle.ec_base.specs.Limits.{clerk_count}
@@ -10,24 +10,6 @@ use Rattle.ec_history.specs.declared.shown.Shown.{Shown}
 use Rattle.ec_history.specs.declared.shown.Shown.TheVariants.{Waits, Answered, Durable, Ended, Unseen, Told, Crashed}
 use Rattle.ec_history.specs.declared.watch.Watch.{Watch}
 
--- the running start has a session, to which its early operations belong
-abbrev pub shown : Watch → Watch
-shown w = record w { open_start = or_else w.open_start w.starts; undurable = w.early ++ w.undurable; early = [] }
-
-abbrev pub crashed : Watch → Watch
-crashed w = record w { running = false; early = []; untold = None; crashed = true }
-
--- The clerk of a line, if it is one of a clerk.
-abbrev pub clerk_of : Shown → Option ℕ
-clerk_of (Waits l c cl) = Some c
-clerk_of (Answered l c cl a op) = Some c
-clerk_of (Durable c ns) = Some c
-clerk_of (Ended c ns) = Some c
-clerk_of (Unseen c) = Some c
-clerk_of (Told c ns) = Some c
-clerk_of (Crashed c) = Some c
-clerk_of _ = None
-
 -- Behind a watch of its clerk the line names what it may.
 abbrev pub IsNamed : Watch → Shown → Type 0
 IsNamed w (Answered l c cl a op) = T (not (shows cl a) || may_show (begun w))
@@ -37,10 +19,12 @@ IsNamed w (Unseen c) = (w.crashed ≡ true) × (w.open_start ≡ None)
 IsNamed w (Told c ns) = T (elim w.untold [ Some ms ↦ same_numbers ns ms | None ↦ false ])
 IsNamed w _ = ⊤
 
--- Of each clerk, by its number, what these lines show.
-pub record AreWatched (ws : List Watch) (past : List Shown) : Type 0 where
-  pub count : length ws ≡ clerk_count
-  pub each : (c : ℕ) → c < clerk_count → slice_get ws c ≡ Some (watch c past)
+-- The start b was ended and isn't told yet.
+pub record IsHeld (b : ℕ) (w : Watch) : Type 0 where
+  pub untold : is_some w.untold ≡ true
+  pub open_start : w.open_start ≡ None
+  pub running : w.running ≡ true
+  pub starts : w.starts ≡ b
 
 -- the entry of an answer of this start
 abbrev pub call_of_start : ℕ → List Shown → Shown → History

@@ -1,37 +1,24 @@
 // Histories, and the transcripts that they come from.
-ghost use Rattle.std.specs.Prelude.{◌≡◌, ◌<◌, ◌^◌, ◌++◌, [], length, IfOk, OnOk, IfErr};
+ghost use Rattle.std.specs.Prelude.{◌≡◌, ◌<◌, ◌^◌, ◌++◌, [], ℕ, T, length, IfOk, OnOk, IfErr};
+ghost use Rattle.std.specs.List.{list_all};
+ghost use Rattle.ec_history.specs.History.{updates, kept, owed};
+ghost use Rattle.ec_history.specs.Legal.{IsLegal, from_formatted};
+ghost use Rattle.ec_judge.specs.Fault.{IsEntryFault};
+ghost use Rattle.ec_legal.specs.Bounded.{is_bounded_line};
 ghost use Rattle.ec_history.specs.Placing.{place, ArePlaceable};
 ghost use Rattle.ec_legal.specs.Placed.{IsPlaceFault};
-ghost use Rattle.ec_legal.specs.Watches.{AreWatched};
+ghost use Rattle.ec_watch.specs.Watches.{AreWatched};
 
 use crate::{lines, placing};
-use ec_base::NoMemory;
-use ec_history::{Entry, Rule, Shown, Watch};
+use ec_base::{ClerkId, NoMemory, ObjId, OpNo};
+use ec_history::{Entry, Shown, Watch};
+use ec_judge::HistoryFault;
+use ec_volume::Update;
 use std::alloc::Global;
 use std::marker::Model;
-use thiserror::Error;
 
-/// Why a transcript or a history isn't legal.
-#[derive(Clone, Copy, Debug, Drop, PartialEq, Eq, Error)]
-pub enum HistoryFault {
-    /// This transcript line, from 1, breaks this rule.
-    #[error("line {0} breaks a rule")]
-    At(u32, Rule),
-    #[error("out of memory")]
-    NoMemory,
-}
-
-impl From<NoMemory> for HistoryFault {
-    ghost use Rattle.ec_legal.specs.declared.history.HistoryFault.TheVariants as fault;
-
-    ghost from_gives = { λ _ e. e ≡ fault.NoMemory };
-
-    fn from(_: NoMemory) -> Self {
-        HistoryFault::NoMemory
-    }
-}
-
-/// Entries, each with the place of its transcript line, from 1.
+/// Entries, each with the place of its transcript line, from 1. Each stands at a line of its own,
+/// and its call is within its bounds.
 #[derive(Debug, Drop)]
 pub struct History {
     entries: Vec<(u32, Entry)>,
@@ -47,7 +34,11 @@ impl Model for History {
 
     ghost coded = { coded_list (coded× coded_ℕ entry.the_row.coded) };
 
+    ghost use Rattle.ec_legal.specs.Bounded.{AreEntries};
+
     ghost view = { λ a. a.entries.items };
+
+    ghost invariant = { λ a. AreEntries a.entries.items };
 }
 
 impl History {
@@ -57,18 +48,45 @@ impl History {
     {
         &self.entries
     }
+
+    /// Whether the history is legal, where there may be at most so many objects. `At` shows the
+    /// transcript line of the first entry that breaks a rule, and the first rule that it breaks.
+    pub fn check(&self, max_objects: u32) -> Result<(), HistoryFault>
+        ensures legal { OnOk result (IsLegal from_formatted max_objects self.now) }
+        ensures fault { IfErr result (λ fault. IsEntryFault max_objects self.now fault) }
+    {
+        ec_judge::check(*self.entries.allocator(), &self.entries, max_objects)
+    }
+
+    /// The updates that a legal history keeps, in the order of issue.
+    pub fn kept(&self) -> Result<Vec<Update>, NoMemory>
+        requires { (most : ℕ) × IsLegal from_formatted most self.now }
+        ensures { IfOk result (λ list. list.items ≡ updates (kept from_formatted self.now)) }
+    {
+        ec_judge::kept(*self.entries.allocator(), &self.entries)
+    }
+
+    /// What a start owes after a legal history: pairs of a lost operation and one of its operands,
+    /// in the order of issue.
+    pub fn owed(&self, clerk: ClerkId, boot: u64) -> Result<Vec<(OpNo, ObjId)>, NoMemory>
+        requires { (most : ℕ) × IsLegal from_formatted most self.now }
+        ensures { IfOk result (λ pairs. pairs.items ≡ owed from_formatted self.now clerk boot) }
+    {
+        ec_judge::owed(*self.entries.allocator(), &self.entries, clerk, boot)
+    }
 }
 
 /// The history of these lines: each answer is a call and each `ended` line a loss, in printed
 /// order, but that late answers stand before the loss of their session. `At` shows the first line
 /// that may not follow those above it, and the first rule that it breaks.
 pub fn place(alloc: Global, shown: &[Shown]) -> Result<History, HistoryFault>
-    requires { length shown.now < 2 ^ 31 }
+    requires few { length shown.now < 2 ^ 31 }
+    requires bounded { T (list_all is_bounded_line shown.now) }
     ensures placed { IfOk result (λ history. history ≡ place shown.now) }
     ensures placeable { IfOk result (λ history. ArePlaceable [] shown.now) }
     ensures fault { IfErr result (λ fault. IsPlaceFault shown.now fault) }
 {
-    let mut watches = lines::none_watched(alloc)?;
+    let mut watches = ec_watch::none_watched(alloc)?;
     let mut entries = Vec::new(alloc);
     place_all(alloc, &mut watches, shown, &mut entries)?;
     Ok(History { entries })
@@ -93,7 +111,7 @@ fn place_all(
             return Err(HistoryFault::At(at as u32 + 1, rule));
         }
         placing::push(alloc, watches, shown, at, line, entries)?;
-        lines::note(alloc, watches, line)?;
+        ec_watch::note(alloc, watches, line)?;
     }
     Ok(())
 }

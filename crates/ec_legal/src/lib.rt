@@ -3,10 +3,10 @@
 
 mod calls;
 mod history;
+mod laws;
 mod lines;
 mod placing;
-#[cfg(test)]
-mod tests;
-mod watching;
 
-pub use history::{History, HistoryFault, place};
+pub use ec_judge::HistoryFault;
+pub use history::{History, place};
+pub use laws::lines_at_fault_have_no_history;

@@ -1,17 +1,16 @@
 // Which lines may follow those above them.
-ghost use Rattle.std.specs.Prelude.{◌≡◌, ◌<◌, ◌^◌, ◌++◌, ◌∷◌, [], ℕ, T, List as Listed, length, slice_get, Some, Decides, MatchBool, MatchOption, OnOk, IfOk};
+ghost use Rattle.std.specs.Prelude.{◌≡◌, ◌<◌, ◌^◌, T, length, Decides, MatchBool, MatchOption};
 ghost use Rattle.std.specs.List.{list_all};
-ghost use Rattle.ec_base.specs.Limits.{clerk_count};
 ghost use Rattle.ec_volume.specs.Update.{member};
 ghost use Rattle.ec_history.specs.Placing.{Agrees, Unanswered, EachLine, MayFollow};
 ghost use Rattle.ec_legal.specs.Faults.{HasShape, BreaksLine};
-ghost use Rattle.ec_legal.specs.Watches.{AreWatched, IsNamed, clerk_of};
+ghost use Rattle.ec_legal.specs.Watches.{IsNamed};
+ghost use Rattle.ec_watch.specs.Watches.{AreWatched};
 
-use crate::{calls, watching};
-use ec_base::{CLERK_COUNT, ClerkId, List, NoMemory, OpNo};
+use crate::calls;
+use ec_base::{ClerkId, List, OpNo};
 use ec_history::{Rule, Shown, Watch};
 use ec_plain::Call;
-use std::alloc::Global;
 
 /// The first rule that the line breaks behind those above it, of which the watches tell.
 pub fn broken(above: &[Shown], watches: &[Watch], line: &Shown) -> Option<Rule>
@@ -22,9 +21,9 @@ pub fn broken(above: &[Shown], watches: &[Watch], line: &Shown) -> Option<Rule>
     if !has_shape(above, line) {
         return Some(Rule::Shape);
     }
-    match clerk_of(line) {
+    match ec_watch::clerk_of(line) {
         Some(clerk) => {
-            if is_named(watch_of(watches, clerk), line) {
+            if is_named(ec_watch::watch_of(watches, clerk), line) {
                 None
             } else {
                 Some(Rule::Named)
@@ -102,16 +101,16 @@ fn is_named(watch: &Watch, line: &Shown) -> bool
 {
     match line {
         Shown::Answered(_, _, call, answer, _) => {
-            !watching::shows(call, answer) || watching::may_show(watch)
+            !ec_watch::shows(call, answer) || ec_watch::may_show(watch)
         }
         Shown::Durable(_, ops) => may_be_durable(watch, ops),
         Shown::Ended(_, ops) => {
-            watching::owner(watch).is_some()
-                && watching::same_numbers(ops.as_slice(), watching::to_lose(watch))
+            ec_watch::owner(watch).is_some()
+                && ec_watch::same_numbers(ops.as_slice(), ec_watch::to_lose(watch))
         }
         Shown::Unseen(_) => watch.crashed && watch.open_start.is_none(),
         Shown::Told(_, ops) => match &watch.untold {
-            Some(lost) => watching::same_numbers(ops.as_slice(), lost.as_slice()),
+            Some(lost) => ec_watch::same_numbers(ops.as_slice(), lost.as_slice()),
             None => false,
         },
         _ => true,
@@ -121,53 +120,5 @@ fn is_named(watch: &Watch, line: &Shown) -> bool
 fn may_be_durable(watch: &Watch, ops: &List<OpNo>) -> bool
     ensures { Decides result (T (list_all (λ n. member n watch.now.undurable) ops.now)) }
 {
-    watching::are_among(ops.as_slice(), watch.undurable.as_slice())
-}
-
-/// The clerk of whom the line tells.
-pub fn clerk_of(line: &Shown) -> Option<ClerkId>
-    ensures { result ≡ clerk_of line.now }
-{
-    match line {
-        Shown::Waits(_, clerk, _) => Some(*clerk),
-        Shown::Answered(_, clerk, _, _, _) => Some(*clerk),
-        Shown::Durable(clerk, _) => Some(*clerk),
-        Shown::Ended(clerk, _) => Some(*clerk),
-        Shown::Unseen(clerk) => Some(*clerk),
-        Shown::Told(clerk, _) => Some(*clerk),
-        Shown::Crashed(clerk) => Some(*clerk),
-        _ => None,
-    }
-}
-
-/// The watch of the clerk.
-pub fn watch_of(watches: &[Watch], clerk: ClerkId) -> &Watch
-    requires { length watches.now ≡ clerk_count }
-    ensures value { slice_get watches.now clerk ≡ Some result.now }
-    ensures below { clerk < clerk_count }
-{
-    &watches[clerk.get() as usize]
-}
-
-/// The watches of the clerks before the first line.
-pub fn none_watched(alloc: Global) -> Result<Vec<Watch>, NoMemory>
-    ensures { IfOk result (λ watches. AreWatched watches.items []) }
-{
-    let mut watches = Vec::new(alloc);
-    for _ in 0..CLERK_COUNT {
-        watches.push(watching::unwatched(alloc))?;
-    }
-    Ok(watches)
-}
-
-/// One more line.
-pub fn note(alloc: Global, watches: &mut [Watch], line: &Shown) -> Result<(), NoMemory>
-    requires count { length watches.old ≡ clerk_count }
-    requires starts { (w : Watch) (c : ℕ) → slice_get watches.old c ≡ Some w → w.starts < 2 ^ 32 }
-    ensures { OnOk result ((past : Listed Shown) → AreWatched watches.old past → AreWatched watches.new (past ++ line.now ∷ [])) }
-{
-    if let Some(clerk) = clerk_of(line) {
-        watching::note(alloc, clerk, &mut watches[clerk.get() as usize], line)?;
-    }
-    Ok(())
+    ec_watch::are_among(ops.as_slice(), watch.undurable.as_slice())
 }

@@ -2,10 +2,9 @@
 ghost use Rattle.std.specs.Prelude.{◌≡◌, ◌<◌, ◌≤◌, ◌+◌, ◌^◌, ◌++◌, ◌∷◌, [], ℕ, List as Listed, Some, None, true, length, take, drop, slice_get, is_some, IfOk, OnOk};
 ghost use Rattle.ec_volume.specs.Update.{listed};
 ghost use Rattle.ec_history.specs.Placing.{watch as watched, unwatched, begun, last_place, before_line, is_numbered, gives_entry, is_end_of, is_call_of, late, line_entries, ops_in, is_running, owner};
-ghost use Rattle.ec_legal.specs.Watches.{AreWatched, call_of_start, own_call, late_calls, loss_of, answer_of};
-ghost use Rattle.ec_laws.proofs.Watching.{IsHeld};
+ghost use Rattle.ec_watch.specs.Watches.{AreWatched};
+ghost use Rattle.ec_legal.specs.Watches.{IsHeld, call_of_start, own_call, late_calls, loss_of, answer_of};
 
-use crate::{lines, watching};
 use ec_base::{ClerkId, Duplicate, List, NoMemory, OpNo};
 use ec_history::{Entry, Shown, Watch};
 use std::alloc::Global;
@@ -27,8 +26,8 @@ fn gives_entry(clerk: ClerkId, boot: u64, watch: &Watch, line: &Shown) -> bool
     ensures { result ≡ gives_entry clerk boot watch.now line.now }
 {
     match line {
-        Shown::Answered(_, of, _, _, _) => *of == clerk && watching::start(watch) == boot,
-        Shown::Ended(of, _) => *of == clerk && watching::owner(watch) == Some(boot),
+        Shown::Answered(_, of, _, _, _) => *of == clerk && ec_watch::start(watch) == boot,
+        Shown::Ended(of, _) => *of == clerk && ec_watch::owner(watch) == Some(boot),
         _ => false,
     }
 }
@@ -44,7 +43,7 @@ fn begun_at(
     requires { length above.now < 2 ^ 31 }
     ensures { IfOk result (λ place. place ≡ last_place clerk boot unwatched 1 0 (before_line number above.now)) }
 {
-    let mut watch = watching::unwatched(alloc);
+    let mut watch = ec_watch::unwatched(alloc);
     let mut found = 0;
     for (at, line) in above.iter().enumerate() {
         if is_numbered(number, line) {
@@ -53,7 +52,7 @@ fn begun_at(
         if gives_entry(clerk, boot, &watch, line) {
             found = at as u32 + 1;
         }
-        watching::note(alloc, clerk, &mut watch, line)?;
+        ec_watch::follow(alloc, clerk, &mut watch, line)?;
     }
     Ok(found)
 }
@@ -176,7 +175,7 @@ fn push_late_calls(
     ensures entries { OnOk result (entries.new.items ≡ entries.old.items ++ late_calls clerk watch.now shown.now at) }
     ensures ops { OnOk result (ops.new.items ≡ ops.old.items ++ ops_in (late_calls clerk watch.now shown.now at)) }
 {
-    if watching::ends_running(watch) {
+    if ec_watch::ends_running(watch) {
         push_late(alloc, clerk, watch.starts, shown, at + 1, entries, ops)?;
     }
     Ok(())
@@ -201,7 +200,7 @@ fn push_loss(
     push_late_calls(alloc, clerk, watch, shown, at, entries, &mut ops)?;
     let entry = Entry::Loss {
         clerk,
-        boot: watching::owner(watch).unwrap_or(0),
+        boot: ec_watch::owner(watch).unwrap_or(0),
         ops: List::of(ops),
     };
     entries.push((at as u32 + 1, entry))?;
@@ -221,7 +220,7 @@ fn push_answer(
     ensures { OnOk result (entries.new.items ≡ entries.old.items ++ answer_of watch.now above.now line.now) }
 {
     if watch.untold.is_none() {
-        push_call(alloc, watching::start(watch), above, line, entries)?;
+        push_call(alloc, ec_watch::start(watch), above, line, entries)?;
     }
     Ok(())
 }
@@ -242,11 +241,11 @@ pub fn push(
 {
     match line {
         Shown::Answered(_, clerk, _, _, _) => {
-            let watch = lines::watch_of(watches, *clerk);
+            let watch = ec_watch::watch_of(watches, *clerk);
             push_answer(alloc, watch, &shown[..at], line, entries)
         }
         Shown::Ended(clerk, lost) => {
-            let watch = lines::watch_of(watches, *clerk);
+            let watch = ec_watch::watch_of(watches, *clerk);
             push_loss(alloc, *clerk, watch, lost, shown, at, entries)
         }
         _ => Ok(()),

@@ -1,6 +1,6 @@
-use Rattle.std.proofs.Common.{◌<◌, ◌≤◌, sym, subst, refl, arith, length, take}
+use Rattle.std.proofs.Common.{◌<◌, ◌≤◌, ◌+◌, sym, subst, refl, arith, length, take}
 use Rattle.std.proofs.lemmas.Option.{slice_get_read}
-use Rattle.ec_legal.specs.Watches.{AreWatched}
+use Rattle.ec_watch.specs.Watches.{AreWatched}
 use Rattle.ec_legal.proofs.Entries.{first-fault, starts-few, front-at, place-step, placeable-step}
 use Rattle.ec_legal.proofs.history.place_all.Goals as goal
 
@@ -22,7 +22,8 @@ note-requires-clause-starts c w k g =
     let ss = c.args.shown.now in
     let within : c.loop-at.at ≤ length ss = omega (arith, c.loop-at-test.true) in
     let below : length ss < 4294967296 = omega (arith, c.requires.few) in
-    starts-few c.loop-at.watches ss c.loop-at.at 4294967296 c.loop-at.invariant.0 within below w k g
+    let few = starts-few c.loop-at.watches ss c.loop-at.at 4294967296 c.loop-at.invariant.0 within below w k g in
+    omega (arith, few)
 
 pub loop-at-preserved : goal.loop-at-preserved
 loop-at-preserved c =

@@ -1,6 +1,6 @@
 use Rattle.std.proofs.Common.{◌≡◌, ◌++◌, [], take, drop}
 use Rattle.ec_history.specs.Placing.{place, place_from, ArePlaceable}
-use Rattle.ec_legal.specs.Watches.{AreWatched}
+use Rattle.ec_watch.specs.Watches.{AreWatched}
 use Rattle.ec_legal.proofs.history.place_all.Given as goal
 
 abbrev pub invariant-loop-at : goal.invariant-loop-at

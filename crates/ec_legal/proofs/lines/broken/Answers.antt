@@ -1,6 +1,7 @@
 use Rattle.std.proofs.Common.{sym, subst, ◌∙◌, arith}
 use Rattle.ec_legal.specs.Watches.{IsNamed}
-use Rattle.ec_legal.proofs.Watched.{few-at, named-at, may}
+use Rattle.ec_watch.proofs.Watched.{few-at}
+use Rattle.ec_legal.proofs.Watched.{named-at, may}
 use Rattle.ec_legal.proofs.lines.broken.Goals as goal
 
 pub is_named-requires : goal.is_named-requires

@@ -1,5 +1,5 @@
 use Rattle.std.proofs.Common.{◌≡◌, ◌++◌, take, drop}
-use Rattle.ec_laws.proofs.Watching.{IsHeld}
+use Rattle.ec_legal.specs.Watches.{IsHeld}
 use Rattle.ec_history.specs.Placing.{watch, late, ops_in}
 use Rattle.ec_legal.proofs.placing.push_late.Given as goal
 

@@ -2,7 +2,7 @@
 ghost use Rattle.std.specs.Prelude.{◌≡◌, ◌<◌, ◌≤◌, ◌+◌, ◌^◌, ◌++◌, [], true, false, not, filter, OnOk, T};
 ghost use Rattle.std.specs.List.{list_all};
 ghost use Rattle.ec_volume.specs.Update.{member, listed};
-ghost use Rattle.ec_legal.specs.Watches.{shown, crashed};
+ghost use Rattle.ec_watch.specs.Watches.{shown, crashed};
 ghost use Rattle.ec_history.specs.Placing.{shows, unwatched, begun, answered, owner, is_running, to_lose, ended, watch_next, may_show, same_numbers};
 
 use ec_base::{ClerkId, Duplicate, List, NoMemory, OpNo};
@@ -35,7 +35,7 @@ pub fn unwatched(alloc: Global) -> Watch
 
 /// The number of the start to which a call line of the clerk belongs.
 pub fn start(watch: &Watch) -> u64
-    requires { watch.now.starts < 2 ^ 32 }
+    requires { watch.now.starts + 1 < 2 ^ 64 }
     ensures { result ≡ (begun watch.now).starts }
 {
     if watch.running {
@@ -46,7 +46,7 @@ pub fn start(watch: &Watch) -> u64
 }
 
 fn begin(watch: &mut Watch)
-    requires { watch.old.starts < 2 ^ 32 }
+    requires { watch.old.starts + 1 < 2 ^ 64 }
     ensures { watch.new ≡ begun watch.old }
 {
     if !watch.running {
@@ -169,9 +169,14 @@ fn crash(alloc: Global, watch: &mut Watch)
     watch.crashed = true;
 }
 
-/// One more line of the watched clerk.
-pub fn note(alloc: Global, clerk: ClerkId, watch: &mut Watch, line: &Shown) -> Result<(), NoMemory>
-    requires { watch.old.starts < 2 ^ 32 }
+/// One more line. It changes the watch only where it's a line of the watched clerk.
+pub fn follow(
+    alloc: Global,
+    clerk: ClerkId,
+    watch: &mut Watch,
+    line: &Shown,
+) -> Result<(), NoMemory>
+    requires { watch.old.starts + 1 < 2 ^ 64 }
     ensures { OnOk result (watch.new ≡ watch_next clerk watch.old line.now) }
 {
     match line {
@@ -193,7 +198,7 @@ pub fn note(alloc: Global, clerk: ClerkId, watch: &mut Watch, line: &Shown) -> R
 
 /// Whether an answer may show a session of the running start.
 pub fn may_show(watch: &Watch) -> bool
-    requires { watch.now.starts < 2 ^ 32 }
+    requires { watch.now.starts + 1 < 2 ^ 64 }
     ensures { result ≡ may_show (begun watch.now) }
 {
     watch.untold.is_some() || watch.open_start.is_none() || watch.open_start == Some(start(watch))

@@ -1,7 +1,7 @@
 use Rattle.std.proofs.Common.{ap, ◌∙◌, not, filter, rules}
 use Rattle.std.proofs.lemmas.Fn.{filter_same}
 use Rattle.ec_volume.specs.Update.{member}
-use Rattle.ec_legal.proofs.watching.make_durable.Goals as goal
+use Rattle.ec_watch.proofs.watching.make_durable.Goals as goal
 
 pub returns : goal.returns
 returns c =
