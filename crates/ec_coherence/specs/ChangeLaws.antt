@@ -1,5 +1,5 @@
 -- What is proved of one change of a clerk or of the server, as contracts name it: behind it the facts on logs, batches, ids and images hold.
-use Rattle.std.specs.Prelude.{◌≡◌, ◌≢◌, ◌+◌, ℕ, T, Bool, true, false, not, List, [], ◌∷◌, ◌++◌, Option, None, Some, is_some}
+use Rattle.std.specs.Prelude.{◌≡◌, ◌≢◌, ◌+◌, ℕ, T, true, false, not, List, [], ◌∷◌, ◌++◌, Option, None, Some, is_some}
 use Rattle.ec_base.specs.Tables.{Table, at}
 use Rattle.ec_base.specs.declared.ids.Age.{Age}
 use Rattle.ec_volume.specs.Update.{has_operand, operands}
@@ -23,7 +23,7 @@ use Rattle.ec_log.specs.declared.state.Pick.TheVariants.{Batch}
 use Rattle.ec_protocol.specs.Clerk.{first_id, suits, with_update}
 use Rattle.ec_protocol.specs.declared.clerk.Clerk.{Clerk}
 use Rattle.ec_protocol.specs.declared.server.Server.{Server}
-use Rattle.ec_coherence.specs.System.{System, Ghost, at_session, clerk_in, is_of, is_open, seen, undurable, with_start}
+use Rattle.ec_coherence.specs.System.{System, at_session, clerk_in, is_of, is_open, seen, undurable, with_start}
 use Rattle.ec_coherence.specs.Tokens.{IsWrite, RoomFits, side, view}
 use Rattle.ec_coherence.specs.Log as log
 use Rattle.ec_coherence.specs.Log.{IdsAgree, LogsAgree, OfOpen}

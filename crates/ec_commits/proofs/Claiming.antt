@@ -1,9 +1,9 @@
 -- A claim that was sent in this epoch clashes with no token: what it names was the session's own, and effective tokens don't conflict.
-use Rattle.std.proofs.Common.{◌≡◌, ◌≢◌, refl, sym, ap, subst, ◌∙◌, arith, ℕ, suc, Bool, true, false, not, ◌==◌, ◌&&◌, cond, T, ◌<◌, ◌≤◌, List, [], ◌∷◌, Option, Some, None}
-use Rattle.std.specs.Prelude.{Contains, is_none, nat_lt}
+use Rattle.std.proofs.Common.{◌≡◌, refl, sym, ap, subst, ◌∙◌, arith, ℕ, suc, Bool, true, false, not, ◌==◌, ◌&&◌, cond, T, ◌<◌, ◌≤◌, List, [], ◌∷◌, Some, None}
+use Rattle.std.specs.Prelude.{Contains, nat_lt}
 use Rattle.std.specs.Cmp.{unsigned_ties}
 use Rattle.std.specs.List.{filter}
-use Rattle.ec_base.specs.Tables.{Table, at, at_or, keys, or_else}
+use Rattle.ec_base.specs.Tables.{Table, at, keys, or_else}
 use Rattle.ec_base.specs.Holds.{rank, clash}
 use Rattle.ec_base.specs.declared.ids.Hold.{Hold}
 use Rattle.ec_base.specs.declared.ids.Hold.TheVariants.{Free}
@@ -11,12 +11,11 @@ use Rattle.ec_volume.specs.Update.{member}
 use Rattle.ec_history.specs.History.{Each}
 use Rattle.ec_tokens.specs.Laws.{holder_has}
 use Rattle.ec_tokens.specs.Tokens as tokens
-use Rattle.ec_tokens.specs.declared.token.Token.{Token}
 use Rattle.ec_wire.specs.Messages.{rises}
 use Rattle.ec_coherence.specs.System.{eff_from, recorded}
-use Rattle.ec_coherence.specs.Tokens.{Apart, ClaimFits, Side, Tables, TablesAgree, TokensAgree, View, eff, eff_hold, eff_of}
+use Rattle.ec_coherence.specs.Tokens.{ClaimFits, Side, Tables, TablesAgree, TokensAgree, View, eff, eff_hold, eff_of}
 use Rattle.ec_coherence.proofs.Lists.{and_first, and_next}
-use Rattle.ec_coherence.proofs.Tables.{clash-below, clash-turn, each-map, equal, fails, holds, is-false, is-true, none_some, same}
+use Rattle.ec_coherence.proofs.Tables.{clash-below, clash-turn, each-map, fails, holds, is-false, is-true, none_some, same}
 
 none-pass : (p : tokens.Holder → Bool) (hs : List tokens.Holder) → ((g : tokens.Holder) → Contains hs g → p g ≡ false) → tokens.first (filter p hs) ≡ None
 none-pass p [] f = refl

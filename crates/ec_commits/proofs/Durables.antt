@@ -1,13 +1,12 @@
 -- A line names operations of an open session durable: the history stays, and fewer may be lost.
-use Rattle.std.proofs.Common.{◌≡◌, refl, sym, ap, subst, ◌∙◌, inl, inr, ℕ, Bool, true, false, not, ◌==◌, ◌&&◌, ◌||◌, cond, T, map, List, [], ◌∷◌, ◌++◌, ◌+◌, Option, Some, None, append-nil}
+use Rattle.std.proofs.Common.{◌≡◌, refl, sym, ap, subst, ◌∙◌, ℕ, Bool, true, false, not, ◌==◌, ◌&&◌, ◌||◌, cond, T, List, [], ◌∷◌, ◌++◌, ◌+◌, Option, Some, append-nil}
 use Rattle.std.specs.List.{filter, list_any, list_all}
-use Rattle.std.proofs.lemmas.Bool.{and_parts}
 use Rattle.ec_base.specs.declared.ids.Age.{Age}
 use Rattle.ec_base.specs.Holds.{is_free}
 use Rattle.ec_volume.specs.Update.{member, operands}
 use Rattle.ec_history.specs.History.{History, Op, Each, Throughout, Covers, kept, numbers, of_start, is_one_of, touched}
-use Rattle.ec_history.specs.Legal.{IsLegal, leaves, is_call_of_other}
-use Rattle.ec_history.specs.Placing.{watch, watch_next, begun, place}
+use Rattle.ec_history.specs.Legal.{IsLegal, is_call_of_other}
+use Rattle.ec_history.specs.Placing.{watch, begun, place}
 use Rattle.ec_history.specs.declared.watch.Watch.{Watch}
 use Rattle.ec_history.specs.declared.entry.Entry.{Entry}
 use Rattle.ec_history.specs.declared.entry.Entry.TheVariants as entry
@@ -21,10 +20,10 @@ use Rattle.ec_protocol.specs.declared.server.Server.{Server}
 use Rattle.ec_protocol.specs.declared.clerk.Clerk.{Clerk}
 use Rattle.ec_coherence.specs.System.{System, base_of, is_of, is_open, undurable}
 use Rattle.ec_coherence.specs.Tokens.{eff, eff_hold, view}
-use Rattle.ec_coherence.specs.Events.{EventsAgree, CutAgrees, Frees, Untouched, cut_in, same_op, shown_boot}
+use Rattle.ec_coherence.specs.Events.{EventsAgree, CutAgrees, Frees, Untouched, same_op, shown_boot}
 use Rattle.ec_coherence.specs.Steps.{keep_batch}
 use Rattle.ec_coherence.proofs.Lists.{or_first, and_first, and_next, and_both}
-use Rattle.ec_coherence.proofs.Tables.{each-map, equal, holds, is-true}
+use Rattle.ec_coherence.proofs.Tables.{each-map}
 
 -- Fewer pass a stricter test.
 

@@ -29,10 +29,10 @@ use Rattle.ec_coherence.proofs.Batched.{sent-numbers}
 use Rattle.ec_coherence.proofs.FlushAgrees as flushing
 use Rattle.ec_coherence.proofs.FlushAgrees.{flush-agrees}
 use Rattle.ec_coherence.proofs.Flushed.{flushes}
-use Rattle.ec_coherence.proofs.Lists.{and_first, and_next, filter-alike}
+use Rattle.ec_coherence.proofs.Lists.{and_first, filter-alike}
 use Rattle.ec_coherence.proofs.OpenSlots.{at-open, open-at}
 use Rattle.ec_coherence.proofs.Tables.{equal, is-true, same, same_some}
-use Rattle.ec_commits.specs.Watches.{WatchAgrees, WatchesAgree, still_in}
+use Rattle.ec_commits.specs.Watches.{WatchesAgree, still_in}
 use Rattle.ec_commits.proofs.Durables as durables
 use Rattle.ec_commits.proofs.Durables.{durable-events, member-less, numbers-left}
 use Rattle.ec_commits.proofs.Given.{before-lines, before-record, ended-unclaimed}

@@ -1,9 +1,9 @@
 -- What the history says stays where the server's tables, ids and sessions change, and no line is shown.
-use Rattle.std.proofs.Common.{◌≡◌, refl, sym, ap, subst, ◌∙◌, inl, inr, ◌⊎◌, ℕ, Bool, true, false, not, ◌==◌, ◌&&◌, ◌||◌, cond, T, List, [], ◌∷◌, ◌++◌, Option, Some, None}
+use Rattle.std.proofs.Common.{◌≡◌, refl, sym, ap, subst, ◌∙◌, inl, inr, ◌⊎◌, ℕ, Bool, true, false, not, ◌&&◌, ◌||◌, cond, T, List, [], ◌∷◌, ◌++◌, Option, Some, None}
 use Rattle.std.specs.List.{filter, list_any}
 use Rattle.ec_base.specs.declared.ids.Age.{Age}
 use Rattle.ec_base.specs.Holds.{is_free}
-use Rattle.ec_volume.specs.Update.{member, operands}
+use Rattle.ec_volume.specs.Update.{operands}
 use Rattle.ec_history.specs.History.{History, Op, Each, Throughout, kept, numbers, of_start, is_one_of}
 use Rattle.ec_history.specs.Legal.{IsLegal, leaves, is_call_of_other}
 use Rattle.ec_history.specs.declared.entry.Entry.{Entry}

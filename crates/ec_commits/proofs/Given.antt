@@ -1,5 +1,5 @@
 -- The whole invariant behind sixteen ids that a session is given.
-use Rattle.std.proofs.Common.{◌≡◌, ◌≢◌, refl, sym, ap, subst, ◌∙◌, inl, inr, ◌⊎◌, arith, ℕ, Bool, true, false, not, T, List, [], ◌∷◌, ◌++◌, Option, Some, None}
+use Rattle.std.proofs.Common.{◌≡◌, refl, sym, ap, subst, ◌∙◌, inl, inr, arith, ℕ, Bool, true, false, T, List, [], ◌++◌, Some, None}
 use Rattle.std.specs.Prelude.{◌+◌, ◌≤◌, ◌==◌, ◌||◌, zero, suc, nat_le, nat_lt, Ok}
 use Rattle.std.proofs.lemmas.Bool.{cases_eq, true≢false}
 use Rattle.ec_volume.specs.Update.{member}
@@ -7,14 +7,12 @@ use Rattle.ec_sessions.specs.Limits.{last_first_id, last_grants}
 use Rattle.ec_sessions.specs.Slots.{with_ids}
 use Rattle.ec_sessions.specs.declared.slot.Slot.{Slot}
 use Rattle.ec_durable.specs.Durable.{is_full, slot, step}
-use Rattle.ec_durable.specs.declared.state.Durable.{Durable}
-use Rattle.ec_durable.specs.declared.record.Record.{Record}
 use Rattle.ec_durable.specs.declared.record.Record.TheVariants as record_of
 use Rattle.ec_tokens.specs.Tokens as tokens
 use Rattle.ec_protocol.specs.Server.{Serving, grant_ids, ids_are_spent, is_last_number}
 use Rattle.ec_protocol.specs.declared.clerk.Clerk.{Clerk}
 use Rattle.ec_history.specs.History.{Op}
-use Rattle.ec_coherence.specs.System.{System, Ghost, Eff, clerk_in, eff_from, is_open, undurable}
+use Rattle.ec_coherence.specs.System.{System, Ghost, clerk_in, eff_from, is_open}
 use Rattle.ec_coherence.specs.Tokens.{eff, view}
 use Rattle.ec_coherence.specs.Events.{EventsAgree}
 use Rattle.ec_coherence.specs.Invariant.{Invariant}
@@ -22,10 +20,8 @@ use Rattle.ec_coherence.specs.Steps.{Committed, give_ids, record_lines, serving_
 use Rattle.ec_coherence.specs.BatchLaws.{Agrees}
 use Rattle.ec_coherence.proofs.GiveAgrees as giving
 use Rattle.ec_coherence.proofs.GiveAgrees.{give-agrees}
-use Rattle.ec_coherence.proofs.Lists.{no_both}
 use Rattle.ec_coherence.proofs.OpenSlots.{at-open, open-at}
-use Rattle.ec_coherence.proofs.SlotLaws.{in-range, slot-changed}
-use Rattle.ec_coherence.proofs.Tables.{holds, none_some, same, same_some}
+use Rattle.ec_coherence.proofs.Tables.{holds, none_some, same_some}
 use Rattle.ec_commits.specs.Watches.{FirstsAgree, WatchesAgree, still_in}
 use Rattle.ec_commits.proofs.Framed.{framed-events}
 use Rattle.ec_commits.proofs.Stopping.{stops-behind}
@@ -119,8 +115,12 @@ module _ (g : System) (γ : Ghost) (t : Serving) (u : Under g t γ) (none : t.re
     given-watches = reslotted-watches here now.server.durable (Some now.server) behind.pool γ.owner γ.taken γ'.grants γ'.first wa c
         (λ j n. let e = giving.others g γ t u c sl in_slot opened k there claimed taken current ask room enough small j n in (e, ap (still_in γ') e))
         (ap (still_in γ') (giving.own g γ t u c sl in_slot opened k there claimed taken current ask room enough small) ∙ sym (ap (still_in γ) in_slot))
-        (λ b so p o. (record sl { grants = sl.grants + 1; last_first = Some (t.server.durable.next_id); unspent = with_ids t.server.durable.next_id sl.unspent },
-        giving.own g γ t u c sl in_slot opened k there claimed taken current ask room enough small, opened, ap (λ w. w.age) (same_some (sym in_slot ∙ p))))
+        (λ b so p o. (
+          record sl { grants = sl.grants + 1; last_first = Some (t.server.durable.next_id); unspent = with_ids t.server.durable.next_id sl.unspent },
+          giving.own g γ t u c sl in_slot opened k there claimed taken current ask room enough small,
+          opened,
+          ap (λ w. w.age) (same_some (sym in_slot ∙ p)),
+        ))
 
     pub give-watches : WatchesAgree (serving_in (grant_ids c sl.session sl.grants ask t) γ' g)
     give-watches = subst (λ z. WatchesAgree (serving_in z γ' g)) (sym (giving.grant-is g γ t u c sl in_slot opened k there claimed taken current ask room enough small)) given-watches

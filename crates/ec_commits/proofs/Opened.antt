@@ -1,6 +1,6 @@
 -- The whole invariant behind a session that the server opens for a clerk without an open one.
-use Rattle.std.proofs.Common.{◌≡◌, ◌≢◌, refl, sym, ap, subst, ◌∙◌, inl, inr, ◌⊎◌, ℕ, Bool, true, false, not, ◌==◌, ◌&&◌, ◌||◌, cond, T, ◌<◌, List, [], ◌∷◌, ◌++◌, Option, Some, None}
-use Rattle.std.specs.Prelude.{is_some, nat_le, Result, Ok}
+use Rattle.std.proofs.Common.{◌≡◌, refl, sym, ap, subst, ◌∙◌, inl, inr, ◌⊎◌, ℕ, Bool, true, false, not, ◌==◌, ◌&&◌, ◌||◌, cond, T, ◌<◌, List, [], ◌∷◌, ◌++◌, Option, Some, None}
+use Rattle.std.specs.Prelude.{nat_le, Ok}
 use Rattle.std.specs.List.{filter}
 use Rattle.std.proofs.lemmas.Bool.{cases_eq, and_parts}
 use Rattle.ec_base.specs.Ages.{is_older}
@@ -11,7 +11,6 @@ use Rattle.ec_history.specs.History.{Each, Op, numbers, of_start}
 use Rattle.ec_history.specs.declared.shown.Shown.{Shown}
 use Rattle.ec_sessions.specs.declared.slot.Slot.{Slot}
 use Rattle.ec_durable.specs.Durable.{slot, step}
-use Rattle.ec_durable.specs.declared.state.Durable.{Durable}
 use Rattle.ec_durable.specs.declared.record.Record.TheVariants as record_of
 use Rattle.ec_tokens.specs.Tokens as tokens
 use Rattle.ec_protocol.specs.Server.{Serving, open_new}
@@ -26,7 +25,7 @@ use Rattle.ec_coherence.proofs.Lists.{and_first, no_both}
 use Rattle.ec_coherence.proofs.OpenAgrees as opening
 use Rattle.ec_coherence.proofs.OpenAgrees.{open-agrees}
 use Rattle.ec_coherence.proofs.OpenSlots.{at-open, open-at, owner-slot}
-use Rattle.ec_coherence.proofs.Tables.{differ, equal, holds, is-true, none_some, same, same_some}
+use Rattle.ec_coherence.proofs.Tables.{differ, equal, holds, is-true, none_some, same_some}
 use Rattle.ec_commits.specs.Watches.{WatchesAgree, still_in}
 use Rattle.ec_commits.proofs.Framed.{framed-events}
 use Rattle.ec_commits.proofs.Given.{before-lines, before-record, ended-unclaimed}

@@ -1,6 +1,6 @@
 -- Sessions, tokens, logs and images don't read the lines.
 use Rattle.std.proofs.Common.{List, T, not, ℕ}
-use Rattle.ec_history.specs.History.{Each, History, Op}
+use Rattle.ec_history.specs.History.{History}
 use Rattle.ec_history.specs.declared.shown.Shown.{Shown}
 use Rattle.ec_base.specs.Tables.{Table}
 use Rattle.ec_coherence.specs.System.{System}

@@ -1,5 +1,5 @@
 -- What is spent stays spent to the end of a server's step.
-use Rattle.std.proofs.Common.{◌≡◌, ◌+◌, refl, ℕ, zero, suc, Bool, true, false, T, List, [], ◌∷◌, Option, Some, None, length}
+use Rattle.std.proofs.Common.{◌+◌, ℕ, zero, suc, Bool, true, false, T, List, [], ◌∷◌, Option, Some, None, length}
 use Rattle.std.specs.Prelude.{is_some}
 use Rattle.std.specs.List.{list_any}
 use Rattle.ec_base.specs.declared.counter.Counter.{Counter}

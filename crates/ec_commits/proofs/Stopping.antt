@@ -1,6 +1,5 @@
 -- A running server has its durable state behind each step, and no record is in doubt.
-use Rattle.std.proofs.Common.{◌≡◌, refl, sym, subst, inl, inr, ℕ, T, not, Option, Some, None}
-use Rattle.std.specs.Prelude.{is_some}
+use Rattle.std.proofs.Common.{refl, sym, subst, inl, inr}
 use Rattle.ec_protocol.specs.Server.{Serving}
 use Rattle.ec_coherence.specs.System.{System, Ghost, is_open}
 use Rattle.ec_coherence.specs.Images.{ImagesAgree}

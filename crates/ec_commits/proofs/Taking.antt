@@ -23,12 +23,11 @@ use Rattle.ec_wire.specs.declared.msg.Msg.TheVariants.{Hello, Want, Back, Flush,
 use Rattle.ec_durable.specs.Durable.{is_full, live, reserved, slot, step}
 use Rattle.ec_durable.specs.declared.record.RecordFault.{RecordFault}
 use Rattle.ec_durable.specs.declared.state.Durable.{Durable}
-use Rattle.ec_durable.specs.declared.record.Record.{Record}
 use Rattle.ec_durable.specs.declared.record.Record.TheVariants as record_of
 use Rattle.ec_log.specs.Log.{batch}
 use Rattle.ec_protocol.specs.declared.server.Server.{Server}
 use Rattle.ec_protocol.specs.declared.clerk.Clerk.{Clerk}
-use Rattle.ec_protocol.specs.Server.{Serving, back, claim, commit, epoch, finish, flush, grant_ids, greet, has_claimed, ids_are_spent, in_session, is_last_number, may_write, note, open_new, record_ids, resend_ids, room, send_grant, send_ids, serve, serving, spend, stay, take, taken, tell, tell_ended, tell_opened, want, with_ids, with_server}
+use Rattle.ec_protocol.specs.Server.{Serving, back, claim, commit, epoch, finish, flush, grant_ids, greet, has_claimed, ids_are_spent, in_session, is_last_number, may_write, note, open_new, record_ids, resend_ids, room, send_grant, send_ids, serve, serving, spend, stay, taken, tell, tell_ended, tell_opened, want, with_ids, with_server}
 use Rattle.ec_coherence.specs.System.{System, Ghost, clerk_in, is_open}
 use Rattle.ec_coherence.specs.Sessions as sessions
 use Rattle.ec_coherence.specs.Tokens as tokens
@@ -232,7 +231,7 @@ module _ (g : System) (v : Server) (i : Invariant g) (wa : WatchesAgree g) (fa :
             | true ↦ tell c (Kept s (epoch t) b) t
             | false ↦ elim (may_write v.tokens s ops) as (λ y. Serving) [ true ↦ commit (record_of.Batch c s b ops) (λ u. tell c (Kept s (epoch u) b) u) (finish c sl) t | false ↦ finish c sl t ]
           ])) (sym m) (said g g.ghost t st refl c s e (Kept s (epoch t) b) (tell-stands g g.ghost t c (Kept s (epoch t) b) st.0
-              (of-sessions (Flush s e b ops) p, λ so y w. subst (λ z. T (has z.window b)) (same_some (sym q ∙ y)) (holds (has sl.window b) m)) tt tt tt))
+          (of-sessions (Flush s e b ops) p, λ so y w. subst (λ z. T (has z.window b)) (same_some (sym q ∙ y)) (holds (has sl.window b) m)) tt tt tt))
       comes sl q r o claimed false m =
           let unmarked : T (not (has sl.window b)) = fails (has sl.window b) m in
           let is-open : T (is_open here s) = at-open s v.durable.sessions c sl (q, r, o) in
@@ -240,13 +239,13 @@ module _ (g : System) (v : Server) (i : Invariant g) (wa : WatchesAgree g) (fa :
           let its = of-logs (Flush s e b ops) p c sl q r o unmarked k.0 k.1 in
           let ns = some-at (at b (k.0).log.batches) its.1 in
           subst (λ x. Going g (flush c x b ops sl t)) r (subst (λ x. Going g (flush c sl.session b x sl t)) (sym its.0)
-              (let its-in = ap (clerk_in here) r ∙ k.1 in
-              let mine = subst (λ x. T (member x v.claimed)) (sym r) claimed in
-              inr (
-                show_batch c (sl.age).boot (keys (batch b (k.0).log)) g.ghost,
-                (flush-stands g g.ghost t st.0 refl st.1 c sl k.0 q o its-in mine b ns.0 ns.1 unmarked, flush-shows g g.ghost t st.0 refl st.1 c sl k.0 q o its-in mine b ns.0 ns.1 unmarked, st.2),
-                ap (λ z. z.spent) (flush-is g g.ghost t st.0 refl st.1 c sl k.0 q o its-in mine b ns.0 ns.1 unmarked),
-              )))
+          (let its-in = ap (clerk_in here) r ∙ k.1 in
+          let mine = subst (λ x. T (member x v.claimed)) (sym r) claimed in
+          inr (
+            show_batch c (sl.age).boot (keys (batch b (k.0).log)) g.ghost,
+            (flush-stands g g.ghost t st.0 refl st.1 c sl k.0 q o its-in mine b ns.0 ns.1 unmarked, flush-shows g g.ghost t st.0 refl st.1 c sl k.0 q o its-in mine b ns.0 ns.1 unmarked, st.2),
+            ap (λ z. z.spent) (flush-is g g.ghost t st.0 refl st.1 c sl k.0 q o its-in mine b ns.0 ns.1 unmarked),
+          )))
 
   -- what a claim names was the session's own
   pub takes-claim : (s e : ℕ) (l : Table Hold) → Contains g.pool (c, Claim s e l) → Takes g c (Claim s e l) v
@@ -269,12 +268,12 @@ module _ (g : System) (v : Server) (i : Invariant g) (wa : WatchesAgree g) (fa :
           let k = its-clerk s ((st.0).invariant.tokens.present s is-open (fits.0).0) in
           let of-clerk = fits.1 now is-open new (side k.0) (ap side_in k.1) in
           let clear = claims-clear (view here) (tables_of v) s l refl (st.0).invariant.tokens (st.0).invariant.tokens.tables is-open (side k.0) (subst (λ z. ClaimFits (view here) s z l (side k.0)) now of-clerk)
-              (and_first (rises (keys l)) (list_all (λ z. is_held_mode z.1) l) sound) in
+          (and_first (rises (keys l)) (list_all (λ z. is_held_mode z.1) l) sound) in
           subst (λ z. Going g (elim z as (λ y. Serving) [
             | true ↦ t
             | false ↦ elim (is_none (first_clash v.tokens s l)) as (λ y. Serving) [ true ↦ record t { server = record v { tokens = claimed s l v.tokens; claimed = s ∷ v.claimed } } | false ↦ finish c sl t ]
           ])) (sym m) (subst (λ z. Going g (elim (is_none z) as (λ y. Serving) [ true ↦ record t { server = record v { tokens = claimed s l v.tokens; claimed = s ∷ v.claimed } } | false ↦ finish c sl t ])) (sym clear)
-              (went (record t { server = record v { tokens = claimed s l v.tokens; claimed = s ∷ v.claimed } }) (claim-stands g g.ghost t st.0 s e l fits sound now is-open new clear) refl refl))
+          (went (record t { server = record v { tokens = claimed s l v.tokens; claimed = s ∷ v.claimed } }) (claim-stands g g.ghost t st.0 s e l fits sound now is-open new clear) refl refl))
 
   -- a clerk greets, and no session is open in whose place a new one would come
   pub takes-hello : (from : ℕ) (age : Age) → ((sl : Slot) → slot v.durable c ≡ Some sl → T sl.is_open → is_older sl.age age ≡ false) → Contains g.pool (c, Hello from age) → Takes g c (Hello from age) v
@@ -389,9 +388,12 @@ module _ (g : System) (v : Server) (i : Invariant g) (wa : WatchesAgree g) (fa :
       told : (f : Serving) → Under g f g.ghost → f.server.durable ≡ v.durable → f.spent ≡ None → (n : ℕ) → at s f.server.recorded ≡ Some n → got + 1 ≡ g.ghost.grants s → Going g (send_ids c s got (g.ghost.first s) f)
       told f u same unspent n z grants = inr (
         g.ghost,
-        (subst (λ x. Under g (tell c (Ids s f.server.durable.epoch got x (g.ghost.first s)) f) g.ghost) (sym (ap (or_else 0) z))
-            (send-ids-stands g g.ghost f u c s got n (g.ghost.first s) (of-sessions (Room s e got ask) p) z grants refl (fits.0).0 (fa s (some-grants got (g.ghost.grants s) grants))),
-        watches-read here f.server.durable (Some f.server) (g.pool ++ (send_ids c s got (g.ghost.first s) f).sent) (ap (λ d. d.sessions) same) st.1, st.2),
+        (
+          subst (λ x. Under g (tell c (Ids s f.server.durable.epoch got x (g.ghost.first s)) f) g.ghost) (sym (ap (or_else 0) z))
+              (send-ids-stands g g.ghost f u c s got n (g.ghost.first s) (of-sessions (Room s e got ask) p) z grants refl (fits.0).0 (fa s (some-grants got (g.ghost.grants s) grants))),
+          watches-read here f.server.durable (Some f.server) (g.pool ++ (send_ids c s got (g.ghost.first s) f).sent) (ap (λ d. d.sessions) same) st.1,
+          st.2,
+        ),
         unspent,
       )
         where
@@ -408,7 +410,7 @@ module _ (g : System) (v : Server) (i : Invariant g) (wa : WatchesAgree g) (fa :
           let same-got : got ≡ (k.0).got = (fits.1 (side k.0) (ap side_in k.1)).1 now is-open z grants in
           let u = record-ids-stands g g.ghost t st.0 s (side k.0) claimed (ap side_in k.1) (ap (λ n. n + 1) (sym same-got) ∙ grants) z m in
           subst (λ f. Going g (send_ids c s got (g.ghost.first s) f)) (sym (recorded-is m))
-              (told _ (subst (λ f. Under g f g.ghost) (recorded-is m) u) refl refl (v.number + 1) (at-put s s (v.number + 1) v.recorded ∙ ap (λ b. cond b (Some (v.number + 1)) (at s v.recorded)) (same s)) grants)
+          (told _ (subst (λ f. Under g f g.ghost) (recorded-is m) u) refl refl (v.number + 1) (at-put s s (v.number + 1) v.recorded ∙ ap (λ b. cond b (Some (v.number + 1)) (at s v.recorded)) (same s)) grants)
 
       resends : (sl : Slot) → slot v.durable c ≡ Some sl → sl.session ≡ s → T sl.is_open → e ≡ v.durable.epoch → T (member s v.claimed) → got + 1 ≡ sl.grants → Going g (resend_ids c s got sl.last_first t)
       resends sl q r o now claimed grants =

@@ -1,18 +1,15 @@
 -- What the lines show stays true where the server's slots change and no line is shown.
-use Rattle.std.proofs.Common.{◌≡◌, ◌≢◌, refl, sym, ap, subst, ◌∙◌, inl, inr, ℕ, Bool, true, false, not, ◌==◌, ◌&&◌, T, List, [], Option, Some, None}
+use Rattle.std.proofs.Common.{◌≡◌, ◌≢◌, sym, ap, subst, ◌∙◌, inl, inr, ℕ, Bool, T, List, Option, Some}
 use Rattle.std.proofs.lemmas.Bool.{cases_eq}
 use Rattle.ec_base.specs.declared.ids.Age.{Age}
-use Rattle.ec_history.specs.History.{numbers}
-use Rattle.ec_history.specs.Placing.{watch}
-use Rattle.ec_history.specs.declared.watch.Watch.{Watch}
 use Rattle.ec_sessions.specs.declared.slot.Slot.{Slot}
 use Rattle.ec_wire.specs.declared.msg.Msg.{Msg}
 use Rattle.ec_durable.specs.Durable.{slot}
 use Rattle.ec_durable.specs.declared.state.Durable.{Durable}
 use Rattle.ec_protocol.specs.declared.server.Server.{Server}
-use Rattle.ec_coherence.specs.System.{System, Ghost, undurable}
+use Rattle.ec_coherence.specs.System.{System}
 use Rattle.ec_coherence.specs.Events.{shown_boot}
-use Rattle.ec_commits.specs.Watches.{WatchAgrees, WatchesAgree, still_in}
+use Rattle.ec_commits.specs.Watches.{WatchesAgree, still_in}
 
 module _ (g : System) (d : Durable) (v : Option Server) (p : List (ℕ × Msg)) (ow : ℕ → Option (ℕ × Age)) (tk : ℕ → Bool) (gr fi : ℕ → ℕ) (wa : WatchesAgree g) where
   abbrev pub reslotted : System

@@ -1,5 +1,5 @@
 -- What the lines show of each clerk, beside the facts on the history: which start runs, which session is open, and what it may still lose. And how large ids get.
-use Rattle.std.specs.Prelude.{◌≡◌, ◌==◌, ◌<◌, ◌≤◌, ◌&&◌, nat_le, ℕ, zero, suc, T, true, false, List, [], Option, None, Some, is_some}
+use Rattle.std.specs.Prelude.{◌≡◌, ◌<◌, ◌≤◌, nat_le, ℕ, zero, suc, T, true, false, List, [], Option, None, Some, is_some}
 use Rattle.ec_history.specs.History.{numbers}
 use Rattle.ec_history.specs.Placing.{watch}
 use Rattle.ec_history.specs.declared.watch.Watch.{Watch}

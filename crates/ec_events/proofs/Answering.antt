@@ -1,34 +1,30 @@
 -- A clerk that sees what is kept, and owes what the history says, answers by the rules.
-use Rattle.std.proofs.Common.{◌≡◌, refl, sym, ap, subst, ◌∙◌, inl, arith, ◌≤◌, ◌+◌, ℕ, T, Bool, true, false, ◌==◌, ◌||◌, cond, map, List, [], ◌∷◌, ◌++◌, length, Option, Some, None}
-use Rattle.std.specs.Prelude.{is_some, nat_lt}
+use Rattle.std.proofs.Common.{◌≡◌, refl, sym, ap, subst, ◌∙◌, arith, ◌≤◌, ◌+◌, ℕ, T, false, ◌==◌, ◌||◌, cond, map, List, [], ◌∷◌, length, Option, Some, None}
+use Rattle.std.specs.Prelude.{is_some}
 use Rattle.std.specs.List.{filter}
 use Rattle.ec_base.specs.Tables.{at, at_or, or_else, put}
 use Rattle.ec_volume.specs.Update.{member}
-use Rattle.ec_volume.specs.Volume.{Images, after}
+use Rattle.ec_volume.specs.Volume.{after}
 use Rattle.ec_volume.specs.declared.image.Image.TheVariants.{Gone}
 use Rattle.ec_volume.specs.declared.update.Update.{Update}
 use Rattle.ec_plain.specs.declared.call.Call.{Call}
-use Rattle.ec_plain.specs.declared.call.Outcome.{Outcome}
-use Rattle.ec_history.specs.History.{Base, History, Op, Each, updates, outcome, kept, owed, issued_by}
+use Rattle.ec_history.specs.History.{Base, History, Op, Each, updates, outcome, kept, issued_by}
 use Rattle.ec_history.specs.Legal.{IsNext, is_op_of}
 use Rattle.ec_history.specs.Placing.{place}
 use Rattle.ec_history.specs.declared.entry.Answer.{Answer}
 use Rattle.ec_history.specs.declared.entry.Answer.TheVariants as answer
-use Rattle.ec_history.specs.declared.entry.Entry.{Entry}
 use Rattle.ec_history.specs.declared.entry.Entry.TheVariants as entry
 use Rattle.ec_report.specs.Report.{Owed, clear}
-use Rattle.ec_resolve.specs.Resolve.{evaluate}
 use Rattle.ec_resolve.specs.declared.verdict.Verdict.{Verdict}
 use Rattle.ec_resolve.specs.declared.verdict.Verdict.TheVariants.{Need, Lost, NeedIds, Done}
 use Rattle.ec_laws.proofs.Places.{places-within}
 use Rattle.ec_events.specs.Answers.{IsAt, IsAnswered}
 use Rattle.ec_resolve.specs.Agreement.{Shows}
-use Rattle.ec_events.specs.Answers.{id_of}
 use Rattle.ec_events.proofs.Judged.{done-comes, done-answered, lost-answered, full-answered, shows-all}
 use Rattle.ec_events.proofs.Rebased.{Alike, kept-same, owed_from-same}
 use Rattle.ec_protocol.specs.Clerk.{first_id, verdict}
 use Rattle.ec_protocol.specs.declared.clerk.Clerk.{Clerk}
-use Rattle.ec_coherence.specs.System.{System, base_of, seen_ops}
+use Rattle.ec_coherence.specs.System.{System, seen_ops}
 use Rattle.ec_coherence.specs.Events.{EventsAgree, shown_boot, shown_op}
 use Rattle.ec_coherence.proofs.Tables.{at-put, same, differ, same_some, none_some}
 use Rattle.ec_events.specs.Answers.{IsLive, Sees, Gives, seen_by, fresh_of, op_given, based}

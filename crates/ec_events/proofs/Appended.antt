@@ -1,19 +1,19 @@
 -- One more answer at the end of the history, and the facts on histories stay.
-use Rattle.std.proofs.Common.{◌≡◌, refl, sym, ap, subst, ◌∙◌, inl, inr, arith, ◌<◌, ◌≤◌, ◌+◌, ℕ, T, Bool, true, false, not, ◌==◌, ◌&&◌, ◌||◌, cond, map, List, [], ◌∷◌, ◌++◌, length, Option, Some, None, append_assoc, append-nil, length-append}
+use Rattle.std.proofs.Common.{◌≡◌, refl, sym, ap, subst, ◌∙◌, arith, ◌<◌, ◌≤◌, ◌+◌, ℕ, T, Bool, true, false, not, ◌==◌, ◌&&◌, ◌||◌, cond, map, List, [], ◌∷◌, ◌++◌, length, Option, Some, None, append_assoc, append-nil, length-append}
 use Rattle.std.specs.Prelude.{is_some}
 use Rattle.std.specs.List.{filter, list_any, list_all}
-use Rattle.std.proofs.lemmas.Bool.{cond-true, cond-false, and_parts, true≢false}
+use Rattle.std.proofs.lemmas.Bool.{cond-true, and_parts, true≢false}
 use Rattle.std.proofs.lemmas.List.{map-append}
 use Rattle.std.proofs.lemmas.List.Elements.{filter-append}
 use Rattle.std.proofs.lemmas.List.Folds.{list_any-append}
 use Rattle.ec_base.specs.declared.ids.Age.{Age}
 use Rattle.ec_volume.specs.Update.{member, operands, listed}
 use Rattle.ec_plain.specs.declared.call.Call.{Call}
-use Rattle.ec_history.specs.History.{Base, History, Op, Each, Throughout, Covers, kept, owed, numbers, of_start, is_one_of, is_entry_of, issued_by, same_start, touched}
-use Rattle.ec_history.specs.Legal.{IsLegal, leaves, is_op_of, is_call_of_other}
+use Rattle.ec_history.specs.History.{Base, History, Op, Each, Throughout, Covers, kept, owed, numbers, of_start, is_one_of, is_entry_of, issued_by, touched}
+use Rattle.ec_history.specs.Legal.{IsLegal, leaves, is_op_of}
 use Rattle.ec_history.specs.declared.watch.Watch.{Watch}
 use Rattle.ec_volume.specs.Image.{is_id}
-use Rattle.ec_history.specs.Placing.{watch, watch_next, begun, answered, or_else, shows, unwatched, last_place, before_line, place, call_entry}
+use Rattle.ec_history.specs.Placing.{watch, begun, answered, or_else, shows, unwatched, last_place, before_line, place, call_entry}
 use Rattle.ec_history.specs.declared.entry.Answer.{Answer}
 use Rattle.ec_history.specs.declared.entry.Entry.{Entry}
 use Rattle.ec_history.specs.declared.entry.Entry.TheVariants as entry
@@ -31,9 +31,9 @@ use Rattle.ec_events.proofs.Rebased.{Alike, alike-back, throughout-map, kept-sam
 use Rattle.ec_protocol.specs.Clerk.{Doing, verdict}
 use Rattle.ec_protocol.specs.declared.clerk.Clerk.{Clerk}
 use Rattle.ec_coherence.specs.System.{System, base_of, is_of, is_open, undurable, with_start}
-use Rattle.ec_coherence.specs.Events.{EventsAgree, CutAgrees, Frees, Untouched, IsUncut, shown_boot, shown_op, same_op}
-use Rattle.ec_coherence.proofs.Tables.{same, equal, same_some, none_some, holds, each-map, each-append}
-use Rattle.ec_events.specs.Answers.{IsLive, Sees, Gives, fresh_of, op_given, based}
+use Rattle.ec_coherence.specs.Events.{EventsAgree, CutAgrees, Frees, IsUncut, shown_boot, shown_op, same_op}
+use Rattle.ec_coherence.proofs.Tables.{same, equal, same_some, none_some, each-map, each-append}
+use Rattle.ec_events.specs.Answers.{IsLive, Sees, fresh_of, op_given, based}
 use Rattle.ec_events.specs.Comes.{Comes, begun_at, entry_next, ops_next, after_answer}
 use Rattle.ec_events.proofs.Answering.{old_fresh, new_fresh, alike, kept-now, is-at, fresh-here, answers-stand, given-issued}
 

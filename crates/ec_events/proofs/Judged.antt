@@ -1,8 +1,8 @@
 -- Answers by verdicts keep the history's rules: the laws of verdicts, in the history's words.
-use Rattle.std.proofs.Common.{◌≡◌, ◌≢◌, refl, sym, ap, subst, ◌∙◌, inl, inr, ◌⊎◌, arith, ◌+◌, ℕ, T, Bool, true, false, not, ◌==◌, ◌||◌, cond, map, List, [], ◌∷◌, ◌++◌, Option, Some, None}
-use Rattle.std.specs.Prelude.{is_some, is_none, ◌&&◌, nat_lt, length}
+use Rattle.std.proofs.Common.{◌≡◌, ◌≢◌, refl, sym, ap, subst, ◌∙◌, inl, inr, arith, ◌+◌, ℕ, T, Bool, true, false, not, ◌==◌, ◌||◌, cond, map, List, [], ◌∷◌, ◌++◌, Option, Some, None}
+use Rattle.std.specs.Prelude.{is_some, ◌&&◌, nat_lt, length}
 use Rattle.std.specs.List.{filter}
-use Rattle.std.proofs.lemmas.Bool.{cases_Bool, and_from, cond-true, true≢false}
+use Rattle.std.proofs.lemmas.Bool.{and_from, cond-true, true≢false}
 use Rattle.std.proofs.lemmas.Bool.Decides.{nat_tests}
 use Rattle.std.proofs.lemmas.List.Folds.{list_any-append}
 use Rattle.ec_base.specs.Tables.{at, once, or_else}
@@ -281,7 +281,7 @@ module _ (base : Base) (most : ℕ) (past : History) (c b p l begun : ℕ) (cl :
       let makes : is_making out.update ≡ true = ap is_making w.made in
       let looks : Looks qs out xs = looks-more qs out xs (base.fresh p) (subst (IsUnowed qs) (sym (given ∙ ap id_of w.none)) here.no_zero) w.touched in
       let none : reported_by out cl qs ≡ [] =
-          sym (due-reports qs cl out xs looks) ∙ ap (λ z. due (elim z as (λ y. List ℕ) [ true ↦ objects qs | false ↦ xs ]) qs) (syncs-make-none now cl (base.fresh p) makes) ∙ w.unowed in (
+      sym (due-reports qs cl out xs looks) ∙ ap (λ z. due (elim z as (λ y. List ℕ) [ true ↦ objects qs | false ↦ xs ]) qs) (syncs-make-none now cl (base.fresh p) makes) ∙ w.unowed in (
         record {
           number = tt;
           report = ap (reported_by out cl) here.owes ∙ none;

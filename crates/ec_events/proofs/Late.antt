@@ -1,22 +1,21 @@
 -- An answer of a clerk that is cut off stands before its loss, and the history stays legal.
-use Rattle.std.proofs.Common.{◌≡◌, refl, sym, ap, subst, ◌∙◌, inl, inr, arith, ◌≤◌, ◌+◌, ℕ, T, Bool, true, false, not, ◌==◌, ◌&&◌, ◌||◌, cond, map, List, [], ◌∷◌, ◌++◌, length, Option, Some, None, length-append}
+use Rattle.std.proofs.Common.{◌≡◌, refl, sym, ap, subst, ◌∙◌, inl, inr, arith, ◌≤◌, ◌+◌, ℕ, T, Bool, true, false, not, ◌==◌, ◌&&◌, ◌||◌, cond, List, [], ◌∷◌, ◌++◌, length, Option, Some, None, length-append}
 use Rattle.std.specs.List.{filter, list_any, list_all}
-use Rattle.std.proofs.lemmas.Bool.{and_parts, or_parts, true≢false, cases_eq}
+use Rattle.std.proofs.lemmas.Bool.{and_parts, or_parts, cases_eq}
 use Rattle.std.proofs.lemmas.List.Elements.{filter-append}
 use Rattle.ec_base.specs.declared.ids.Hold.{Hold}
 use Rattle.ec_base.specs.declared.ids.Hold.TheVariants.{Free, Read, Write}
 use Rattle.ec_volume.specs.Update.{member, operands, listed}
-use Rattle.ec_volume.specs.Volume.{Images, after}
+use Rattle.ec_volume.specs.Volume.{after}
 use Rattle.ec_plain.specs.declared.call.Call.{Call}
 use Rattle.ec_base.specs.Holds.{rank, is_free}
 use Rattle.ec_wire.specs.Messages.{is_held_mode}
-use Rattle.ec_history.specs.History.{Base, History, Op, Each, Covers, kept, owed, updates, of_start, is_one_of, is_entry_of, same_start, touched}
+use Rattle.ec_history.specs.History.{Base, History, Op, Each, Covers, kept, updates, of_start, is_one_of, is_entry_of, same_start, touched}
 use Rattle.ec_history.specs.Legal.{IsLegal, leaves, is_call_of_other, is_op_of}
 use Rattle.ec_history.specs.declared.entry.Answer.{Answer}
 use Rattle.ec_history.specs.declared.entry.Entry.{Entry}
 use Rattle.ec_history.specs.declared.entry.Entry.TheVariants as entry
 use Rattle.ec_report.specs.Report.{Owed}
-use Rattle.ec_cache.specs.Cache.{holds}
 use Rattle.ec_laws.proofs.Numbers.{each-front}
 use Rattle.ec_laws.proofs.Inserted.{insertion}
 use Rattle.ec_events.specs.Answers.{IsAt, IsAnswered}
@@ -27,13 +26,13 @@ use Rattle.ec_protocol.specs.Clerk.{first_id, verdict}
 use Rattle.ec_protocol.specs.declared.clerk.Clerk.{Clerk}
 use Rattle.ec_coherence.specs.System.{System, base_of, clerk_in, seen_ops}
 use Rattle.ec_coherence.specs.Tokens.{TokensAgree, eff, eff_hold, side, side_in, view}
-use Rattle.ec_coherence.specs.Events.{EventsAgree, CutAgrees, Frees, cut_in, shown_boot, shown_op}
+use Rattle.ec_coherence.specs.Events.{EventsAgree, CutAgrees, Frees, cut_in, shown_boot}
 use Rattle.ec_coherence.proofs.Settled.{each-member}
-use Rattle.ec_coherence.proofs.Tables.{same, equal, each-map}
+use Rattle.ec_coherence.proofs.Tables.{equal, each-map}
 use Rattle.ec_events.specs.Answers.{Sees, Gives, seen_by, fresh_of, based}
 use Rattle.ec_events.specs.Comes.{entry_next, begun_at}
 use Rattle.ec_events.proofs.Answering.{old_fresh, new_fresh, alike, fresh-here, fresh-gone, given-answered, shown-updates}
-use Rattle.ec_events.proofs.Touching.{token-of, touched-held, each-holds, each-passing, none-such, or-right}
+use Rattle.ec_events.proofs.Touching.{token-of, touched-held, each-holds, none-such, or-right}
 
 no-ops : (c b : ℕ) (h : History) → list_any (λ e. is_entry_of c b e.1) h ≡ false → length (filter (is_op_of c b) h) ≡ 0
 no-ops c b [] n = refl

@@ -1,5 +1,5 @@
 -- An answer touches no operand of what another's session may still lose: B1, B2 and C1 exclude it.
-use Rattle.std.proofs.Common.{◌≡◌, ◌≢◌, refl, sym, ap, subst, ◌∙◌, inl, inr, arith, ◌<◌, ◌≤◌, ◌+◌, ◌-◌, ℕ, T, Bool, true, false, not, ◌==◌, ◌&&◌, ◌||◌, cond, map, List, [], ◌∷◌, ◌++◌, length, Option, Some, None}
+use Rattle.std.proofs.Common.{◌≡◌, ◌≢◌, refl, sym, ap, subst, ◌∙◌, inl, inr, arith, ◌<◌, ◌≤◌, ◌+◌, ◌-◌, ℕ, T, Bool, true, false, not, ◌==◌, ◌&&◌, ◌||◌, cond, map, List, [], ◌∷◌, length, Option, Some, None}
 use Rattle.std.specs.List.{filter, list_any, list_all}
 use Rattle.std.proofs.lemmas.Bool.{and_parts, true≢false, cases_eq}
 use Rattle.ec_base.specs.Tables.{at}
@@ -7,16 +7,13 @@ use Rattle.ec_base.specs.declared.ids.Age.{Age}
 use Rattle.ec_base.specs.declared.ids.Hold.{Hold}
 use Rattle.ec_base.specs.declared.ids.Hold.TheVariants.{Free, Read, Write}
 use Rattle.ec_volume.specs.Update.{member, operands}
-use Rattle.ec_volume.specs.Volume.{Images, after}
-use Rattle.ec_plain.specs.Plain.{plain}
 use Rattle.ec_plain.specs.declared.call.Call.{Call}
 use Rattle.ec_base.specs.Holds.{rank, is_write, clash}
 use Rattle.ec_wire.specs.Messages.{is_held_mode}
-use Rattle.ec_history.specs.History.{Base, History, Op, Each, kept, numbers, of_start, is_one_of, outcome, touched, updates}
+use Rattle.ec_history.specs.History.{Base, History, Op, Each, kept, numbers, of_start, is_one_of, outcome, touched}
 use Rattle.ec_history.specs.Legal.{leaves, is_call_of_other}
 use Rattle.ec_history.specs.declared.entry.Answer.{Answer}
 use Rattle.ec_history.specs.declared.entry.Entry.{Entry}
-use Rattle.ec_history.specs.declared.entry.Entry.TheVariants as entry
 use Rattle.ec_report.specs.Report.{Owed}
 use Rattle.ec_resolve.specs.declared.verdict.Verdict.{Verdict}
 use Rattle.ec_resolve.specs.declared.verdict.Verdict.TheVariants.{Need, Lost, NeedIds, Done}
@@ -31,7 +28,7 @@ use Rattle.ec_coherence.specs.Tokens.{TokensAgree, Below, IsWrite, eff, eff_hold
 use Rattle.ec_coherence.specs.Log.{HasWrites}
 use Rattle.ec_coherence.specs.Events.{EventsAgree, shown_boot, shown_op}
 use Rattle.ec_coherence.proofs.Settled.{each-member}
-use Rattle.ec_coherence.proofs.Tables.{same, equal, same_some, none_some, clash-below, is-true, is-false, refutes}
+use Rattle.ec_coherence.proofs.Tables.{same, equal, same_some, none_some, clash-below, is-true}
 use Rattle.ec_events.specs.Answers.{IsLive, Sees, Gives, fresh_of, based}
 use Rattle.ec_events.specs.Comes.{Marked, entry_next}
 use Rattle.ec_events.proofs.Answering.{is-at, fresh-here, kept-now}

@@ -1,5 +1,5 @@
 -- What is proved of answers, as contracts name it.
-use Rattle.std.specs.Prelude.{◌≡◌, ◌==◌, ◌+◌, ℕ, T, false, not, length, List, [], ◌∷◌, ◌++◌, Option, None, Some}
+use Rattle.std.specs.Prelude.{◌≡◌, ◌==◌, ◌+◌, ℕ, T, false, not, length, List, [], ◌∷◌, ◌++◌, Option, Some}
 use Rattle.std.specs.List.{filter}
 use Rattle.ec_base.specs.declared.ids.Age.{Age}
 use Rattle.ec_volume.specs.Update.{member, operands, listed}
