@@ -1,5 +1,5 @@
 -- What holds of the parts that a pool is kept in. No public clause cites this file.
-use Rattle.std.specs.Prelude.{◌≡◌, ℕ, ◌+◌, ◌≤◌, Bool, ◌||◌, nat_lt, List, [], ◌∷◌, length, Option, None, Some, is_some, IsTrue}
+use Rattle.std.specs.Prelude.{◌≡◌, ℕ, ◌+◌, ◌<◌, ◌≤◌, Bool, not, ◌&&◌, ◌||◌, nat_lt, List, [], ◌∷◌, ◌++◌, length, filter, Option, None, Some, is_some, IsTrue, slice_index_or, slice_set}
 use Rattle.std.specs.Ordering.{nat_cmp}
 use Rattle.std.specs.List.{AllByRecursion}
 use Rattle.std.specs.List.Sorted.{IsStrictlySortedBy}
@@ -8,7 +8,7 @@ use Rattle.ec_volume.specs.Update.{member}
 use Rattle.ec_wire.specs.Messages.{is_sound}
 use Rattle.ec_wire.specs.declared.msg.MsgKind.{MsgKind}
 use Rattle.ec_protocol.specs.declared.world.Sent.{Sent}
-use Rattle.ec_protocol.specs.World.{is_for_server, kept_messages}
+use Rattle.ec_protocol.specs.World.{is_for_server, kept_messages, count_of, one_more}
 use Rattle.ec_pool.specs.declared.links.Link.{Link}
 
 -- no count is above the number
@@ -40,3 +40,28 @@ pub record Holds (sent : ℕ) (counts : List ((ℕ × MsgKind) × ℕ)) (es : Ta
   pub known : (n : ℕ) → IsTrue (is_some (at n es)) → IsTrue (stays forgotten ps n || member n settled)
   -- each pending message can be settled
   pub has_room : length settled + length ps ≤ room
+
+-- What a forgetting leaves: each message that stays, and none that wasn't there.
+pub record Forgets (sent : ℕ) (ps : Table Link) (old new : Table Sent) : Type 0 where
+  pub same : filter (λ e. stays sent ps e.0) new ≡ filter (λ e. stays sent ps e.0) old
+  pub staying : (n : ℕ) → IsTrue (stays sent ps n) → at n new ≡ at n old
+  pub fewer : (n : ℕ) → IsTrue (is_some (at n new)) → at n new ≡ at n old
+  pub rises : IsStrictlySortedBy nat_cmp (keys old) → IsStrictlySortedBy nat_cmp (keys new)
+
+-- whether the link delivers: it isn't cut, and it isn't to a stopped server
+abbrev pub passes : List ℕ → Bool → Link → Bool
+passes cut running l = not (member l.clerk cut) && (not l.is_for_server || running)
+
+abbrev pub key_of : {X : Type 0} → Option (ℕ × X) → Option ℕ
+key_of None = None
+key_of (Some e) = Some e.0
+
+-- The count of the kind is at this place, or there is none yet.
+pub record CountsAt (c : ℕ) (k : MsgKind) (es : List ((ℕ × MsgKind) × ℕ)) (i : ℕ) : Type 0 where
+  pub within : i < length es
+  pub count : (d : (ℕ × MsgKind) × ℕ) → count_of c k es ≡ (slice_index_or es i d).1
+  pub more : (d : (ℕ × MsgKind) × ℕ) → one_more c k es ≡ slice_set es i ((c, k), (slice_index_or es i d).1 + 1)
+
+pub record CountsNew (c : ℕ) (k : MsgKind) (es : List ((ℕ × MsgKind) × ℕ)) : Type 0 where
+  pub count : count_of c k es ≡ 0
+  pub more : one_more c k es ≡ es ++ ((c, k), 1) ∷ []
