@@ -1,5 +1,5 @@
 -- What each change keeps of a pool's parts, and that it is the machine's.
-use Rattle.std.proofs.Common.{◌≡◌, ℕ, suc, ◌+◌, ◌<◌, ◌≤◌, refl, sym, ap, subst, ◌∙◌, arith, Bool, true, false, cond, not, ◌&&◌, ◌||◌, T, List, [], ◌∷◌, ◌++◌, length, filter, Option, None, Some, is_some, IsTrue, MatchOption, ◌==◌, nat_lt, is_eq, nat_cmp, position, ◌⊎◌, inl, inr, ⊎_elim}
+use Rattle.std.proofs.Common.{◌≡◌, ℕ, suc, ◌+◌, ◌<◌, ◌≤◌, refl, sym, ap, subst, ◌∙◌, arith, Bool, true, false, cond, not, ◌&&◌, ◌||◌, T, List, [], ◌∷◌, ◌++◌, length, filter, Option, None, Some, is_some, IsTrue, MatchOption, ◌==◌, nat_lt, is_eq, nat_cmp, position, Result, Ok, Err, OnOk, OnErr, IfSome, Bor, option_copied, ◌⊎◌, inl, inr, ⊎_elim}
 use Rattle.std.specs.List.{position_or_len}
 use Rattle.std.specs.Map.{lookup, remove_entry}
 use Rattle.std.specs.BTreeMap.{is_at}
@@ -14,7 +14,8 @@ use Rattle.ec_protocol.specs.declared.world.Sent.{Sent}
 use Rattle.ec_protocol.specs.declared.world.World.{World}
 use Rattle.ec_protocol.specs.World.{kept_messages}
 use Rattle.ec_protocol.specs.World as machine
-use Rattle.ec_pool.specs.Pools.{Pooled, with_pool, Stands}
+use Rattle.ec_protocol.specs.declared.world.WorldFault.TheVariants as fault
+use Rattle.ec_pool.specs.Pools.{Pooled, with_pool, made_pending, Stands}
 use Rattle.ec_pool.specs.Insides.{AreUpTo, link_of, link_to, AreLinked, stays, Holds, Forgets, passes, key_of, CountsAt, CountsNew}
 use Rattle.ec_pool.specs.declared.links.Link.{Link}
 use Rattle.ec_pool.proofs.Lists as lists
@@ -386,3 +387,83 @@ due_is w running es (p ∷ ps) r h =
        → elim b as (λ _. Option ℕ) [ true ↦ Some p.0 | false ↦ first (λ n. machine.is_deliverable w (at n es)) (keys ps) ] ≡ key_of (elim b as (λ _. Option (ℕ × Link)) [ true ↦ Some p | false ↦ first (λ p. passes w.cut running p.1) ps ])
     go true rest = refl
     go false rest = rest
+
+-- What the calls of a pool make of a world, whose pool stands in these parts.
+
+pub none_of : {X : Type 0} (o : Option X) → is_some o ≡ false → o ≡ None
+none_of None h = refl
+none_of (Some x) h = absurd cc
+
+pub not_true : (b : Bool) → not b ≡ true → b ≡ false
+not_true true h = absurd cc
+not_true false h = refl
+
+pub on_ok : {A E : Type 0} {P Q : Type 0} (r : Result A E) → OnOk r P → (P → Q) → OnOk r Q
+on_ok (Ok x) h f = f h
+on_ok (Err e) h f = tt
+
+pub sound_copied : (o : Option (Bor Sent)) (es : Table Sent) (n : ℕ) → option_copied o ≡ lookup (is_at (nat_cmp n)) es → ((m : ℕ) (s : Sent) → at m es ≡ Some s → IsTrue (is_sound s.msg)) → IfSome o (λ s. IsTrue (is_sound s.now.msg))
+sound_copied None es n e h = tt
+sound_copied (Some x) es n e h = h n x.now (sym (lists.found n es) ∙ sym e)
+
+pub repeat_is : (w : World) (p q : Pooled) (n : ℕ) → IsTrue (is_some (at n p.pool)) → made_pending n (with_pool p w) ≡ with_pool q w → machine.repeat n (with_pool p w) ≡ machine.moving (with_pool q w)
+repeat_is w p q n h e = go (at n p.pool) h
+  where
+    go : (o : Option Sent) → IsTrue (is_some o) → elim o [ None ↦ machine.fails fault.NoSuchMsg (with_pool p w) | Some s ↦ machine.moving (made_pending n (with_pool p w)) ] ≡ machine.moving (with_pool q w)
+    go None h = absurd cc
+    go (Some s) h = ap machine.moving e
+
+pub made_same : (w : World) (p : Pooled) (n : ℕ) → member n p.pending ≡ true → made_pending n (with_pool p w) ≡ with_pool p w
+made_same w p n h = ap (λ b. record (with_pool p w) { pending = elim b as (λ _. List ℕ) [ true ↦ p.pending | false ↦ machine.among n p.pending ] }) h
+
+module _ (sent : ℕ) (counts : List ((ℕ × MsgKind) × ℕ)) (es : Table Sent) (ps : Table Link) (cut : List ℕ) where
+  abbrev pooled : Pooled
+  pooled = record { sent = sent; counts = counts; pool = es; pending = keys ps; cut = cut }
+
+  pub settled_is : (p : Pooled) → pooled ≡ p → (n : ℕ) (qs : Table Link) → qs ≡ without n ps → (w : World) → machine.settled n (with_pool p w) ≡ with_pool (record { sent = sent; counts = counts; pool = es; pending = keys qs; cut = cut }) w
+  settled_is p v n qs e w =
+      subst (λ r. machine.settled n (with_pool r w) ≡ with_pool (record { sent = sent; counts = counts; pool = es; pending = keys qs; cut = cut }) w) v
+      (ap (λ ns. with_pool (record { sent = sent; counts = counts; pool = es; pending = ns; cut = cut }) w) (lists.keys_without n ps ∙ ap keys (sym e)))
+
+  pub made_put : (p : Pooled) → pooled ≡ p → (n : ℕ) (x : Link) (qs : Table Link) → at n ps ≡ None → qs ≡ put nat_cmp n x ps → (w : World)
+      → made_pending n (with_pool p w) ≡ with_pool (record { sent = sent; counts = counts; pool = es; pending = keys qs; cut = cut }) w
+  made_put p v n x qs none e w =
+      subst (λ r. made_pending n (with_pool r w) ≡ with_pool (record { sent = sent; counts = counts; pool = es; pending = keys qs; cut = cut }) w) v
+      (ap (λ b. with_pool (record { sent = sent; counts = counts; pool = es; pending = elim b as (λ _. List ℕ) [ true ↦ keys ps | false ↦ machine.among n (keys ps) ]; cut = cut }) w) (lists.member_keys n ps ∙ ap is_some none)
+       ∙ ap (λ ns. with_pool (record { sent = sent; counts = counts; pool = es; pending = ns; cut = cut }) w) (sym (lists.keys_put n x ps none) ∙ ap keys (sym e)))
+
+  pub uncut_is : (p : Pooled) → pooled ≡ p → (c : ℕ) (cs : List ℕ) → member c p.cut ≡ true → cs ≡ filter (λ d. not (d == c)) cut → (w : World)
+      → machine.uncut c (with_pool p w) ≡ machine.moving (with_pool (record { sent = sent; counts = counts; pool = es; pending = keys ps; cut = cs }) w)
+  uncut_is p v c cs h e w =
+      subst (λ r. machine.uncut c (with_pool r w) ≡ machine.moving (with_pool (record { sent = sent; counts = counts; pool = es; pending = keys ps; cut = cs }) w)) v
+      (ap (λ b. elim b as (λ _. machine.Moving) [ true ↦ machine.moving (with_pool (record { sent = sent; counts = counts; pool = es; pending = keys ps; cut = filter (λ d. not (d == c)) cut }) w) | false ↦ machine.nothing (with_pool pooled w) ])
+        (ap (λ r. member c r.cut) v ∙ h)
+       ∙ ap (λ ds. machine.moving (with_pool (record { sent = sent; counts = counts; pool = es; pending = keys ps; cut = ds }) w)) (sym e))
+
+  module _ (settled : List ℕ) (forgotten room : ℕ) (h : Holds sent counts es ps settled forgotten room) where
+    pub unsettled_holds : (n : ℕ) (qs : Table Link) → at n ps ≡ None → qs ≡ without n ps → Holds sent counts es qs settled forgotten room
+    unsettled_holds n qs none e = subst (λ xs. Holds sent counts es xs settled forgotten room) (sym (e ∙ lists.without_none n ps none)) h
+
+    pub settled_on : (n : ℕ) (qs : Table Link) (ns : List ℕ) (more : ℕ) → IsTrue (is_some (at n ps)) → qs ≡ without n ps → ns ≡ settled ++ n ∷ [] → room ≤ more → Holds sent counts es qs ns forgotten more
+    settled_on n qs ns more is e f l =
+        let k = settled_holds sent counts es ps settled forgotten room n h is in
+        let j : Holds sent counts es (without n ps) (settled ++ n ∷ []) forgotten more = record k { has_room = let r = k.has_room in omega arith } in
+        subst (λ xs. Holds sent counts es xs ns forgotten more) (sym e) (subst (λ xs. Holds sent counts es (without n ps) xs forgotten more) (sym f) j)
+
+    pub roomier : (ns : List ℕ) (more : ℕ) → ns ≡ settled → room ≤ more → Holds sent counts es ps ns forgotten more
+    roomier ns more e l = subst (λ xs. Holds sent counts es ps xs forgotten more) (sym e) (record h { has_room = let r = h.has_room in omega arith })
+
+    pub pending_on : {A E : Type 0} (r : Result A E) (n : ℕ) (s : Sent) (qs : Table Link) (ns : List ℕ) (more : ℕ) → at n es ≡ Some s → at n ps ≡ None → ns ≡ settled → length settled + (length ps + 1) ≤ more → room ≤ more
+        → OnOk r (qs ≡ put nat_cmp n (link_of s) ps) → OnErr r (qs ≡ ps) → Holds sent counts es qs ns forgotten more
+    pending_on (Ok a) n s qs ns more kept none e fits l ok err =
+        subst (λ xs. Holds sent counts es xs ns forgotten more) (sym ok) (subst (λ xs. Holds sent counts es (put nat_cmp n (link_of s) ps) xs forgotten more) (sym e)
+          (pending_holds sent counts es ps settled forgotten room n more s h kept none fits))
+    pending_on (Err x) n s qs ns more kept none e fits l ok err = subst (λ xs. Holds sent counts es xs ns forgotten more) (sym err) (roomier ns more e l)
+
+    pub sent_on : (n c : ℕ) (k : MsgKind) (s : Sent) (cs : List ((ℕ × MsgKind) × ℕ)) (fs : Table Sent) (qs : Table Link) (ns : List ℕ) (more : ℕ) → n ≡ sent + 1 → IsTrue (is_sound s.msg)
+        → cs ≡ machine.one_more c k counts → fs ≡ es ++ (n, s) ∷ [] → qs ≡ ps ++ (n, link_of s) ∷ [] → IsStrictlySortedBy nat_cmp (keys fs) → ns ≡ settled → length settled + (length ps + 1) ≤ more
+        → Holds n cs fs qs ns forgotten more
+    sent_on n c k s cs fs qs ns more is sound a b d rises e fits =
+        subst (λ x. Holds n x fs qs ns forgotten more) (sym a) (subst (λ x. Holds n (machine.one_more c k counts) x qs ns forgotten more) (sym b)
+          (subst (λ x. Holds n (machine.one_more c k counts) (es ++ (n, s) ∷ []) x ns forgotten more) (sym d) (subst (λ x. Holds n (machine.one_more c k counts) (es ++ (n, s) ∷ []) (ps ++ (n, link_of s) ∷ []) x forgotten more) (sym e)
+            (sent_holds sent counts es ps settled forgotten room n c k s more h is sound (subst (λ x. IsStrictlySortedBy nat_cmp (keys x)) b rises) fits))))

@@ -1,8 +1,8 @@
 // How many messages of each kind were sent between a clerk and the server, in the order of first sending.
-ghost use Rattle.std.specs.Prelude.{◌≡◌, ◌<◌, position, vec_len, vec_capacity};
+ghost use Rattle.std.specs.Prelude.{◌≡◌, ◌<◌, MatchOption, position, vec_len, vec_capacity};
 ghost use Rattle.ec_base.specs.Limits.{last_counter};
 ghost use Rattle.ec_protocol.specs.World as machine;
-ghost use Rattle.ec_pool.specs.Insides.{AreUpTo};
+ghost use Rattle.ec_pool.specs.Insides.{CountsAt, CountsNew};
 
 use crate::kinds::is_same_kind;
 use ec_base::ClerkId;
@@ -22,7 +22,7 @@ pub(crate) fn count_of(counts: &[Count], clerk: ClerkId, kind: MsgKind) -> u64
 
 // Counts one more, where there is room for one more entry.
 pub(crate) fn count_one_more(counts: &mut Vec<Count>, clerk: ClerkId, kind: MsgKind)
-    requires below { AreUpTo last_counter counts.old.items }
+    requires below { machine.count_of clerk kind counts.old.items < last_counter }
     requires room { vec_len counts.old < vec_capacity counts.old }
     ensures { counts.new.items ≡ machine.one_more clerk kind counts.old.items }
 {
@@ -33,6 +33,12 @@ pub(crate) fn count_one_more(counts: &mut Vec<Count>, clerk: ClerkId, kind: MsgK
 }
 
 fn place_of(counts: &[Count], clerk: ClerkId, kind: MsgKind) -> Option<usize>
+    ensures { MatchOption result (CountsNew clerk kind counts.now) (CountsAt clerk kind counts.now) }
+{
+    position_of(counts, clerk, kind)
+}
+
+fn position_of(counts: &[Count], clerk: ClerkId, kind: MsgKind) -> Option<usize>
     ensures { result ≡ position (machine.is_count_of clerk kind) counts.now }
 {
     counts

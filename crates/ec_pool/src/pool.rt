@@ -1,16 +1,18 @@
-ghost use Rattle.std.specs.Prelude.{◌≡◌, [], true, false, is_some, option_copied, IsTrue, IfSome, OnOk, OnErr};
-ghost use Rattle.ec_base.specs.Tables.{at};
+ghost use Rattle.std.specs.Prelude.{◌≡◌, ℕ, ◌<◌, [], ◌∷◌, ◌++◌, true, false, is_some, option_copied, IsTrue, IfSome, OnOk, OnErr};
+ghost use Rattle.std.specs.Ordering.{nat_cmp};
+ghost use Rattle.std.specs.List.Sorted.{IsStrictlySortedBy};
+ghost use Rattle.ec_base.specs.Tables.{at, keys, first};
 ghost use Rattle.ec_volume.specs.Update.{member};
 ghost use Rattle.ec_wire.specs.Messages.{is_sound};
 ghost use Rattle.ec_protocol.specs.World as machine;
 ghost use Rattle.ec_protocol.specs.declared.world.World.{World};
 ghost use Rattle.ec_pool.specs.Pools.{with_pool, made_pending, Stands};
-ghost use Rattle.ec_pool.specs.Insides.{link_of};
+ghost use Rattle.ec_pool.specs.Insides.{link_of, key_of};
 
 use crate::counts::{Count, count_of, count_one_more};
 use crate::forget::{forget_passed, forget_settled};
-use crate::kinds::{is_for_server, is_same_kind, kind_of};
-use crate::links::{Link, first_due, is_among};
+use crate::kinds::{is_same_kind, kind_of};
+use crate::links::{Link, first_due, is_among, link_of, mend};
 use ec_base::{ClerkId, LAST_COUNTER, NoMemory, SortedMap};
 use ec_protocol::Sent;
 use ec_wire::{Msg, MsgKind};
@@ -67,7 +69,7 @@ impl Pool {
     pub fn stands(&self)
         ensures { Stands self.now }
     {
-        let _ = &self.sent;
+        let _ = self.pending.items();
     }
 
     /// Puts a message into the pool, where it is pending. Numbers end at 2^62: from there on a step ends as for want of memory.
@@ -86,14 +88,9 @@ impl Pool {
             nth: count_of(&self.counts, clerk, kind) + 1,
             msg,
         };
-        let link = link_of(&sent);
         self.counts.reserve(1)?;
         self.settled.reserve(self.pending.len() + 1)?;
-        self.kept.insert(number, sent)?;
-        if self.pending.insert(number, link).is_err() {
-            self.kept.remove(&number);
-            return Err(NoMemory);
-        }
+        put_in(&mut self.kept, &mut self.pending, number, sent)?;
         count_one_more(&mut self.counts, clerk, kind);
         self.sent = number;
         Ok(())
@@ -104,15 +101,7 @@ impl Pool {
         ensures number { (w : World) → machine.find clerk kind nth (with_pool self.now w) ≡ result }
         ensures kept { IfSome result (λ n. IsTrue (is_some (at n self.now.pool))) }
     {
-        for (number, sent) in &self.kept {
-            if sent.clerk == clerk
-                && is_same_kind(kind_of(&sent.msg), kind)
-                && sent.nth == u64::from(nth)
-            {
-                return Some(*number);
-            }
-        }
-        None
+        first_of(&self.kept, clerk, kind, u64::from(nth))
     }
 
     /// The least pending message whose link isn't cut, and that isn't for a stopped server.
@@ -196,7 +185,7 @@ impl Pool {
         requires { member clerk self.old.cut ≡ true }
         ensures { (w : World) → machine.uncut clerk (with_pool self.old w) ≡ machine.moving (with_pool self.new w) }
     {
-        self.cut.retain(|cut| cut.get() != clerk.get());
+        mend(&mut self.cut, clerk);
     }
 
     /// Keeps the pending messages and the last ones alone. It takes no memory, and looks only at messages that were settled or ceased to be
@@ -211,11 +200,48 @@ impl Pool {
     }
 }
 
-fn link_of(sent: &Sent) -> Link
-    ensures { result ≡ link_of sent.now }
+// Puts the message in behind the others, or changes nothing.
+fn put_in(
+    kept: &mut BTreeMap<u64, Sent>,
+    pending: &mut SortedMap<u64, Link>,
+    number: u64,
+    sent: Sent,
+) -> Result<(), NoMemory>
+    requires kept { (q : ℕ) → IsTrue (is_some (at q kept.old.entries)) → q < number }
+    requires pending { (q : ℕ) → IsTrue (is_some (at q pending.old)) → q < number }
+    ensures kept { OnOk result (kept.new.entries ≡ kept.old.entries ++ (number, sent) ∷ []) }
+    ensures pending { OnOk result (pending.new ≡ pending.old ++ (number, link_of sent) ∷ []) }
+    ensures rises { IsStrictlySortedBy nat_cmp (keys kept.new.entries) }
+    ensures err { OnErr result ((kept.new.entries ≡ kept.old.entries) × (pending.new ≡ pending.old)) }
 {
-    Link {
-        clerk: sent.clerk,
-        is_for_server: is_for_server(sent),
+    let link = link_of(&sent);
+    kept.insert(number, sent)?;
+    if pending.insert(number, link).is_err() {
+        kept.remove(&number);
+        return Err(NoMemory);
     }
+    Ok(())
+}
+
+// The number of the first message that is the nth of the kind between the clerk and the server.
+fn first_of(
+    kept: &BTreeMap<u64, Sent>,
+    clerk: ClerkId,
+    kind: MsgKind,
+    nth: u64,
+) -> Option<u64>
+    ensures { result ≡ key_of (first (machine.is_this clerk kind nth) kept.now.entries) }
+{
+    for (number, sent) in kept {
+        if is_this(sent, clerk, kind, nth) {
+            return Some(*number);
+        }
+    }
+    None
+}
+
+fn is_this(sent: &Sent, clerk: ClerkId, kind: MsgKind, nth: u64) -> bool
+    ensures { (n : ℕ) → result ≡ machine.is_this clerk kind nth (n, sent.now) }
+{
+    sent.clerk == clerk && is_same_kind(kind_of(&sent.msg), kind) && sent.nth == nth
 }
