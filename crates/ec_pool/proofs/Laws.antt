@@ -1,5 +1,5 @@
 -- What each change keeps of a pool's parts, and that it is the machine's.
-use Rattle.std.proofs.Common.{◌≡◌, ℕ, suc, ◌+◌, ◌<◌, ◌≤◌, refl, sym, ap, subst, ◌∙◌, arith, Bool, true, false, cond, not, ◌&&◌, ◌||◌, T, List, [], ◌∷◌, ◌++◌, length, filter, Option, None, Some, is_some, IsTrue, MatchOption, ◌==◌, nat_lt, is_eq, nat_cmp, position, Result, Ok, Err, OnOk, OnErr, IfSome, Bor, option_copied, ◌⊎◌, inl, inr, ⊎_elim}
+use Rattle.std.proofs.Common.{◌≡◌, ℕ, suc, ◌+◌, ◌<◌, ◌≤◌, refl, sym, ap, subst, ◌∙◌, arith, Bool, true, false, cond, not, ◌&&◌, ◌||◌, T, List, [], ◌∷◌, ◌++◌, length, filter, Option, None, Some, is_some, IsTrue, MatchOption, ◌==◌, nat_lt, is_eq, nat_cmp, position, Result, Ok, Err, is_ok, is_err, if◌then◌else◌, OnOk, OnErr, IfSome, Bor, option_copied, ◌⊎◌, inl, inr, ⊎_elim}
 use Rattle.std.specs.List.{position_or_len}
 use Rattle.std.specs.Map.{lookup, remove_entry}
 use Rattle.std.specs.BTreeMap.{is_at}
@@ -159,7 +159,7 @@ counts_at c k [] i p l = absurd (omega arith)
 counts_at c k (e ∷ es) i p l = go (machine.is_count_of c k e) refl p (counts_at c k es)
   where
     go : (b : Bool) → machine.is_count_of c k e ≡ b → cond (not b) (1 + position_or_len (machine.is_count_of c k) es) 0 ≡ i
-       → ((j : ℕ) → position_or_len (machine.is_count_of c k) es ≡ j → j < length es → CountsAt c k es j) → CountsAt c k (e ∷ es) i
+        → ((j : ℕ) → position_or_len (machine.is_count_of c k) es ≡ j → j < length es → CountsAt c k es j) → CountsAt c k (e ∷ es) i
     go true q p rest = subst (CountsAt c k (e ∷ es)) p (record { within = omega arith; count = λ d. count_here c k e es q; more = λ d. more_here c k e es q })
     go false q p rest =
         let r = rest (position_or_len (machine.is_count_of c k) es) refl (omega arith) in
@@ -175,7 +175,7 @@ counts_new c k [] l = record { count = refl; more = refl }
 counts_new c k (e ∷ es) l = go (machine.is_count_of c k e) refl l (counts_new c k es)
   where
     go : (b : Bool) → machine.is_count_of c k e ≡ b → length (e ∷ es) ≤ cond (not b) (1 + position_or_len (machine.is_count_of c k) es) 0
-       → (length es ≤ position_or_len (machine.is_count_of c k) es → CountsNew c k es) → CountsNew c k (e ∷ es)
+        → (length es ≤ position_or_len (machine.is_count_of c k) es → CountsNew c k es) → CountsNew c k (e ∷ es)
     go true q l rest = absurd (omega arith)
     go false q l rest = let r = rest (omega arith) in record { count = count_later c k e es q ∙ r.count; more = more_later c k e es q ∙ ap (λ xs. e ∷ xs) r.more }
 
@@ -196,23 +196,23 @@ sent_holds sent counts es ps settled forgotten room n c k s more h is sound rise
     let below_ps : (q : ℕ) → IsTrue (is_some (at q ps)) → q < n = λ q f. below q (are_kept es ps h.linked q f) in
     let none : at n ps ≡ None = lists.none_above n ps below_ps in
     let old_known : (q : ℕ) → IsTrue (stays forgotten ps q || member q settled) → IsTrue (stays forgotten (ps ++ (n, link_of s) ∷ []) q || member q settled) =
-      λ q f. known_more q (nat_lt forgotten (q + kept_messages)) (is_some (at q ps)) (is_some (at q (ps ++ (n, link_of s) ∷ []))) (member q settled)
-        (λ g. ap is_some (lists.at_last n (link_of s) ps q none) ∙ by (is_eq (nat_cmp q n)) (at q ps) g) f in
+    λ q f. known_more q (nat_lt forgotten (q + kept_messages)) (is_some (at q ps)) (is_some (at q (ps ++ (n, link_of s) ∷ []))) (member q settled)
+    (λ g. ap is_some (lists.at_last n (link_of s) ps q none) ∙ by (is_eq (nat_cmp q n)) (at q ps) g) f in
     record {
       counted = subst (λ m. AreUpTo m (machine.one_more c k counts)) (sym is) (one_more_up_to sent c k counts h.counted);
       rises = rises;
       within = λ q f. ⊎_elim (λ p. let e = p.0 in omega arith) (λ o. let w = h.within q (ap is_some o) in omega arith) (let x = some_of (at q (es ++ (n, s) ∷ [])) f in new_or_old n s es below q x.0 x.1);
       sound = λ q t f. ⊎_elim (λ p. subst (λ (u : Sent). IsTrue (is_sound u.msg)) (sym p.1) sound) (λ o. h.sound q t o) (new_or_old n s es below q t f);
       linked = lists.all_last _ ps (n, link_of s)
-        (lists.all_by (λ p. link_to (at p.0 es) ≡ Some p.1) (λ p. link_to (at p.0 (es ++ (n, s) ∷ [])) ≡ Some p.1) ps
+          (lists.all_by (λ p. link_to (at p.0 es) ≡ Some p.1) (λ p. link_to (at p.0 (es ++ (n, s) ∷ [])) ≡ Some p.1) ps
           (λ p k l. let x = some_of (at p.0 es) (linked_some (at p.0 es) p.1 l) in ap link_to (old_stays n s es below p.0 x.0 x.1 ∙ sym x.1) ∙ l) h.linked)
-        (ap link_to (at_its_place n s es below));
+          (ap link_to (at_its_place n s es below));
       known = λ q f. ⊎_elim
-        (λ p. either_left (stays forgotten (ps ++ (n, link_of s) ∷ []) q) (member q settled)
+          (λ p. either_left (stays forgotten (ps ++ (n, link_of s) ∷ []) q) (member q settled)
           (either_right (nat_lt forgotten (q + kept_messages)) (is_some (at q (ps ++ (n, link_of s) ∷ [])))
-            (subst (λ r. IsTrue (is_some (at r (ps ++ (n, link_of s) ∷ [])))) (sym p.0) (ap is_some (lists.at_last n (link_of s) ps n none ∙ ap (λ x. cond x (Some (link_of s)) (at n ps)) (lists.itself n))))))
-        (λ o. old_known q (h.known q (ap is_some o)))
-        (let x = some_of (at q (es ++ (n, s) ∷ [])) f in new_or_old n s es below q x.0 x.1);
+          (subst (λ r. IsTrue (is_some (at r (ps ++ (n, link_of s) ∷ [])))) (sym p.0) (ap is_some (lists.at_last n (link_of s) ps n none ∙ ap (λ x. cond x (Some (link_of s)) (at n ps)) (lists.itself n))))))
+          (λ o. old_known q (h.known q (ap is_some o)))
+          (let x = some_of (at q (es ++ (n, s) ∷ [])) f in new_or_old n s es below q x.0 x.1);
       has_room = rw (lists.length_last (n, link_of s) ps) fits;
     }
   where
@@ -221,6 +221,7 @@ sent_holds sent counts es ps settled forgotten room n c k s more h is sound rise
     known_more q false true b' d f h = either_left b' d (f refl)
     known_more q false false b' true f h = either_right b' true refl
     known_more q false false b' false f h = absurd cc
+
     by : (b : Bool) (o : Option Link) → IsTrue (is_some o) → IsTrue (is_some (cond b (Some (link_of s)) o))
     by true o h = refl
     by false o h = h
@@ -230,23 +231,25 @@ sent_holds sent counts es ps settled forgotten room n c k s more h is sound rise
 pub settled_holds : (sent : ℕ) (counts : List ((ℕ × MsgKind) × ℕ)) (es : Table Sent) (ps : Table Link) (settled : List ℕ) (forgotten room n : ℕ)
     → Holds sent counts es ps settled forgotten room → IsTrue (is_some (at n ps)) → Holds sent counts es (without n ps) (settled ++ n ∷ []) forgotten room
 settled_holds sent counts es ps settled forgotten room n h is = record {
-    counted = h.counted;
-    rises = h.rises;
-    within = h.within;
-    sound = h.sound;
-    linked = lists.all_filter _ _ ps h.linked;
-    known = λ q f. subst (λ b. IsTrue (stays forgotten (without n ps) q || b)) (sym (member_last q n settled)) (go q (is_eq (nat_cmp n q)) refl (h.known q f));
-    has_room = let a = lists.length_without n ps is in let b = ends n settled in let c = h.has_room in omega arith;
-  }
+  counted = h.counted;
+  rises = h.rises;
+  within = h.within;
+  sound = h.sound;
+  linked = lists.all_filter _ _ ps h.linked;
+  known = λ q f. subst (λ b. IsTrue (stays forgotten (without n ps) q || b)) (sym (member_last q n settled)) (go q (is_eq (nat_cmp n q)) refl (h.known q f));
+  has_room = let a = lists.length_without n ps is in let b = ends n settled in let c = h.has_room in omega arith;
+}
   where
     ends : (n : ℕ) (ns : List ℕ) → length (ns ++ n ∷ []) ≡ length ns + 1
     ends n [] = refl
     ends n (m ∷ ms) = let k = ends n ms in omega arith
+
     shift : (a b c : Bool) → IsTrue ((a || b) || c) → IsTrue ((a || b) || (c || false))
     shift true b c h = refl
     shift false true c h = refl
     shift false false true h = refl
     shift false false false h = absurd cc
+
     go : (q : ℕ) (b : Bool) → is_eq (nat_cmp n q) ≡ b → IsTrue (stays forgotten ps q || member q settled) → IsTrue (stays forgotten (without n ps) q || (member q settled || (q == n)))
     go q true p k =
         let e : (q == n) ≡ true = lists.test_back n q ∙ p in
@@ -262,14 +265,14 @@ settled_holds sent counts es ps settled forgotten room n h is = record {
 pub pending_holds : (sent : ℕ) (counts : List ((ℕ × MsgKind) × ℕ)) (es : Table Sent) (ps : Table Link) (settled : List ℕ) (forgotten room n more : ℕ) (s : Sent)
     → Holds sent counts es ps settled forgotten room → at n es ≡ Some s → at n ps ≡ None → length settled + (length ps + 1) ≤ more → Holds sent counts es (put nat_cmp n (link_of s) ps) settled forgotten more
 pending_holds sent counts es ps settled forgotten room n more s h kept none fits = record {
-    counted = h.counted;
-    rises = h.rises;
-    within = h.within;
-    sound = h.sound;
-    linked = lists.all_put _ n (link_of s) ps none h.linked (ap link_to kept);
-    known = λ q f. subst (λ (o : Option Link). IsTrue ((nat_lt forgotten (q + kept_messages) || is_some o) || member q settled)) (sym (lists.at_put n (link_of s) ps q)) (go (nat_lt forgotten (q + kept_messages)) (is_eq (nat_cmp q n)) (at q ps) (member q settled) (h.known q f));
-    has_room = let k = lists.length_put n (link_of s) ps in omega arith;
-  }
+  counted = h.counted;
+  rises = h.rises;
+  within = h.within;
+  sound = h.sound;
+  linked = lists.all_put _ n (link_of s) ps none h.linked (ap link_to kept);
+  known = λ q f. subst (λ (o : Option Link). IsTrue ((nat_lt forgotten (q + kept_messages) || is_some o) || member q settled)) (sym (lists.at_put n (link_of s) ps q)) (go (nat_lt forgotten (q + kept_messages)) (is_eq (nat_cmp q n)) (at q ps) (member q settled) (h.known q f));
+  has_room = let k = lists.length_put n (link_of s) ps in omega arith;
+}
   where
     go : (a b : Bool) (o : Option Link) (c : Bool) → IsTrue ((a || is_some o) || c) → IsTrue ((a || is_some (cond b (Some (link_of s)) o)) || c)
     go true b o c h = refl
@@ -293,14 +296,15 @@ forgets_on sent ps a b c f g = record {
 pub forgets_one : (n : ℕ) (es new : Table Sent) (ps : Table Link) (sent : ℕ) → at n ps ≡ None → n + kept_messages ≤ sent → new ≡ remove_entry (is_at (nat_cmp n)) es
     → ((q : ℕ) → lookup (is_at (nat_cmp q)) new ≡ cond (is_at (nat_cmp n) q) None (lookup (is_at (nat_cmp q)) es)) → IsStrictlySortedBy nat_cmp (keys new) → Forgets sent ps es new
 forgets_one n es new ps sent none passed is looks rises = record {
-    same = ap (λ xs. filter (λ e. stays sent ps e.0) xs) is ∙ lists.filter_removed (stays sent ps) n es (let l : nat_lt sent (n + kept_messages) ≡ false = grind (arith, nat_tests) in rw (l, none));
-    staying = λ q s. at_new q ∙ go q (is_eq (nat_cmp n q)) refl s;
-    fewer = λ q s. at_new q ∙ by q (is_eq (nat_cmp n q)) (subst (λ o. IsTrue (is_some o)) (at_new q) s);
-    rises = λ _. rises;
-  }
+  same = ap (λ xs. filter (λ e. stays sent ps e.0) xs) is ∙ lists.filter_removed (stays sent ps) n es (let l : nat_lt sent (n + kept_messages) ≡ false = grind (arith, nat_tests) in rw (l, none));
+  staying = λ q s. at_new q ∙ go q (is_eq (nat_cmp n q)) refl s;
+  fewer = λ q s. at_new q ∙ by q (is_eq (nat_cmp n q)) (subst (λ o. IsTrue (is_some o)) (at_new q) s);
+  rises = λ _. rises;
+}
   where
     at_new : (q : ℕ) → at q new ≡ cond (is_eq (nat_cmp n q)) None (at q es)
     at_new q = sym (lists.found q new) ∙ looks q ∙ ap (λ o. cond (is_eq (nat_cmp n q)) None o) (lists.found q es)
+
     go : (q : ℕ) (b : Bool) → is_eq (nat_cmp n q) ≡ b → IsTrue (stays sent ps q) → cond b None (at q es) ≡ at q es
     go q true p s =
         let e : n ≡ q = lists.same n q p in
@@ -311,6 +315,7 @@ forgets_one n es new ps sent none passed is looks rises = record {
         let g : P None = subst P m f in
         absurd cc
     go q false p s = refl
+
     by : (q : ℕ) (b : Bool) → IsTrue (is_some (cond b None (at q es))) → cond b None (at q es) ≡ at q es
     by q true s = absurd cc
     by q false s = refl
@@ -330,14 +335,14 @@ module _ (sent : ℕ) (counts : List ((ℕ × MsgKind) × ℕ)) (es mid new : Ta
       let in_es : IsTrue (is_some (at n es)) = subst (λ o. IsTrue (is_some o)) (f.fewer n in_mid) in_mid in
       let now : IsTrue (is_some (at n ps)) → IsTrue (stays sent ps n) = either_right (nat_lt sent (n + kept_messages)) (is_some (at n ps)) in
       ⊎_elim
-        (λ s. ⊎_elim
-          (λ l. let since : forgotten < n + kept_messages = grind (arith, nat_tests, l) in
-                ⊎_elim (λ y. either_left (nat_lt sent (n + kept_messages)) (is_some (at n ps)) y)
-                  (λ x. let passed : n + kept_messages ≤ sent = grind (arith, nat_tests, x) in now (v n since passed k))
-                  (lists.cases (nat_lt sent (n + kept_messages))))
-          now (either (nat_lt forgotten (n + kept_messages)) (is_some (at n ps)) s))
-        (λ m. u n m in_mid)
-        (either (stays forgotten ps n) (member n settled) (h.known n in_es))
+      (λ s. ⊎_elim
+      (λ l. let since : forgotten < n + kept_messages = grind (arith, nat_tests, l) in
+      ⊎_elim (λ y. either_left (nat_lt sent (n + kept_messages)) (is_some (at n ps)) y)
+      (λ x. let passed : n + kept_messages ≤ sent = grind (arith, nat_tests, x) in now (v n since passed k))
+      (lists.cases (nat_lt sent (n + kept_messages))))
+      now (either (nat_lt forgotten (n + kept_messages)) (is_some (at n ps)) s))
+      (λ m. u n m in_mid)
+      (either (stays forgotten ps n) (member n settled) (h.known n in_es))
 
   pub forgot_holds : Holds sent counts new ps [] sent room
   forgot_holds =
@@ -348,7 +353,7 @@ module _ (sent : ℕ) (counts : List ((ℕ × MsgKind) × ℕ)) (es mid new : Ta
         within = λ n k. h.within n (subst (λ o. IsTrue (is_some o)) (on.fewer n k) k);
         sound = λ n s k. h.sound n s (sym (on.fewer n (ap is_some k)) ∙ k);
         linked = lists.all_by (λ p. link_to (at p.0 es) ≡ Some p.1) (λ p. link_to (at p.0 new) ≡ Some p.1) ps
-          (λ p k l. ap link_to (on.staying p.0 (either_right (nat_lt sent (p.0 + kept_messages)) (is_some (at p.0 ps)) k)) ∙ l) h.linked;
+            (λ p k l. ap link_to (on.staying p.0 (either_right (nat_lt sent (p.0 + kept_messages)) (is_some (at p.0 ps)) k)) ∙ l) h.linked;
         known = λ n k. either_left (stays sent ps n) (member n []) (all_stay n k);
         has_room = let k = h.has_room in omega arith;
       }
@@ -384,7 +389,7 @@ due_is w running es (p ∷ ps) r h =
     ∙ go (passes w.cut running p.1) (due_is w running es ps r h.1)
   where
     go : (b : Bool) → first (λ n. machine.is_deliverable w (at n es)) (keys ps) ≡ key_of (first (λ p. passes w.cut running p.1) ps)
-       → elim b as (λ _. Option ℕ) [ true ↦ Some p.0 | false ↦ first (λ n. machine.is_deliverable w (at n es)) (keys ps) ] ≡ key_of (elim b as (λ _. Option (ℕ × Link)) [ true ↦ Some p | false ↦ first (λ p. passes w.cut running p.1) ps ])
+        → elim b as (λ _. Option ℕ) [ true ↦ Some p.0 | false ↦ first (λ n. machine.is_deliverable w (at n es)) (keys ps) ] ≡ key_of (elim b as (λ _. Option (ℕ × Link)) [ true ↦ Some p | false ↦ first (λ p. passes w.cut running p.1) ps ])
     go true rest = refl
     go false rest = rest
 
@@ -394,9 +399,44 @@ pub none_of : {X : Type 0} (o : Option X) → is_some o ≡ false → o ≡ None
 none_of None h = refl
 none_of (Some x) h = absurd cc
 
-pub not_true : (b : Bool) → not b ≡ true → b ≡ false
-not_true true h = absurd cc
-not_true false h = refl
+-- one more at the end, where a push succeeded
+pub pushed : {A E : Type 0} (r : Result A E) (x : A) (ns ms : List ℕ) (k : ℕ) → r ≡ Ok x → ns ≡ (if is_ok r then ms ++ k ∷ [] else ms) → ns ≡ ms ++ k ∷ []
+pushed (Ok y) x ns ms k e h = h
+pushed (Err z) x ns ms k e h = absurd cc
+
+pub err_of : {A E P : Type 0} (r : Result A E) (b : Bool) → b ≡ is_err r → b ≡ true → OnErr r P → P
+err_of (Ok x) b e h k = absurd cc
+err_of (Err x) b e h k = k
+
+pub ok_of : {A E P : Type 0} (r : Result A E) (b : Bool) → b ≡ is_err r → b ≡ false → OnOk r P → P
+ok_of (Ok x) b e h k = k
+ok_of (Err x) b e h k = absurd cc
+
+pub key_found : {X : Type 0} (r : Option ℕ) (p : ℕ × X → Bool) (es : Table X) → r ≡ key_of (first p es) → IfSome r (λ n. IsTrue (is_some (at n es)))
+key_found {X = X} r p es e = subst (λ o. IfSome o (λ n. IsTrue (is_some (at n es)))) (sym e) (go (first p es) refl)
+  where
+    go : (o : Option (ℕ × X)) → first p es ≡ o → IfSome (key_of o) (λ n. IsTrue (is_some (at n es)))
+    go None h = tt
+    go (Some d) h = first_is_found p es d h
+
+pub if_some : {P Q : ℕ → Type 0} (r : Option ℕ) → ((n : ℕ) → P n → Q n) → IfSome r P → IfSome r Q
+if_some None f h = tt
+if_some (Some n) f h = f n h
+
+-- the first of a list whose head is at hand
+pub first_here : {X : Type 0} (p : ℕ × X → Bool) (es rest new : Table X) (n : ℕ) (x : X) → first p es ≡ first p rest → rest ≡ (n, x) ∷ new → p (n, x) ≡ true → Some n ≡ key_of (first p es)
+first_here {X = X} p es rest new n x e f h =
+    sym (ap key_of (e ∙ ap (first p) f ∙ ap (λ b. elim b as (λ _. Option (ℕ × X)) [ true ↦ Some (n, x) | false ↦ first p new ]) h))
+
+pub first_later : {X : Type 0} (p : ℕ × X → Bool) (es rest new : Table X) (n : ℕ) (x : X) → first p es ≡ first p rest → rest ≡ (n, x) ∷ new → p (n, x) ≡ false → first p es ≡ first p new
+first_later {X = X} p es rest new n x e f h = e ∙ ap (first p) f ∙ ap (λ b. elim b as (λ _. Option (ℕ × X)) [ true ↦ Some (n, x) | false ↦ first p new ]) h
+
+pub find_is : (w : World) (p : Pooled) (es : Table Sent) (c : ℕ) (k : MsgKind) (n m : ℕ) (r : Option ℕ) → es ≡ p.pool → m ≡ n → r ≡ key_of (first (machine.is_this c k m) es) → machine.find c k n (with_pool p w) ≡ r
+find_is w p es c k n m r e q h = go (first (machine.is_this c k n) p.pool) ∙ (λ i. key_of (first (machine.is_this c k (sym q i)) (sym e i))) ∙ sym h
+  where
+    go : (o : Option (ℕ × Sent)) → elim o [ None ↦ None | Some e ↦ Some e.0 ] ≡ key_of o
+    go None = refl
+    go (Some e) = refl
 
 pub on_ok : {A E : Type 0} {P Q : Type 0} (r : Result A E) → OnOk r P → (P → Q) → OnOk r Q
 on_ok (Ok x) h f = f h
@@ -430,34 +470,55 @@ module _ (sent : ℕ) (counts : List ((ℕ × MsgKind) × ℕ)) (es : Table Sent
   made_put p v n x qs none e w =
       subst (λ r. made_pending n (with_pool r w) ≡ with_pool (record { sent = sent; counts = counts; pool = es; pending = keys qs; cut = cut }) w) v
       (ap (λ b. with_pool (record { sent = sent; counts = counts; pool = es; pending = elim b as (λ _. List ℕ) [ true ↦ keys ps | false ↦ machine.among n (keys ps) ]; cut = cut }) w) (lists.member_keys n ps ∙ ap is_some none)
-       ∙ ap (λ ns. with_pool (record { sent = sent; counts = counts; pool = es; pending = ns; cut = cut }) w) (sym (lists.keys_put n x ps none) ∙ ap keys (sym e)))
+      ∙ ap (λ ns. with_pool (record { sent = sent; counts = counts; pool = es; pending = ns; cut = cut }) w) (sym (lists.keys_put n x ps none) ∙ ap keys (sym e)))
 
   pub uncut_is : (p : Pooled) → pooled ≡ p → (c : ℕ) (cs : List ℕ) → member c p.cut ≡ true → cs ≡ filter (λ d. not (d == c)) cut → (w : World)
       → machine.uncut c (with_pool p w) ≡ machine.moving (with_pool (record { sent = sent; counts = counts; pool = es; pending = keys ps; cut = cs }) w)
   uncut_is p v c cs h e w =
       subst (λ r. machine.uncut c (with_pool r w) ≡ machine.moving (with_pool (record { sent = sent; counts = counts; pool = es; pending = keys ps; cut = cs }) w)) v
       (ap (λ b. elim b as (λ _. machine.Moving) [ true ↦ machine.moving (with_pool (record { sent = sent; counts = counts; pool = es; pending = keys ps; cut = filter (λ d. not (d == c)) cut }) w) | false ↦ machine.nothing (with_pool pooled w) ])
-        (ap (λ r. member c r.cut) v ∙ h)
-       ∙ ap (λ ds. machine.moving (with_pool (record { sent = sent; counts = counts; pool = es; pending = keys ps; cut = ds }) w)) (sym e))
+      (ap (λ r. member c r.cut) v ∙ h)
+      ∙ ap (λ ds. machine.moving (with_pool (record { sent = sent; counts = counts; pool = es; pending = keys ps; cut = ds }) w)) (sym e))
+
+  pub due_of : (p : Pooled) → pooled ≡ p → (running : Bool) (r : Option ℕ) (ds : List ℕ) (qs : Table Link) → qs ≡ ps → ds ≡ cut → r ≡ key_of (first (λ p. passes ds running p.1) qs) → AreLinked es ps
+      → (w : World) → is_some w.server ≡ running → machine.due (with_pool p w) ≡ r
+  due_of p v running r ds qs a b e h w run =
+      subst (λ q. machine.due (with_pool q w) ≡ r) v
+      (due_is (with_pool pooled w) running es ps run h ∙ (λ i. key_of (first (λ p. passes (sym b i) running p.1) (sym a i))) ∙ sym e)
 
   module _ (settled : List ℕ) (forgotten room : ℕ) (h : Holds sent counts es ps settled forgotten room) where
+    module _ (mid new : Table Sent) (ds : List ℕ) (same : ds ≡ settled) (f : Forgets sent ps es mid) (g : Forgets sent ps mid new)
+        (u : (n : ℕ) → IsTrue (member n ds) → IsTrue (is_some (at n mid)) → IsTrue (stays sent ps n))
+        (v : (n : ℕ) → forgotten < n + kept_messages → n + kept_messages ≤ sent → IsTrue (is_some (at n new)) → IsTrue (is_some (at n ps))) where
+      pub forgot_on : (ns : List ℕ) (more : ℕ) → ns ≡ [] → more ≡ room → Holds sent counts new ps ns sent more
+      forgot_on ns more e l =
+          subst (λ x. Holds sent counts new ps ns sent x) (sym l) (subst (λ x. Holds sent counts new ps x sent room) (sym e)
+          (forgot_holds sent counts es mid new ps settled forgotten room h f g (λ n m. u n (subst (λ x. IsTrue (member n x)) (sym same) m)) v))
+
+      pub forgot_is : (p : Pooled) → pooled ≡ p → (w : World) → machine.forget (with_pool p w) ≡ with_pool (record { sent = sent; counts = counts; pool = new; pending = keys ps; cut = cut }) w
+      forgot_is p t w =
+          subst (λ q. machine.forget (with_pool q w) ≡ with_pool (record { sent = sent; counts = counts; pool = new; pending = keys ps; cut = cut }) w) t
+          (ap (λ xs. with_pool (record { sent = sent; counts = counts; pool = xs; pending = keys ps; cut = cut }) w)
+          (forgot_same sent counts es mid new ps settled forgotten room h f g (λ n m. u n (subst (λ x. IsTrue (member n x)) (sym same) m)) v))
+
     pub unsettled_holds : (n : ℕ) (qs : Table Link) → at n ps ≡ None → qs ≡ without n ps → Holds sent counts es qs settled forgotten room
     unsettled_holds n qs none e = subst (λ xs. Holds sent counts es xs settled forgotten room) (sym (e ∙ lists.without_none n ps none)) h
 
     pub settled_on : (n : ℕ) (qs : Table Link) (ns : List ℕ) (more : ℕ) → IsTrue (is_some (at n ps)) → qs ≡ without n ps → ns ≡ settled ++ n ∷ [] → room ≤ more → Holds sent counts es qs ns forgotten more
     settled_on n qs ns more is e f l =
         let k = settled_holds sent counts es ps settled forgotten room n h is in
-        let j : Holds sent counts es (without n ps) (settled ++ n ∷ []) forgotten more = record k { has_room = let r = k.has_room in omega arith } in
+        let j : Holds sent counts es (without n ps) (settled ++ n ∷ []) forgotten more = record { counted = k.counted; rises = k.rises; within = k.within; sound = k.sound; linked = k.linked; known = k.known; has_room = let r = k.has_room in omega arith } in
         subst (λ xs. Holds sent counts es xs ns forgotten more) (sym e) (subst (λ xs. Holds sent counts es (without n ps) xs forgotten more) (sym f) j)
 
     pub roomier : (ns : List ℕ) (more : ℕ) → ns ≡ settled → room ≤ more → Holds sent counts es ps ns forgotten more
-    roomier ns more e l = subst (λ xs. Holds sent counts es ps xs forgotten more) (sym e) (record h { has_room = let r = h.has_room in omega arith })
+    roomier ns more e l = subst (λ xs. Holds sent counts es ps xs forgotten more) (sym e)
+        (record { counted = h.counted; rises = h.rises; within = h.within; sound = h.sound; linked = h.linked; known = h.known; has_room = let r = h.has_room in omega arith })
 
     pub pending_on : {A E : Type 0} (r : Result A E) (n : ℕ) (s : Sent) (qs : Table Link) (ns : List ℕ) (more : ℕ) → at n es ≡ Some s → at n ps ≡ None → ns ≡ settled → length settled + (length ps + 1) ≤ more → room ≤ more
         → OnOk r (qs ≡ put nat_cmp n (link_of s) ps) → OnErr r (qs ≡ ps) → Holds sent counts es qs ns forgotten more
     pending_on (Ok a) n s qs ns more kept none e fits l ok err =
         subst (λ xs. Holds sent counts es xs ns forgotten more) (sym ok) (subst (λ xs. Holds sent counts es (put nat_cmp n (link_of s) ps) xs forgotten more) (sym e)
-          (pending_holds sent counts es ps settled forgotten room n more s h kept none fits))
+        (pending_holds sent counts es ps settled forgotten room n more s h kept none fits))
     pending_on (Err x) n s qs ns more kept none e fits l ok err = subst (λ xs. Holds sent counts es xs ns forgotten more) (sym err) (roomier ns more e l)
 
     pub sent_on : (n c : ℕ) (k : MsgKind) (s : Sent) (cs : List ((ℕ × MsgKind) × ℕ)) (fs : Table Sent) (qs : Table Link) (ns : List ℕ) (more : ℕ) → n ≡ sent + 1 → IsTrue (is_sound s.msg)
@@ -465,5 +526,5 @@ module _ (sent : ℕ) (counts : List ((ℕ × MsgKind) × ℕ)) (es : Table Sent
         → Holds n cs fs qs ns forgotten more
     sent_on n c k s cs fs qs ns more is sound a b d rises e fits =
         subst (λ x. Holds n x fs qs ns forgotten more) (sym a) (subst (λ x. Holds n (machine.one_more c k counts) x qs ns forgotten more) (sym b)
-          (subst (λ x. Holds n (machine.one_more c k counts) (es ++ (n, s) ∷ []) x ns forgotten more) (sym d) (subst (λ x. Holds n (machine.one_more c k counts) (es ++ (n, s) ∷ []) (ps ++ (n, link_of s) ∷ []) x forgotten more) (sym e)
-            (sent_holds sent counts es ps settled forgotten room n c k s more h is sound (subst (λ x. IsStrictlySortedBy nat_cmp (keys x)) b rises) fits))))
+        (subst (λ x. Holds n (machine.one_more c k counts) (es ++ (n, s) ∷ []) x ns forgotten more) (sym d) (subst (λ x. Holds n (machine.one_more c k counts) (es ++ (n, s) ∷ []) (ps ++ (n, link_of s) ∷ []) x forgotten more) (sym e)
+        (sent_holds sent counts es ps settled forgotten room n c k s more h is sound (subst (λ x. IsStrictlySortedBy nat_cmp (keys x)) b rises) fits))))

@@ -1,5 +1,5 @@
 -- Lists of pairs with numbers as keys: look-ups, and what additions and removals make of them.
-use Rattle.std.proofs.Common.{◌≡◌, ℕ, ◌+◌, ◌<◌, ◌≤◌, refl, sym, ap, subst, ◌∙◌, arith, Bool, true, false, cond, not, ◌&&◌, ◌||◌, T, List, [], ◌∷◌, ◌++◌, length, filter, Option, None, Some, is_some, IsTrue, ◌==◌, nat_lt, Ordering, Less, Equal, Greater, is_eq, is_lt, nat_cmp, ◌⊎◌, inl, inr}
+use Rattle.std.proofs.Common.{◌≡◌, ℕ, ◌+◌, ◌<◌, ◌≤◌, refl, sym, ap, subst, ◌∙◌, arith, Bool, true, false, cond, not, ◌&&◌, ◌||◌, T, [], ◌∷◌, ◌++◌, length, filter, Option, None, Some, is_some, IsTrue, ◌==◌, nat_lt, Ordering, Less, Equal, Greater, is_eq, is_lt, nat_cmp, ◌⊎◌, inl, inr}
 use Rattle.std.specs.Ordering.{eq_by_cmp}
 use Rattle.std.specs.Cmp.{nat_cmp_total}
 use Rattle.std.specs.List.{AllByRecursion}
@@ -106,10 +106,12 @@ module _ {X : Type 0} where
     where
       less : nat_cmp n e.0 ≡ Less → nat_lt n e.0 ≡ true
       less p = grind (arith, nat_tests)
+
       greater : nat_cmp n e.0 ≡ Greater → nat_lt n e.0 ≡ false
       greater p = grind (arith, nat_tests)
+
       go : (r : Ordering) → nat_cmp n e.0 ≡ r → cond (is_eq r) (Some e.1) (at n es) ≡ None → (at n es ≡ None → keys (put nat_cmp n x es) ≡ among n (keys es))
-         → keys (by_order r ((n, x) ∷ e ∷ es) ((e.0, x) ∷ es) (e ∷ put nat_cmp n x es)) ≡ elim (nat_lt n e.0) [ true ↦ n ∷ e.0 ∷ keys es | false ↦ e.0 ∷ among n (keys es) ]
+          → keys (by_order r ((n, x) ∷ e ∷ es) ((e.0, x) ∷ es) (e ∷ put nat_cmp n x es)) ≡ elim (nat_lt n e.0) [ true ↦ n ∷ e.0 ∷ keys es | false ↦ e.0 ∷ among n (keys es) ]
       go Less p none rest = rw (less p)
       go Equal p none rest = absurd cc
       go Greater p none rest = rw (greater p) (ap (λ ns. e.0 ∷ ns) (rest none))
@@ -134,7 +136,7 @@ module _ {X : Type 0} where
       ap (λ b. cond (not b) (e.0 ∷ filter (λ m. not (m == n)) (keys es)) (filter (λ m. not (m == n)) (keys es))) (test_back n e.0) ∙ go (is_eq (nat_cmp n e.0)) (keys_without n es)
     where
       go : (b : Bool) → filter (λ m. not (m == n)) (keys es) ≡ keys (without n es)
-         → cond (not b) (e.0 ∷ filter (λ m. not (m == n)) (keys es)) (filter (λ m. not (m == n)) (keys es)) ≡ keys (cond (not b) (e ∷ without n es) (without n es))
+          → cond (not b) (e.0 ∷ filter (λ m. not (m == n)) (keys es)) (filter (λ m. not (m == n)) (keys es)) ≡ keys (cond (not b) (e ∷ without n es) (without n es))
       go true rest = rest
       go false rest = ap (λ ns. e.0 ∷ ns) rest
 
@@ -160,6 +162,7 @@ module _ {X : Type 0} where
           by : (b : Bool) → length (without n ds) ≤ length ds → length (cond (not b) (d ∷ without n ds) (without n ds)) ≤ length (d ∷ ds)
           by true k = omega arith
           by false k = omega arith
+
       go : (b : Bool) → IsTrue (is_some (cond b (Some e.1) (at n es))) → (IsTrue (is_some (at n es)) → length (without n es) + 1 ≤ length es) → length (cond (not b) (e ∷ without n es) (without n es)) + 1 ≤ length (e ∷ es)
       go true k rest = let s = shorter es in omega arith
       go false k rest = let s = rest k in omega arith
@@ -171,7 +174,7 @@ module _ {X : Type 0} where
   filter_removed p n (e ∷ es) h = go (is_eq (nat_cmp n e.0)) refl (filter_removed p n es h)
     where
       go : (b : Bool) → is_eq (nat_cmp n e.0) ≡ b → filter (λ e. p e.0) (remove_entry (is_at (nat_cmp n)) es) ≡ filter (λ e. p e.0) es
-         → filter (λ e. p e.0) (cond b es (e ∷ remove_entry (is_at (nat_cmp n)) es)) ≡ filter (λ e. p e.0) (e ∷ es)
+          → filter (λ e. p e.0) (cond b es (e ∷ remove_entry (is_at (nat_cmp n)) es)) ≡ filter (λ e. p e.0) (e ∷ es)
       go true q rest = let f : p e.0 ≡ false = ap p (sym (same n e.0 q)) ∙ h in rw f refl
       go false q rest = ap (λ xs. cond (p e.0) (e ∷ xs) xs) rest
 
@@ -230,13 +233,16 @@ module _ {X : Type 0} where
       left : (a b : Bool) → T (a && b) → T a
       left true b p = tt
       left false b p = p
+
       right : (a b : Bool) → T (a && b) → T b
       right true b p = p
       right false b p = absurd p
+
       less : (r : Ordering) → T (is_lt r) → r ≡ Less
       less Less p = refl
       less Equal p = absurd p
       less Greater p = absurd p
+
       below : (k : ℕ) (es : Table X) → T (below_all nat_cmp k es) → AllByRecursion (λ y. nat_cmp k y ≡ Less) (keys es)
       below k [] h = tt
       below k (d ∷ ds) h = (less _ (left _ _ h), below k ds (right _ _ h))

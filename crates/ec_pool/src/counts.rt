@@ -41,7 +41,5 @@ fn place_of(counts: &[Count], clerk: ClerkId, kind: MsgKind) -> Option<usize>
 fn position_of(counts: &[Count], clerk: ClerkId, kind: MsgKind) -> Option<usize>
     ensures { result ≡ position (machine.is_count_of clerk kind) counts.now }
 {
-    counts
-        .iter()
-        .position(|count| count.0.0 == clerk && is_same_kind(count.0.1, kind))
+    counts.iter().position(|count| count.0.0 == clerk && is_same_kind(count.0.1, kind))
 }

@@ -224,12 +224,7 @@ fn put_in(
 }
 
 // The number of the first message that is the nth of the kind between the clerk and the server.
-fn first_of(
-    kept: &BTreeMap<u64, Sent>,
-    clerk: ClerkId,
-    kind: MsgKind,
-    nth: u64,
-) -> Option<u64>
+fn first_of(kept: &BTreeMap<u64, Sent>, clerk: ClerkId, kind: MsgKind, nth: u64) -> Option<u64>
     ensures { result ≡ key_of (first (machine.is_this clerk kind nth) kept.now.entries) }
 {
     for (number, sent) in kept {

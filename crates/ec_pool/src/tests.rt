@@ -10,9 +10,13 @@ fn messages_are_due_in_order(rt: HostRuntime) -> Result<(), Fail> {
     let b = ClerkId::new(1).ok_or("a clerk")?;
     let mut pool = Pool::new(rt.alloc());
     for clerk in [a, b, a] {
-        pool.send(clerk, Msg::Bye(SessionNo(1), 1)).ok().ok_or("no memory")?;
+        pool.send(clerk, Msg::Bye(SessionNo(1), 1))
+            .ok()
+            .ok_or("no memory")?;
     }
-    pool.send(b, Msg::Kept(SessionNo(2), 1, 1)).ok().ok_or("no memory")?;
+    pool.send(b, Msg::Kept(SessionNo(2), 1, 1))
+        .ok()
+        .ok_or("no memory")?;
     assert!(rt; pool.pending() == 4);
     assert!(rt; pool.due(true) == Some(1));
     assert!(rt; pool.due(false) == Some(4));
@@ -40,7 +44,9 @@ fn the_last_and_the_pending_messages_are_kept(rt: HostRuntime) -> Result<(), Fai
     let a = ClerkId::new(0).ok_or("a clerk")?;
     let mut pool = Pool::new(rt.alloc());
     for number in 1..=5000 {
-        pool.send(a, Msg::Kept(SessionNo(1), 1, 1)).ok().ok_or("no memory")?;
+        pool.send(a, Msg::Kept(SessionNo(1), 1, 1))
+            .ok()
+            .ok_or("no memory")?;
         if number != 7 && number != 8 {
             pool.settle(number);
         }
