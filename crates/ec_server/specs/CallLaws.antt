@@ -1,6 +1,6 @@
 -- What a call of a server leaves. No public clause cites this file.
 use Rattle.std.proofs.Common.{◌≡◌, ◌≤◌, refl, sym, ap, subst, ◌∙◌, arith, ℕ, Bool, true, false, not, ◌&&◌, List, [], ◌∷◌, Option, None, Some, Result, Ok, Err, length}
-use Rattle.std.specs.Prelude.{◌↔◌, nat_lt, nat_le, OnOk, IfOk, IfErr, IsOk, IsTrue, T}
+use Rattle.std.specs.Prelude.{◌↔◌, nat_lt, nat_le, OnOk, IfOk, IfErr, IsOk, IsTrue}
 use Rattle.std.specs.List.{list_all}
 use Rattle.std.proofs.lemmas.Bool.{and_parts, lt-ltb}
 use Rattle.ec_base.specs.declared.ids.Hold.{Hold}
@@ -16,9 +16,10 @@ use Rattle.ec_wire.specs.Messages.{is_sound, rises, is_held_mode}
 use Rattle.ec_wire.specs.declared.msg.Msg.{Msg}
 use Rattle.ec_wire.specs.declared.msg.Msg.TheVariants as msg
 use Rattle.ec_durable.specs.Durable.{slot}
-use Rattle.ec_durable.specs.Steps.{AreSoundOps}
+use Rattle.ec_durable.specs.Codes.{is_sound_record}
 use Rattle.ec_durable.specs.declared.state.Durable.{Durable}
 use Rattle.ec_durable.specs.declared.record.Record.{Record}
+use Rattle.ec_durable.specs.declared.record.Record.TheVariants.{Batch}
 use Rattle.ec_protocol.specs.Server.{Serving, serving, taken, in_session, end_open, serve, end}
 use Rattle.ec_protocol.specs.declared.server.Server.{Server}
 use Rattle.ec_protocol.specs.declared.server.Served.{Served}
@@ -118,17 +119,11 @@ taken_part c _ q t is = absurd cc
 
 -- What is sound.
 
-sound_list : (ops : List (ℕ × Update)) → list_all (λ op. is_sound_update op.1) ops ≡ true → AreSoundOps ops
-sound_list [] h = tt
-sound_list (op ∷ ops) h =
-    let p = and_parts (is_sound_update op.1) (list_all (λ op. is_sound_update op.1) ops) h in
-    (subst T (sym p.0) tt, sound_list ops p.1)
-
-pub sound_ops : (m : Msg) (s e b : ℕ) (ops : List (ℕ × Update)) → IsTrue (is_sound m) → m ≡ msg.Flush s e b ops → AreSoundOps ops
-sound_ops m s e b ops h is = sound_list ops (last (nat_le 1 (length ops)) (nat_le (length ops) 64) (rises (keys ops)) (list_all (λ op. is_sound_update op.1) ops) (subst (λ (n : Msg). IsTrue (is_sound n)) is h))
+pub sound_ops : (m : Msg) (c s e b : ℕ) (ops : List (ℕ × Update)) → IsTrue (is_sound m) → m ≡ msg.Flush s e b ops → is_sound_record (Batch c s b ops) ≡ true
+sound_ops m c s e b ops h is = both (nat_le 1 (length ops)) (nat_le (length ops) 64) (rises (keys ops)) (list_all (λ op. is_sound_update op.1) ops) (subst (λ (n : Msg). IsTrue (is_sound n)) is h)
   where
-    last : (x y z w : Bool) → (x && y && z && w) ≡ true → w ≡ true
-    last x y z w h = grind (arith, h)
+    both : (x y z w : Bool) → (x && y && z && w) ≡ true → (x && y && w) ≡ true
+    both x y z w h = grind (arith, h)
 
 -- the first id is one
 abbrev pub IsFromOne : List (ℕ × Hold) → Type 0

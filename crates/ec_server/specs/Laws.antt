@@ -73,13 +73,13 @@ opens c age s old b n d e before new gone claimed told p q done forgets claims t
     ∙ ap (λ u. tell c (Opened age s e.epoch) (with_server (add_claimed s) u)) (sym (forgets e))
     ∙ ap (tell c (Opened age s e.epoch)) (sym (claims e)) ∙ ap (λ n. tell c (Opened age s n) (under e claimed)) (sym q) ∙ sym (tells e)
 
-not_le : (a b : ℕ) → b < a → nat_le a b ≡ false
+pub not_le : (a b : ℕ) → b < a → nat_le a b ≡ false
 not_le a b h = grind (arith, nat_tests)
 
 not_less : (a b : ℕ) → b ≤ a → nat_lt a b ≡ false
 not_less a b h = grind (arith, nat_tests)
 
-spent_or : Serving → Serving → Bool → Serving
+unfoldable pub spent_or : Serving → Serving → Bool → Serving
 spent_or t u b = elim b [ true ↦ t | false ↦ u ]
 
 abbrev Opens : ℕ → Age → Option ℕ → Bool → ℕ → Durable → Durable → Core → Core → Core → Core → Core → ℕ → Type 0
@@ -145,7 +145,7 @@ claims c ss list t some new clear = go (slot_of c t) refl some
         ∙ ap (λ f. claim_by c ss list sl t false (is_none f)) clear
 
 -- A batch that the window has, and one that is committed.
-flush_by : ℕ → ℕ → ℕ → List (ℕ × Update) → Slot → Serving → Bool → Bool → Serving
+unfoldable pub flush_by : ℕ → ℕ → ℕ → List (ℕ × Update) → Slot → Serving → Bool → Bool → Serving
 flush_by c ss b ops sl t had may =
     elim had [
       | true ↦ tell c (Kept ss (epoch t) b) t
@@ -160,7 +160,7 @@ keeps_again c ss b ops t = go (slot_of c t) refl
     go None p h = absurd cc
     go (Some sl) p h = at_some c (flush c ss b ops) t sl p ∙ ap (λ x. flush_by c ss b ops sl t x (may_write t.server.tokens ss ops)) h
 
-no_session : (c ss b : ℕ) (ops : List (ℕ × Update)) (d e : Durable) → slot d c ≡ None → step (Batch c ss b ops) d ≡ Ok e → ⊥
+pub no_session : (c ss b : ℕ) (ops : List (ℕ × Update)) (d e : Durable) → slot d c ≡ None → step (Batch c ss b ops) d ≡ Ok e → ⊥
 no_session c ss b ops d e p h = not_Ok (sym (ap refusal p) ∙ h)
   where
     refusal : Option Slot → Result Durable RecordFault
@@ -235,7 +235,7 @@ tests c ss e b opened now w f t h n = go (slot_of c t) refl h
         ∙ ap (answer ss w opened) n
 
 -- Ids.
-ids_by : ℕ → ℕ → ℕ → ℕ → Serving → Bool → Bool → Serving
+unfoldable pub ids_by : ℕ → ℕ → ℕ → ℕ → Serving → Bool → Bool → Serving
 ids_by c ss got ask t full spent =
     elim full [
       | true ↦ tell c (NoRoom ss (epoch t) ask (live t.server.durable) (reserved t.server.durable)) t
@@ -275,7 +275,7 @@ records_ids ss first n t m f ts rs next is tokens noted whole =
     ∙ ap (with_server (λ s. record s { tokens = with_ids ss s.number (run first 16) s.tokens; recorded = put ss s.number s.recorded })) next
 
 -- A start.
-start_by : Durable → Serving → Bool → Serving
+unfoldable pub start_by : Durable → Serving → Bool → Serving
 start_by d t b = elim b [ true ↦ spend counter.Epoch t | false ↦ commit (Epoch (d.epoch + 1)) (λ u. tell_all 0 u.server.durable.sessions u) stay t ]
 
 abbrev Starts : Bool → Durable → Durable → Core → Core → Core → ℕ → Type 0

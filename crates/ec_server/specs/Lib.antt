@@ -1,10 +1,13 @@
 pub mod CallLaws
 pub mod ClerkLaws
 pub mod Clerks
+pub mod Keepers
 pub mod Kept
 pub mod KeptLaws
+pub mod KeeperLaws
 pub mod Laws
 pub mod LoopLaws
+pub mod NumberLaws
 pub mod ServeLaws
 pub mod Servers
 pub mod SlotLaws

@@ -86,7 +86,7 @@ due t = actions t.server.tokens t.server.recalls
 abbrev pub round : Serving → Serving
 round t = act_all (due t) (waits t)
 
-round_recalls : (t : Serving) → (round t).server.recalls ≡ wants_after t.server.tokens t.server.recalls
+pub round_recalls : (t : Serving) → (round t).server.recalls ≡ wants_after t.server.tokens t.server.recalls
 round_recalls t = all_recalls (due t) (waits t)
 
 same_grants : (as' : List Action) → list_any is_grant as' ≡ list_any rounds.is_grant as'
@@ -247,7 +247,7 @@ told_one c (Some sl) t = go sl.is_open
     go true = (refl, refl)
     go false = (refl, refl)
 
-told_all : (c : ℕ) (list : slots.Slots) (t : Serving) → ((tell_all c list t).server ≡ t.server) × ((tell_all c list t).rec ≡ t.rec)
+pub told_all : (c : ℕ) (list : slots.Slots) (t : Serving) → ((tell_all c list t).server ≡ t.server) × ((tell_all c list t).rec ≡ t.rec)
 told_all c [] t = (refl, refl)
 told_all c (o ∷ list) t =
     let one = told_one c o t in

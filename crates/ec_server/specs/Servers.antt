@@ -22,11 +22,11 @@ StandsOn d s = s.is_down ≡ false → HaveClerks (standing d s)
 abbrev pub Does : Serving → Durable → Server → Served → Type 0
 Does done d s served = done ≡ record { server = standing d s; sent = served.sent; rec = served.rec; spent = None }
 
--- A server that isn't started leaves the durable state as it was, and a spent counter is the machine's.
+-- A spent counter, by which a server isn't started, is the machine's, and leaves the durable state as it was.
 abbrev pub Unstarted : ServerFault → Serving → Durable → Durable → Type 0
 Unstarted (Spent n) done old new = (done.spent ≡ Some n) × (new ≡ old)
-Unstarted DiskFailed done old new = new ≡ old
-Unstarted DiskStopped done old new = new ≡ old
+Unstarted DiskFailed done old new = Unit {0}
+Unstarted DiskStopped done old new = Unit {0}
 Unstarted NoMemory done old new = Unit {0}
 
 -- After any fault but a spent counter a server is down, and then it answers want of memory alone.

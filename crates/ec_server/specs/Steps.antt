@@ -39,19 +39,19 @@ under d c = record { server = server d c; sent = c.sent.items; rec = c.rec; spen
 abbrev pub at_slot : ℕ → (Slot → Serving → Serving) → Serving → Serving
 at_slot c f t = elim (slot_of c t) [ None ↦ t | Some sl ↦ f sl t ]
 
--- What a fault leaves: a spent counter is the machine's, and a fault of the disk has risen its count. Either leaves the server as it was.
+-- What a fault leaves: a spent counter is the machine's, and leaves the server as it was. A fault of the disk has risen its count.
 abbrev pub Leaves : ServerFault → Counts → Counts → Serving → Server → Server → Type 0
 Leaves (Spent n) before after done old new = (done.spent ≡ Some n) × (new ≡ old)
-Leaves DiskFailed before after done old new = Rose before.faults after.faults × (new ≡ old)
-Leaves DiskStopped before after done old new = Rose before.stops after.stops × IsSome before.armed × (new ≡ old)
+Leaves DiskFailed before after done old new = Rose before.faults after.faults
+Leaves DiskStopped before after done old new = Rose before.stops after.stops × IsSome before.armed
 Leaves NoMemory before after done old new = Unit {0}
 
 -- The same, where no counter is spent.
-abbrev pub Stops : ServerFault → Counts → Counts → Server → Server → Type 0
-Stops (Spent n) before after old new = ⊥
-Stops DiskFailed before after old new = Rose before.faults after.faults × (new ≡ old)
-Stops DiskStopped before after old new = Rose before.stops after.stops × IsSome before.armed × (new ≡ old)
-Stops NoMemory before after old new = Unit {0}
+abbrev pub Stops : ServerFault → Counts → Counts → Type 0
+Stops (Spent n) before after = ⊥
+Stops DiskFailed before after = Rose before.faults after.faults
+Stops DiskStopped before after = Rose before.stops after.stops × IsSome before.armed
+Stops NoMemory before after = Unit {0}
 
 -- A record was committed, or was refused and nothing changed.
 abbrev pub Commits : Bool → Record → Durable → Durable → Core → Core → Type 0

@@ -1,11 +1,12 @@
 // Batches.
-ghost use Rattle.std.specs.Prelude.{◌≡◌, OnOk, IfErr, IfOk, Some, None, MatchOption};
+ghost use Rattle.std.specs.Prelude.{◌≡◌, OnOk, IfErr, IfOk, Some, None, true, MatchOption};
 ghost use Rattle.std.specs.List.{list_all};
 ghost use Rattle.ec_base.specs.Holds.{is_write};
 ghost use Rattle.ec_durable.specs.Durable.{slot, has_batch};
-ghost use Rattle.ec_durable.specs.Steps.{AreSoundOps};
+ghost use Rattle.ec_durable.specs.Codes.{is_sound_record};
 ghost use Rattle.ec_tokens.specs.Tokens.{mode, token};
 ghost use Rattle.ec_protocol.specs.Server as machine;
+ghost use Rattle.ec_server.specs.Keepers.{Moves, Hurts, HasNumbers};
 ghost use Rattle.ec_server.specs.Kept.{IsLater};
 ghost use Rattle.ec_server.specs.Steps.{under, server, at_slot, Stops};
 
@@ -68,9 +69,11 @@ impl Core {
         batch: u64,
         ops: &List<(OpNo, Update)>,
     ) -> Result<(), ServerFault>
-        requires { AreSoundOps ops.now }
+        requires { is_sound_record (Record.Batch clerk session batch ops.now) ≡ true }
         ensures ok { OnOk result (at_slot clerk (machine.flush clerk session batch ops.now) (under (K.kept keeper.old) self.old) ≡ under (K.kept keeper.new) self.new) }
-        ensures err { IfErr result (λ fault. Stops fault (K.counts keeper.old) (K.counts keeper.new) (server (K.kept keeper.old) self.old) (server (K.kept keeper.new) self.new)) }
+        ensures err { IfErr result (λ fault. Stops fault (K.counts keeper.old) (K.counts keeper.new)) }
+        ensures did { OnOk result (Moves K.did self.old.rec self.new.rec keeper.old keeper.new) }
+        ensures keeper { IfErr result (λ fault. Hurts HasNumbers K.did K.broke fault (at_slot clerk (machine.flush clerk session batch ops.now) (under (K.kept keeper.old) self.old)) keeper.old keeper.new) }
         ensures later { IsLater (K.counts keeper.old) (K.counts keeper.new) }
     {
         if is_done(keeper, clerk, batch) {

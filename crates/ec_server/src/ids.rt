@@ -7,6 +7,7 @@ ghost use Rattle.ec_sessions.specs.declared.slot.Slot.{Slot};
 ghost use Rattle.ec_durable.specs.Durable.{slot, is_full, live, reserved};
 ghost use Rattle.ec_durable.specs.declared.state.Durable.{Durable};
 ghost use Rattle.ec_protocol.specs.Server as machine;
+ghost use Rattle.ec_server.specs.Keepers.{Moves, Hurts, HasNumbers};
 ghost use Rattle.ec_server.specs.Kept.{IsLater};
 ghost use Rattle.ec_server.specs.Steps.{under, server, at_slot, Leaves};
 
@@ -31,6 +32,8 @@ impl Core {
     ) -> Result<(), ServerFault>
         ensures ok { OnOk result (at_slot clerk (machine.room clerk session got ask) (under (K.kept keeper.old) self.old) ≡ under (K.kept keeper.new) self.new) }
         ensures err { IfErr result (λ fault. Leaves fault (K.counts keeper.old) (K.counts keeper.new) (at_slot clerk (machine.room clerk session got ask) (under (K.kept keeper.old) self.old)) (server (K.kept keeper.old) self.old) (server (K.kept keeper.new) self.new)) }
+        ensures did { OnOk result (Moves K.did self.old.rec self.new.rec keeper.old keeper.new) }
+        ensures keeper { IfErr result (λ fault. Hurts HasNumbers K.did K.broke fault (at_slot clerk (machine.room clerk session got ask) (under (K.kept keeper.old) self.old)) keeper.old keeper.new) }
         ensures later { IsLater (K.counts keeper.old) (K.counts keeper.new) }
     {
         let Some((grants, last_first)) = last_grant(keeper, clerk) else {
@@ -58,6 +61,8 @@ impl Core {
     ) -> Result<(), ServerFault>
         ensures ok { OnOk result (machine.grant_ids clerk session got ask (under (K.kept keeper.old) self.old) ≡ under (K.kept keeper.new) self.new) }
         ensures err { IfErr result (λ fault. Leaves fault (K.counts keeper.old) (K.counts keeper.new) (machine.grant_ids clerk session got ask (under (K.kept keeper.old) self.old)) (server (K.kept keeper.old) self.old) (server (K.kept keeper.new) self.new)) }
+        ensures did { OnOk result (Moves K.did self.old.rec self.new.rec keeper.old keeper.new) }
+        ensures keeper { IfErr result (λ fault. Hurts HasNumbers K.did K.broke fault (machine.grant_ids clerk session got ask (under (K.kept keeper.old) self.old)) keeper.old keeper.new) }
         ensures later { IsLater (K.counts keeper.old) (K.counts keeper.new) }
     {
         if is_full(keeper) {
@@ -87,6 +92,8 @@ impl Core {
         requires { first + ids_per_grant ≤ 2 ^ 32 }
         ensures ok { OnOk result (machine.resend_ids clerk session got (Some first) (under (K.kept keeper.now) self.old) ≡ under (K.kept keeper.now) self.new) }
         ensures err { IfErr result (λ fault. Leaves fault (K.counts keeper.now) (K.counts keeper.now) (machine.resend_ids clerk session got (Some first) (under (K.kept keeper.now) self.old)) (server (K.kept keeper.now) self.old) (server (K.kept keeper.now) self.new)) }
+        ensures rec { OnOk result (self.new.rec ≡ self.old.rec) }
+        ensures keeper { IfErr result (λ fault. Hurts HasNumbers K.did K.broke fault (machine.resend_ids clerk session got (Some first) (under (K.kept keeper.now) self.old)) keeper.now keeper.now) }
     {
         if !self.recorded.contains(&session) {
             if self.number >= LAST_COUNTER {
@@ -101,7 +108,8 @@ impl Core {
     // The tokens of sixteen ids are recorded, with one new number.
     fn record_ids(&mut self, session: SessionNo, first: ObjId) -> Result<(), NoMemory>
         requires { first + ids_per_grant ≤ 2 ^ 32 }
-        ensures { OnOk result ((d : Durable) → under d self.new ≡ machine.record_ids session first (under d self.old)) }
+        ensures does { OnOk result ((d : Durable) → under d self.new ≡ machine.record_ids session first (under d self.old)) }
+        ensures rec { OnOk result (self.new.rec ≡ self.old.rec) }
     {
         let number = self.next_number()?;
         add_ids(&mut self.tokens, session, first, number)?;
@@ -117,7 +125,8 @@ impl Core {
         got: u32,
         first: ObjId,
     ) -> Result<(), NoMemory>
-        ensures { OnOk result (machine.send_ids clerk session got first (under (K.kept keeper.now) self.old) ≡ under (K.kept keeper.now) self.new) }
+        ensures does { OnOk result (machine.send_ids clerk session got first (under (K.kept keeper.now) self.old) ≡ under (K.kept keeper.now) self.new) }
+        ensures rec { OnOk result (self.new.rec ≡ self.old.rec) }
     {
         let number = self.last_recording(session);
         let now = epoch(keeper);

@@ -1,11 +1,12 @@
 // What keeps the durable state, and one that keeps it in memory.
-ghost use Rattle.std.specs.Prelude.{◌≡◌, ◌≤◌, None, Ok, Err, OnOk, IfErr};
+ghost use Rattle.std.specs.Prelude.{◌≡◌, ◌≤◌, None, Ok, Err, true, OnOk, IfErr};
 ghost use Rattle.ec_disk.specs.Disk.{Counts, Counted};
+ghost use Rattle.ec_durable.specs.Codes.{is_sound_record};
 ghost use Rattle.ec_durable.specs.Durable.{step};
-ghost use Rattle.ec_durable.specs.Steps.{AreSound};
 ghost use Rattle.ec_durable.specs.WellFormed.{IsInOrder};
 ghost use Rattle.ec_server.specs.Kept.{Refuses, HasIds};
 ghost use Rattle.ec_durable.specs.declared.state.Durable.{Durable as State};
+ghost use Rattle.ec_durable.specs.declared.record.Record.{Record as Change};
 ghost use Rattle.ec_server.specs.declared.keeper.KeepFault.TheVariants as fault;
 
 use ec_base::NoMemory;
@@ -34,17 +35,24 @@ pub trait Keeper {
     /// How often its disk failed and stopped.
     ghost counts: { Self → Counts };
 
+    /// What a committed record did.
+    ghost did: { Self → Change → Self → Type 0 };
+
+    /// What a record may have done whose commit ended in a fault of the disk, or in want of memory.
+    ghost broke: { Self → Change → Self → Type 0 };
+
     /// The state behind all that was committed.
     fn view(&self) -> &Durable
         ensures kept { result.now ≡ kept self.now }
         ensures ids { HasIds (kept self.now) };
 
-    /// Commits a record whose updates are sound. After a refusal, or a fault of the disk, the state is as before; after a fault of
-    /// the disk what is on the disk isn't known.
+    /// Commits a record whose updates are sound, and of which a batch has 1 to 64. A refusal changes nothing. After any other fault it
+    /// isn't known whether the record is there.
     fn commit(&mut self, change: &Record) -> Result<(), KeepFault>
-        requires sound { AreSound change.now }
+        requires sound { is_sound_record change.now ≡ true }
         ensures ok { OnOk result (step change.now (kept self.old) ≡ Ok (kept self.new)) }
-        ensures err { IfErr result (λ fault. Refuses fault change.now (kept self.old) (kept self.new)) }
+        ensures did { OnOk result (did self.old change.now self.new) }
+        ensures err { IfErr result (λ fault. Refuses broke fault change.now (kept self.old) self.old self.new) }
         ensures counts { Counted (counts self.old) (counts self.new) (result ≡ Err fault.DiskFailed) (result ≡ Err fault.DiskStopped) };
 }
 
@@ -81,6 +89,10 @@ impl Keeper for InMemory {
     ghost kept = { λ keeper. keeper };
 
     ghost counts = { λ keeper. record { calls = 0; faults = 0; stops = 0; armed = None } };
+
+    ghost did = { λ old change new. step change old ≡ Ok new };
+
+    ghost broke = { λ old change new. new ≡ old };
 
     fn view(&self) -> &Durable {
         &self.durable

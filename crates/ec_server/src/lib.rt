@@ -14,6 +14,7 @@ mod sessions;
 mod state;
 mod steps;
 mod tokens;
+mod waiting;
 mod wants;
 
 pub use fault::ServerFault;

@@ -6,6 +6,7 @@ ghost use Rattle.ec_sessions.specs.Slots.{is_open};
 ghost use Rattle.ec_wire.specs.Messages.{is_sound};
 ghost use Rattle.ec_protocol.specs.Server as machine;
 ghost use Rattle.ec_server.specs.Clerks.{Records};
+ghost use Rattle.ec_server.specs.Keepers.{Did, Hurts, SpendsNothing};
 ghost use Rattle.ec_server.specs.Servers.{standing, Does, Unstarted, GoesDown, StandsOn};
 ghost use Rattle.ec_server.specs.Steps.{Leaves};
 ghost use Rattle.ec_durable.specs.declared.state.Durable.{Durable as Kept};
@@ -38,6 +39,8 @@ impl Server {
         ensures ok { IfOk result (λ made. Does (machine.start (K.kept keeper.old)) (K.kept keeper.new) made.0 made.1) }
         ensures err { IfErr result (λ fault. Unstarted fault (machine.start (K.kept keeper.old)) (K.kept keeper.old) (K.kept keeper.new)) }
         ensures counts { Counted (K.counts keeper.old) (K.counts keeper.new) (result ≡ Err fault.DiskFailed) (result ≡ Err fault.DiskStopped) }
+        ensures did { IfOk result (λ made. Did K.did made.1.rec keeper.old keeper.new) }
+        ensures keeper { IfErr result (λ fault. Hurts SpendsNothing K.did K.broke fault (machine.start (K.kept keeper.old)) keeper.old keeper.new) }
         ensures stands { IfOk result (λ made. StandsOn (K.kept keeper.new) made.0) }
         ensures record { IfOk result (λ made. Records made.1.rec (K.kept keeper.old) (K.kept keeper.new)) }
     {
@@ -77,6 +80,8 @@ impl Server {
         requires keeper { StandsOn (K.kept keeper.old) self.old }
         ensures ok { IfOk result (λ served. Does (machine.take from msg.now (standing (K.kept keeper.old) self.old)) (K.kept keeper.new) self.new served) }
         ensures err { IfErr result (λ fault. Leaves fault (K.counts keeper.old) (K.counts keeper.new) (machine.take from msg.now (standing (K.kept keeper.old) self.old)) (standing (K.kept keeper.old) self.old) (standing (K.kept keeper.new) self.new)) }
+        ensures did { IfOk result (λ served. Did K.did served.rec keeper.old keeper.new) }
+        ensures keeper { IfErr result (λ fault. Hurts SpendsNothing K.did K.broke fault (machine.take from msg.now (standing (K.kept keeper.old) self.old)) keeper.old keeper.new) }
         ensures counts { Counted (K.counts keeper.old) (K.counts keeper.new) (result ≡ Err fault.DiskFailed) (result ≡ Err fault.DiskStopped) }
         ensures down { GoesDown result self.old.is_down self.new.is_down }
         ensures stands { StandsOn (K.kept keeper.new) self.new }
@@ -97,6 +102,8 @@ impl Server {
         ensures ok { IfOk result (λ served. Does (machine.end clerk (standing (K.kept keeper.old) self.old)) (K.kept keeper.new) self.new served) }
         ensures none { IfOk result (λ served. (served.rec ≡ None) ↔ (is_open (slot (K.kept keeper.old) clerk) ≡ false)) }
         ensures err { IfErr result (λ fault. Leaves fault (K.counts keeper.old) (K.counts keeper.new) (machine.end clerk (standing (K.kept keeper.old) self.old)) (standing (K.kept keeper.old) self.old) (standing (K.kept keeper.new) self.new)) }
+        ensures did { IfOk result (λ served. Did K.did served.rec keeper.old keeper.new) }
+        ensures keeper { IfErr result (λ fault. Hurts SpendsNothing K.did K.broke fault (machine.end clerk (standing (K.kept keeper.old) self.old)) keeper.old keeper.new) }
         ensures counts { Counted (K.counts keeper.old) (K.counts keeper.new) (result ≡ Err fault.DiskFailed) (result ≡ Err fault.DiskStopped) }
         ensures down { GoesDown result self.old.is_down self.new.is_down }
         ensures stands { StandsOn (K.kept keeper.new) self.new }

@@ -4,6 +4,7 @@ ghost use Rattle.ec_durable.specs.Durable.{slot};
 ghost use Rattle.ec_sessions.specs.declared.slot.Slot.{Slot};
 ghost use Rattle.ec_durable.specs.declared.state.Durable.{Durable};
 ghost use Rattle.ec_protocol.specs.Server as machine;
+ghost use Rattle.ec_server.specs.Keepers.{Moves, Hurts, HasNumbers};
 ghost use Rattle.ec_server.specs.Kept.{IsLater};
 ghost use Rattle.ec_server.specs.Steps.{under, server, at_slot, Leaves, Stops};
 
@@ -23,7 +24,9 @@ impl Core {
         clerk: ClerkId,
     ) -> Result<(), ServerFault>
         ensures ok { OnOk result (at_slot clerk (machine.finish clerk) (under (K.kept keeper.old) self.old) ≡ under (K.kept keeper.new) self.new) }
-        ensures err { IfErr result (λ fault. Stops fault (K.counts keeper.old) (K.counts keeper.new) (server (K.kept keeper.old) self.old) (server (K.kept keeper.new) self.new)) }
+        ensures err { IfErr result (λ fault. Stops fault (K.counts keeper.old) (K.counts keeper.new)) }
+        ensures did { OnOk result (Moves K.did self.old.rec self.new.rec keeper.old keeper.new) }
+        ensures keeper { IfErr result (λ fault. Hurts HasNumbers K.did K.broke fault (at_slot clerk (machine.finish clerk) (under (K.kept keeper.old) self.old)) keeper.old keeper.new) }
         ensures later { IsLater (K.counts keeper.old) (K.counts keeper.new) }
     {
         let Some((session, window)) = last_session(keeper, clerk) else {
@@ -45,6 +48,8 @@ impl Core {
     ) -> Result<(), ServerFault>
         ensures ok { OnOk result (machine.hello clerk from age (under (K.kept keeper.old) self.old) ≡ under (K.kept keeper.new) self.new) }
         ensures err { IfErr result (λ fault. Leaves fault (K.counts keeper.old) (K.counts keeper.new) (machine.hello clerk from age (under (K.kept keeper.old) self.old)) (server (K.kept keeper.old) self.old) (server (K.kept keeper.new) self.new)) }
+        ensures did { OnOk result (Moves K.did self.old.rec self.new.rec keeper.old keeper.new) }
+        ensures keeper { IfErr result (λ fault. Hurts HasNumbers K.did K.broke fault (machine.hello clerk from age (under (K.kept keeper.old) self.old)) keeper.old keeper.new) }
         ensures later { IsLater (K.counts keeper.old) (K.counts keeper.new) }
     {
         if clerk != from {
@@ -63,6 +68,8 @@ impl Core {
     ) -> Result<(), ServerFault>
         ensures ok { OnOk result (machine.greet clerk age greeting (under (K.kept keeper.old) self.old) ≡ under (K.kept keeper.new) self.new) }
         ensures err { IfErr result (λ fault. Leaves fault (K.counts keeper.old) (K.counts keeper.new) (machine.greet clerk age greeting (under (K.kept keeper.old) self.old)) (server (K.kept keeper.old) self.old) (server (K.kept keeper.new) self.new)) }
+        ensures did { OnOk result (Moves K.did self.old.rec self.new.rec keeper.old keeper.new) }
+        ensures keeper { IfErr result (λ fault. Hurts HasNumbers K.did K.broke fault (machine.greet clerk age greeting (under (K.kept keeper.old) self.old)) keeper.old keeper.new) }
         ensures later { IsLater (K.counts keeper.old) (K.counts keeper.new) }
     {
         let epoch = epoch(keeper);
@@ -88,6 +95,8 @@ impl Core {
     ) -> Result<(), ServerFault>
         ensures ok { OnOk result (machine.open_new clerk age old (under (K.kept keeper.old) self.old) ≡ under (K.kept keeper.new) self.new) }
         ensures err { IfErr result (λ fault. Leaves fault (K.counts keeper.old) (K.counts keeper.new) (machine.open_new clerk age old (under (K.kept keeper.old) self.old)) (server (K.kept keeper.old) self.old) (server (K.kept keeper.new) self.new)) }
+        ensures did { OnOk result (Moves K.did self.old.rec self.new.rec keeper.old keeper.new) }
+        ensures keeper { IfErr result (λ fault. Hurts HasNumbers K.did K.broke fault (machine.open_new clerk age old (under (K.kept keeper.old) self.old)) keeper.old keeper.new) }
         ensures later { IsLater (K.counts keeper.old) (K.counts keeper.new) }
     {
         let session = SessionNo(next_session(keeper));
@@ -103,7 +112,8 @@ impl Core {
     }
 
     fn forget_old(&mut self, old: Option<SessionNo>)
-        ensures { (d : Durable) → under d self.new ≡ machine.with_server (machine.forget_old old) (under d self.old) }
+        ensures does { (d : Durable) → under d self.new ≡ machine.with_server (machine.forget_old old) (under d self.old) }
+        ensures rec { self.new.rec ≡ self.old.rec }
     {
         if let Some(session) = old {
             self.forget(session);

@@ -1,20 +1,21 @@
 // What a server keeps in memory, and the small changes of it.
-ghost use Rattle.std.specs.Prelude.{◌≡◌, ◌++◌, ◌∷◌, ◌==◌, ◌+◌, ◌<◌, not, filter, Some, OnOk, IfOk, IfErr, IsTrue};
+ghost use Rattle.std.specs.Prelude.{◌≡◌, ◌++◌, ◌∷◌, ◌==◌, ◌+◌, ◌<◌, not, filter, Some, OnOk, IfOk, IfErr, IsTrue, true};
 ghost use Rattle.ec_base.specs.Tables.{without, put};
 ghost use Rattle.ec_base.specs.Limits.{last_counter};
-ghost use Rattle.ec_durable.specs.Steps.{AreSound};
+ghost use Rattle.ec_durable.specs.Codes.{is_sound_record};
 ghost use Rattle.ec_protocol.specs.Server as machine;
 ghost use Rattle.ec_volume.specs.Update.{member};
+ghost use Rattle.ec_server.specs.Keepers.{HasRoom, Ends, Fails};
 ghost use Rattle.ec_server.specs.Kept.{IsLater};
 ghost use Rattle.ec_server.specs.Steps.{under, server, Commits, Stops};
 ghost use Rattle.ec_durable.specs.declared.state.Durable.{Durable};
 
 use crate::fault::ServerFault;
 use crate::keeper::{KeepFault, Keeper};
+use crate::waiting::Waiting;
 use ec_base::{ClerkId, LAST_COUNTER, List, NoMemory, SessionNo, SortedMap};
 use ec_durable::Record;
 use ec_protocol::Served;
-use ec_recall::Recalls;
 use ec_tokens::Tokens;
 use ec_wire::Msg;
 use std::alloc::Global;
@@ -25,7 +26,7 @@ use std::mem;
 pub(crate) struct Core {
     pub(crate) alloc: Global,
     pub(crate) tokens: Tokens,
-    pub(crate) recalls: Recalls,
+    pub(crate) recalls: Waiting,
     // at most one session of each clerk
     pub(crate) claimed: Vec<SessionNo>,
     // the last number of a token
@@ -44,7 +45,7 @@ impl Core {
         Ok(Core {
             alloc,
             tokens: Tokens::new(alloc)?,
-            recalls: Recalls::new(alloc)?,
+            recalls: Waiting::new(alloc)?,
             claimed: Vec::new(alloc),
             number: 0,
             recorded: SortedMap::new(alloc),
@@ -75,23 +76,38 @@ impl Core {
     }
 
     pub(crate) fn tell(&mut self, clerk: ClerkId, msg: Msg) -> Result<(), NoMemory>
-        ensures { OnOk result ((d : Durable) → under d self.new ≡ machine.tell clerk msg (under d self.old)) }
+        ensures does { OnOk result ((d : Durable) → under d self.new ≡ machine.tell clerk msg (under d self.old)) }
+        ensures rec { OnOk result (self.new.rec ≡ self.old.rec) }
     {
         self.sent.push((clerk, msg))?;
         Ok(())
     }
 
-    // Commits a record, or tells that it was refused.
+    // There is a number for each want that waits, and one more.
+    fn has_room(&self) -> bool
+        ensures { IsTrue result → HasRoom self.now }
+    {
+        let most = self.recalls.most();
+        self.number < LAST_COUNTER && most < LAST_COUNTER - self.number
+    }
+
+    // Commits a record, or tells that it was refused. The numbers of the step are sure before it: where they may run out, the step ends as for
+    // want of memory.
     pub(crate) fn commit<K: Keeper>(
         &mut self,
         keeper: &mut K,
         change: Record,
     ) -> Result<bool, ServerFault>
-        requires { AreSound change }
+        requires { is_sound_record change ≡ true }
         ensures ok { IfOk result (λ is_done. Commits is_done change (K.kept keeper.old) (K.kept keeper.new) self.old self.new) }
-        ensures err { IfErr result (λ fault. Stops fault (K.counts keeper.old) (K.counts keeper.new) (server (K.kept keeper.old) self.old) (server (K.kept keeper.new) self.new)) }
+        ensures err { IfErr result (λ fault. Stops fault (K.counts keeper.old) (K.counts keeper.new)) }
+        ensures did { IfOk result (λ is_done. Ends K.did is_done change self.old.rec self.new.rec keeper.old keeper.new) }
+        ensures keeper { IfErr result (λ fault. Fails K.broke fault change (K.kept keeper.old) self.old keeper.old keeper.new) }
         ensures later { IsLater (K.counts keeper.old) (K.counts keeper.new) }
     {
+        if !self.has_room() {
+            return Err(ServerFault::NoMemory);
+        }
         match keeper.commit(&change) {
             Ok(()) => {
                 self.rec = Some(change);
@@ -111,7 +127,8 @@ impl Core {
     }
 
     pub(crate) fn add_claimed(&mut self, session: SessionNo) -> Result<(), NoMemory>
-        ensures { OnOk result ((d : Durable) → under d self.new ≡ machine.with_server (machine.add_claimed session) (under d self.old)) }
+        ensures does { OnOk result ((d : Durable) → under d self.new ≡ machine.with_server (machine.add_claimed session) (under d self.old)) }
+        ensures rec { OnOk result (self.new.rec ≡ self.old.rec) }
     {
         self.claimed.insert(0, session)?;
         Ok(())
@@ -122,6 +139,7 @@ impl Core {
         ensures ok { IfOk result (λ n. n ≡ self.new.number) }
         ensures same { self.new.tokens ≡ self.old.tokens }
         ensures next { OnOk result ((d : Durable) → under d self.new ≡ machine.next_number (under d self.old)) }
+        ensures rec { OnOk result (self.new.rec ≡ self.old.rec) }
     {
         if self.number >= LAST_COUNTER {
             return Err(NoMemory);
@@ -132,7 +150,8 @@ impl Core {
 
     // An ended session loses its tokens and its wants.
     pub(crate) fn forget(&mut self, session: SessionNo)
-        ensures { (d : Durable) → under d self.new ≡ machine.with_server (machine.forget session) (under d self.old) }
+        ensures does { (d : Durable) → under d self.new ≡ machine.with_server (machine.forget session) (under d self.old) }
+        ensures rec { self.new.rec ≡ self.old.rec }
     {
         self.tokens.drop_session(session);
         self.recalls.drop_session(session);

@@ -6,6 +6,7 @@ ghost use Rattle.ec_sessions.specs.Slots.{slot_at, is_open};
 ghost use Rattle.ec_wire.specs.Messages.{is_sound};
 ghost use Rattle.ec_protocol.specs.Server as machine;
 ghost use Rattle.ec_server.specs.Clerks.{HaveClerks};
+ghost use Rattle.ec_server.specs.Keepers.{Did, Moves, Hurts, HasNumbers, SpendsNothing};
 ghost use Rattle.ec_server.specs.Kept.{IsLater};
 ghost use Rattle.ec_server.specs.Steps.{under, server, Leaves};
 
@@ -29,6 +30,8 @@ impl Core {
         requires clerks { HaveClerks (server (K.kept keeper.old) self.old) }
         ensures ok { OnOk result (machine.take from msg.now (server (K.kept keeper.old) self.old) ≡ under (K.kept keeper.new) self.new) }
         ensures err { IfErr result (λ fault. Leaves fault (K.counts keeper.old) (K.counts keeper.new) (machine.take from msg.now (server (K.kept keeper.old) self.old)) (server (K.kept keeper.old) self.old) (server (K.kept keeper.new) self.new)) }
+        ensures did { OnOk result (Did K.did self.new.rec keeper.old keeper.new) }
+        ensures keeper { IfErr result (λ fault. Hurts SpendsNothing K.did K.broke fault (machine.take from msg.now (server (K.kept keeper.old) self.old)) keeper.old keeper.new) }
         ensures later { IsLater (K.counts keeper.old) (K.counts keeper.new) }
     {
         self.begin();
@@ -46,6 +49,8 @@ impl Core {
         requires { HaveClerks (server (K.kept keeper.old) self.old) }
         ensures ok { OnOk result (machine.end clerk (server (K.kept keeper.old) self.old) ≡ under (K.kept keeper.new) self.new) }
         ensures err { IfErr result (λ fault. Leaves fault (K.counts keeper.old) (K.counts keeper.new) (machine.end clerk (server (K.kept keeper.old) self.old)) (server (K.kept keeper.old) self.old) (server (K.kept keeper.new) self.new)) }
+        ensures did { OnOk result (Did K.did self.new.rec keeper.old keeper.new) }
+        ensures keeper { IfErr result (λ fault. Hurts SpendsNothing K.did K.broke fault (machine.end clerk (server (K.kept keeper.old) self.old)) keeper.old keeper.new) }
         ensures later { IsLater (K.counts keeper.old) (K.counts keeper.new) }
     {
         self.begin();
@@ -57,6 +62,8 @@ impl Core {
     fn end_open<K: Keeper>(&mut self, keeper: &mut K, clerk: ClerkId) -> Result<(), ServerFault>
         ensures ok { OnOk result (machine.end_open clerk (slot (K.kept keeper.old) clerk) (under (K.kept keeper.old) self.old) ≡ under (K.kept keeper.new) self.new) }
         ensures err { IfErr result (λ fault. Leaves fault (K.counts keeper.old) (K.counts keeper.new) (machine.end_open clerk (slot (K.kept keeper.old) clerk) (under (K.kept keeper.old) self.old)) (server (K.kept keeper.old) self.old) (server (K.kept keeper.new) self.new)) }
+        ensures did { OnOk result (Moves K.did self.old.rec self.new.rec keeper.old keeper.new) }
+        ensures keeper { IfErr result (λ fault. Hurts HasNumbers K.did K.broke fault (machine.end_open clerk (slot (K.kept keeper.old) clerk) (under (K.kept keeper.old) self.old)) keeper.old keeper.new) }
         ensures later { IsLater (K.counts keeper.old) (K.counts keeper.new) }
     {
         if is_open(keeper, clerk) {
@@ -71,6 +78,8 @@ impl Core {
         requires { (d : Durable) → under d self.old ≡ machine.serving (machine.new_server d) }
         ensures ok { OnOk result (machine.start (K.kept keeper.old) ≡ under (K.kept keeper.new) self.new) }
         ensures err { IfErr result (λ fault. Leaves fault (K.counts keeper.old) (K.counts keeper.new) (machine.start (K.kept keeper.old)) (server (K.kept keeper.old) self.old) (server (K.kept keeper.new) self.new)) }
+        ensures did { OnOk result (Did K.did self.new.rec keeper.old keeper.new) }
+        ensures keeper { IfErr result (λ fault. Hurts SpendsNothing K.did K.broke fault (machine.start (K.kept keeper.old)) keeper.old keeper.new) }
         ensures later { IsLater (K.counts keeper.old) (K.counts keeper.new) }
     {
         let last = epoch(keeper);
@@ -84,7 +93,8 @@ impl Core {
     }
 
     fn tell_all<K: Keeper>(&mut self, keeper: &K) -> Result<(), NoMemory>
-        ensures { OnOk result (machine.tell_all 0 (K.kept keeper.now).sessions (under (K.kept keeper.now) self.old) ≡ under (K.kept keeper.now) self.new) }
+        ensures rec { OnOk result (self.new.rec ≡ self.old.rec) }
+        ensures does { OnOk result (machine.tell_all 0 (K.kept keeper.now).sessions (under (K.kept keeper.now) self.old) ≡ under (K.kept keeper.now) self.new) }
     {
         read_slots(&keeper.view().sessions);
         'clerks: for number in 0..CLERK_COUNT {
@@ -97,7 +107,8 @@ impl Core {
 
     // Tells the clerk of the start, or of its session's end.
     fn tell_start<K: Keeper>(&mut self, keeper: &K, clerk: ClerkId) -> Result<(), NoMemory>
-        ensures { OnOk result (machine.tell_start clerk (under (K.kept keeper.now) self.old) (slot_at (K.kept keeper.now).sessions clerk) ≡ under (K.kept keeper.now) self.new) }
+        ensures rec { OnOk result (self.new.rec ≡ self.old.rec) }
+        ensures does { OnOk result (machine.tell_start clerk (under (K.kept keeper.now) self.old) (slot_at (K.kept keeper.now).sessions clerk) ≡ under (K.kept keeper.now) self.new) }
     {
         let news = news(keeper, clerk);
         self.tell(clerk, news)?;

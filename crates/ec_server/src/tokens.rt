@@ -7,6 +7,7 @@ ghost use Rattle.ec_volume.specs.Volume.{images};
 ghost use Rattle.ec_tokens.specs.Tokens.{is_claim};
 ghost use Rattle.ec_durable.specs.declared.state.Durable.{Durable};
 ghost use Rattle.ec_protocol.specs.Server as machine;
+ghost use Rattle.ec_server.specs.Keepers.{Moves, Hurts, HasNumbers};
 ghost use Rattle.ec_server.specs.Kept.{IsLater};
 ghost use Rattle.ec_server.specs.Steps.{under, server, at_slot, Stops};
 
@@ -39,7 +40,8 @@ impl Core {
         hold: Hold,
         number: u64,
     ) -> Result<(), NoMemory>
-        ensures { OnOk result (machine.send_grant clerk session obj hold number (under (K.kept keeper.now) self.old) ≡ under (K.kept keeper.now) self.new) }
+        ensures does { OnOk result (machine.send_grant clerk session obj hold number (under (K.kept keeper.now) self.old) ≡ under (K.kept keeper.now) self.new) }
+        ensures rec { OnOk result (self.new.rec ≡ self.old.rec) }
     {
         let image = image(keeper, obj)?;
         let grant = Msg::Grant(session, epoch(keeper), obj, number, hold, image);
@@ -49,7 +51,8 @@ impl Core {
 
     fn note(&mut self, session: SessionNo, obj: ObjId, hold: Hold) -> Result<(), NoMemory>
         requires { hold ≢ Hold.Free }
-        ensures { OnOk result ((d : Durable) → under d self.new ≡ machine.note session obj hold (under d self.old)) }
+        ensures does { OnOk result ((d : Durable) → under d self.new ≡ machine.note session obj hold (under d self.old)) }
+        ensures rec { OnOk result (self.new.rec ≡ self.old.rec) }
     {
         self.recalls.want(session, obj, hold)
     }
@@ -65,7 +68,8 @@ impl Core {
         last: u64,
     ) -> Result<(), NoMemory>
         requires { hold ≢ Hold.Free }
-        ensures { OnOk result (machine.want clerk session obj hold last (under (K.kept keeper.now) self.old) ≡ under (K.kept keeper.now) self.new) }
+        ensures does { OnOk result (machine.want clerk session obj hold last (under (K.kept keeper.now) self.old) ≡ under (K.kept keeper.now) self.new) }
+        ensures rec { OnOk result (self.new.rec ≡ self.old.rec) }
     {
         let Some((held, number)) = self.tokens.token(session, obj) else {
             self.note(session, obj, hold)?;
@@ -80,7 +84,8 @@ impl Core {
     }
 
     pub(crate) fn back(&mut self, session: SessionNo, obj: ObjId, number: u64, to: Hold)
-        ensures { (d : Durable) → under d self.new ≡ machine.back session obj number to (under d self.old) }
+        ensures does { (d : Durable) → under d self.new ≡ machine.back session obj number to (under d self.old) }
+        ensures rec { self.new.rec ≡ self.old.rec }
     {
         self.tokens.give_back(session, obj, number, to);
     }
@@ -96,7 +101,9 @@ impl Core {
         requires list { IsTrue (is_claim list.now) }
         requires slot { is_some (slot (K.kept keeper.old) clerk) ≡ true }
         ensures ok { OnOk result (at_slot clerk (machine.claim clerk session list.now) (under (K.kept keeper.old) self.old) ≡ under (K.kept keeper.new) self.new) }
-        ensures err { IfErr result (λ fault. Stops fault (K.counts keeper.old) (K.counts keeper.new) (server (K.kept keeper.old) self.old) (server (K.kept keeper.new) self.new)) }
+        ensures err { IfErr result (λ fault. Stops fault (K.counts keeper.old) (K.counts keeper.new)) }
+        ensures did { OnOk result (Moves K.did self.old.rec self.new.rec keeper.old keeper.new) }
+        ensures keeper { IfErr result (λ fault. Hurts HasNumbers K.did K.broke fault (at_slot clerk (machine.claim clerk session list.now) (under (K.kept keeper.old) self.old)) keeper.old keeper.new) }
         ensures later { IsLater (K.counts keeper.old) (K.counts keeper.new) }
     {
         if self.has_claimed(session) {

@@ -1,3 +1,4 @@
+use Rattle.ec_server.specs.KeeperLaws.{answers_did, answers_hurt}
 use Rattle.ec_server.specs.CallLaws.{answers_ok, answers_err, answers_stand, answers_record, answers_none}
 use Rattle.ec_server.specs.ServeLaws.{end_goes}
 use Rattle.ec_server.specs.Servers.{standing}
@@ -27,3 +28,9 @@ pub returns-clause-none : goal.returns-clause-none
 returns-clause-none g c =
     let kept = g.K.Keeper.kept in
     answers_none c.answer.result c.args.clerk (standing (kept c.args.keeper.now) c.args.self.now) (standing (kept c.end-done.new.keeper) c.answer.new.self) (returns-clause-ok g c)
+
+pub returns-clause-did : goal.returns-clause-did
+returns-clause-did g c = answers_did g.K.Keeper.did g.K.Keeper.broke c.end-done.result c.answer.result c.end-done.new.self c.args.keeper.now c.end-done.new.keeper c.end-done.ensures.did c.answer.ensures.ok
+
+pub returns-clause-keeper : goal.returns-clause-keeper
+returns-clause-keeper g c = answers_hurt g.K.Keeper.did g.K.Keeper.broke _ c.end-done.result c.answer.result _ c.args.keeper.now c.end-done.new.keeper c.end-done.ensures.keeper c.answer.ensures.err

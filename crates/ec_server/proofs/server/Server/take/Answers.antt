@@ -1,3 +1,4 @@
+use Rattle.ec_server.specs.KeeperLaws.{answers_did, answers_hurt}
 use Rattle.ec_server.specs.CallLaws.{answers_ok, answers_err, answers_stand, answers_record}
 use Rattle.ec_server.specs.ServeLaws.{take_goes}
 use Rattle.ec_server.specs.Servers.{standing}
@@ -22,3 +23,9 @@ pub returns-clause-record : goal.returns-clause-record
 returns-clause-record g c =
     let old = standing (g.K.Keeper.kept c.args.keeper.now) c.args.self.now in
     answers_record c.answer.result _ _ (standing (g.K.Keeper.kept c.take-done.new.keeper) c.answer.new.self) (returns-clause-ok g c) (take_goes c.args.from c.args.msg.now old (c.requires.keeper c.if-self.false))
+
+pub returns-clause-did : goal.returns-clause-did
+returns-clause-did g c = answers_did g.K.Keeper.did g.K.Keeper.broke c.take-done.result c.answer.result c.take-done.new.self c.args.keeper.now c.take-done.new.keeper c.take-done.ensures.did c.answer.ensures.ok
+
+pub returns-clause-keeper : goal.returns-clause-keeper
+returns-clause-keeper g c = answers_hurt g.K.Keeper.did g.K.Keeper.broke _ c.take-done.result c.answer.result _ c.args.keeper.now c.take-done.new.keeper c.take-done.ensures.keeper c.answer.ensures.err

@@ -6,7 +6,7 @@ use Rattle.ec_server.specs.CallLaws.{sound_ops, sound_claim, IsFromOne}
 use Rattle.ec_server.proofs.state.Core.carry_out.Goals as goal
 
 pub flush-requires : goal.flush-requires
-flush-requires g c = sound_ops c.args.msg.now _ _ _ _ c.requires.sound c.in-Flush.is
+flush-requires g c = sound_ops c.args.msg.now c.args.clerk _ _ _ _ c.requires.sound c.in-Flush.is
 
 pub claim-requires-clause-list : goal.claim-requires-clause-list
 claim-requires-clause-list g c =

@@ -1,3 +1,5 @@
+use Rattle.ec_server.specs.KeeperLaws.{open_takes, hurts, late}
+use Rattle.std.proofs.lemmas.Result.{err_from_is_err_and}
 use Rattle.ec_server.specs.Laws.{opened}
 use Rattle.ec_server.proofs.state.Core.open_new.Goals as goal
 
@@ -5,4 +7,32 @@ pub returns-in_ok-tell-clause-ok : goal.returns-in_ok-tell-clause-ok
 returns-in_ok-tell-clause-ok g c =
     let kept = g.K.Keeper.kept in
     opened c.args.clerk c.args.age c.next_session.result c.args.old _ c.epoch.result (kept c.args.keeper.now) (kept c.commit.new.keeper) c.args.self.now c.commit.new.self c.forget_old.new.self c.add_claimed.new.self c.tell.new.self
-    c.if-branch.true c.epoch.ensures c.next_session.ensures c.if-session-ge-LAST_COUNTER.false c.in_ok-commit.ensures.ok c.forget_old.ensures c.in_ok-add_claimed.ensures c.in_ok-tell.ensures
+    c.if-branch.true c.epoch.ensures c.next_session.ensures c.if-session-ge-LAST_COUNTER.false c.in_ok-commit.ensures.ok c.forget_old.ensures.does c.in_ok-add_claimed.ensures.does c.in_ok-tell.ensures.does
+
+pub returns-in_err-commit-clause-keeper : goal.returns-in_err-commit-clause-keeper
+returns-in_err-commit-clause-keeper g c =
+    let d = g.K.Keeper.kept c.args.keeper.now in
+    let p = err_from_is_err_and c.from_residual.result c.from_residual.ensures.1 in
+    rw (p.1, p.2)
+    (hurts g.K.Keeper.did g.K.Keeper.broke _ _ d c.args.self.now _ c.args.keeper.now c.commit.new.keeper c.in_err-commit.ensures.keeper
+    (λ e is. open_takes c.args.clerk c.args.age _ c.args.old d e c.args.self.now c.next_session.ensures c.if-session-ge-LAST_COUNTER.false is))
+
+pub returns-in_err-add_claimed-clause-keeper : goal.returns-in_err-add_claimed-clause-keeper
+returns-in_err-add_claimed-clause-keeper g c =
+    let kept = g.K.Keeper.kept in
+    let d = kept c.args.keeper.now in
+    let e = kept c.commit.new.keeper in
+    let p = err_from_is_err_and c.from_residual-in_err-add_claimed.result c.from_residual-in_err-add_claimed.ensures.1 in
+    rw (p.1, p.2)
+    (late g.K.Keeper.did g.K.Keeper.broke _ _ d e c.args.self.now c.commit.new.self _ _ _ c.args.keeper.now c.commit.new.keeper c.if-branch.true c.in_ok-commit.ensures.ok c.in_ok-commit.ensures.did
+    (λ is. (open_takes c.args.clerk c.args.age _ c.args.old d e c.args.self.now c.next_session.ensures c.if-session-ge-LAST_COUNTER.false is).rec))
+
+pub returns-in_err-tell-clause-keeper : goal.returns-in_err-tell-clause-keeper
+returns-in_err-tell-clause-keeper g c =
+    let kept = g.K.Keeper.kept in
+    let d = kept c.args.keeper.now in
+    let e = kept c.commit.new.keeper in
+    let p = err_from_is_err_and c.from_residual-in_err-tell.result c.from_residual-in_err-tell.ensures.1 in
+    rw (p.1, p.2)
+    (late g.K.Keeper.did g.K.Keeper.broke _ _ d e c.args.self.now c.commit.new.self _ _ _ c.args.keeper.now c.commit.new.keeper c.if-branch.true c.in_ok-commit.ensures.ok c.in_ok-commit.ensures.did
+    (λ is. (open_takes c.args.clerk c.args.age _ c.args.old d e c.args.self.now c.next_session.ensures c.if-session-ge-LAST_COUNTER.false is).rec))
