@@ -3,7 +3,7 @@ use Rattle.std.specs.Prelude.{◌≡◌, ◌⊎◌, ◌<◌, ◌≤◌, ◌+◌,
 use Rattle.std.specs.Int.{w32, to_be_bytes, from_be_bytes}
 use Rattle.std.proofs.Common.{inl, inr, ⊎_elim, refl, sym, ◌∙◌, ap, subst, arith, length-append, append_assoc}
 use Rattle.std.proofs.lemmas.Bool.{leb-true}
-use Rattle.std.proofs.lemmas.List.{append-nil}
+use Rattle.std.proofs.lemmas.List.{append-nil, length-take, length-drop}
 use Rattle.std.proofs.lemmas.Nat.{from_be_bytes-to_be_bytes_4}
 use Rattle.ec_base.specs.SortedLaws.{first, second}
 use Rattle.ec_disk.specs.Disk.{byte, part}
@@ -14,9 +14,9 @@ use Rattle.ec_volume.specs.declared.image.Image.{Image}
 use Rattle.ec_codes.specs.Formats.{Format, StandsAt}
 use Rattle.ec_codes.specs.FormatLaws.{IsFormat, ok_is, then_is}
 use Rattle.ec_codes.specs.FieldLaws.{id-is}
-use Rattle.ec_codes.specs.ImageLaws.{image-is}
-use Rattle.ec_codes.specs.Fields.{id}
-use Rattle.ec_codes.specs.Images.{image_code}
+use Rattle.ec_codes.specs.ImageLaws.{image-is, old_image-is}
+use Rattle.ec_codes.specs.Fields.{id, word}
+use Rattle.ec_codes.specs.Images.{image_code, old_image_code}
 use Rattle.ec_codes.specs.declared.fault.CodeFault.{CodeFault}
 use Rattle.ec_durable.specs.declared.state.Durable.{Durable}
 use Rattle.ec_durable.specs.declared.record.Record.{Record}
@@ -24,7 +24,7 @@ use Rattle.ec_durable.specs.declared.record.RecordFault.{RecordFault}
 use Rattle.ec_durable.specs.Durable.{step}
 use Rattle.ec_durable.specs.Codes.{said}
 use Rattle.ec_durable.specs.WellFormed.{WellFormed, least_max_objects, most_max_objects}
-use Rattle.ec_table.specs.Codes.{table_code, described}
+use Rattle.ec_table.specs.Codes.{table_code, old_table, state_code, described}
 use Rattle.ec_table.specs.CodeLaws.{table_is}
 use Rattle.ec_table.specs.declared.table.Table.{Table}
 use Rattle.ec_table.specs.declared.table.Version.{Version}
@@ -32,7 +32,7 @@ use Rattle.ec_table.specs.declared.table.Version.TheVariants.{One, Two}
 use Rattle.ec_layout.specs.Places.{journal_at, table_at, slot_at, side_of, journal_bytes, table_bytes, slot_bytes}
 use Rattle.ec_layout.specs.Layout.{Layout, Lies, HasSlots}
 use Rattle.ec_layout.specs.Head.{first_word, form}
-use Rattle.ec_stands.specs.Stands.{side_in, journal_in, most_in, table_part, slot_part, slot_code, HasGoodHead, HasTable, HasImage, HasImages, state_of, HasCheckpoint, StepsTo, StandsFor, IsBadImage, HasBadImage, IsRefused, GoesOn, HasBadRecord, IsBadAt, AreSlots, IsCheckpoint}
+use Rattle.ec_stands.specs.Stands.{side_in, journal_in, most_in, table_part, slot_part, slot_code, HasGoodHead, HasTable, HasImage, HasImages, state_of, HasCheckpoint, StepsTo, StandsFor, IsBadImage, HasBadImage, IsRefused, GoesOn, HasBadRecord, IsBadAt, AreSlotsIn, IsCheckpointIn, IsCheckpoint, AreSpelled, slots_in, IsReadBack, layout_in}
 use Rattle.ec_stands.specs.Stands.{no_image, another_image, no_record, no_step, short_head, other_word, other_most, other_form, bad_table, bad_slot, ill_formed, bad_record}
 
 -- What is read is one thing.
@@ -180,8 +180,9 @@ not_both image state place stands (bad_record v places base c is) =
 
 -- A checkpoint's layout.
 
-slot-is : IsFormat (slot_code Two)
-slot-is = then_is id (λ o. image_code) id-is (λ o. image-is)
+pub slot_is : (v : Version) → IsFormat (slot_code v)
+slot_is One = then_is id (λ o. old_image_code) id-is (λ o. old_image-is)
+slot_is Two = then_is id (λ o. image_code) id-is (λ o. image-is)
 
 -- a part that begins with these bytes
 stands_in : (image : List ℕ) (at n : ℕ) (xs : List ℕ) → length xs ≤ n → part image at (length xs) ≡ xs → StandsAt (part image at n) 0 xs
@@ -191,27 +192,27 @@ stands_in image at n xs le is =
       ap (λ (k : ℕ). part image at k) (sym whole) ∙ part-add image at (length xs) (n - length xs) ∙ ap (λ (ys : List ℕ). ys ++ part image (at + length xs) (n - length xs)) is,
     )
 
-have_images : (image : List ℕ) (slots : List (ℕ × List ℕ)) (places : List (ℕ × ℕ)) (es : List (ℕ × Image)) → HasSlots image slots → AreSlots slots places es → HasImages Two image places es
-have_images image [] [] [] has are = tt
-have_images image [] [] (e ∷ es) has are = absurd are
-have_images image [] (p ∷ places) es has are = absurd are
-have_images image (s ∷ slots) [] es has are = absurd are
-have_images image (s ∷ slots) (p ∷ places) [] has are = absurd are
-have_images image (s ∷ slots) (p ∷ places) (e ∷ es) has are =
+have_images : (v : Version) (image : List ℕ) (slots : List (ℕ × List ℕ)) (places : List (ℕ × ℕ)) (es : List (ℕ × Image)) → HasSlots image slots → AreSlotsIn v slots places es → HasImages v image places es
+have_images v image [] [] [] has are = tt
+have_images v image [] [] (e ∷ es) has are = absurd are
+have_images v image [] (p ∷ places) es has are = absurd are
+have_images v image (s ∷ slots) [] es has are = absurd are
+have_images v image (s ∷ slots) (p ∷ places) [] has are = absurd are
+have_images v image (s ∷ slots) (p ∷ places) (e ∷ es) has are =
     let number : s.0 ≡ p.1 = ap (λ (x : ℕ × List ℕ). x.0) are.0 in
-    let bytes : s.1 ≡ (slot_code Two).spell e = ap (λ (x : ℕ × List ℕ). x.1) are.0 in
+    let bytes : s.1 ≡ (slot_code v).spell e = ap (λ (x : ℕ × List ℕ). x.1) are.0 in
     let at = subst (λ xs. StandsAt (slot_part image p.1) 0 xs) bytes (subst (λ k. StandsAt (slot_part image k) 0 s.1) number (stands_in image (slot_at s.0) 65600 s.1 has.0 has.2)) in
-    ((0 + length ((slot_code Two).spell e), are.1, slot-is.again (slot_part image p.1) 0 e are.2 at), have_images image slots places es has.3 are.3)
+    ((0 + length ((slot_code v).spell e), are.1, (slot_is v).again (slot_part image p.1) 0 e are.2 at), have_images v image slots places es has.3 are.3)
 
 -- an image with this layout has the checkpoint
-pub lies_checkpoint : (image : List ℕ) (l : Layout) (base : Durable) (places : List (ℕ × ℕ)) → Lies image l → IsCheckpoint l base places → HasCheckpoint image Two places base
-lies_checkpoint image l base places lies is =
+pub lies_checkpoint : (v : Version) (image : List ℕ) (l : Layout) (base : Durable) (places : List (ℕ × ℕ)) → Lies image l → IsCheckpointIn v l base places → HasCheckpoint image v places base
+lies_checkpoint v image l base places lies is =
     let m = base.max_objects in
     let least : 32 ≤ m = leb-true 32 m (told (nat_le 32 m) (first (nat_le 32 m) (nat_le m 1024) is.formed.order.most)) in
     let limit : m ≤ 1024 = leb-true m 1024 (told (nat_le m 1024) (second (nat_le 32 m) (nat_le m 1024) is.formed.order.most)) in
     let whole : part image 0 (8 + 4) ≡ first_word ++ to_be_bytes w32 m = lies.front_is ∙ is.front_is in
     let both = part-split image 0 8 4 first_word (to_be_bytes w32 m) refl whole in
-    let spelled = (table_code m).spell (Two, described base places) in
+    let spelled = (table_code m).spell (v, described base places) in
     let at = subst (λ xs. StandsAt (table_part image) 0 xs) is.table_is (subst (λ s. StandsAt (part image (table_at s) 65536) 0 l.table) (sym lies.side_is) (stands_in image (table_at l.side) 65536 l.table lies.has_side.small lies.has_side.table_is)) in
     record {
       head = record {
@@ -222,8 +223,8 @@ lies_checkpoint image l base places lies is =
         limit = limit;
         form_is = lies.back_is ∙ is.back_is;
       };
-      table = (0 + length spelled, (table_is m).again (table_part image) 0 (Two, described base places) is.table_fits at);
-      images = have_images image l.slots places base.volume lies.has_slots is.slots_are;
+      table = (0 + length spelled, (table_is m).again (table_part image) 0 (v, described base places) is.table_fits at);
+      images = have_images v image l.slots places base.volume lies.has_slots is.slots_are;
       formed = is.formed;
     }
   where
@@ -231,13 +232,68 @@ lies_checkpoint image l base places lies is =
     told true h = refl
     told false h = absurd h
 
-pub lies_stands : (image : List ℕ) (l : Layout) (base state : Durable) (places : List (ℕ × ℕ)) → Lies image l → IsCheckpoint l base places → StepsTo l.bodies base state → StandsFor image state
-lies_stands image l base state places lies is steps = record {
-  version = Two;
+pub lies_stands_in : (v : Version) (image : List ℕ) (l : Layout) (base state : Durable) (places : List (ℕ × ℕ)) → Lies image l → IsCheckpointIn v l base places → StepsTo l.bodies base state → StandsFor image state
+lies_stands_in v image l base state places lies is steps = record {
+  version = v;
   places = places;
   base = base;
-  checkpoint = lies_checkpoint image l base places lies is;
+  checkpoint = lies_checkpoint v image l base places lies is;
   bodies = l.bodies;
   journal = subst (λ s. HasBodies image (journal_at s) 2097152 l.bodies) (sym lies.side_is) lies.has_side.journal;
   steps = steps;
 }
+
+pub lies_stands : (image : List ℕ) (l : Layout) (base state : Durable) (places : List (ℕ × ℕ)) → Lies image l → IsCheckpoint l base places → StepsTo l.bodies base state → StandsFor image state
+lies_stands image l base state places lies is steps = lies_stands_in Two image l base state places lies is steps
+
+-- The layout of what is read back.
+
+-- bytes at the beginning of a part stand there in the image
+stands_part : (image : List ℕ) (at n : ℕ) (xs : List ℕ) → 0 < length xs → StandsAt (part image at n) 0 xs → (length xs ≤ n) × (at + length xs ≤ length image) × (part image at (length xs) ≡ xs)
+stands_part image at n xs some is =
+    let len : length (part image at n) ≡ length xs + length is.0 = ap length is.1 ∙ length-append xs is.0 in
+    let small : length xs ≤ n = omega (arith, len, length-take n (drop at image)) in
+    let inside : at + length xs ≤ length image = omega (arith, some, len, length-take n (drop at image), length-drop at image) in
+    let whole : length xs + (n - length xs) ≡ n = omega (arith, small) in
+    (small, inside, (part-split image at (length xs) (n - length xs) xs is.0 refl (ap (λ (k : ℕ). part image at k) whole ∙ is.1)).0)
+
+-- each spelling has a byte
+slot_some : (v : Version) (e : ℕ × Image) → 0 < length ((slot_code v).spell e)
+unfolding id
+slot_some One e = omega (arith, length-append (id.spell e.0) (old_image_code.spell e.1))
+slot_some Two e = omega (arith, length-append (id.spell e.0) (image_code.spell e.1))
+
+table_some : (most : ℕ) (v : Version) (t : Table) → 0 < length ((table_code most).spell (v, t))
+unfolding table_code old_table word
+table_some most One t = omega (arith, length-append (word.spell (length ((state_code most).spell t))) ((state_code most).spell t))
+table_some most Two t = omega arith
+
+spelled_slots : (v : Version) (image : List ℕ) (places : List (ℕ × ℕ)) (es : List (ℕ × Image)) → AreSpelled v image places es → HasSlots image (slots_in v places es) × AreSlotsIn v (slots_in v places es) places es
+spelled_slots v image [] [] are = (tt, tt)
+spelled_slots v image [] (e ∷ es) are = absurd are
+spelled_slots v image (p ∷ places) [] are = absurd are
+spelled_slots v image (p ∷ places) (e ∷ es) are =
+    let here = stands_part image (slot_at p.1) 65600 ((slot_code v).spell e) (slot_some v e) are.0.2 in
+    let later = spelled_slots v image places es are.1 in
+    ((here.0, here.1, here.2, later.0), (refl, are.0.0, are.0.1, later.1))
+
+-- the image has this layout, and it is that of the state's checkpoint
+pub read_back_lies : (image : List ℕ) (v : Version) (places : List (ℕ × ℕ)) (base : Durable) (bodies : List (List ℕ)) → IsReadBack image v places base bodies
+    → Lies image (layout_in image v places base bodies) × IsCheckpointIn v (layout_in image v places base bodies) base places
+read_back_lies image v places base bodies is =
+    let table = (table_code base.max_objects).spell (v, described base places) in
+    let at_table = stands_part image (table_at (side_in image)) 65536 table (table_some base.max_objects v (described base places)) is.table_stands in
+    let slots = spelled_slots v image places base.volume is.images in (
+      record {
+        front_is = part-add image 0 8 4 ∙ ap (λ (xs : List ℕ). xs ++ part image 8 4) is.head.word ∙ ap (λ (xs : List ℕ). first_word ++ xs) is.most_stands;
+        side_is = refl;
+        back_is = is.head.form_is;
+        has_side = record { small = at_table.0; inside = at_table.1; table_is = at_table.2; journal = is.journal };
+        has_slots = slots.0;
+      },
+      record { front_is = refl; back_is = refl; table_is = refl; table_fits = is.table_fits; slots_are = slots.1; formed = is.formed },
+    )
+
+-- the table that is read back ends behind the journal
+pub behind_journal : (image : List ℕ) (most : ℕ) (v : Version) (t : Table) → StandsAt (table_part image) 0 ((table_code most).spell (v, t)) → journal_in image + 2097152 ≤ length image
+behind_journal image most v t is = omega (arith, (stands_part image (table_at (side_in image)) 65536 ((table_code most).spell (v, t)) (table_some most v t) is).1)

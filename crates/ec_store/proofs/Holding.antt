@@ -27,6 +27,7 @@ use Rattle.ec_durable.specs.CodeLaws.{said_again}
 use Rattle.ec_durable.specs.WellFormed.{IsInOrder}
 use Rattle.ec_kept.proofs.Volumes.{step_well}
 use Rattle.ec_table.specs.Codes.{table_code, described, numbers_in, place_after}
+use Rattle.ec_table.specs.declared.table.Version.{Version}
 use Rattle.ec_table.specs.declared.table.Version.TheVariants.{Two}
 use Rattle.ec_layout.specs.Places.{other}
 use Rattle.ec_layout.specs.declared.side.Side.{Side}
@@ -40,9 +41,9 @@ use Rattle.ec_layout.specs.FreeLaws.{free_enough}
 use Rattle.ec_layout.specs.Pieces.{AreApart}
 use Rattle.ec_layout.specs.declared.selected.Selected.{Selected}
 use Rattle.ec_stands.specs.Stands.{slot_code, IsCheckpoint, StepsTo, StandsFor}
-use Rattle.ec_stands.specs.Laws.{lies_stands, steps_more}
+use Rattle.ec_stands.specs.Laws.{lies_stands, lies_stands_in, steps_more}
 use Rattle.ec_store.specs.Places.{ArePlaces, AreSpare, IsPlaced, placed, pieces, touched}
-use Rattle.ec_store.specs.Store.{Holds, StandsForEither}
+use Rattle.ec_store.specs.Store.{Holds, HoldsIn, StandsForEither}
 use Rattle.ec_store.proofs.Members.{told, free_member, free_distinct}
 use Rattle.ec_store.proofs.Images.{step_images, step_most, image_at}
 use Rattle.ec_store.proofs.Placing.{rows_all, pieces_apart, pieces_are_free, slots_of, StandsIn, new_slots, new_among, new_numbers, place_stands, are_places, length_placed}
@@ -143,8 +144,8 @@ module _ (d : Durable) (named : List ℕ) (kept : List (ℕ × ℕ)) (order : Is
   pub plan_few : length (placed kept d.volume (free_below (2 * d.max_objects) named)) + length (all_unspent d.sessions) ≤ 1024
   plan_few = omega (arith, length_placed kept d.volume free, few_objects d order, most_limit d order)
 
-  module _ (table : List ℕ) (spelled : table ≡ (table_code d.max_objects).spell (Two, described d new_places)) (fits : (table_code d.max_objects).fits (Two, described d new_places) ≡ true)
-      (old : View) (selected : Selected) (wider : List (ℕ × ℕ)) (fewer : (o s : ℕ) → at o kept ≡ Some s → at o wider ≡ Some s) (h : Holds old selected named wider d) where
+  module _ (v : Version) (table : List ℕ) (spelled : table ≡ (table_code d.max_objects).spell (Two, described d new_places)) (fits : (table_code d.max_objects).fits (Two, described d new_places) ≡ true)
+      (old : View) (selected : Selected) (wider : List (ℕ × ℕ)) (fewer : (o s : ℕ) → at o kept ≡ Some s → at o wider ≡ Some s) (h : HoldsIn v old selected named wider d) where
     abbrev pub turned : Layout
     turned = record { front = h.layout.front; back = h.layout.back; side = other (side_now selected); table = table; slots = slots_of new_places d.volume; bodies = [] }
 
@@ -178,11 +179,11 @@ module _ (d : Durable) (named : List ℕ) (kept : List (ℕ × ℕ)) (order : Is
     }
 
     -- whatever a crash leaves stands for the same state
-    pub turn_leaves : (r : Record) (new : View) → LeavesOnly old new (λ image. Lies image h.layout ⊎ Lies image turned) → LeavesOnly old new (StandsForEither r d)
-    turn_leaves r new leaves = leaves_map (λ image. Lies image h.layout ⊎ Lies image turned) (StandsForEither r d) old new (λ c. ⊎_elim (λ lies. inl (before c lies)) (λ lies. inl (after c lies))) leaves
+    pub turn_leaves : (new : View) → LeavesOnly old new (λ image. Lies image h.layout ⊎ Lies image turned) → LeavesOnly old new (λ image. StandsFor image d)
+    turn_leaves new leaves = leaves_map (λ image. Lies image h.layout ⊎ Lies image turned) (λ image. StandsFor image d) old new (λ c. ⊎_elim (before c) (after c)) leaves
       where
         before : (c : List ℕ) → Lies c h.layout → StandsFor c d
-        before c lies = lies_stands c h.layout h.base d h.places lies h.checkpoint h.steps
+        before c lies = lies_stands_in v c h.layout h.base d h.places lies h.checkpoint h.steps
 
         after : (c : List ℕ) → Lies c turned → StandsFor c d
         after c lies = lies_stands c turned d d new_places lies turn_checkpoint refl

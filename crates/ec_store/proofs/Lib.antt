@@ -3,3 +3,5 @@ pub mod Placing
 pub mod Images
 pub mod Holding
 pub mod Planning
+pub mod Ids
+pub mod Resting

@@ -30,12 +30,12 @@ use Rattle.ec_store.proofs.Members.{clash, member_cases, member_none, member_her
 
 -- What a table asks of a place.
 
-last_push : {A : Type 0} (xs : List A) (x : A) → last_of (xs ++ x ∷ []) ≡ Some x
+pub last_push : {A : Type 0} (xs : List A) (x : A) → last_of (xs ++ x ∷ []) ≡ Some x
 last_push [] x = refl
 last_push (y ∷ []) x = refl
 last_push (y ∷ z ∷ xs) x = last_push (z ∷ xs) x
 
-ids_push : (before : List (ℕ × ℕ)) (p : ℕ × ℕ) → ids_in (before ++ p ∷ []) ≡ ids_in before ++ p.0 ∷ []
+pub ids_push : (before : List (ℕ × ℕ)) (p : ℕ × ℕ) → ids_in (before ++ p ∷ []) ≡ ids_in before ++ p.0 ∷ []
 ids_push before p = map-append (λ (q : ℕ × ℕ). q.0) before (p ∷ [])
 
 numbers_push : (before : List (ℕ × ℕ)) (p : ℕ × ℕ) → numbers_in (before ++ p ∷ []) ≡ numbers_in before ++ p.1 ∷ []

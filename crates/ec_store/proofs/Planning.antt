@@ -1,5 +1,5 @@
 -- What a disk holds while a checkpoint is written, and behind it.
-use Rattle.std.proofs.Common.{◌≡◌, ◌⊎◌, ℕ, ◌*◌, ◌≤◌, true, cond, List, [], ◌∷◌, ◌++◌, length, drop, get_or, Option, None, Some, Result, Ok, Err, refl, sym, ap, subst, ◌∙◌, arith}
+use Rattle.std.proofs.Common.{◌≡◌, ◌⊎◌, ℕ, ◌*◌, ◌≤◌, true, cond, List, [], ◌∷◌, ◌++◌, length, drop, get_or, Option, None, Some, Result, Ok, Err, refl, sym, ap, subst, ◌∙◌, arith, inl}
 use Rattle.std.specs.Prelude.{IfOk, unwrap_or}
 use Rattle.std.specs.Int.{w32, to_be_bytes}
 use Rattle.std.specs.List.{All}
@@ -11,7 +11,7 @@ use Rattle.ec_durable.specs.WellFormed.{WellFormed}
 use Rattle.ec_layout.specs.Head.{first_word, form}
 use Rattle.ec_layout.specs.Layout.{IsFree, IsAmong}
 use Rattle.ec_layout.specs.declared.side.Side.TheVariants as side
-use Rattle.ec_stands.specs.Stands.{slot_code, AreSlots}
+use Rattle.ec_stands.specs.Stands.{slot_code, AreSlots, StandsFor}
 use Rattle.ec_store.proofs.Placing.{slots_of, StandsIn, new_slots, new_numbers, place_stands}
 use Rattle.ec_base.specs.declared.list.NoMemory.{NoMemory}
 use Rattle.ec_volume.specs.Update.{member}
@@ -21,6 +21,7 @@ use Rattle.ec_durable.specs.declared.state.Durable.{Durable}
 use Rattle.ec_durable.specs.declared.record.Record.{Record}
 use Rattle.ec_durable.specs.WellFormed.{IsInOrder}
 use Rattle.ec_table.specs.Codes.{table_code, described, numbers_in}
+use Rattle.ec_table.specs.declared.table.Version.{Version}
 use Rattle.ec_table.specs.declared.table.Version.TheVariants.{Two}
 use Rattle.ec_layout.specs.Places.{other}
 use Rattle.ec_layout.specs.Layout.{Layout, Lies, Follows}
@@ -30,9 +31,9 @@ use Rattle.ec_layout.specs.Pieces.{AreApart, pieces_of}
 use Rattle.ec_layout.specs.declared.selected.Selected.{Selected}
 use Rattle.ec_store.specs.Places.{ArePlaces, placed, pieces}
 use Rattle.ec_store.specs.Plan.{IsPlan, PlansFor}
-use Rattle.ec_store.specs.Store.{Holds, StandsForEither}
+use Rattle.ec_store.specs.Store.{Holds, HoldsIn, StandsForEither}
 use Rattle.ec_store.specs.declared.plan.Plan.{Plan}
-use Rattle.ec_store.proofs.Holding.{plan_apart, plan_places, turned, turn_follows, turn_leaves, turn_holds}
+use Rattle.ec_store.proofs.Holding.{plan_apart, plan_places, turned, turn_follows, turn_leaves, turn_holds, leaves_map}
 
 module _ (d : Durable) (named : List ℕ) (kept : List (ℕ × ℕ)) (order : IsInOrder d) (are : ArePlaces d.max_objects named kept) (plan : Plan) (is : IsPlan d.max_objects named kept d.volume plan) where
   pub pieces_stand_apart : AreApart (pieces_of plan.pieces.items)
@@ -43,8 +44,8 @@ module _ (d : Durable) (named : List ℕ) (kept : List (ℕ × ℕ)) (order : Is
       subst (λ ns. ArePlaces d.max_objects ns plan.kept) (sym is.numbers)
       (subst (λ ps. ArePlaces d.max_objects (numbers_in ps) ps) (sym is.places) (plan_places d named kept order are is.each))
 
-  module _ (spelled : plan.table.items ≡ (table_code d.max_objects).spell (Two, described d plan.kept)) (fits : (table_code d.max_objects).fits (Two, described d plan.kept) ≡ true)
-      (old : View) (selected : Selected) (wider : List (ℕ × ℕ)) (fewer : (o s : ℕ) → at o kept ≡ Some s → at o wider ≡ Some s) (h : Holds old selected named wider d) where
+  module _ (v : Version) (spelled : plan.table.items ≡ (table_code d.max_objects).spell (Two, described d plan.kept)) (fits : (table_code d.max_objects).fits (Two, described d plan.kept) ≡ true)
+      (old : View) (selected : Selected) (wider : List (ℕ × ℕ)) (fewer : (o s : ℕ) → at o kept ≡ Some s → at o wider ≡ Some s) (h : HoldsIn v old selected named wider d) where
     abbrev made : List (ℕ × ℕ)
     made = placed kept d.volume (free_below (2 * d.max_objects) named)
 
@@ -55,21 +56,25 @@ module _ (d : Durable) (named : List ℕ) (kept : List (ℕ × ℕ)) (order : Is
     fits_made = ap (λ (ps : List (ℕ × ℕ)). (table_code d.max_objects).fits (Two, described d ps)) (sym is.places) ∙ fits
 
     after : Layout
-    after = turned d named kept order are is.each plan.table.items spelled_made fits_made old selected wider fewer h
+    after = turned d named kept order are is.each v plan.table.items spelled_made fits_made old selected wider fewer h
 
     follows : Follows (other (side_now selected)) plan.table.items (pieces_of plan.pieces.items) h.layout after
     unfolding after
-    follows = subst (λ ps. Follows (other (side_now selected)) plan.table.items ps h.layout after) (sym is.pieces_are) (turn_follows d named kept order are is.each plan.table.items spelled_made fits_made old selected wider fewer h)
+    follows = subst (λ ps. Follows (other (side_now selected)) plan.table.items ps h.layout after) (sym is.pieces_are) (turn_follows d named kept order are is.each v plan.table.items spelled_made fits_made old selected wider fewer h)
 
-    pub plan_leaves : (r : Record) (new : View) → ((l m : Layout) → Follows (other (side_now selected)) plan.table.items (pieces_of plan.pieces.items) l m → IsOn old selected l → LeavesOnly old new (λ image. Lies image l ⊎ Lies image m)) → LeavesOnly old new (StandsForEither r d)
+    pub plan_leaves : (new : View) → ((l m : Layout) → Follows (other (side_now selected)) plan.table.items (pieces_of plan.pieces.items) l m → IsOn old selected l → LeavesOnly old new (λ image. Lies image l ⊎ Lies image m)) → LeavesOnly old new (λ image. StandsFor image d)
     unfolding after
-    plan_leaves r new leaves = turn_leaves d named kept order are is.each plan.table.items spelled_made fits_made old selected wider fewer h r new (leaves h.layout after follows h.on)
+    plan_leaves new leaves = turn_leaves d named kept order are is.each v plan.table.items spelled_made fits_made old selected wider fewer h new (leaves h.layout after follows h.on)
+
+    -- or for the state behind a record
+    pub plan_leaves_either : (r : Record) (new : View) → ((l m : Layout) → Follows (other (side_now selected)) plan.table.items (pieces_of plan.pieces.items) l m → IsOn old selected l → LeavesOnly old new (λ image. Lies image l ⊎ Lies image m)) → LeavesOnly old new (StandsForEither r d)
+    plan_leaves_either r new leaves = leaves_map (λ image. StandsFor image d) (StandsForEither r d) old new (λ c is. inl is) (plan_leaves new leaves)
 
     pub plan_holds : (new : View) (later : Selected) → ((l m : Layout) → Follows (other (side_now selected)) plan.table.items (pieces_of plan.pieces.items) l m → IsOn old selected l → IsOn new later m) → Holds new later plan.named.items plan.kept d
     unfolding after
     plan_holds new later on =
         subst (λ ns. Holds new later ns plan.kept d) (sym is.numbers)
-        (subst (λ ps. Holds new later (numbers_in ps) ps d) (sym is.places) (turn_holds d named kept order are is.each plan.table.items spelled_made fits_made old selected wider fewer h new later (on h.layout after follows h.on)))
+        (subst (λ ps. Holds new later (numbers_in ps) ps d) (sym is.places) (turn_holds d named kept order are is.each v plan.table.items spelled_made fits_made old selected wider fewer h new later (on h.layout after follows h.on)))
 
 -- the parts of a plan, put together
 pub plans : (state : Durable) (named : List ℕ) (wider kept : List (ℕ × ℕ)) (ids : List ℕ) → ((o : ℕ) → at o kept ≡ cond (member o ids) None (at o wider)) → (r : Result Plan NoMemory) → IfOk r (λ p. IsPlan state.max_objects named kept state.volume p)

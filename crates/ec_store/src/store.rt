@@ -37,8 +37,10 @@ pub struct Store {
 }
 
 impl Store {
-    ghost use Rattle.std.specs.Prelude.{◌≡◌, ◌⊎◌, ◌<◌, ◌≤◌, ℕ, Ok, Err, Some, true, false, List, length, IfOk, OnOk, IsErrOf};
+    ghost use Rattle.std.specs.Prelude.{◌≡◌, ◌⊎◌, ◌<◌, ◌≤◌, ◌+◌, ℕ, Ok, Err, Some, true, false, List, length, IfOk, OnOk, IsErrOf};
     ghost use Rattle.ec_base.specs.Tables.{at};
+    ghost use Rattle.ec_sessions.specs.Limits.{ids_per_grant};
+    ghost use Rattle.ec_sessions.specs.declared.slot.Slot.{Slot};
     ghost use Rattle.ec_disk.specs.Disk.{IsSynced, LeavesOnly, Counted, Called};
     ghost use Rattle.ec_journal.specs.Journal.{need_of};
     ghost use Rattle.ec_volume.specs.Image.{is_gone};
@@ -47,11 +49,13 @@ impl Store {
     ghost use Rattle.ec_durable.specs.declared.record.RecordFault.{RecordFault};
     ghost use Rattle.ec_durable.specs.declared.record.RecordFault.TheVariants as record_fault;
     ghost use Rattle.ec_durable.specs.declared.state.Durable.{Durable};
-    ghost use Rattle.ec_durable.specs.Durable.{step, formatted};
+    ghost use Rattle.ec_durable.specs.Durable.{slot, step, formatted};
+    ghost use Rattle.ec_durable.specs.WellFormed as states;
     ghost use Rattle.ec_durable.specs.WellFormed.{least_max_objects, most_max_objects};
     ghost use Rattle.ec_durable.specs.Codes.{is_sound_record, record_code, max_record_code};
     ghost use Rattle.ec_layout.specs.Selected.{free_now};
-    ghost use Rattle.ec_stands.specs.Stands.{StandsFor};
+    ghost use Rattle.ec_stands.specs.Stands.{StandsFor, IsBadAt};
+    ghost use Rattle.ec_store.specs.Opening.{WasLeftOrStands};
     ghost use Rattle.ec_store.specs.declared.fault.StoreFault.TheVariants as fault;
     ghost use Rattle.ec_store.specs.Places.{touched};
     ghost use Rattle.ec_store.specs.Plan.{PlansFor};
@@ -59,7 +63,11 @@ impl Store {
 
     /// The state.
     pub fn view(&self) -> &Durable
-        ensures { result.now ≡ view_of self.now }
+        ensures value { result.now ≡ view_of self.now }
+        ensures formed { ∥ states.WellFormed (view_of self.now) ∥₁ }
+        // The ids to come are ids, and so are those of each slot's last grant.
+        ensures next { 1 ≤ (view_of self.now).next_id }
+        ensures grants { (c : ℕ) (sl : Slot) (first : ℕ) → slot (view_of self.now) c ≡ Some sl → sl.last_first ≡ Some first → first + ids_per_grant ≤ (view_of self.now).next_id }
     {
         &self.state
     }
@@ -100,6 +108,24 @@ impl Store {
             named: plan.named,
             kept: plan.kept,
         })
+    }
+
+    /// Opens a disk. It syncs before it reads, so that what was read stays, and reads each byte that counts once.
+    ///
+    /// `BadDisk` shows the first bad place. A disk of version 1 is brought to version 2 by a checkpoint.
+    pub fn open<D: Disk>(_alloc: Global, disk: &mut D) -> Result<Store, StoreFault>
+        // The store shows the state that the disk stood for, and the disk stands for it, whatever a crash leaves.
+        ensures stands { IfOk result (λ store. D.tells → StandsFor (D.view disk.old).gives (view_of store)) }
+        ensures ok { IfOk result (λ store. D.tells → IsHeld (D.view disk.new) store) }
+        ensures synced { OnOk result (D.tells → IsSynced (D.view disk.new)) }
+        ensures bad { (place : ℕ) → IsErrOf result (fault.BadDisk place) → D.tells → IsBadAt (D.view disk.old).gives place }
+        // Each image that a crash since might leave is one that it might have left before, or stands for the state that the disk stood for.
+        ensures any_moment { D.tells → LeavesOnly (D.view disk.old) (D.view disk.new) (WasLeftOrStands (D.view disk.old)) }
+        ensures no_refusal { (f : RecordFault) → IsErrOf result (fault.Refused f) → ⊥ }
+        ensures counts { Counted (D.counts disk.old) (D.counts disk.new) (IsErrOf result fault.DiskFailed) (IsErrOf result fault.DiskStopped) }
+    {
+        // A stage: what is read isn't put together yet.
+        Err(StoreFault::NoMemory)
     }
 
     /// Steps the state by a record whose updates are sound, of which a batch has 1 to 64, and brings the record to the disk: by four calls

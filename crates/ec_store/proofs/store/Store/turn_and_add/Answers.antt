@@ -4,6 +4,7 @@ use Rattle.ec_disk.specs.Runs.{leaves_then}
 use Rattle.ec_volume.specs.Update.{member}
 use Rattle.ec_durable.specs.CodeLaws.{sound_steps}
 use Rattle.ec_durable.proofs.Kept.{below_kept, step_kept}
+use Rattle.ec_table.specs.declared.table.Version.TheVariants.{Two}
 use Rattle.ec_layout.specs.Free.{free_below}
 use Rattle.ec_layout.specs.Layout.{Follows}
 use Rattle.ec_layout.specs.Pieces.{AreApart, pieces_of}
@@ -15,7 +16,7 @@ use Rattle.ec_store.proofs.Members.{left_kept, keeps_left}
 use Rattle.ec_store.proofs.Images.{step_most}
 use Rattle.ec_store.proofs.Placing.{placed_keeps}
 use Rattle.ec_store.proofs.Holding.{leaves_none, held_stands, append_leaves, append_holds, fewer_places, still_formed}
-use Rattle.ec_store.proofs.Planning.{pieces_stand_apart, new_places_are, plan_leaves, plan_holds}
+use Rattle.ec_store.proofs.Planning.{pieces_stand_apart, new_places_are, plan_leaves_either, plan_holds}
 use Rattle.ec_store.proofs.store.Store.turn_and_add.Goals as goal
 
 pub step-requires-clause-sound : goal.step-requires-clause-sound
@@ -86,7 +87,7 @@ returns-in_err-done-clause-any_moment g c told held =
     let are = fewer_places s.state.max_objects s.named.items s.kept p.kept s.places fewer in
     let old = g.D.Disk.view c.args.disk.now in
     let mid = g.D.Disk.view c.checkpoint.new.disk in
-    plan_leaves s.state s.named.items p.kept s.order are c.args.plan p.is p.spelled p.fits old s.selected s.kept fewer held c.args.change.now mid (λ l m follows on. c.checkpoint.ensures.any_moment told l m (subst (λ t. Follows (other (side_now s.selected)) t (pieces_of c.as_slice.result.now) l m) (sym c.as_slice-2.ensures.value) (subst (λ ps. Follows (other (side_now s.selected)) c.args.plan.table.items (pieces_of ps) l m) (sym c.as_slice.ensures.value) follows)) on)
+    plan_leaves_either s.state s.named.items p.kept s.order are c.args.plan p.is Two p.spelled p.fits old s.selected s.kept fewer held c.args.change.now mid (λ l m follows on. c.checkpoint.ensures.any_moment told l m (subst (λ t. Follows (other (side_now s.selected)) t (pieces_of c.as_slice.result.now) l m) (sym c.as_slice-2.ensures.value) (subst (λ ps. Follows (other (side_now s.selected)) c.args.plan.table.items (pieces_of ps) l m) (sym c.as_slice.ensures.value) follows)) on)
 
 pub returns-in_err-append-clause-any_moment : goal.returns-in_err-append-clause-any_moment
 returns-in_err-append-clause-any_moment g c told held =
@@ -98,9 +99,9 @@ returns-in_err-append-clause-any_moment g c told held =
     let old = g.D.Disk.view c.args.disk.now in
     let mid = g.D.Disk.view c.checkpoint.new.disk in
     let new = g.D.Disk.view c.append.new.disk in
-    let there = plan_holds s.state s.named.items p.kept s.order are c.args.plan p.is p.spelled p.fits old s.selected s.kept fewer held mid c.checkpoint.new.self (λ l m follows on. c.checkpoint.ensures.done told c.in_ok-done.ensures.ok l m (subst (λ t. Follows (other (side_now s.selected)) t (pieces_of c.as_slice.result.now) l m) (sym c.as_slice-2.ensures.value) (subst (λ ps. Follows (other (side_now s.selected)) c.args.plan.table.items (pieces_of ps) l m) (sym c.as_slice.ensures.value) follows)) on) in
+    let there = plan_holds s.state s.named.items p.kept s.order are c.args.plan p.is Two p.spelled p.fits old s.selected s.kept fewer held mid c.checkpoint.new.self (λ l m follows on. c.checkpoint.ensures.done told c.in_ok-done.ensures.ok l m (subst (λ t. Follows (other (side_now s.selected)) t (pieces_of c.as_slice.result.now) l m) (sym c.as_slice-2.ensures.value) (subst (λ ps. Follows (other (side_now s.selected)) c.args.plan.table.items (pieces_of ps) l m) (sym c.as_slice.ensures.value) follows)) on) in
     leaves_then (StandsForEither c.args.change.now s.state) old mid new
-    (plan_leaves s.state s.named.items p.kept s.order are c.args.plan p.is p.spelled p.fits old s.selected s.kept fewer held c.args.change.now mid (λ l m follows on. c.checkpoint.ensures.any_moment told l m (subst (λ t. Follows (other (side_now s.selected)) t (pieces_of c.as_slice.result.now) l m) (sym c.as_slice-2.ensures.value) (subst (λ ps. Follows (other (side_now s.selected)) c.args.plan.table.items (pieces_of ps) l m) (sym c.as_slice.ensures.value) follows)) on))
+    (plan_leaves_either s.state s.named.items p.kept s.order are c.args.plan p.is Two p.spelled p.fits old s.selected s.kept fewer held c.args.change.now mid (λ l m follows on. c.checkpoint.ensures.any_moment told l m (subst (λ t. Follows (other (side_now s.selected)) t (pieces_of c.as_slice.result.now) l m) (sym c.as_slice-2.ensures.value) (subst (λ ps. Follows (other (side_now s.selected)) c.args.plan.table.items (pieces_of ps) l m) (sym c.as_slice.ensures.value) follows)) on))
     (append_leaves c.args.change.now c.args.body.now c.requires.fits c.requires.spelled sound s.state c.step.new.self c.in_ok-step.ensures.ok mid new c.checkpoint.new.self c.args.plan.named.items c.args.plan.kept there (c.append.ensures.any_moment told))
 
 pub returns-clause-any_moment : goal.returns-clause-any_moment
@@ -113,9 +114,9 @@ returns-clause-any_moment g c told held =
     let old = g.D.Disk.view c.args.disk.now in
     let mid = g.D.Disk.view c.checkpoint.new.disk in
     let new = g.D.Disk.view c.append.new.disk in
-    let there = plan_holds s.state s.named.items p.kept s.order are c.args.plan p.is p.spelled p.fits old s.selected s.kept fewer held mid c.checkpoint.new.self (λ l m follows on. c.checkpoint.ensures.done told c.in_ok-done.ensures.ok l m (subst (λ t. Follows (other (side_now s.selected)) t (pieces_of c.as_slice.result.now) l m) (sym c.as_slice-2.ensures.value) (subst (λ ps. Follows (other (side_now s.selected)) c.args.plan.table.items (pieces_of ps) l m) (sym c.as_slice.ensures.value) follows)) on) in
+    let there = plan_holds s.state s.named.items p.kept s.order are c.args.plan p.is Two p.spelled p.fits old s.selected s.kept fewer held mid c.checkpoint.new.self (λ l m follows on. c.checkpoint.ensures.done told c.in_ok-done.ensures.ok l m (subst (λ t. Follows (other (side_now s.selected)) t (pieces_of c.as_slice.result.now) l m) (sym c.as_slice-2.ensures.value) (subst (λ ps. Follows (other (side_now s.selected)) c.args.plan.table.items (pieces_of ps) l m) (sym c.as_slice.ensures.value) follows)) on) in
     leaves_then (StandsForEither c.args.change.now s.state) old mid new
-    (plan_leaves s.state s.named.items p.kept s.order are c.args.plan p.is p.spelled p.fits old s.selected s.kept fewer held c.args.change.now mid (λ l m follows on. c.checkpoint.ensures.any_moment told l m (subst (λ t. Follows (other (side_now s.selected)) t (pieces_of c.as_slice.result.now) l m) (sym c.as_slice-2.ensures.value) (subst (λ ps. Follows (other (side_now s.selected)) c.args.plan.table.items (pieces_of ps) l m) (sym c.as_slice.ensures.value) follows)) on))
+    (plan_leaves_either s.state s.named.items p.kept s.order are c.args.plan p.is Two p.spelled p.fits old s.selected s.kept fewer held c.args.change.now mid (λ l m follows on. c.checkpoint.ensures.any_moment told l m (subst (λ t. Follows (other (side_now s.selected)) t (pieces_of c.as_slice.result.now) l m) (sym c.as_slice-2.ensures.value) (subst (λ ps. Follows (other (side_now s.selected)) c.args.plan.table.items (pieces_of ps) l m) (sym c.as_slice.ensures.value) follows)) on))
     (append_leaves c.args.change.now c.args.body.now c.requires.fits c.requires.spelled sound s.state c.step.new.self c.in_ok-step.ensures.ok mid new c.checkpoint.new.self c.args.plan.named.items c.args.plan.kept there (c.append.ensures.any_moment told))
 
 pub returns-clause-ok : goal.returns-clause-ok
@@ -128,7 +129,7 @@ returns-clause-ok g c told held =
     let old = g.D.Disk.view c.args.disk.now in
     let mid = g.D.Disk.view c.checkpoint.new.disk in
     let new = g.D.Disk.view c.append.new.disk in
-    let there = plan_holds s.state s.named.items p.kept s.order are c.args.plan p.is p.spelled p.fits old s.selected s.kept fewer held mid c.checkpoint.new.self (λ l m follows on. c.checkpoint.ensures.done told c.in_ok-done.ensures.ok l m (subst (λ t. Follows (other (side_now s.selected)) t (pieces_of c.as_slice.result.now) l m) (sym c.as_slice-2.ensures.value) (subst (λ ps. Follows (other (side_now s.selected)) c.args.plan.table.items (pieces_of ps) l m) (sym c.as_slice.ensures.value) follows)) on) in
+    let there = plan_holds s.state s.named.items p.kept s.order are c.args.plan p.is Two p.spelled p.fits old s.selected s.kept fewer held mid c.checkpoint.new.self (λ l m follows on. c.checkpoint.ensures.done told c.in_ok-done.ensures.ok l m (subst (λ t. Follows (other (side_now s.selected)) t (pieces_of c.as_slice.result.now) l m) (sym c.as_slice-2.ensures.value) (subst (λ ps. Follows (other (side_now s.selected)) c.args.plan.table.items (pieces_of ps) l m) (sym c.as_slice.ensures.value) follows)) on) in
     append_holds c.args.change.now c.args.body.now c.requires.fits c.requires.spelled sound s.state c.step.new.self c.in_ok-step.ensures.ok mid new c.checkpoint.new.self c.args.plan.named.items c.args.plan.kept there c.append.new.selected c.forget.new.kept (c.in_ok-append.ensures.ok told)
     (λ o slot found. let left = left_kept o slot (member o c.args.ids.now) (at o c.forget.new.kept) (at o c.args.plan.kept) (c.forget.ensures o) found in (left.0, ap (λ (l : List ℕ). member o l) (sym c.requires.ids) ∙ left.1))
 

@@ -1,0 +1,4 @@
+pub mod Sorting
+pub mod Trees
+pub mod Adding
+pub mod Deciding
