@@ -1,0 +1,89 @@
+// Whether a transcript is legal.
+ghost use Rattle.std.specs.Prelude.{◌≤◌, ◌<◌, ◌^◌, T, length, IfOk, IfErr};
+ghost use Rattle.std.specs.List.{list_all};
+ghost use Rattle.ec_legal.specs.Bounded.{is_bounded_line};
+ghost use Rattle.ec_check.specs.Verdicts.{IsVerdict};
+ghost use Rattle.ec_check.specs.Checked.{IsChecked, IsRefused};
+
+use crate::lines::{self, MAX_TRANSCRIPT_BYTES, read_lines};
+use ec_base::{NoMemory, Source};
+use ec_history::{Rule, Shown};
+use ec_legal::{HistoryFault, place};
+use ec_streams::{ReadFault, read_whole};
+use std::alloc::Global;
+use thiserror::Error;
+
+/// What a transcript is.
+#[derive(Clone, Copy, Debug, Drop, PartialEq, Eq)]
+pub enum Checked {
+    Legal,
+    /// This line, from 1, is the first at fault, and this is the first rule that it breaks.
+    Illegal(u32, Rule),
+}
+
+/// Why a transcript was not judged.
+#[derive(Clone, Copy, Debug, Drop, PartialEq, Eq, Error)]
+pub enum CheckFault {
+    /// This line, from 1, is outside the grammar. The column, from 1, is that of the first byte of
+    /// the first word that doesn't fit, or just behind the line where a word is missing.
+    #[error("no such line: line {0}, column {1}")]
+    BadLine(u32, u32),
+    #[error("the source failed")]
+    SourceFailed,
+    /// There are too many bytes: the limit and one more.
+    #[error("more than {0} bytes")]
+    Limit(u64),
+    #[error("out of memory")]
+    NoMemory,
+}
+
+/// Reads a transcript that began on a formatted volume, with at most so many objects, to its end,
+/// and judges it. First the bytes are counted, then all lines are read, then each is placed, and
+/// then the entries are judged in their order.
+pub fn check_transcript<S: Source>(
+    alloc: Global,
+    source: &mut S,
+    max_objects: u32,
+) -> Result<Checked, CheckFault>
+    ensures ok { IfOk result (λ checked. IsChecked (S.left source.old) (S.left source.new) max_objects checked) }
+    ensures err { IfErr result (λ fault. IsRefused (S.left source.old) (S.left source.new) (S.faults source.old) (S.faults source.new) fault) }
+    ensures later { S.faults source.old ≤ S.faults source.new }
+{
+    let bytes = match read_whole(alloc, source, MAX_TRANSCRIPT_BYTES) {
+        Ok(bytes) => bytes,
+        Err(ReadFault::TooMany) => {
+            return Err(CheckFault::Limit(MAX_TRANSCRIPT_BYTES as u64 + 1));
+        }
+        Err(ReadFault::Failed) => return Err(CheckFault::SourceFailed),
+        Err(ReadFault::NoMemory) => return Err(CheckFault::NoMemory),
+    };
+    let shown = match read_lines(alloc, &bytes) {
+        Ok(shown) => shown,
+        Err(lines::ReadFault::BadLine(line, column)) => {
+            return Err(CheckFault::BadLine(line, column));
+        }
+        Err(lines::ReadFault::NoMemory) => return Err(CheckFault::NoMemory),
+    };
+    match verdict(alloc, &shown, max_objects) {
+        Ok(checked) => Ok(checked),
+        Err(NoMemory) => Err(CheckFault::NoMemory),
+    }
+}
+
+// What these lines are.
+fn verdict(alloc: Global, shown: &[Shown], most: u32) -> Result<Checked, NoMemory>
+    requires few { length shown.now < 2 ^ 31 }
+    requires bounded { T (list_all is_bounded_line shown.now) }
+    ensures { IfOk result (IsVerdict most shown.now) }
+{
+    let history = match place(alloc, shown) {
+        Ok(history) => history,
+        Err(HistoryFault::At(line, rule)) => return Ok(Checked::Illegal(line, rule)),
+        Err(HistoryFault::NoMemory) => return Err(NoMemory),
+    };
+    match history.check(most) {
+        Ok(()) => Ok(Checked::Legal),
+        Err(HistoryFault::At(line, rule)) => Ok(Checked::Illegal(line, rule)),
+        Err(HistoryFault::NoMemory) => Err(NoMemory),
+    }
+}

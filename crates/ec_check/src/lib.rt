@@ -1,0 +1,8 @@
+//! Whether a transcript is legal, from its bytes.
+#![tactic(auto)]
+
+mod checking;
+mod lines;
+
+pub use checking::{CheckFault, Checked, check_transcript};
+pub use lines::MAX_TRANSCRIPT_BYTES;

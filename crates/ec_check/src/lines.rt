@@ -1,0 +1,59 @@
+// The lines of a transcript.
+ghost use Rattle.std.specs.Prelude.{◌≤◌, T, length, IfOk, IfErr, MatchResult};
+ghost use Rattle.std.specs.List.{list_all};
+ghost use Rattle.ec_script.specs.Lines.{lines_of};
+ghost use Rattle.ec_legal.specs.Bounded.{is_bounded_line};
+ghost use Rattle.ec_shown.specs.Lines.{IsShown, IsUnfit};
+ghost use Rattle.ec_check.specs.Limits.{max_transcript_bytes};
+ghost use Rattle.ec_check.specs.Lines.{AreShown, HasBadLine};
+
+use ec_history::Shown;
+use ec_script::{LineFault, split_line};
+use std::alloc::Global;
+
+/// A transcript has at most this many bytes.
+pub const MAX_TRANSCRIPT_BYTES: usize = 16_777_216;
+
+/// Why lines were not read.
+#[derive(Clone, Copy, Debug, Drop, PartialEq, Eq)]
+pub(crate) enum ReadFault {
+    /// This line, from 1, is outside the grammar at this column, from 1.
+    BadLine(u32, u32),
+    NoMemory,
+}
+
+/// Reads each line.
+pub(crate) fn read_lines(alloc: Global, bytes: &[u8]) -> Result<Vec<Shown>, ReadFault>
+    requires { length bytes.now ≤ max_transcript_bytes }
+    ensures shown { IfOk result (λ shown. AreShown (lines_of bytes.now) shown.items) }
+    ensures bounded { IfOk result (λ shown. T (list_all is_bounded_line shown.items)) }
+    ensures few { IfOk result (λ shown. length shown.items ≤ length bytes.now) }
+    ensures fault { IfErr result (λ fault. HasBadLine bytes.now fault) }
+{
+    let mut lines = Vec::new(alloc);
+    let mut rest = bytes;
+    'lines: while !rest.is_empty() {
+        let (line, behind) = split_line(rest);
+        match read_line(alloc, line) {
+            Ok(shown) => {
+                if lines.push(shown).is_err() {
+                    return Err(ReadFault::NoMemory);
+                }
+            }
+            Err(LineFault::At(column)) => {
+                return Err(ReadFault::BadLine(lines.len() as u32 + 1, column));
+            }
+            Err(LineFault::NoMemory) => return Err(ReadFault::NoMemory),
+        }
+        rest = behind;
+    }
+    Ok(lines)
+}
+
+// Reads a line, whose call is within its bounds.
+fn read_line(alloc: Global, line: &[u8]) -> Result<Shown, LineFault>
+    ensures shown { MatchResult result (IsShown line.now) (IsUnfit line.now) }
+    ensures bounded { IfOk result (λ shown. T (is_bounded_line shown)) }
+{
+    ec_shown::read(alloc, line)
+}
