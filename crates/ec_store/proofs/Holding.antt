@@ -100,7 +100,7 @@ module _ (r : Record) (body : List ℕ) (fits : record_code.fits r ≡ true) (sp
     }
 
 -- the limit of objects stays
-steps_most : (bodies : List (List ℕ)) (d e : Durable) → StepsTo bodies d e → e.max_objects ≡ d.max_objects
+pub steps_most : (bodies : List (List ℕ)) (d e : Durable) → StepsTo bodies d e → e.max_objects ≡ d.max_objects
 steps_most [] d e is = ap (λ (x : Durable). x.max_objects) (sym is)
 steps_most (body ∷ bodies) d e is = steps_most bodies is.1 e is.4 ∙ step_most is.0 d is.1 is.3
 

@@ -5,3 +5,11 @@ pub mod Holding
 pub mod Planning
 pub mod Ids
 pub mod Resting
+pub mod Parts
+pub mod Heads
+pub mod Assembling
+pub mod Refusing
+pub mod Rows
+pub mod ReadBack
+pub mod Replaying
+pub mod Opens

@@ -4,4 +4,6 @@ pub mod OpeningLaws
 pub mod Places
 pub mod Placing
 pub mod Plan
+pub mod Reading
+pub mod Replay
 pub mod Store

@@ -2,7 +2,10 @@
 #![tactic(auto)]
 
 mod fault;
+mod opening;
 mod plan;
+mod reading;
+mod replay;
 mod store;
 #[cfg(test)]
 mod tests;

@@ -61,8 +61,8 @@ pub(crate) fn lay_out(
     })
 }
 
-// The numbers of these slots.
-fn numbers(alloc: Global, places: &[(ObjId, u32)]) -> Result<Vec<u32>, NoMemory>
+/// The numbers of these slots.
+pub(crate) fn numbers(alloc: Global, places: &[(ObjId, u32)]) -> Result<Vec<u32>, NoMemory>
     ensures { IfOk result (λ numbers. numbers.items ≡ numbers_in places.now) }
 {
     Ok(places.iter().map(|place| place.1).collect(alloc)?)

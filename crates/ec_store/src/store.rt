@@ -15,11 +15,13 @@ ghost use Rattle.ec_store.specs.Places.{ArePlaces};
 ghost use Rattle.ec_store.specs.declared.fault.StoreFault.TheVariants as fault;
 
 use crate::fault::{StoreFault, done, of_disk};
-use crate::plan::{Plan, lay_out, touched};
+use crate::opening::{Opened, read_back};
+use crate::plan::{Plan, lay_out, numbers, touched};
 use ec_base::{Duplicate, NoMemory, ObjId, SortedMap};
 use ec_disk::Disk;
 use ec_durable::{Durable, Record, encode};
 use ec_layout::{Selected, Side, prepare, write_head};
+use ec_table::Version;
 use std::alloc::Global;
 
 /// The durable state that a disk stands for, and where its images stand there.
@@ -54,8 +56,15 @@ impl Store {
     ghost use Rattle.ec_durable.specs.WellFormed.{least_max_objects, most_max_objects};
     ghost use Rattle.ec_durable.specs.Codes.{is_sound_record, record_code, max_record_code};
     ghost use Rattle.ec_layout.specs.Selected.{free_now};
+    ghost use Rattle.std.specs.Prelude.{T};
+    ghost use Rattle.std.specs.Ordering.{nat_cmp};
+    ghost use Rattle.std.specs.FinMap.{is_sorted};
+    ghost use Rattle.ec_table.specs.Codes.{numbers_in};
+    ghost use Rattle.ec_layout.specs.Places.{journal_bytes};
+    ghost use Rattle.ec_layout.specs.Selected.{IsSelected};
     ghost use Rattle.ec_stands.specs.Stands.{StandsFor, IsBadAt};
-    ghost use Rattle.ec_store.specs.Opening.{WasLeftOrStands};
+    ghost use Rattle.ec_store.specs.declared.fault.StoreFault.{StoreFault};
+    ghost use Rattle.ec_store.specs.Opening.{IsOpened, WasLeftOrStands};
     ghost use Rattle.ec_store.specs.declared.fault.StoreFault.TheVariants as fault;
     ghost use Rattle.ec_store.specs.Places.{touched};
     ghost use Rattle.ec_store.specs.Plan.{PlansFor};
@@ -112,8 +121,8 @@ impl Store {
 
     /// Opens a disk. It syncs before it reads, so that what was read stays, and reads each byte that counts once.
     ///
-    /// `BadDisk` shows the first bad place. A disk of version 1 is brought to version 2 by a checkpoint.
-    pub fn open<D: Disk>(_alloc: Global, disk: &mut D) -> Result<Store, StoreFault>
+    /// `BadDisk` shows the first bad place. A disk of version 1 isn't opened yet: it answers want of memory.
+    pub fn open<D: Disk>(alloc: Global, disk: &mut D) -> Result<Store, StoreFault>
         // The store shows the state that the disk stood for, and the disk stands for it, whatever a crash leaves.
         ensures stands { IfOk result (λ store. D.tells → StandsFor (D.view disk.old).gives (view_of store)) }
         ensures ok { IfOk result (λ store. D.tells → IsHeld (D.view disk.new) store) }
@@ -124,8 +133,46 @@ impl Store {
         ensures no_refusal { (f : RecordFault) → IsErrOf result (fault.Refused f) → ⊥ }
         ensures counts { Counted (D.counts disk.old) (D.counts disk.new) (IsErrOf result fault.DiskFailed) (IsErrOf result fault.DiskStopped) }
     {
-        // A stage: what is read isn't put together yet.
-        Err(StoreFault::NoMemory)
+        done(disk.sync())?;
+        let opened = read_back(alloc, disk)?;
+        match opened.version {
+            // A stage: a disk of version 1 isn't brought to version 2 yet.
+            Version::One => Err(StoreFault::NoMemory),
+            Version::Two => {
+                let store = Store::holding(alloc, opened)?;
+                Ok(store)
+            }
+        }
+    }
+
+    // The store of a disk of version 2 that was read back.
+    fn holding(alloc: Global, opened: Opened) -> Result<Store, StoreFault>
+        requires formed { states.WellFormed opened.state }
+        requires places { ArePlaces opened.state.max_objects (numbers_in opened.places.items) opened.places.items }
+        requires rising { T (is_sorted nat_cmp opened.places.items) }
+        requires end { opened.end < journal_bytes }
+        ensures view { IfOk result (λ store. view_of store ≡ opened.state) }
+        ensures parts { IfOk result (λ store. (store.named.items ≡ numbers_in opened.places.items) × IsSelected opened.side opened.end store.selected) }
+        ensures kept { IfOk result (λ store. (o slot : ℕ) → at o store.kept ≡ Some slot → (at o opened.places.items ≡ Some slot) × (member o opened.ids.items ≡ false)) }
+        ensures no_memory { (f : StoreFault) → IsErrOf result f → f ≡ fault.NoMemory }
+    {
+        let Opened {
+            side,
+            end,
+            state,
+            places,
+            ids,
+            ..
+        } = opened;
+        let named = numbers(alloc, places.as_slice())?;
+        let mut kept = SortedMap::of(places);
+        forget(&mut kept, ids.as_slice());
+        Ok(Store {
+            state,
+            selected: Selected::new(side, end),
+            named,
+            kept,
+        })
     }
 
     /// Steps the state by a record whose updates are sound, of which a batch has 1 to 64, and brings the record to the disk: by four calls

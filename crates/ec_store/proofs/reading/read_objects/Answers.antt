@@ -1,0 +1,29 @@
+use Rattle.std.proofs.Common.{rules, ◌≡◌, ℕ, List, ap, sym, subst, ◌∙◌}
+use Rattle.std.specs.Prelude.{IsErrOf}
+use Rattle.ec_store.specs.declared.fault.StoreFault.TheVariants.{BadDisk}
+use Rattle.ec_stands.specs.Stands.{IsSpelled, IsBadImage}
+use Rattle.ec_store.proofs.Resting.{rests_same, rests_then}
+use Rattle.ec_store.proofs.Parts.{spelled_more, ids_more, sound_more, bad_at}
+use Rattle.ec_store.proofs.reading.read_objects.Goals as goal
+
+pub places-preserved : goal.places-preserved
+places-preserved g c =
+    let old = g.D.Disk.view c.args.disk.now in
+    let mid = g.D.Disk.view c.places.disk in
+    let inv = c.places.invariant in
+    record {
+      spelled = λ told. spelled_more c.args.version old.gives c.args.places.now c.places.named-index c.named-item.result c.places.objects.items c.push.new.self.items c.in_ok-object.object c.places-test.true c.named-item.is (search rules) (inv.spelled told)
+          (subst (λ (image : List ℕ). IsSpelled c.args.version image c.named-item.result c.in_ok-object.object) (inv.rests told).gives (c.in_ok-object.ensures.spelled told));
+      ids = ids_more c.args.places.now c.places.named-index c.named-item.result c.places.objects.items c.push.new.self.items c.in_ok-object.object c.places-test.true c.named-item.is (search rules) inv.ids c.in_ok-object.ensures.id;
+      sound = sound_more c.places.objects.items c.push.new.self.items c.in_ok-object.object (search rules) inv.sound c.in_ok-object.ensures.sound;
+      rests = λ told. rests_then old mid (g.D.Disk.view c.read_object.new.disk) (λ t image le left. g.met.D.Disk.counts_now told c.args.disk.now t image le left) (inv.rests told) (c.read_object.ensures.rests told);
+      counts = search rules;
+    }
+
+pub returns-in_err-object-clause-bad : goal.returns-in_err-object-clause-bad
+returns-in_err-object-clause-bad g c p is told =
+    let old = g.D.Disk.view c.args.disk.now in
+    let inv = c.places.invariant in
+    let one : IsErrOf c.read_object.result (BadDisk p) = search rules in
+    bad_at c.args.version old.gives c.args.places.now c.places.named-index c.named-item.result c.places.objects.items p c.places-test.true c.named-item.is (inv.spelled told)
+    (subst (λ (image : List ℕ). IsBadImage c.args.version image c.named-item.result p) (inv.rests told).gives (c.read_object.ensures.bad p one told))
