@@ -128,6 +128,7 @@ impl Store {
         ensures ok { IfOk result (λ store. D.tells → IsHeld (D.view disk.new) store) }
         ensures synced { OnOk result (D.tells → IsSynced (D.view disk.new)) }
         ensures bad { (place : ℕ) → IsErrOf result (fault.BadDisk place) → D.tells → IsBadAt (D.view disk.old).gives place }
+        ensures unchanged { (place : ℕ) → IsErrOf result (fault.BadDisk place) → D.tells → (D.view disk.new).gives ≡ (D.view disk.old).gives }
         // Each image that a crash since might leave is one that it might have left before, or stands for the state that the disk stood for.
         ensures any_moment { D.tells → LeavesOnly (D.view disk.old) (D.view disk.new) (WasLeftOrStands (D.view disk.old)) }
         ensures no_refusal { (f : RecordFault) → IsErrOf result (fault.Refused f) → ⊥ }

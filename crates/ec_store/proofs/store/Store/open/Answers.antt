@@ -1,4 +1,4 @@
-use Rattle.std.proofs.Common.{rules, ℕ, List, subst}
+use Rattle.std.proofs.Common.{rules, ℕ, List, subst, ◌∙◌}
 use Rattle.std.specs.Prelude.{IsErrOf}
 use Rattle.ec_stands.specs.Stands.{IsBadAt}
 use Rattle.ec_store.specs.declared.fault.StoreFault.TheVariants.{BadDisk}
@@ -14,6 +14,9 @@ pub returns-in_err-opened-clause-bad : goal.returns-in_err-opened-clause-bad
 returns-in_err-opened-clause-bad g c place is told =
     let one : IsErrOf c.read_back.result (BadDisk place) = search rules in
     subst (λ (image : List ℕ). IsBadAt image place) (c.sync.ensures.rests told).gives (c.read_back.ensures.bad place one told)
+
+pub returns-in_err-opened-clause-unchanged : goal.returns-in_err-opened-clause-unchanged
+returns-in_err-opened-clause-unchanged g c place is told = (c.read_back.ensures.rests told).gives ∙ (c.sync.ensures.rests told).gives
 
 pub returns-in_err-opened-clause-any_moment : goal.returns-in_err-opened-clause-any_moment
 returns-in_err-opened-clause-any_moment g c told =
