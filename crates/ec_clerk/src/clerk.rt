@@ -174,6 +174,13 @@ impl Clerk {
         Ok(())
     }
 
+    /// Whether this start issued the operation.
+    pub fn has_issued(&self, op: OpNo) -> bool
+        ensures { result ≡ clerk.has_issued op self.now }
+    {
+        self.doing.has_issued(op)
+    }
+
     /// The least undurable operation, or the next one. It takes no memory.
     pub fn floor(&self) -> u64
         ensures { result ≡ clerk.floor self.now }
