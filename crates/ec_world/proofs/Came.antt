@@ -1,0 +1,340 @@
+-- What came of a server's step over a keeper that marks its records.
+use Rattle.std.proofs.Common.{◌≡◌, ◌⊎◌, ◌<◌, ◌≤◌, inl, inr, ⊎_elim, ℕ, Bool, false, List, [], length, Option, None, Some, Result, Ok, Err, refl, sym, ap, subst, ◌∙◌, arith}
+use Rattle.std.specs.Prelude.{IfOk, IfErr}
+use Rattle.ec_base.specs.Outside.{Rose}
+use Rattle.ec_base.specs.declared.counter.Counter.{Counter}
+use Rattle.ec_disk.specs.Disk.{View, LeavesOnly, Counts, Counted, Called}
+use Rattle.ec_durable.specs.Durable.{step}
+use Rattle.ec_durable.specs.declared.state.Durable.{Durable}
+use Rattle.ec_durable.specs.declared.record.Record.{Record}
+use Rattle.ec_stands.specs.Stands.{StandsFor}
+use Rattle.ec_protocol.specs.Server.{Serving}
+use Rattle.ec_protocol.specs.declared.server.Served.{Served}
+use Rattle.ec_protocol.specs.declared.server.Server.{Server as State}
+use Rattle.ec_server.specs.Clerks.{Records}
+use Rattle.ec_server.specs.Keepers.{Did, Hurts, SpendsNothing}
+use Rattle.ec_server.specs.Servers.{Does, Unstarted, GoesDown}
+use Rattle.ec_server.specs.Steps.{Leaves as FaultLeaves}
+use Rattle.ec_server.specs.declared.server.Server.{Server}
+use Rattle.ec_server.specs.declared.fault.ServerFault.{ServerFault}
+use Rattle.ec_server.specs.declared.fault.ServerFault.TheVariants as server
+use Rattle.ec_store.specs.Store.{IsHeld, StandsForEither, view_of}
+use Rattle.ec_store.specs.declared.store.Store.{Store}
+use Rattle.ec_world.specs.Cutting.{LeavesEither}
+use Rattle.ec_world.specs.Keeping.{IsDone, InDoubt, LeavesSome, CameOf, Unchanged, HasMark, Turns, IsStop}
+use Rattle.ec_keeper.specs.Keeps.{Keeps, Leaves}
+use Rattle.ec_keeper.specs.declared.keeper.DiskKeeper.{DiskKeeper}
+use Rattle.ec_codes.specs.Formats.{Format}
+use Rattle.ec_durable.specs.Codes.{record_code}
+use Rattle.ec_journal.specs.Journal.{need_of}
+use Rattle.ec_layout.specs.Selected.{free_now}
+use Rattle.ec_world.specs.Laws.{held_stands}
+use Rattle.ec_world.specs.Marking.{HasMarked, MayHaveMarked, IsUnmarked, HasStopped}
+use Rattle.ec_world.specs.declared.marking.Marking.{Marking}
+use Rattle.ec_world.specs.Marks.{Marked, MarkOf}
+use Rattle.ec_world.specs.declared.keeping.Came.{Came}
+use Rattle.ec_world.specs.declared.keeping.Came.TheVariants as came
+use Rattle.ec_world.specs.declared.marks.Mark.{Mark}
+
+-- What is known of the keeper's store, disk and mark behind a record that was committed.
+pub record Committed (tells : Type 0) (old new : Store) (now : View) (mark : Option Mark) (before : List Record) (a b : Counts) (r : Record) : Type 0 where
+  pub steps : step r (view_of old) ≡ Ok (view_of new)
+  pub held : tells → IsHeld now new
+  pub marked : Marked mark r (view_of old) before
+  pub counted : Counted a b ⊥ ⊥
+
+-- Behind one that may be there: where the disk stopped, it's marked.
+pub record Doubted (tells : Type 0) (old : Store) (now : View) (mark : Option Mark) (before : List Record) (a b : Counts) (stops : ℕ) (r : Record) : Type 0 where
+  pub leaves : tells → LeavesEither r (view_of old) now
+  pub marked : ((stops ≡ 0) × Counted a b ⊥ ⊥) ⊎ (Marked mark r (view_of old) before × Counted a b ⊥ (Unit {0}))
+
+-- Behind none.
+pub record Same (tells : Type 0) (old new : Store) (now : View) (mark : Option Mark) (a b : Counts) : Type 0 where
+  pub store : new ≡ old
+  pub held : tells → IsHeld now new
+  pub none : mark ≡ None
+  pub counted : Counted a b ⊥ ⊥
+
+-- What a keeper's words mean.
+pub record Means (K : Type 0) (did broke : K → Record → K → Type 0) (k l : K) (tells : Type 0) (old new : Store) (now : View) (mark : Option Mark) (before : List Record) (a b : Counts) (stops : ℕ) : Type 0 where
+  pub committed : (r : Record) → did k r l → Committed tells old new now mark before a b r
+  pub doubted : (r : Record) → broke k r l → Doubted tells old now mark before a b stops r
+  pub same : l ≡ k → Same tells old new now mark a b
+
+abbrev pub IsDisk : ServerFault → Type 0
+IsDisk server.DiskFailed = Unit {0}
+IsDisk server.DiskStopped = Unit {0}
+IsDisk _ = ⊥
+
+abbrev pub SpendsIn : ServerFault → Serving → Type 0
+SpendsIn (server.Spent n) done = done.spent ≡ Some n
+SpendsIn _ done = Unit {0}
+
+-- A step that is done.
+
+marks : (K : Type 0) (did broke : K → Record → K → Type 0) (k l : K) (tells : Type 0) (old new : Store) (now : View) (mark : Option Mark) (before : List Record) (a b : Counts) (stops : ℕ)
+    → Means K did broke k l tells old new now mark before a b stops → (rec : Option Record) → Did did rec k l → MarkOf mark rec (view_of old) before × (tells → IsHeld now new)
+marks K did broke k l tells old new now mark before a b stops m None h = let s = m.same h in (s.none, s.held)
+marks K did broke k l tells old new now mark before a b stops m (Some r) h = let s = m.committed r h in (s.marked, s.held)
+
+pub done_is : (T : Type 0) (by : T → Server) (gives : T → Served) (K : Type 0) (did broke : K → Record → K → Type 0) (k l : K) (tells : Type 0) (old new : Store) (now : View) (mark : Option Mark) (before : List Record) (a b : Counts) (stops : ℕ) (done : Serving)
+    → Means K did broke k l tells old new now mark before a b stops → (answer : Result T ServerFault)
+    → IfOk answer (λ x. Does done (view_of new) (by x) (gives x)) → IfOk answer (λ x. Did did (gives x).rec k l) → IfOk answer (λ x. Records (gives x).rec (view_of old) (view_of new))
+    → IfOk answer (λ x. IsDone tells done (view_of old) before (by x) new now (gives x) mark)
+done_is T by gives K did broke k l tells old new now mark before a b stops done m (Ok x) does h r =
+    let s = marks K did broke k l tells old new now mark before a b stops m (gives x).rec h in
+    record { does = does; mark_is = s.0; record_of = r; held = s.1 }
+done_is T by gives K did broke k l tells old new now mark before a b stops done m (Err f) does h r = tt
+
+-- Faults.
+
+-- what a fault leaves
+abbrev pub Undone : ServerFault → Type 0 → Serving → Store → Store → View → Option Mark → List Record → Type 0
+Undone (server.Spent n) tells done old new now mark before = Unchanged tells done n old new now
+Undone server.DiskFailed tells done old new now mark before = (r : Record) × InDoubt tells done (view_of old) now r
+Undone server.DiskStopped tells done old new now mark before = (r : Record) × InDoubt tells done (view_of old) now r × Marked mark r (view_of old) before
+Undone server.NoMemory tells done old new now mark before = tells → LeavesSome (view_of old) now
+
+-- whatever a crash leaves of a held disk stands for the store's state
+held_some : (tells : Type 0) (d : Durable) (new : Store) (now : View) → (tells → IsHeld now new) → view_of new ≡ d → tells → LeavesSome d now
+held_some tells d new now held same told image left = inl (subst (λ (x : Durable). StandsFor image x) same (held_stands now new (held told) image left))
+
+committed_some : (tells : Type 0) (d : Durable) (new : Store) (now : View) (r : Record) → (tells → IsHeld now new) → step r d ≡ Ok (view_of new) → tells → LeavesSome d now
+committed_some tells d new now r held is told image left = inr (r, view_of new, is, held_stands now new (held told) image left)
+
+pub either_some : (r : Record) (d : Durable) (now : View) → LeavesEither r d now → LeavesSome d now
+either_some r d now h image left = ⊎_elim (λ is. inl is) (λ e. inr (r, e.0, e.1, e.2)) (h image left)
+
+in_doubt : (tells : Type 0) (done : Serving) (d : Durable) (now : View) (r : Record) → done.rec ≡ Some r → done.spent ≡ None → Records done.rec d done.server.durable → (tells → LeavesEither r d now) → InDoubt tells done d now r
+in_doubt tells done d now r is none steps leaves = record { rec_is = is; unspent = none; steps = subst (λ (o : Option Record). Records o d done.server.durable) is steps; leaves = leaves }
+
+-- a stop counts
+no_stop : (n : ℕ) → Rose 0 n → n ≡ 0 → ⊥
+no_stop n rose e = omega (arith, rose, e)
+
+was_marked : {A B : Type 0} (n : ℕ) → Rose 0 n → ((n ≡ 0) × A) ⊎ B → B
+was_marked n rose h = ⊎_elim (λ x. absurd (no_stop n rose x.0)) (λ x. x) h
+
+pub undone : (T : Type 0) (K : Type 0) (did broke : K → Record → K → Type 0) (k l : K) (tells : Type 0) (old new : Store) (now : View) (mark : Option Mark) (before : List Record) (a b : Counts) (stops : ℕ) (done : Serving)
+    → Means K did broke k l tells old new now mark before a b stops → (answer : Result T ServerFault)
+    → IfErr answer (λ f. Hurts SpendsNothing did broke f done k l) → IfErr answer (λ f. SpendsIn f done) → IfErr answer (λ f. IsDisk f → Records done.rec (view_of old) done.server.durable)
+    → (answer ≡ Err server.DiskStopped → Rose 0 stops)
+    → IfErr answer (λ f. Undone f tells done old new now mark before)
+undone T K did broke k l tells old new now mark before a b stops done m (Ok x) hurts spends steps rose = tt
+undone T K did broke k l tells old new now mark before a b stops done m (Err (server.Spent n)) hurts spends steps rose =
+    let s = m.same hurts in record { spent = spends; store = s.store; held = s.held }
+undone T K did broke k l tells old new now mark before a b stops done m (Err server.DiskFailed) hurts spends steps rose =
+    let s = m.doubted hurts.1.0 hurts.1.2 in
+    (hurts.1.0, in_doubt tells done (view_of old) now hurts.1.0 hurts.1.1 hurts.0 (steps tt) s.leaves)
+undone T K did broke k l tells old new now mark before a b stops done m (Err server.DiskStopped) hurts spends steps rose =
+    let s = m.doubted hurts.1.0 hurts.1.2 in
+    let marked : Marked mark hurts.1.0 (view_of old) before × Counted a b ⊥ (Unit {0}) = was_marked stops (rose refl) s.marked in
+    (hurts.1.0, in_doubt tells done (view_of old) now hurts.1.0 hurts.1.1 hurts.0 (steps tt) s.leaves, marked.0)
+undone T K did broke k l tells old new now mark before a b stops done m (Err server.NoMemory) hurts spends steps rose =
+    ⊎_elim (λ is. let s = m.same is in held_some tells (view_of old) new now s.held (ap view_of s.store))
+    (λ h. ⊎_elim (λ is. let s = m.committed h.0 is in committed_some tells (view_of old) new now h.0 s.held s.steps) (λ is told. either_some h.0 (view_of old) now ((m.doubted h.0 is).leaves told)) h.2)
+    hurts
+
+pub has_mark : (T : Type 0) (tells : Type 0) (done : Serving) (old new : Store) (now : View) (mark : Option Mark) (before : List Record) (answer : Result T ServerFault) → IfErr answer (λ f. Undone f tells done old new now mark before) → HasMark answer mark
+has_mark T tells done old new now (Some mark) before (Ok x) h = tt
+has_mark T tells done old new now None before (Ok x) h = tt
+has_mark T tells done old new now (Some mark) before (Err (server.Spent n)) h = tt
+has_mark T tells done old new now None before (Err (server.Spent n)) h = tt
+has_mark T tells done old new now (Some mark) before (Err server.DiskFailed) h = tt
+has_mark T tells done old new now None before (Err server.DiskFailed) h = tt
+has_mark T tells done old new now (Some mark) before (Err server.DiskStopped) h = tt
+has_mark T tells done old new now None before (Err server.DiskStopped) h = h.2
+has_mark T tells done old new now (Some mark) before (Err server.NoMemory) h = tt
+has_mark T tells done old new now None before (Err server.NoMemory) h = tt
+
+-- What the answer became.
+
+pub came_is : (T : Type 0) (P : T → Option Mark → Type 0) (tells : Type 0) (done : Serving) (old new : Store) (now : View) (mark : Option Mark) (before : List Record) (answer : Result T ServerFault) (to : Result (Came T) Counter)
+    → Turns answer mark to → IfOk answer (λ x. P x mark) → IfErr answer (λ f. Undone f tells done old new now mark before) → IfOk to (CameOf P tells done (view_of old) before now)
+came_is T P tells done old new now mark before (Ok x) to is p h = subst (λ (t : Result (Came T) Counter). IfOk t (CameOf P tells done (view_of old) before now)) (sym is) p
+came_is T P tells done old new now mark before (Err (server.Spent n)) to is p h = subst (λ (t : Result (Came T) Counter). IfOk t (CameOf P tells done (view_of old) before now)) (sym is) tt
+came_is T P tells done old new now mark before (Err server.DiskFailed) to is p h = subst (λ (t : Result (Came T) Counter). IfOk t (CameOf P tells done (view_of old) before now)) (sym is) h
+came_is T P tells done old new now None before (Err server.DiskStopped) to is p h = absurd is
+came_is T P tells done old new now (Some mark) before (Err server.DiskStopped) to is p h = subst (λ (t : Result (Came T) Counter). IfOk t (CameOf P tells done (view_of old) before now)) (sym is) h
+came_is T P tells done old new now mark before (Err server.NoMemory) to is p h = subst (λ (t : Result (Came T) Counter). IfOk t (CameOf P tells done (view_of old) before now)) (sym is) h
+
+pub spent_is : (T : Type 0) (tells : Type 0) (done : Serving) (old new : Store) (now : View) (mark : Option Mark) (before : List Record) (answer : Result T ServerFault) (to : Result (Came T) Counter)
+    → Turns answer mark to → IfErr answer (λ f. Undone f tells done old new now mark before) → IfErr to (λ n. Unchanged tells done n old new now)
+spent_is T tells done old new now mark before (Ok x) to is h = subst (λ (t : Result (Came T) Counter). IfErr t (λ n. Unchanged tells done n old new now)) (sym is) tt
+spent_is T tells done old new now mark before (Err (server.Spent n)) to is h = subst (λ (t : Result (Came T) Counter). IfErr t (λ n. Unchanged tells done n old new now)) (sym is) h
+spent_is T tells done old new now mark before (Err server.DiskFailed) to is h = subst (λ (t : Result (Came T) Counter). IfErr t (λ n. Unchanged tells done n old new now)) (sym is) tt
+spent_is T tells done old new now None before (Err server.DiskStopped) to is h = absurd is
+spent_is T tells done old new now (Some mark) before (Err server.DiskStopped) to is h = subst (λ (t : Result (Came T) Counter). IfErr t (λ n. Unchanged tells done n old new now)) (sym is) tt
+spent_is T tells done old new now mark before (Err server.NoMemory) to is h = subst (λ (t : Result (Came T) Counter). IfErr t (λ n. Unchanged tells done n old new now)) (sym is) tt
+
+-- Counts.
+
+-- How the disk's counts moved behind an answer.
+abbrev pub CountedIn : ServerFault → Counts → Counts → Type 0
+CountedIn server.DiskStopped a b = Counted a b ⊥ (Unit {0})
+CountedIn _ a b = Counted a b ⊥ ⊥
+
+pub counted_same : (a : Counts) → Counted a a ⊥ ⊥
+counted_same a = record { faults_later = omega arith; stops_later = omega arith; failed = λ x. absurd x; stopped = λ x. absurd x; armed = λ x. absurd x; not_rearmed = λ x. x }
+
+pub counted_less : (a b : Counts) (F S : Type 0) → Counted a b F S → Counted a b ⊥ ⊥
+counted_less a b F S h = record { faults_later = h.faults_later; stops_later = h.stops_later; failed = λ x. absurd x; stopped = λ x. absurd x; armed = λ x. absurd x; not_rearmed = h.not_rearmed }
+
+pub counted_stop : (a b : Counts) (F S : Type 0) → S → Counted a b F S → Counted a b ⊥ (Unit {0})
+counted_stop a b F S s h = record { faults_later = h.faults_later; stops_later = h.stops_later; failed = λ x. absurd x; stopped = λ x. h.stopped s; armed = λ x. h.armed s; not_rearmed = h.not_rearmed }
+
+pub ok_counted : (T : Type 0) (gives : T → Served) (K : Type 0) (did broke : K → Record → K → Type 0) (k l : K) (tells : Type 0) (old new : Store) (now : View) (mark : Option Mark) (before : List Record) (a b : Counts) (stops : ℕ)
+    → Means K did broke k l tells old new now mark before a b stops → (answer : Result T ServerFault) → IfOk answer (λ x. Did did (gives x).rec k l) → IfOk answer (λ x. Counted a b ⊥ ⊥)
+ok_counted T gives K did broke k l tells old new now mark before a b stops m (Err f) h = tt
+ok_counted T gives K did broke k l tells old new now mark before a b stops m (Ok x) h = go (gives x).rec h
+  where
+    go : (rec : Option Record) → Did did rec k l → Counted a b ⊥ ⊥
+    go None h = (m.same h).counted
+    go (Some r) h = (m.committed r h).counted
+
+not_stopped : (a b : Counts) (A B C : Type 0) → (A × Counted a b ⊥ ⊥) ⊎ (B × Counted a b ⊥ C) → Counted a b ⊥ ⊥
+not_stopped a b A B C h = ⊎_elim (λ x. x.1) (λ x. counted_less a b ⊥ C x.1) h
+
+pub err_counted : (T : Type 0) (K : Type 0) (did broke : K → Record → K → Type 0) (k l : K) (tells : Type 0) (old new : Store) (now : View) (mark : Option Mark) (before : List Record) (a b : Counts) (stops : ℕ) (done : Serving)
+    → Means K did broke k l tells old new now mark before a b stops → (answer : Result T ServerFault) → IfErr answer (λ f. Hurts SpendsNothing did broke f done k l)
+    → (answer ≡ Err server.DiskStopped → Rose 0 stops) → IfErr answer (λ f. CountedIn f a b)
+err_counted T K did broke k l tells old new now mark before a b stops done m (Ok x) hurts rose = tt
+err_counted T K did broke k l tells old new now mark before a b stops done m (Err (server.Spent n)) hurts rose = (m.same hurts).counted
+err_counted T K did broke k l tells old new now mark before a b stops done m (Err server.DiskFailed) hurts rose = not_stopped a b _ _ _ (m.doubted hurts.1.0 hurts.1.2).marked
+err_counted T K did broke k l tells old new now mark before a b stops done m (Err server.DiskStopped) hurts rose =
+    let marked : Marked mark hurts.1.0 (view_of old) before × Counted a b ⊥ (Unit {0}) = was_marked stops (rose refl) (m.doubted hurts.1.0 hurts.1.2).marked in
+    marked.1
+err_counted T K did broke k l tells old new now mark before a b stops done m (Err server.NoMemory) hurts rose =
+    ⊎_elim (λ is. (m.same is).counted)
+    (λ h. ⊎_elim (λ is. (m.committed h.0 is).counted) (λ is. not_stopped a b _ _ _ (m.doubted h.0 is).marked) h.2)
+    hurts
+
+abbrev with_stops : Counts → ℕ → Counts
+with_stops a n = record a { stops = n }
+
+counts_by : (a b : Counts) (n : ℕ) (F S G X Y : Type 0) → Counted (with_stops a 0) (with_stops b n) F S → Counted a b ⊥ X → (G → F) → (Y → S) → (Y → X) → Counted a b G Y
+counts_by a b n F S G X Y m c f s x = record {
+  faults_later = m.faults_later;
+  stops_later = c.stops_later;
+  failed = λ g. m.failed (f g);
+  stopped = λ y. c.stopped (x y);
+  armed = λ y. m.armed (s y);
+  not_rearmed = m.not_rearmed;
+}
+
+done_clash : (T : Type 0) (x : T) (mark : Option Mark) → ◌≡◌ {A = Result (Came T) Counter} (Ok (came.Done x mark)) (Ok came.DiskFailed) → ⊥
+done_clash T x mark e = cc
+
+spent_clash : (T : Type 0) (n : Counter) → ◌≡◌ {A = Result (Came T) Counter} (Err n) (Ok came.DiskFailed) → ⊥
+spent_clash T n e = cc
+
+stopped_clash : (T : Type 0) (mark : Mark) → ◌≡◌ {A = Result (Came T) Counter} (Ok (came.Stopped mark)) (Ok came.DiskFailed) → ⊥
+stopped_clash T mark e = cc
+
+wants_clash : (T : Type 0) → ◌≡◌ {A = Result (Came T) Counter} (Ok came.NoMemory) (Ok came.DiskFailed) → ⊥
+wants_clash T e = cc
+
+abbrev Counting : (T : Type 0) → Counts → Counts → Result (Came T) Counter → Type 0
+Counting T a b to = Counted a b (to ≡ Ok came.DiskFailed) (IsStop to)
+
+pub counts_are : (T : Type 0) (a b : Counts) (n : ℕ) (mark : Option Mark) (answer : Result T ServerFault) (to : Result (Came T) Counter) → Turns answer mark to
+    → Counted (record a { stops = 0 }) (record b { stops = n }) (answer ≡ Err server.DiskFailed) (answer ≡ Err server.DiskStopped)
+    → IfOk answer (λ x. Counted a b ⊥ ⊥) → IfErr answer (λ f. CountedIn f a b) → Counted a b (to ≡ Ok came.DiskFailed) (IsStop to)
+counts_are T a b n mark (Ok x) to is m c h = subst (Counting T a b) (sym is) (counts_by a b n _ _ _ ⊥ ⊥ m c (λ e. absurd (done_clash T x mark e)) (λ e. absurd e) (λ e. e))
+counts_are T a b n mark (Err (server.Spent s)) to is m c h = subst (Counting T a b) (sym is) (counts_by a b n _ _ _ ⊥ ⊥ m h (λ e. absurd (spent_clash T s e)) (λ e. absurd e) (λ e. e))
+counts_are T a b n mark (Err server.DiskFailed) to is m c h = subst (Counting T a b) (sym is) (counts_by a b n _ _ _ ⊥ ⊥ m h (λ e. refl) (λ e. absurd e) (λ e. e))
+counts_are T a b n None (Err server.DiskStopped) to is m c h = absurd is
+counts_are T a b n (Some mark) (Err server.DiskStopped) to is m c h = subst (Counting T a b) (sym is) (counts_by a b n _ _ _ (Unit {0}) (Unit {0}) m h (λ e. absurd (stopped_clash T mark e)) (λ e. refl) (λ e. e))
+counts_are T a b n mark (Err server.NoMemory) to is m c h = subst (Counting T a b) (sym is) (counts_by a b n _ _ _ ⊥ ⊥ m h (λ e. absurd (wants_clash T e)) (λ e. absurd e) (λ e. e))
+
+-- The keeper over a store and its disk.
+
+abbrev pub disk_did : {D : Type 0} → Type 0 → (D → View) → (D → Counts) → Marking (DiskKeeper D) → Record → Marking (DiskKeeper D) → Type 0
+disk_did tells view counts k r l =
+    ((l.keeper.store.ghost_name ≡ k.keeper.store.ghost_name) × (l.keeper.disk.ghost_name ≡ k.keeper.disk.ghost_name)
+    × (step r (view_of k.keeper.store.now) ≡ Ok (view_of l.keeper.store.now))
+    × (tells → IsHeld (view k.keeper.disk.now) k.keeper.store.now → Keeps r k.keeper.store.now l.keeper.store.now (view k.keeper.disk.now) (view l.keeper.disk.now))
+    × (need_of (record_code.spell r) ≤ free_now k.keeper.store.now.selected → Called 4 (counts k.keeper.disk.now) (counts l.keeper.disk.now)))
+    × (l.marks.ghost_name ≡ k.marks.ghost_name)
+    × HasMarked l.marks.now.mark r (view_of k.keeper.store.now) k.records.now.items (counts k.keeper.disk.now) (counts l.keeper.disk.now)
+
+abbrev pub disk_broke : {D : Type 0} → Type 0 → (D → View) → (D → Counts) → Marking (DiskKeeper D) → Record → Marking (DiskKeeper D) → Type 0
+disk_broke tells view counts k r l =
+    (l.marks.ghost_name ≡ k.marks.ghost_name)
+    × MayHaveMarked (l.keeper ≡ k.keeper)
+    ((l.keeper.store.ghost_name ≡ k.keeper.store.ghost_name) × (l.keeper.disk.ghost_name ≡ k.keeper.disk.ghost_name)
+    × (tells → IsHeld (view k.keeper.disk.now) k.keeper.store.now → Leaves r k.keeper.store.now (view k.keeper.disk.now) (view l.keeper.disk.now)))
+    k.marks.now.stopped.items l.marks.now.stopped.items l.marks.now.mark r (view_of k.keeper.store.now) k.records.now.items (counts k.keeper.disk.now) (counts l.keeper.disk.now)
+
+-- what a crash leaves now is among what it might have left since
+abbrev pub NowCounts : View → View → Type 0
+NowCounts before now = (image : List ℕ) → before.moment ≤ now.moment → now.may_leave image → now.left_since before.moment image
+
+either_now : (before now : View) (r : Record) (d : Durable) → NowCounts before now → LeavesOnly before now (StandsForEither r d) → LeavesEither r d now
+either_now before now r d law h image left = h.each image (law image h.later left)
+
+held_either : (now : View) (s : Store) (r : Record) → IsHeld now s → LeavesEither r (view_of s) now
+held_either now s r h image left = inl (held_stands now s h image left)
+
+doubted_by : (tells : Type 0) (old : Store) (now : View) (mark : Option Mark) (before : List Record) (a b : Counts) (r : Record) (A B : Type 0) (stopped more : List Record) → stopped ≡ []
+    → (A → tells → LeavesEither r (view_of old) now) → (B → tells → LeavesEither r (view_of old) now) → MayHaveMarked A B stopped more mark r (view_of old) before a b → Doubted tells old now mark before a b (length more) r
+doubted_by tells old now mark before a b r A B stopped more none same broke (inl h) =
+    record { leaves = ⊎_elim same broke h.broke; marked = inl (h.stopped_are ∙ ap (λ (rs : List Record). length rs) none, h.counted) }
+doubted_by tells old now mark before a b r A B stopped more none same broke (inr h) = record { leaves = broke h.broke; marked = inr (h.marked, h.counted) }
+
+pub means : {D : Type 0} (tells : Type 0) (view : D → View) (counts : D → Counts) (k l : Marking (DiskKeeper D)) → (tells → NowCounts (view k.keeper.disk.now) (view l.keeper.disk.now))
+    → (tells → IsHeld (view k.keeper.disk.now) k.keeper.store.now) → k.marks.now.mark ≡ None → k.marks.now.stopped.items ≡ []
+    → Means (Marking (DiskKeeper D)) (disk_did tells view counts) (disk_broke tells view counts) k l tells k.keeper.store.now l.keeper.store.now (view l.keeper.disk.now) l.marks.now.mark k.records.now.items
+    (counts k.keeper.disk.now) (counts l.keeper.disk.now) (length l.marks.now.stopped.items)
+means {D} tells view counts k l law held none_marked none_stopped = record {
+  committed = λ r h. record { steps = h.0.2; held = λ told. (h.0.3 told (held told)).held; marked = h.2.marked; counted = h.2.counted };
+  doubted = λ r h.
+      doubted_by tells k.keeper.store.now (view l.keeper.disk.now) l.marks.now.mark k.records.now.items (counts k.keeper.disk.now) (counts l.keeper.disk.now) r _ _ k.marks.now.stopped.items l.marks.now.stopped.items none_stopped
+      (λ same told. subst (λ (x : DiskKeeper D). LeavesEither r (view_of k.keeper.store.now) (view x.disk.now)) (sym same) (held_either (view k.keeper.disk.now) k.keeper.store.now r (held told)))
+      (λ b told. either_now (view k.keeper.disk.now) (view l.keeper.disk.now) r (view_of k.keeper.store.now) (law told) (b.2 told (held told)))
+      h.1;
+  same = λ e.
+      let to : Marking (DiskKeeper D) → Type 0 = λ x. Same tells k.keeper.store.now x.keeper.store.now (view x.keeper.disk.now) x.marks.now.mark (counts k.keeper.disk.now) (counts x.keeper.disk.now) in
+      subst to (sym e) (record { store = refl; held = held; none = none_marked; counted = counted_same (counts k.keeper.disk.now) });
+}
+
+-- A server's faults.
+
+pub leaves_spends : (T : Type 0) (answer : Result T ServerFault) (a b : Counts) (done : Serving) (was is : State) → IfErr answer (λ f. FaultLeaves f a b done was is) → IfErr answer (λ f. SpendsIn f done)
+leaves_spends T (Ok x) a b done was is h = tt
+leaves_spends T (Err (server.Spent n)) a b done was is h = h.0
+leaves_spends T (Err server.DiskFailed) a b done was is h = tt
+leaves_spends T (Err server.DiskStopped) a b done was is h = tt
+leaves_spends T (Err server.NoMemory) a b done was is h = tt
+
+pub unstarted_spends : (T : Type 0) (answer : Result T ServerFault) (done : Serving) (d e : Durable) → IfErr answer (λ f. Unstarted f done d e) → IfErr answer (λ f. SpendsIn f done)
+unstarted_spends T (Ok x) done d e h = tt
+unstarted_spends T (Err (server.Spent n)) done d e h = h.0
+unstarted_spends T (Err server.DiskFailed) done d e h = tt
+unstarted_spends T (Err server.DiskStopped) done d e h = tt
+unstarted_spends T (Err server.NoMemory) done d e h = tt
+
+-- a server that wasn't down before a fault of its disk
+pub was_up : (answer : Result Served ServerFault) (was is : Bool) → GoesDown answer was is → IfErr answer (λ f. IsDisk f → was ≡ false)
+was_up (Ok x) was is h = tt
+was_up (Err (server.Spent n)) was is h = λ e. absurd e
+was_up (Err server.DiskFailed) was is h = λ e. h.0
+was_up (Err server.DiskStopped) was is h = λ e. h.0
+was_up (Err server.NoMemory) was is h = λ e. absurd e
+
+pub disk_faults : (T : Type 0) (answer : Result T ServerFault) (A B : Type 0) → IfErr answer (λ f. IsDisk f → A) → (A → B) → IfErr answer (λ f. IsDisk f → B)
+disk_faults T (Ok x) A B h to = tt
+disk_faults T (Err f) A B h to = λ e. to (h e)
+
+pub any_fault : (T : Type 0) (answer : Result T ServerFault) (B : Type 0) → B → IfErr answer (λ f. IsDisk f → B)
+any_fault T (Ok x) B b = tt
+any_fault T (Err f) B b = λ e. b
+
+-- a spent counter leaves the server as it was
+pub same_is : (T : Type 0) (answer : Result T ServerFault) (mark : Option Mark) (to : Result (Came T) Counter) (a b : Counts) (done : Serving) (was is : State) → Turns answer mark to → IfErr answer (λ f. FaultLeaves f a b done was is) → IfErr to (λ n. is ≡ was)
+same_is T (Ok x) mark to a b done was is turns h = subst (λ (t : Result (Came T) Counter). IfErr t (λ n. is ≡ was)) (sym turns) tt
+same_is T (Err (server.Spent n)) mark to a b done was is turns h = subst (λ (t : Result (Came T) Counter). IfErr t (λ n. is ≡ was)) (sym turns) h.1
+same_is T (Err server.DiskFailed) mark to a b done was is turns h = subst (λ (t : Result (Came T) Counter). IfErr t (λ n. is ≡ was)) (sym turns) tt
+same_is T (Err server.DiskStopped) None to a b done was is turns h = absurd turns
+same_is T (Err server.DiskStopped) (Some mark) to a b done was is turns h = subst (λ (t : Result (Came T) Counter). IfErr t (λ n. is ≡ was)) (sym turns) tt
+same_is T (Err server.NoMemory) mark to a b done was is turns h = subst (λ (t : Result (Came T) Counter). IfErr t (λ n. is ≡ was)) (sym turns) tt

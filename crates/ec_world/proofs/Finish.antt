@@ -1,0 +1,211 @@
+-- A world goes on behind what came of its server's step.
+use Rattle.std.proofs.Common.{◌≡◌, ◌⊎◌, ◌<◌, ◌≤◌, inl, inr, ⊎_elim, ℕ, Bool, true, false, List, [], ◌∷◌, ◌++◌, Option, None, Some, Result, Ok, Err, refl, sym, ap, subst, ◌∙◌, arith}
+use Rattle.std.specs.Prelude.{OnOk, IfOk, IfErr}
+use Rattle.ec_base.specs.Outside.{Rose}
+use Rattle.ec_base.specs.declared.counter.Counter.{Counter}
+use Rattle.ec_disk.specs.Counting.{counted_both}
+use Rattle.ec_disk.specs.Disk.{View, Counts, Counted}
+use Rattle.ec_durable.specs.Durable.{step}
+use Rattle.ec_durable.specs.declared.state.Durable.{Durable}
+use Rattle.ec_durable.specs.declared.record.Record.{Record}
+use Rattle.ec_durable.specs.declared.record.RecordFault.{RecordFault}
+use Rattle.ec_history.specs.declared.shown.Shown.{Shown}
+use Rattle.ec_history.specs.declared.shown.Shown.TheVariants as show
+use Rattle.ec_wire.specs.declared.msg.Msg.{Msg}
+use Rattle.ec_stands.specs.Stands.{StandsFor}
+use Rattle.ec_protocol.specs.Server.{Serving}
+use Rattle.ec_protocol.specs.declared.server.Served.{Served}
+use Rattle.ec_protocol.specs.declared.server.Server.{Server as State}
+use Rattle.ec_protocol.specs.declared.world.Noted.{Noted}
+use Rattle.ec_protocol.specs.declared.world.Noted.TheVariants as noted_as
+use Rattle.ec_protocol.specs.declared.world.World.{World as Moved}
+use Rattle.ec_protocol.specs.declared.world.WorldFault.TheVariants as fault
+use Rattle.ec_protocol.specs.World.{Fate, runs, stops_without, stops_with, Moving, moving, fails, with_world, show_line, show_noted, noted, send, send_all, go_on, committed, served, served_record, on_disk, stop}
+use Rattle.ec_server.specs.Clerks.{Records}
+use Rattle.ec_server.specs.Servers.{standing}
+use Rattle.ec_server.specs.declared.server.Server.{Server}
+use Rattle.ec_store.specs.Store.{IsHeld, view_of as state_of}
+use Rattle.ec_world.specs.Cutting.{LeavesEither}
+use Rattle.ec_world.specs.Faults.{of_step}
+use Rattle.ec_world.specs.Keeping.{IsDone, InDoubt, LeavesSome, HasStoppedIn, IsStop}
+use Rattle.ec_world.specs.Laws.{held_stands, in_step_keeps}
+use Rattle.ec_world.specs.Marks.{IsMark, gone}
+use Rattle.ec_world.specs.Serving.{serves, IsDoneBy, CameTo, FateIn, Finishes, Breaks, FailsSince, stopped_in, with_durable}
+use Rattle.ec_world.specs.Steps.{HasStopped, FateOf, IsTold, Fated, IsLeft, under}
+use Rattle.ec_world.specs.Worlds.{view_of, server_of, Stands, IsInStep, Keeps}
+use Rattle.ec_world.specs.declared.fault.StepFault.{StepFault}
+use Rattle.ec_world.specs.declared.fault.StepFault.TheVariants as step_fault
+use Rattle.ec_world.specs.declared.keeping.Came.{Came}
+use Rattle.ec_world.specs.declared.keeping.Came.TheVariants as came
+use Rattle.ec_world.specs.declared.marks.Mark.{Mark}
+use Rattle.ec_world.specs.declared.world.World.{World}
+use Rattle.ec_world.proofs.Fresh.{fresh}
+use Rattle.ec_world.proofs.Served.{goes_on}
+
+-- A step that is done.
+
+-- the world that has the server and the store already
+with_server : World → Option State → Moved
+with_server w s = record (view_of w) { server = s }
+
+pub done_shows : (tells : Type 0) (done : Serving) (d : Durable) (s : Option State) (w : World) (now : View) (served' : Served) (mark : Option Mark) → w.piece.items ≡ [] → IsDoneBy tells done d w.records.items w.server w.store now served' mark
+    → served runs done (serves s d (view_of w)) ≡ with_world (send_all served'.sent) (gone mark (under w))
+unfolding with_server
+done_shows tells done d s w now served' mark none h = go w.server refl h
+  where
+    on : Moving → Moving
+    on m = with_world (send_all served'.sent) (gone mark m)
+
+    go : (o : Option Server) → w.server ≡ o → IsDoneBy tells done d w.records.items o w.store now served' mark → served runs done (serves s d (view_of w)) ≡ with_world (send_all served'.sent) (gone mark (under w))
+    go None is h = absurd h
+    go (Some v) is h =
+        goes_on done (standing (state_of w.store) v) served'.sent served'.rec mark (serves s d (view_of w)) h.does h.mark_is
+        ∙ ap (λ (o : Option State). on (moving (with_server w o))) (ap (server_of (state_of w.store)) (sym is))
+        ∙ ap on (sym (fresh w none))
+
+pub done_in_step : (tells : Type 0) (done : Serving) (d : Durable) (old new : World) (now : View) (served' : Served) (mark : Option Mark) → Stands (state_of old.store) old.server → IsDoneBy tells done d old.records.items old.server old.store now served' mark → Keeps old new → IsInStep tells now new
+done_in_step tells done d old new now served' mark stands h same = in_step_keeps tells now old new same (record { server = stands; disk = go old.server h })
+  where
+    go : (o : Option Server) → IsDoneBy tells done d old.records.items o old.store now served' mark → tells → IsHeld now old.store
+    go None h = absurd h
+    go (Some v) h = h.held
+
+done_some : (tells : Type 0) (done : Serving) (d : Durable) (before : List Record) (o : Option Server) (w : World) (now : View) (served' : Served) (mark : Option Mark) → IsDoneBy tells done d before o w.store now served' mark → tells → LeavesSome d now
+done_some tells done d before None w now served' mark h told image left = absurd h
+done_some tells done d before (Some v) w now served' mark h told image left = go served'.rec h.record_of
+  where
+    go : (rec : Option Record) → Records rec d (state_of w.store) → StandsFor image d ⊎ ((r : Record) × (e : Durable) × (step r d ≡ Ok e) × StandsFor image e)
+    go None is = inl (subst (λ (x : Durable). StandsFor image x) is (held_stands now w.store (h.held told) image left))
+    go (Some r) is = inr (r, state_of w.store, is, held_stands now w.store (h.held told) image left)
+
+-- Stops.
+
+unfoldable pub fate_of : Bool → Fate
+fate_of false = stops_without
+fate_of true = stops_with
+
+pub served_commits : (fate : Fate) (r : Record) (done : Serving) (u : Moved) → done.spent ≡ None → done.rec ≡ Some r → served fate done u ≡ committed fate r done u
+served_commits fate r done u none is =
+    ap (λ (o : Option Counter). elim o [ Some n ↦ fails (fault.Spent n) u | None ↦ served_record fate done.rec done u ]) none
+    ∙ ap (λ (o : Option Record). served_record fate o done u) is
+
+stop_shows : (there : Bool) (r : Record) (done : Serving) (d : Durable) (s : Option State) (w : Moved) → committed (fate_of there) r done (serves s d w) ≡ show_line show.Stopped (moving (stopped_in there r (with_durable d w)))
+unfolding fate_of
+stop_shows false r done d s w = refl
+stop_shows true r done d s w = refl
+
+pub told_fate : (there : Bool) (tells : Type 0) → IsTold (fate_of there) tells → tells
+unfolding fate_of
+told_fate false tells h = h
+told_fate true tells h = h
+
+pub came_fate : (there : Bool) → FateIn (fate_of there) (Unit {0})
+unfolding fate_of
+came_fate false = tt
+came_fate true = tt
+
+pub stop_finishes : (tells : Type 0) (done : Serving) (d : Durable) (s : Option State) (now : View) (r : Record) (there : Bool) (old new : World) → InDoubt tells done d now r
+    → (tells → show_line show.Stopped (moving (stopped_in there r (with_durable d (view_of old)))) ≡ under new)
+    → Finishes tells (Unit {0}) (λ fate. served fate done (serves s d (view_of old))) (under new)
+stop_finishes tells done d s now r there old new h shows = (
+  fate_of there,
+  came_fate there,
+  λ told. served_commits (fate_of there) r done (serves s d (view_of old)) h.unspent h.rec_is ∙ stop_shows there r done d s (view_of old) ∙ shows (told_fate there tells told),
+)
+
+-- What is left at a fault.
+
+pub sends_keep : (sent : List (ℕ × Msg)) (w : Moved) → (send_all sent w).durable ≡ w.durable
+sends_keep [] w = refl
+sends_keep (s ∷ sent) w = sends_keep sent (send s.0 s.1 w)
+
+pub behind : (done : Serving) (r : Record) (u : Moved) → done.spent ≡ None → done.rec ≡ Some r → (served runs done u).world.durable ≡ done.server.durable
+behind done r u none is = ap (λ (m : Moving). m.world.durable) (served_commits runs r done u none is) ∙ sends_keep done.sent _
+
+same_ok : (d e : Durable) → ◌≡◌ {A = Result Durable RecordFault} (Ok d) (Ok e) → d ≡ e
+same_ok d e is = cc
+
+pub either_behind : (r : Record) (d e : Durable) (now : View) (image : List ℕ) → step r d ≡ Ok e → LeavesEither r d now → now.may_leave image → StandsFor image d ⊎ StandsFor image e
+either_behind r d e now image is h left = ⊎_elim (λ x. inl x) (λ x. inr (subst (λ (y : Durable). StandsFor image y) (same_ok x.0 e (sym x.1 ∙ is)) x.2)) (h image left)
+
+-- a fault behind a record that may be there
+pub doubt_leaves : (tells : Type 0) (done : Serving) (d : Durable) (before now : View) (r : Record) (u : Moved) (f : StepFault) (image : List ℕ) → Breaks f → InDoubt tells done d before r → LeavesEither r d now → now.may_leave image
+    → IsLeft (of_step f) d (served runs done u).world.durable image
+doubt_leaves tells done d before now r u step_fault.DiskFailed image b h e left = subst (λ (x : Durable). StandsFor image d ⊎ StandsFor image x) (sym (behind done r u h.unspent h.rec_is)) (either_behind r d done.server.durable now image h.steps e left)
+doubt_leaves tells done d before now r u step_fault.NoMemory image b h e left = ⊎_elim (λ x. inl x) (λ x. inr (r, x.0, x.1, x.2)) (e image left)
+doubt_leaves tells done d before now r u (step_fault.Spent n) image b h e left = absurd b
+doubt_leaves tells done d before now r u step_fault.NoSuchOp image b h e left = absurd b
+doubt_leaves tells done d before now r u step_fault.NoSuchMsg image b h e left = absurd b
+
+pub done_leaves : (tells : Type 0) (done : Serving) (d : Durable) (w : World) (now : View) (served' : Served) (mark : Option Mark) → IsDoneBy tells done d w.records.items w.server w.store now served' mark → tells → LeavesSome d now
+done_leaves tells done d w now served' mark h told = done_some tells done d w.records.items w.server w now served' mark h told
+
+-- Counts.
+
+rose-later : (a b c : ℕ) → Rose a b → b ≤ c → Rose a c
+rose-later a b c rose le = omega (arith, rose, le)
+
+pub fate_is : (fate : Fate) (S F G : Type 0) (a b c : Counts) → FateIn fate S → Counted a b F S → Counted b c G ⊥ → FateOf fate a c
+fate_is runs S F G a b c h one two = tt
+fate_is stops_without S F G a b c h one two = record { stops = rose-later a.stops b.stops c.stops (one.stopped h) two.stops_later; armed = one.armed h }
+fate_is stops_with S F G a b c h one two = record { stops = rose-later a.stops b.stops c.stops (one.stopped h) two.stops_later; armed = one.armed h }
+
+pub finished : (tells S F G : Type 0) (a b c : Counts) (steps others : Fate → Moving) (m : Moving) → Finishes tells S steps m → ((fate : Fate) → others fate ≡ steps fate) → Counted a b F S → Counted b c G ⊥ → Fated tells a c others m
+finished tells S F G a b c steps others m h same one two = (h.0, fate_is h.0 S F G a b c h.1 one two, λ told. same h.0 ∙ h.2 told)
+
+-- the disk failed in the step, or behind it
+pub counts_on : (T : Type 0) (x : Came T) (done : Result (Unit {0}) StepFault) (a b c : Counts) → Counted a b (◌≡◌ {A = Result (Came T) Counter} (Ok x) (Ok came.DiskFailed)) (IsStop (Ok x)) → Counted b c (FailsSince x done) ⊥ → Counted a c (done ≡ Err step_fault.DiskFailed) ⊥
+counts_on T (came.Done y mark) done a b c one two = counted_both a b c _ _ _ _ _ _ one two (λ h. inr h) (λ x. absurd x)
+counts_on T (came.Stopped mark) done a b c one two = counted_both a b c _ _ _ _ _ _ one two (λ h. inr h) (λ x. absurd x)
+counts_on T came.DiskFailed done a b c one two = counted_both a b c _ _ _ _ _ _ one two (λ h. inl refl) (λ x. absurd x)
+counts_on T came.NoMemory done a b c one two = counted_both a b c _ _ _ _ _ _ one two (λ h. inr h) (λ x. absurd x)
+
+-- What came, as a value of which the case is known.
+
+pub done_finishes : (tells : Type 0) (done : Serving) (d : Durable) (s : Option State) (w new : World) (now : View) (x : Came Served) (served' : Served) (mark : Option Mark) → x ≡ came.Done served' mark → w.piece.items ≡ [] → CameTo tells done d w now x
+    → under new ≡ with_world (send_all served'.sent) (gone mark (under w)) → Finishes tells (HasStoppedIn x) (λ fate. served fate done (serves s d (view_of w))) (under new)
+done_finishes tells done d s w new now x served' mark is none h shown =
+    (runs, tt, λ told. done_shows tells done d s w now served' mark none (subst (CameTo tells done d w now) is h) ∙ sym shown)
+
+pub done_steps : (tells : Type 0) (done : Serving) (d : Durable) (old new : World) (now : View) (x : Came Served) (served' : Served) (mark : Option Mark) → x ≡ came.Done served' mark → Stands (state_of old.store) old.server → CameTo tells done d old now x
+    → Keeps old new → IsInStep tells now new
+done_steps tells done d old new now x served' mark is stands h same = done_in_step tells done d old new now served' mark stands (subst (CameTo tells done d old now) is h) same
+
+pub done_left : (tells : Type 0) (done : Serving) (d behind : Durable) (w : World) (now : View) (x : Came Served) (served' : Served) (mark : Option Mark) (f : StepFault) (image : List ℕ) → x ≡ came.Done served' mark → f ≡ step_fault.NoMemory → CameTo tells done d w now x → tells → now.may_leave image
+    → IsLeft (of_step f) d behind image
+done_left tells done d behind w now x served' mark f image is fault_is h told left =
+    subst (λ (y : StepFault). IsLeft (of_step y) d behind image) (sym fault_is) (done_leaves tells done d w now served' mark (subst (CameTo tells done d w now) is h) told image left)
+
+pub stopped_finishes : (tells : Type 0) (done : Serving) (d : Durable) (s : Option State) (w new : World) (now : View) (x : Came Served) (mark : Mark) → x ≡ came.Stopped mark → CameTo tells done d w now x
+    → ((r : Record) (c e : Durable) → IsMark mark r c w.records.items → step r c ≡ Ok e → (tells → LeavesEither r c now) → (there : Bool) × (tells → show_line show.Stopped (moving (stopped_in there r (with_durable c (view_of w)))) ≡ under new))
+    → Finishes tells (HasStoppedIn x) (λ fate. served fate done (serves s d (view_of w))) (under new)
+stopped_finishes tells done d s w new now x mark is h shows =
+    let came_to : CameTo tells done d w now (came.Stopped mark) = subst (CameTo tells done d w now) is h in
+    let doubt = came_to.1 in
+    let found = shows came_to.0 d done.server.durable came_to.2 doubt.steps doubt.leaves in
+    subst (λ (y : Came Served). Finishes tells (HasStoppedIn y) (λ fate. served fate done (serves s d (view_of w))) (under new)) (sym is) (stop_finishes tells done d s now came_to.0 found.0 w new doubt found.1)
+
+pub stopped_left : (tells : Type 0) (done : Serving) (d : Durable) (s : Option State) (w : World) (before now : View) (x : Came Served) (mark : Mark) (f : StepFault) (image : List ℕ) → x ≡ came.Stopped mark → Breaks f
+    → (tells → (r : Record) (c : Durable) → LeavesEither r c before → LeavesEither r c now) → CameTo tells done d w before x → tells → now.may_leave image → IsLeft (of_step f) d (served runs done (serves s d (view_of w))).world.durable image
+stopped_left tells done d s w before now x mark f image is breaks same h told left =
+    let came_to : CameTo tells done d w before (came.Stopped mark) = subst (CameTo tells done d w before) is h in
+    doubt_leaves tells done d before now came_to.0 (serves s d (view_of w)) f image breaks came_to.1 (same told came_to.0 d (came_to.1.leaves told)) left
+
+pub failed_left : (tells : Type 0) (done : Serving) (d : Durable) (s : Option State) (w : World) (now : View) (x : Came Served) (image : List ℕ) → x ≡ came.DiskFailed → CameTo tells done d w now x → tells → now.may_leave image
+    → IsLeft (of_step step_fault.DiskFailed) d (served runs done (serves s d (view_of w))).world.durable image
+failed_left tells done d s w now x image is h told left =
+    let came_to : CameTo tells done d w now came.DiskFailed = subst (CameTo tells done d w now) is h in
+    doubt_leaves tells done d now now came_to.0 (serves s d (view_of w)) step_fault.DiskFailed image tt came_to.1 (came_to.1.leaves told) left
+
+pub wants_left : (tells : Type 0) (done : Serving) (d behind : Durable) (w : World) (now : View) (x : Came Served) (image : List ℕ) → x ≡ came.NoMemory → CameTo tells done d w now x → tells → now.may_leave image → IsLeft (of_step step_fault.NoMemory) d behind image
+wants_left tells done d behind w now x image is h told left =
+    let some : tells → LeavesSome d now = subst (CameTo tells done d w now) is h in
+    some told image left
+
+pub on_ok : {P Q : Type 0} (res : Result (Unit {0}) StepFault) → OnOk res P → (P → Q) → OnOk res Q
+on_ok (Ok u) h to = to h
+on_ok (Err f) h to = tt
+
+pub if_err : {P Q : StepFault → Type 0} (res : Result (Unit {0}) StepFault) → IfErr res P → ((f : StepFault) → P f → Q f) → IfErr res Q
+if_err (Ok u) h to = tt
+if_err (Err f) h to = to f h

@@ -1,0 +1,69 @@
+-- Steps that make no call of the disk.
+use Rattle.std.proofs.Common.{◌≡◌, ℕ, List, Result, Ok, Err, refl, arith, inl}
+use Rattle.std.specs.Prelude.{IfErr, OnOk}
+use Rattle.ec_disk.specs.Disk.{View, Counts, Counted}
+use Rattle.ec_durable.specs.declared.state.Durable.{Durable}
+use Rattle.ec_stands.specs.Stands.{StandsFor}
+use Rattle.ec_protocol.specs.World.{Fate, runs, Moving}
+use Rattle.ec_protocol.specs.declared.world.World.{World as State}
+use Rattle.ec_protocol.specs.declared.world.WorldFault.{WorldFault}
+use Rattle.ec_protocol.specs.declared.world.WorldFault.TheVariants as world
+use Rattle.ec_world.specs.Faults.{of_step}
+use Rattle.ec_world.specs.Laws.{in_step_keeps, in_step_stands}
+use Rattle.ec_world.specs.Steps.{Fated, Refuses, Declines, IsLeft}
+use Rattle.ec_world.specs.Worlds.{view_of, IsInStep, Keeps}
+use Rattle.ec_world.specs.declared.fault.StepFault.{StepFault}
+use Rattle.ec_world.specs.declared.fault.StepFault.TheVariants as step
+use Rattle.ec_world.specs.declared.world.World.{World}
+
+pub fated : {A : Type 0} (r : Result A StepFault) (tells : Type 0) (old new : Counts) (steps : Fate → Moving) (m : Moving) → OnOk r (steps runs ≡ m) → OnOk r (Fated tells old new steps m)
+fated (Ok x) tells old new steps m is = (runs, tt, λ told. is)
+fated (Err f) tells old new steps m is = tt
+
+pub in_step : {A : Type 0} (r : Result A StepFault) (tells : Type 0) (now : View) (old new : World) → Keeps old new → IsInStep tells now old → OnOk r (IsInStep tells now new)
+in_step (Ok x) tells now old new same h = in_step_keeps tells now old new same h
+in_step (Err f) tells now old new same h = tt
+
+refuses_by : (why : StepFault) (m : Moving) (old new : State) (S : Type 0) → Declines why m old new → S → Refuses (of_step why) m old new S
+refuses_by step.DiskFailed m old new S d s = absurd d
+refuses_by (step.Spent n) m old new S d s = (d.0, d.1, s)
+refuses_by step.NoSuchOp m old new S d s = (d.0, d.1, s)
+refuses_by step.NoSuchMsg m old new S d s = (d.0, d.1, s)
+refuses_by step.NoMemory m old new S d s = tt
+
+pub refuses : {A : Type 0} (r : Result A StepFault) (m : Moving) (old new : State) (S : Type 0) → IfErr r (λ why. Declines why m old new) → S → IfErr r (λ why. Refuses (of_step why) m old new S)
+refuses (Ok x) m old new S d s = tt
+refuses (Err why) m old new S d s = refuses_by why m old new S d s
+
+not_failed_by : {A : Type 0} (why : StepFault) (m : Moving) (old new : State) (r : Result A StepFault) → Declines why m old new → r ≡ Err why → r ≡ Err step.DiskFailed → ⊥
+not_failed_by step.DiskFailed m old new r d is failed = d
+not_failed_by (step.Spent n) m old new r d is failed = cc
+not_failed_by step.NoSuchOp m old new r d is failed = cc
+not_failed_by step.NoSuchMsg m old new r d is failed = cc
+not_failed_by step.NoMemory m old new r d is failed = cc
+
+pub not_failed : {A : Type 0} (r : Result A StepFault) (m : Moving) (old new : State) → IfErr r (λ why. Declines why m old new) → r ≡ Err step.DiskFailed → ⊥
+not_failed (Ok x) m old new d failed = cc
+not_failed (Err why) m old new d failed = not_failed_by why m old new (Err why) d refl failed
+
+pub uncounted : (n : Counts) (F : Type 0) → (F → ⊥) → Counted n n F ⊥
+uncounted n F never = record {
+  faults_later = omega arith;
+  stops_later = omega arith;
+  failed = λ f. absurd (never f);
+  stopped = λ s. absurd s;
+  armed = λ s. absurd s;
+  not_rearmed = λ a. a;
+}
+
+left_before : (f : WorldFault) (before behind : Durable) (image : List ℕ) → StandsFor image before → IsLeft f before behind image
+left_before (world.BadDisk p) before behind image h = inl h
+left_before world.DiskFailed before behind image h = inl h
+left_before (world.Spent n) before behind image h = inl h
+left_before world.NoSuchOp before behind image h = inl h
+left_before world.NoSuchMsg before behind image h = inl h
+left_before world.NoMemory before behind image h = inl h
+
+pub left_as_was : {A : Type 0} (r : Result A StepFault) (tells : Type 0) (now : View) (w : World) (behind : Durable) → IsInStep tells now w → IfErr r (λ why. tells → (image : List ℕ) → now.may_leave image → IsLeft (of_step why) (view_of w).durable behind image)
+left_as_was (Ok x) tells now w behind h = tt
+left_as_was (Err why) tells now w behind h = λ told image left. left_before (of_step why) (view_of w).durable behind image (in_step_stands tells now w h told image left)

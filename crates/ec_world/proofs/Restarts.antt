@@ -1,0 +1,57 @@
+-- A restart of a stopped server, over what came of its start.
+use Rattle.std.proofs.Common.{◌≡◌, ◌⊎◌, inl, ℕ, Bool, true, false, List, Option, None, Some, Result, Ok, Err, refl, sym, ap, subst, ◌∙◌}
+use Rattle.std.specs.Prelude.{OnOk, IfErr}
+use Rattle.ec_base.specs.declared.counter.Counter.{Counter}
+use Rattle.ec_disk.specs.Disk.{View, Counts, Counted}
+use Rattle.ec_durable.specs.declared.state.Durable.{Durable}
+use Rattle.ec_protocol.specs.Server.{Serving}
+use Rattle.ec_protocol.specs.World.{Fate, runs, Moving, restart, restart_server}
+use Rattle.ec_protocol.specs.declared.server.Served.{Served}
+use Rattle.ec_server.specs.declared.server.Server.{Server}
+use Rattle.ec_stands.specs.Stands.{StandsFor}
+use Rattle.ec_store.specs.Store.{view_of as state_of}
+use Rattle.ec_store.specs.declared.store.Store.{Store}
+use Rattle.ec_world.proofs.Finish.{finished}
+use Rattle.ec_world.specs.Faults.{of_step}
+use Rattle.ec_world.specs.Keeping.{Unchanged, HasStoppedIn}
+use Rattle.ec_world.specs.Laws.{held_stands, in_step_stands}
+use Rattle.ec_world.specs.Serving.{serves, CameUp, Finishes}
+use Rattle.ec_world.specs.Steps.{Fated, IsLeft, under}
+use Rattle.ec_world.specs.Worlds.{view_of, server_of, IsInStep}
+use Rattle.ec_world.specs.declared.fault.StepFault.{StepFault}
+use Rattle.ec_world.specs.declared.fault.StepFault.TheVariants as step_fault
+use Rattle.ec_world.specs.declared.keeping.Came.{Came}
+use Rattle.ec_world.specs.declared.world.World.{World}
+
+pub on_ok : {P Q : Type 0} (res : Result (Unit {0}) StepFault) → OnOk res P → (P → Q) → OnOk res Q
+on_ok (Ok u) h by = by h
+on_ok (Err f) h by = tt
+
+pub if_err : {P Q : StepFault → Type 0} (res : Result (Unit {0}) StepFault) → IfErr res P → ((f : StepFault) → P f → Q f) → IfErr res Q
+if_err (Ok u) h by = tt
+if_err (Err f) h by = by f h
+
+-- the machine's restart, over the store that the start left
+restart_is : (fate : Fate) (w : World) (s : Store) → w.server ≡ None → restart_server fate (view_of w).server (view_of w) ≡ restart fate (serves None (state_of w.store) (view_of (record w { store = s })))
+restart_is fate w s none =
+    let d = state_of w.store in
+    ap (λ (o : Option Server). restart_server fate (server_of d o) (serves (server_of d o) d (view_of w))) none
+
+pub restart_finishes : (tells F G : Type 0) (w : World) (s : Store) (new : World) (now : View) (x : Came (Server × Served)) (a b c : Counts) → w.server ≡ None → CameUp tells (state_of w.store) (record w { store = s }) now x
+    → ((d : Durable) → CameUp tells d (record w { store = s }) now x → Finishes tells (HasStoppedIn x) (λ fate. restart fate (serves None d (view_of (record w { store = s })))) (under new))
+    → Counted a b F (HasStoppedIn x) → Counted b c G ⊥ → Fated tells a c (λ fate. restart_server fate (view_of w).server (view_of w)) (under new)
+restart_finishes tells F G w s new now x a b c none came up one two =
+    let d = state_of w.store in
+    finished tells (HasStoppedIn x) F G a b c (λ fate. restart fate (serves None d (view_of (record w { store = s })))) (λ fate. restart_server fate (view_of w).server (view_of w)) (under new) (up d came) (λ fate. restart_is fate w s none) one two
+
+pub restart_left : (w : World) (s : Store) (f : StepFault) (image : List ℕ) → w.server ≡ None → IsLeft (of_step f) (state_of w.store) (restart runs (serves None (state_of w.store) (view_of (record w { store = s })))).world.durable image
+    → IsLeft (of_step f) (state_of w.store) (restart_server runs (view_of w).server (view_of w)).world.durable image
+restart_left w s f image none h = subst (λ (m : Moving). IsLeft (of_step f) (state_of w.store) m.world.durable image) (sym (restart_is runs w s none)) h
+
+-- A step that is refused for a spent counter, or shows nothing for want of memory, leaves the state.
+
+pub spent_left : (tells B : Type 0) (done : Serving) (n : Counter) (old new : Store) (now : View) (image : List ℕ) → Unchanged tells done n old new now → tells → now.may_leave image → StandsFor image (state_of old) ⊎ B
+spent_left tells B done n old new now image same told left = inl (subst (λ (s : Store). StandsFor image (state_of s)) same.store (held_stands now new (same.held told) image left))
+
+pub nothing_left : (tells : Type 0) (now : View) (w : World) (behind : Durable) (f : StepFault) (image : List ℕ) → f ≡ step_fault.NoMemory → IsInStep tells now w → tells → now.may_leave image → IsLeft (of_step f) (view_of w).durable behind image
+nothing_left tells now w behind f image is h told left = subst (λ (y : StepFault). IsLeft (of_step y) (view_of w).durable behind image) (sym is) (inl (in_step_stands tells now w h told image left))

@@ -1,0 +1,233 @@
+-- Starts of a server.
+use Rattle.std.proofs.Common.{◌≡◌, ◌+◌, ◌⊎◌, inl, inr, ⊎_elim, ℕ, Bool, true, false, eq-eqb, List, [], ◌∷◌, ◌++◌, Option, None, Some, Result, Ok, Err, refl, sym, ap, subst, ◌∙◌}
+use Rattle.std.specs.Prelude.{◌==◌, nat_le, IfErr, IsErrAnd}
+use Rattle.ec_base.specs.Limits.{last_counter}
+use Rattle.ec_base.specs.declared.counter.Counter.{Counter}
+use Rattle.ec_base.specs.declared.counter.Counter.TheVariants as counter
+use Rattle.ec_disk.specs.Disk.{View}
+use Rattle.ec_durable.specs.Durable.{step}
+use Rattle.ec_durable.specs.declared.state.Durable.{Durable}
+use Rattle.ec_durable.specs.declared.record.Record.{Record}
+use Rattle.ec_durable.specs.declared.record.Record.TheVariants as record_of
+use Rattle.ec_durable.specs.declared.record.RecordFault.{RecordFault}
+use Rattle.ec_durable.specs.declared.record.RecordFault.TheVariants as record_fault
+use Rattle.ec_protocol.specs.Server.{Serving, start, new_server, serving, spend, commit, stay, tell_all}
+use Rattle.ec_protocol.specs.declared.server.Server.{Server as State}
+use Rattle.ec_server.specs.ServeLaws.{told_all}
+use Rattle.ec_history.specs.declared.shown.Shown.TheVariants as show
+use Rattle.ec_stands.specs.Stands.{StandsFor}
+use Rattle.ec_protocol.specs.World.{Fate, runs, Moving, moving, fails, with_world, show_line, show_noted, send_all, come_up, restarted, restart, on_disk}
+use Rattle.ec_protocol.specs.declared.server.Served.{Served}
+use Rattle.ec_protocol.specs.declared.world.Noted.{Noted}
+use Rattle.ec_protocol.specs.declared.world.Noted.TheVariants as noted_as
+use Rattle.ec_protocol.specs.declared.world.World.{World as Moved}
+use Rattle.ec_protocol.specs.declared.world.WorldFault.TheVariants as fault
+use Rattle.ec_server.specs.Servers.{standing}
+use Rattle.ec_server.specs.declared.server.Server.{Server}
+use Rattle.ec_store.specs.Store.{view_of as state_of}
+use Rattle.ec_wire.specs.declared.msg.Msg.{Msg}
+use Rattle.ec_world.proofs.Finish.{fate_of, told_fate, came_fate, sends_keep, either_behind, done_leaves}
+use Rattle.ec_world.proofs.Fresh.{fresh}
+use Rattle.ec_world.specs.Cutting.{LeavesEither}
+use Rattle.ec_world.specs.Faults.{of_step}
+use Rattle.ec_world.specs.Keeping.{IsDone, InDoubt, HasStoppedIn}
+use Rattle.ec_world.specs.Marks.{IsMark, MarkOf}
+use Rattle.ec_world.specs.Serving.{serves, with_durable, left_in, CameUp, Finishes, Breaks}
+use Rattle.ec_world.specs.Signs.{sign_of}
+use Rattle.ec_world.specs.Steps.{IsLeft, under}
+use Rattle.ec_world.specs.Worlds.{view_of, server_of}
+use Rattle.ec_world.specs.declared.fault.StepFault.{StepFault}
+use Rattle.ec_world.specs.declared.fault.StepFault.TheVariants as step_fault
+use Rattle.ec_world.specs.declared.keeping.Came.{Came}
+use Rattle.ec_world.specs.declared.keeping.Came.TheVariants as came
+use Rattle.ec_world.specs.declared.marks.Mark.{Mark}
+use Rattle.ec_world.specs.declared.world.World.{World}
+
+-- A start that spends nothing has a record: the new epoch.
+
+step_epoch : (d : Durable) → step (record_of.Epoch (d.epoch + 1)) d ≡ Ok (record d { epoch = d.epoch + 1 })
+step_epoch d =
+    let by : Bool → Result Durable RecordFault = λ b. elim b [ false ↦ Err record_fault.BadNumber | true ↦ Ok (record d { epoch = d.epoch + 1 }) ] in
+    ap by (eq-eqb (d.epoch + 1) (d.epoch + 1) refl)
+
+started_by : Durable → Bool → Serving
+started_by d b = elim b [ true ↦ spend counter.Epoch (serving (new_server d)) | false ↦ commit (record_of.Epoch (d.epoch + 1)) (λ u. tell_all 0 u.server.durable.sessions u) stay (serving (new_server d)) ]
+
+committed_by : Durable → Result Durable RecordFault → Serving
+committed_by d res =
+    let t = serving (new_server d) in
+    elim res [ Ok e ↦ tell_all 0 e.sessions (record t { server = record (t.server) { durable = e }; rec = Some (record_of.Epoch (d.epoch + 1)) }) | Err f ↦ t ]
+
+pub start_records : (d : Durable) → (start d).spent ≡ None → (start d).rec ≡ Some (record_of.Epoch (start d).server.durable.epoch)
+unfolding started_by committed_by
+start_records d none = go (nat_le last_counter d.epoch) none
+  where
+    told : (t : Serving) → t ≡ committed_by d (Ok (record d { epoch = d.epoch + 1 })) → t.rec ≡ Some (record_of.Epoch t.server.durable.epoch)
+    told t is =
+        let e : Durable = record d { epoch = d.epoch + 1 } in
+        let u : Serving = record (serving (new_server d)) { server = record (new_server d) { durable = e }; rec = Some (record_of.Epoch (d.epoch + 1)) } in
+        let same = told_all 0 e.sessions u in
+        ap (λ (x : Serving). x.rec) is ∙ same.1 ∙ ap (λ (s : State). Some (record_of.Epoch s.durable.epoch)) (sym same.0 ∙ sym (ap (λ (x : Serving). x.server) is))
+
+    spent : (n : Counter) → Some n ≡ None → ⊥
+    spent n e = absurd cc
+
+    go : (b : Bool) → (started_by d b).spent ≡ None → (started_by d b).rec ≡ Some (record_of.Epoch (started_by d b).server.durable.epoch)
+    go true none = absurd (spent counter.Epoch none)
+    go false none = told (started_by d false) (ap (committed_by d) (step_epoch d))
+
+-- A restart, as the code takes it: the server, the state and the records first, then what is shown and sent.
+
+by_spent : Fate → Serving → Moved → Moving
+by_spent fate t w = elim t.spent [ Some n ↦ fails (fault.Spent n) w | None ↦ restarted fate t w ]
+
+unspent_is : (fate : Fate) (t : Serving) (w : Moved) → t.spent ≡ None → by_spent fate t w ≡ restarted fate t w
+unfolding by_spent
+unspent_is fate t w none = ap (λ (o : Option Counter). elim o [ Some n ↦ fails (fault.Spent n) w | None ↦ restarted fate t w ]) none
+
+-- the world that comes up, before it shows anything
+abbrev pub come_to : State → List Record → Moved → Moved
+come_to s rs w = record w { server = Some s; durable = s.durable; unshown = None; records = rs }
+
+comes_up : (x : Option Noted) (t : Serving) (w : Moved)
+    → with_world (come_up t) (show_line show.Started (show_noted x (moving w))) ≡ with_world (send_all t.sent) (show_line show.Started (show_noted x (moving (come_to t.server (w.records ++ record_of.Epoch t.server.durable.epoch ∷ []) w))))
+comes_up None t w = refl
+comes_up (Some (noted_as.Durable c ns)) t w = refl
+comes_up (Some (noted_as.Ended c b)) t w = refl
+
+restarts_by : (t : Serving) (s : State) (sent : List (ℕ × Msg)) (rec : Option Record) (rs : List Record) (w : Moved) → t ≡ record { server = s; sent = sent; rec = rec; spent = None } → rs ≡ w.records ++ record_of.Epoch s.durable.epoch ∷ []
+    → by_spent runs t w ≡ with_world (send_all sent) (show_line show.Started (show_noted w.unshown (moving (come_to s rs w))))
+unfolding by_spent
+restarts_by t s sent rec rs w is more =
+    ap (λ (x : Serving). by_spent runs x w) is
+    ∙ comes_up w.unshown (record { server = s; sent = sent; rec = rec; spent = None }) w
+    ∙ ap (λ (xs : List Record). with_world (send_all sent) (show_line show.Started (show_noted w.unshown (moving (come_to s xs w))))) (sym more)
+
+-- the record of a start that is done
+pub done_rec : (d : Durable) (s : State) (sent : List (ℕ × Msg)) (rec : Option Record) → start d ≡ record { server = s; sent = sent; rec = rec; spent = None } → rec ≡ Some (record_of.Epoch s.durable.epoch)
+done_rec d s sent rec is = go (start d) is (start_records d (ap (λ (x : Serving). x.spent) is))
+  where
+    go : (t : Serving) → t ≡ record { server = s; sent = sent; rec = rec; spent = None } → t.rec ≡ Some (record_of.Epoch t.server.durable.epoch) → rec ≡ Some (record_of.Epoch s.durable.epoch)
+    go t is has = sym (ap (λ (x : Serving). x.rec) is) ∙ has ∙ ap (λ (x : Serving). Some (record_of.Epoch x.server.durable.epoch)) is
+
+pub start_shows : (tells : Type 0) (d : Durable) (w : World) (now : View) (v : Server) (served' : Served) (m : Mark) → w.piece.items ≡ [] → IsDone tells (start d) d w.records.items v w.store now served' (Some m)
+    → restart runs (serves None d (view_of w)) ≡ with_world (send_all served'.sent) (show_line show.Started (show_noted w.unshown (with_world (λ x. record x { unshown = None }) (under (record w { server = Some v; records = m.records })))))
+unfolding by_spent
+start_shows tells d w now v served' m none h =
+    restarts_by (start d) s served'.sent served'.rec m.records.items (serves None d (view_of w)) h.does is_more.records_are
+    ∙ ap (λ (x : Moving). with_world (send_all served'.sent) (show_line show.Started (show_noted w.unshown (with_world (λ y. record y { unshown = None }) x)))) (sym (fresh up none))
+  where
+    s : State
+    s = standing (state_of w.store) v
+
+    up : World
+    up = record w { server = Some v; records = m.records }
+
+    is_more : IsMark m (record_of.Epoch (state_of w.store).epoch) d w.records.items
+    is_more = subst (λ (o : Option Record). MarkOf (Some m) o d w.records.items) (done_rec d s served'.sent served'.rec h.does) h.mark_is
+
+-- A stop in a restart.
+
+some_record : (r q : Record) → ◌≡◌ {A = Option Record} (Some r) (Some q) → r ≡ q
+some_record r q e = cc
+
+stops_up : (there : Bool) (r : Record) (t : Serving) (w : Moved) → r ≡ record_of.Epoch t.server.durable.epoch → restarted (fate_of there) t w ≡ show_line show.Stopped (moving (left_in there r w))
+unfolding fate_of
+stops_up false r t w is = refl
+stops_up true r t w is = ap (λ (q : Record). show_line show.Stopped (moving (on_disk q w))) (sym is)
+
+pub stop_restarts : (tells : Type 0) (d : Durable) (now : View) (r : Record) (there : Bool) (old cut new : World) → old.server ≡ None → InDoubt tells (start d) d now r
+    → (tells → view_of cut ≡ left_in there r (with_durable d (view_of old))) → cut.piece.items ≡ [] → under new ≡ show_line show.Stopped (under cut)
+    → Finishes tells (Unit {0}) (λ fate. restart fate (serves None d (view_of old))) (under new)
+unfolding by_spent
+stop_restarts tells d now r there old cut new none h left fresh_piece shown =
+    (fate_of there, came_fate there, λ told. go (told_fate there tells told))
+  where
+    t : Serving
+    t = start d
+
+    u : Moved
+    u = serves None d (view_of old)
+
+    is_epoch : r ≡ record_of.Epoch t.server.durable.epoch
+    is_epoch = some_record r (record_of.Epoch t.server.durable.epoch) (sym h.rec_is ∙ start_records d h.unspent)
+
+    same : with_durable d (view_of old) ≡ u
+    same = ap (λ (o : Option Server). record (view_of old) { server = server_of (state_of old.store) o; durable = d }) none
+
+    go : tells → restart (fate_of there) u ≡ under new
+    go told =
+        unspent_is (fate_of there) t u h.unspent
+        ∙ stops_up there r t u is_epoch
+        ∙ ap (λ (x : Moved). show_line show.Stopped (moving x)) (sym (left told ∙ ap (left_in there r) same))
+        ∙ ap (λ (x : Moving). show_line show.Stopped x) (sym (fresh cut fresh_piece))
+        ∙ sym shown
+
+-- What is left at a fault.
+
+behind_up : (t : Serving) (u : Moved) → t.spent ≡ None → (by_spent runs t u).world.durable ≡ t.server.durable
+unfolding by_spent
+behind_up t u none = ap (λ (m : Moving). m.world.durable) (unspent_is runs t u none) ∙ ap (λ (m : Moving). m.world.durable) (comes_up u.unshown t u) ∙ sends_keep t.sent _ ∙ up u.unshown
+  where
+    up : (x : Option Noted) → (show_line show.Started (show_noted x (moving (come_to t.server (u.records ++ record_of.Epoch t.server.durable.epoch ∷ []) u)))).world.durable ≡ t.server.durable
+    up None = refl
+    up (Some (noted_as.Durable c ns)) = refl
+    up (Some (noted_as.Ended c b)) = refl
+
+pub doubt_restarts : (tells : Type 0) (d : Durable) (before now : View) (r : Record) (u : Moved) (f : StepFault) (image : List ℕ) → u.durable ≡ d → Breaks f → InDoubt tells (start d) d before r → LeavesEither r d now → now.may_leave image
+    → IsLeft (of_step f) d (restart runs u).world.durable image
+unfolding by_spent
+doubt_restarts tells d before now r u step_fault.DiskFailed image is b h e left =
+    subst (λ (x : Durable). StandsFor image d ⊎ StandsFor image x) (sym (ap (λ (x : Durable). (by_spent runs (start x) u).world.durable) is ∙ behind_up (start d) u h.unspent)) (either_behind r d (start d).server.durable now image h.steps e left)
+doubt_restarts tells d before now r u step_fault.NoMemory image is b h e left = ⊎_elim (λ x. inl x) (λ x. inr (r, x.0, x.1, x.2)) (e image left)
+doubt_restarts tells d before now r u (step_fault.Spent n) image is b h e left = absurd b
+doubt_restarts tells d before now r u step_fault.NoSuchOp image is b h e left = absurd b
+doubt_restarts tells d before now r u step_fault.NoSuchMsg image is b h e left = absurd b
+
+-- What came of a server's start.
+
+pub done_restarts : (tells : Type 0) (d : Durable) (w : World) (now : View) (x : Came (Server × Served)) (made : Server × Served) (mark : Option Mark) (m : Mark) (new : World) → x ≡ came.Done made mark → mark ≡ Some m → w.piece.items ≡ [] → CameUp tells d w now x
+    → under new ≡ with_world (send_all made.1.sent) (show_line show.Started (show_noted w.unshown (with_world (λ y. record y { unshown = None }) (under (record w { server = Some made.0; records = m.records })))))
+    → Finishes tells (HasStoppedIn x) (λ fate. restart fate (serves None d (view_of w))) (under new)
+done_restarts tells d w now x made mark m new is some none h shown =
+    let on : Option Mark → Came (Server × Served) = λ o. came.Done made o in
+    let up : CameUp tells d w now (on (Some m)) = subst (λ (y : Came (Server × Served)). CameUp tells d w now y) (is ∙ ap on some) h in
+    (runs, tt, λ told. start_shows tells d w now made.0 made.1 m none up ∙ sym shown)
+
+pub stopped_restarts : (tells : Type 0) (d : Durable) (old cut new : World) (now : View) (x : Came (Server × Served)) (mark : Mark) (there : Bool) → x ≡ came.Stopped mark → old.server ≡ None → CameUp tells d old now x
+    → (tells → (r : Record) (c e : Durable) → mark.sign ≡ sign_of r → mark.records.items ≡ old.records.items ++ r ∷ [] → step r c ≡ Ok e → LeavesEither r c now → view_of cut ≡ left_in there r (with_durable c (view_of old)))
+    → cut.piece.items ≡ [] → under new ≡ show_line show.Stopped (under cut)
+    → Finishes tells (HasStoppedIn x) (λ fate. restart fate (serves None d (view_of old))) (under new)
+stopped_restarts tells d old cut new now x mark there is none h left fresh_piece shown =
+    let up : CameUp tells d old now (came.Stopped mark) = subst (λ (y : Came (Server × Served)). CameUp tells d old now y) is h in
+    let doubt = up.1 in
+    let found : tells → view_of cut ≡ left_in there up.0 (with_durable d (view_of old)) = λ told. left told up.0 d (start d).server.durable up.2.sign_is up.2.records_are doubt.steps (doubt.leaves told) in
+    subst (λ (y : Came (Server × Served)). Finishes tells (HasStoppedIn y) (λ fate. restart fate (serves None d (view_of old))) (under new)) (sym is) (stop_restarts tells d now up.0 there old cut new none doubt found fresh_piece shown)
+
+pub err_is : {P Q : StepFault → Type 0} (res : Result (Unit {0}) StepFault) → IsErrAnd res P → ((f : StepFault) → P f → Q f) → IfErr res Q
+err_is (Ok u) h by = absurd h
+err_is (Err f) h by = by f h
+
+pub done_left : (tells : Type 0) (d behind : Durable) (w : World) (now : View) (x : Came (Server × Served)) (made : Server × Served) (mark : Option Mark) (f : StepFault) (image : List ℕ) → x ≡ came.Done made mark → f ≡ step_fault.NoMemory → CameUp tells d w now x → tells → now.may_leave image
+    → IsLeft (of_step f) d behind image
+done_left tells d behind w now x made mark f image is fault_is h told left =
+    let up : CameUp tells d w now (came.Done made mark) = subst (λ (y : Came (Server × Served)). CameUp tells d w now y) is h in
+    subst (λ (y : StepFault). IsLeft (of_step y) d behind image) (sym fault_is) (done_leaves tells (start d) d (record w { server = Some made.0 }) now made.1 mark up told image left)
+
+pub stopped_left : (tells : Type 0) (d : Durable) (w : World) (before now : View) (x : Came (Server × Served)) (mark : Mark) (f : StepFault) (image : List ℕ) → x ≡ came.Stopped mark → Breaks f → (tells → (r : Record) (c : Durable) → LeavesEither r c before → LeavesEither r c now) → CameUp tells d w before x → tells → now.may_leave image
+    → IsLeft (of_step f) d (restart runs (serves None d (view_of w))).world.durable image
+stopped_left tells d w before now x mark f image is breaks same h told left =
+    let up : CameUp tells d w before (came.Stopped mark) = subst (λ (y : Came (Server × Served)). CameUp tells d w before y) is h in
+    doubt_restarts tells d before now up.0 (serves None d (view_of w)) f image refl breaks up.1 (same told up.0 d (up.1.leaves told)) left
+
+pub failed_left : (tells : Type 0) (d : Durable) (w : World) (now : View) (x : Came (Server × Served)) (image : List ℕ) → x ≡ came.DiskFailed → CameUp tells d w now x → tells → now.may_leave image
+    → IsLeft (of_step step_fault.DiskFailed) d (restart runs (serves None d (view_of w))).world.durable image
+failed_left tells d w now x image is h told left =
+    let up : CameUp tells d w now came.DiskFailed = subst (λ (y : Came (Server × Served)). CameUp tells d w now y) is h in
+    doubt_restarts tells d now now up.0 (serves None d (view_of w)) step_fault.DiskFailed image refl tt up.1 (up.1.leaves told) left
+
+pub breaks_memory : (f : StepFault) → f ≡ step_fault.NoMemory → Breaks f
+breaks_memory f is = subst Breaks (sym is) tt
+
+pub breaks_same : (f g : StepFault) → f ≡ g → Breaks g → Breaks f
+breaks_same f g is h = subst Breaks (sym is) h

@@ -1,0 +1,31 @@
+use Rattle.std.proofs.Common.{◌≡◌, ◌∙◌, sym, ap, Bool}
+use Rattle.ec_durable.specs.declared.state.Durable.{Durable}
+use Rattle.ec_store.specs.Store.{view_of}
+use Rattle.ec_world.specs.Cutting.{left_of}
+use Rattle.ec_world.specs.Signs.{is_there}
+use Rattle.ec_world.proofs.Left.{cut_leaves, sign_tells}
+use Rattle.ec_world.proofs.cutting.cut_power.Goals as goal
+
+pub returns-in-Ok-clause-found : goal.returns-in-Ok-clause-found
+returns-in-Ok-clause-found g c = λ told r d e is takes either.
+    let view = g.D.Disk.view in
+    let cut = c.power_cut.new.self in
+    let left = view_of c.in-Ok.store in
+    let tells : c.is_in-is_there.result ≡ is_there c.args.sign left = c.is_in-is_there.ensures ∙ ap (λ (x : Durable). is_there c.args.sign x) c.view.ensures.value in
+    let among = cut_leaves r d (view c.args.disk.now) (view cut) (c.power_cut.ensures.cut told) either (view cut).gives (g.met.D.Disk.given told cut) in
+    sign_tells c.args.sign r d e left (view cut).gives is takes among (c.in-Ok.ensures.stands told) ∙ sym (ap (λ (b : Bool). left_of b d e) tells)
+
+pub returns-in-Err-DiskFailed-clause-left : goal.returns-in-Err-DiskFailed-clause-left
+returns-in-Err-DiskFailed-clause-left g c = λ told r d either.
+    let view = g.D.Disk.view in
+    c.open_left.ensures.left told r d (cut_leaves r d (view c.args.disk.now) (view c.power_cut.new.self) (c.power_cut.ensures.cut told) either)
+
+pub returns-in-Err-BadDisk-clause-left : goal.returns-in-Err-BadDisk-clause-left
+returns-in-Err-BadDisk-clause-left g c = λ told r d either.
+    let view = g.D.Disk.view in
+    c.open_left.ensures.left told r d (cut_leaves r d (view c.args.disk.now) (view c.power_cut.new.self) (c.power_cut.ensures.cut told) either)
+
+pub returns-in-Ok-clause-left : goal.returns-in-Ok-clause-left
+returns-in-Ok-clause-left g c = λ told r d either.
+    let view = g.D.Disk.view in
+    c.open_left.ensures.left told r d (cut_leaves r d (view c.args.disk.now) (view c.power_cut.new.self) (c.power_cut.ensures.cut told) either)

@@ -1,0 +1,15 @@
+pub mod Calls
+pub mod Cutting
+pub mod Faults
+pub mod Keeping
+pub mod Laws
+pub mod Marking
+pub mod Marks
+pub mod Noted
+pub mod Opening
+pub mod Running
+pub mod Sending
+pub mod Serving
+pub mod Signs
+pub mod Steps
+pub mod Worlds

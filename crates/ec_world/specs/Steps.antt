@@ -1,0 +1,88 @@
+-- What the calls of a world promise.
+use Rattle.std.specs.Prelude.{◌≡◌, ◌⊎◌, ℕ, List, length, Ok, Err, None, Some, IsSome}
+use Rattle.ec_base.specs.Outside.{Rose}
+use Rattle.ec_disk.specs.Disk.{View, Counts, Counted}
+use Rattle.ec_durable.specs.declared.state.Durable.{Durable}
+use Rattle.ec_durable.specs.declared.record.Record.{Record}
+use Rattle.ec_durable.specs.Durable.{formatted, step as record_step}
+use Rattle.ec_stands.specs.Stands.{StandsFor, IsBadAt}
+use Rattle.ec_protocol.specs.World.{Fate, runs, stops_without, stops_with, Moving, open_world}
+use Rattle.ec_protocol.specs.declared.world.World.{World as State}
+use Rattle.ec_world.specs.Worlds.{view_of}
+use Rattle.ec_world.specs.declared.fault.StepFault.{StepFault}
+use Rattle.ec_world.specs.declared.fault.StepFault.TheVariants as step
+use Rattle.ec_world.specs.declared.world.World.{World}
+use Rattle.ec_protocol.specs.declared.world.Event.{Event}
+use Rattle.ec_protocol.specs.declared.world.Event.TheVariants.{Arm}
+use Rattle.ec_protocol.specs.declared.world.WorldFault.{WorldFault}
+use Rattle.ec_protocol.specs.declared.world.WorldFault.TheVariants.{BadDisk, DiskFailed, Spent, NoSuchOp, NoSuchMsg, NoMemory}
+
+-- Opening.
+
+-- What is opened: an empty disk is formatted, and any other one stands for the state.
+pub record Opens (tells : Type 0) (gives : List ℕ) (most : ℕ) (d : Durable) : Type 0 where
+  pub empty : tells → length gives ≡ 0 → d ≡ formatted most
+  pub stands : tells → (length gives ≡ 0 → ⊥) → StandsFor gives d
+
+-- Why a disk that gave this isn't opened; what it gives now, and what a crash may leave of it.
+abbrev pub Unopened : WorldFault → Type 0 → List ℕ → List ℕ → (List ℕ → Type 0) → ℕ → Type 0
+Unopened (BadDisk place) tells gives now may_leave most = tells → (length gives ≡ 0 → ⊥) × IsBadAt gives place × (now ≡ gives)
+Unopened (Spent n) tells gives now may_leave most =
+    (d : Durable) × Opens tells gives most d × (open_world d ≡ Err n) × (tells → (image : List ℕ) → may_leave image → StandsFor image d)
+Unopened NoSuchOp tells gives now may_leave most = ⊥
+Unopened NoSuchMsg tells gives now may_leave most = ⊥
+Unopened DiskFailed tells gives now may_leave most = Unit {0}
+Unopened NoMemory tells gives now may_leave most = Unit {0}
+
+-- Steps.
+
+-- A stop comes only on an armed disk, whose stops rise.
+pub record HasStopped (old new : Counts) : Type 0 where
+  pub stops : Rose old.stops new.stops
+  pub armed : IsSome old.armed
+
+abbrev pub FateOf : Fate → Counts → Counts → Type 0
+FateOf runs old new = Unit {0}
+FateOf stops_without old new = HasStopped old new
+FateOf stops_with old new = HasStopped old new
+
+-- What a stop left is read back from the disk: of a disk that doesn't tell its content nothing is claimed then.
+abbrev pub IsTold : Fate → Type 0 → Type 0
+IsTold runs tells = Unit {0}
+IsTold stops_without tells = tells
+IsTold stops_with tells = tells
+
+abbrev pub Fated : Type 0 → Counts → Counts → (Fate → Moving) → Moving → Type 0
+Fated tells old new steps m = (fate : Fate) × FateOf fate old new × (IsTold fate tells → steps fate ≡ m)
+
+-- Why a step isn't taken. A fault of the machine changes nothing.
+abbrev pub Refuses : WorldFault → Moving → State → State → Type 0 → Type 0
+Refuses (BadDisk place) m old new in_step = ⊥
+Refuses (Spent n) m old new in_step = (m.fault ≡ Some (Spent n)) × (new ≡ old) × in_step
+Refuses NoSuchOp m old new in_step = (m.fault ≡ Some NoSuchOp) × (new ≡ old) × in_step
+Refuses NoSuchMsg m old new in_step = (m.fault ≡ Some NoSuchMsg) × (new ≡ old) × in_step
+Refuses DiskFailed m old new in_step = Unit {0}
+Refuses NoMemory m old new in_step = Unit {0}
+
+-- The disk's counts behind an event: one that arms does nothing else there. A stop shows in them, and is no fault.
+abbrev pub CountsOf : Event → Counts → Counts → Type 0 → Type 0
+CountsOf (Arm n ch) old new failed = ((new ≡ record old { armed = Some n }) ⊎ (new ≡ old)) × (failed → ⊥)
+CountsOf _ old new failed = Counted old new failed ⊥
+
+-- An image stands for the state before a step that isn't taken, or for the one behind it. Want of memory may come behind a record of a step
+-- that is refused then.
+abbrev pub IsLeft : WorldFault → Durable → Durable → List ℕ → Type 0
+IsLeft NoMemory before behind image = StandsFor image before ⊎ ((r : Record) × (e : Durable) × (record_step r before ≡ Ok e) × StandsFor image e)
+IsLeft _ before behind image = StandsFor image before ⊎ StandsFor image behind
+
+-- the step under way
+abbrev pub under : World → Moving
+under w = record { world = view_of w; shown = w.piece.items; fault = None }
+
+-- Why a step that makes no call of the disk isn't taken.
+abbrev pub Declines : StepFault → Moving → State → State → Type 0
+Declines (step.Spent n) m old new = (m.fault ≡ Some (Spent n)) × (new ≡ old)
+Declines step.NoSuchOp m old new = (m.fault ≡ Some NoSuchOp) × (new ≡ old)
+Declines step.NoSuchMsg m old new = (m.fault ≡ Some NoSuchMsg) × (new ≡ old)
+Declines step.DiskFailed m old new = ⊥
+Declines step.NoMemory m old new = Unit {0}

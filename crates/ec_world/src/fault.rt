@@ -1,0 +1,68 @@
+// Why a step isn't taken.
+ghost use Rattle.std.specs.Prelude.{◌≡◌};
+ghost use Rattle.ec_world.specs.Faults.{of_clerk, of_step};
+ghost use Rattle.ec_world.specs.declared.fault.StepFault.TheVariants as fault;
+
+use ec_base::{Counter, NoMemory};
+use ec_protocol::{ClerkFault, WorldFault};
+use std::alloc::{AllocError, AllocFailed};
+
+// After `DiskFailed` and `NoMemory` a world answers want of memory alone. The others change nothing.
+#[derive(Clone, Copy, Debug, Drop, PartialEq, Eq)]
+pub(crate) enum StepFault {
+    DiskFailed,
+    Spent(Counter),
+    NoSuchOp,
+    NoSuchMsg,
+    NoMemory,
+}
+
+impl From<NoMemory> for StepFault {
+    ghost from_gives = { λ _ e. e ≡ fault.NoMemory };
+
+    fn from(_: NoMemory) -> Self {
+        StepFault::NoMemory
+    }
+}
+
+impl From<AllocError> for StepFault {
+    ghost from_gives = { λ _ e. e ≡ fault.NoMemory };
+
+    fn from(_: AllocError) -> Self {
+        StepFault::NoMemory
+    }
+}
+
+impl<T: Drop> From<AllocFailed<T>> for StepFault {
+    ghost from_gives = { λ _ e. e ≡ fault.NoMemory };
+
+    fn from(_: AllocFailed<T>) -> Self {
+        StepFault::NoMemory
+    }
+}
+
+impl From<ClerkFault> for StepFault {
+    ghost from_gives = { λ f e. e ≡ of_clerk f };
+
+    fn from(fault: ClerkFault) -> Self {
+        match fault {
+            ClerkFault::NoSuchOp => StepFault::NoSuchOp,
+            ClerkFault::Spent(counter) => StepFault::Spent(counter),
+            ClerkFault::NoMemory => StepFault::NoMemory,
+        }
+    }
+}
+
+impl StepFault {
+    pub(crate) fn shown(self) -> WorldFault
+        ensures { result ≡ of_step self }
+    {
+        match self {
+            StepFault::DiskFailed => WorldFault::DiskFailed,
+            StepFault::Spent(counter) => WorldFault::Spent(counter),
+            StepFault::NoSuchOp => WorldFault::NoSuchOp,
+            StepFault::NoSuchMsg => WorldFault::NoSuchMsg,
+            StepFault::NoMemory => WorldFault::NoMemory,
+        }
+    }
+}

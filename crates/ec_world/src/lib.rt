@@ -1,0 +1,24 @@
+//! All nodes and the pool of messages under one value: each event is one step of the protocol machine.
+#![tactic(auto)]
+
+mod answers;
+mod clerks;
+mod cutting;
+mod fault;
+mod keeping;
+mod lines;
+mod marking;
+mod marks;
+mod messages;
+mod network;
+mod opening;
+mod restarting;
+mod running;
+mod serving;
+mod shows;
+mod signs;
+mod step;
+mod stopping;
+mod world;
+
+pub use world::World;

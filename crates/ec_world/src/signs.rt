@@ -1,0 +1,53 @@
+// What of a state shows that a record is in it.
+ghost use Rattle.std.specs.Prelude.{◌≡◌};
+ghost use Rattle.ec_world.specs.Signs.{sign_of, is_there};
+
+use ec_base::ClerkId;
+use ec_durable::{Durable, Record};
+
+// A state that takes the record doesn't have its sign, and the stepped one has it.
+#[derive(Clone, Copy, Debug, Drop, PartialEq, Eq)]
+pub(crate) enum Sign {
+    // the clerk's window has the batch
+    Batch(ClerkId, u64),
+    // a session above this one is the next
+    Open(u64),
+    // the clerk has no open session
+    End(ClerkId),
+    // an id above this one is the next
+    Ids(u32),
+    // the epoch is this one at least
+    Epoch(u64),
+}
+
+impl Sign {
+    pub(crate) fn of(change: &Record) -> Sign
+        ensures { result ≡ sign_of change.now }
+    {
+        match change {
+            Record::Batch(clerk, _, batch, _) => Sign::Batch(*clerk, *batch),
+            Record::Open(_, _, session) => Sign::Open(session.0),
+            Record::End(clerk, _) => Sign::End(*clerk),
+            Record::Ids(_, _, _, first) => Sign::Ids(first.get()),
+            Record::Epoch(epoch) => Sign::Epoch(*epoch),
+        }
+    }
+
+    pub(crate) fn is_in(&self, state: &Durable) -> bool
+        ensures { result ≡ is_there self.now state.now }
+    {
+        match self {
+            Sign::Batch(clerk, batch) => match state.sessions.slot(*clerk) {
+                Some(slot) => slot.window.has(*batch),
+                None => false,
+            },
+            Sign::Open(session) => *session < state.next_session,
+            Sign::End(clerk) => match state.sessions.slot(*clerk) {
+                Some(slot) => !slot.is_open,
+                None => true,
+            },
+            Sign::Ids(first) => *first < state.next_id,
+            Sign::Epoch(epoch) => *epoch <= state.epoch,
+        }
+    }
+}
