@@ -1,18 +1,24 @@
--- What a drill does with its source and its sink.
-use Rattle.std.specs.Prelude.{◌≡◌, ◌<◌, ◌≤◌, ◌⊎◌, ◌+◌, ℕ, List, length, take, Option}
+-- What a drill does with its source, its sink and its disk.
+use Rattle.std.specs.Prelude.{◌≡◌, ◌<◌, ◌≤◌, ◌⊎◌, ◌+◌, ℕ, List, [], ◌++◌, length, Option, Ok, Err}
 use Rattle.std.specs.Io.KnownBytes.{Consumes, Appends, Keeps, IsAtEnd}
 use Rattle.ec_base.specs.Outside.{Rose}
-use Rattle.ec_history.specs.History.{Base}
+use Rattle.ec_disk.specs.Disk.{View, Counts}
 use Rattle.ec_history.specs.declared.shown.LimitName.{LimitName}
 use Rattle.ec_history.specs.declared.shown.LimitName.TheVariants as limit
-use Rattle.ec_history.specs.declared.shown.Shown.TheVariants.{Limit}
+use Rattle.ec_history.specs.declared.shown.Shown.{Shown}
+use Rattle.ec_history.specs.declared.shown.Shown.TheVariants.{Limit, DiskBad}
+use Rattle.ec_durable.specs.declared.state.Durable.{Durable}
+use Rattle.ec_stands.specs.Stands.{StandsFor, IsBadAt}
 use Rattle.ec_script.specs.Lines.{lines_of}
-use Rattle.ec_text.specs.Lines.{shown_text}
-use Rattle.ec_drill.specs.Answers.{AreAnswered}
+use Rattle.ec_text.specs.Lines.{shown_text, text_of}
+use Rattle.ec_protocol.specs.declared.world.World.{World}
+use Rattle.ec_protocol.specs.World.{open_world}
+use Rattle.ec_protocol.specs.Drill.{Read, Fates, Ran, run_from, bound, close, drill}
+use Rattle.ec_world.specs.Steps.{Opens}
 use Rattle.ec_drill.specs.Limits.{most_bytes, most_lines}
-use Rattle.ec_drill.specs.Run.{Ran}
-use Rattle.ec_drill.specs.declared.running.End.{End}
-use Rattle.ec_drill.specs.declared.running.End.TheVariants as ending
+use Rattle.ec_drill.specs.Script.{AreRead}
+use Rattle.ec_drill.specs.Fates.{AreOf, IsKnown}
+use Rattle.ec_drill.specs.Cuts.{IsFront, IsPartOf}
 use Rattle.ec_drill.specs.declared.status.Status.{Status}
 use Rattle.ec_drill.specs.declared.status.Status.TheVariants as status
 
@@ -23,11 +29,14 @@ code status.Usage = 2
 code status.BadLine = 3
 code status.SourceFault = 4
 code status.SinkFault = 5
+code status.DiskFault = 6
+code status.BadDisk = 7
 code status.NoMemory = 9
 code status.Limit = 11
+code status.Spent = 15
 
--- A source and a sink, before and after: the bytes left and held, where told, and the counts of faults.
-pub record Outside : Type 0 where
+-- A source, a sink and a disk, before and after: the bytes left and held, where told, what the disk holds, and the counts.
+pub record Outside : Type 1 where
   pub left : Option (List ℕ)
   pub left_after : Option (List ℕ)
   pub reads : ℕ
@@ -36,6 +45,22 @@ pub record Outside : Type 0 where
   pub held_after : Option (List ℕ)
   pub writes : ℕ
   pub writes_after : ℕ
+  -- whether the disk tells its content
+  pub tells : Type 0
+  pub disk : View
+  pub disk_after : View
+  pub counts : Counts
+  pub counts_after : Counts
+
+-- nothing was written
+abbrev pub IsSilent : Outside → Type 0
+IsSilent w = Keeps w.held w.held_after
+
+-- the disk wasn't touched
+pub record IsDiskUntouched (w : Outside) : Type 0 where
+  pub gives : w.disk_after.gives ≡ w.disk.gives
+  pub crash : (image : List ℕ) → w.disk_after.may_leave image → w.disk.may_leave image
+  pub counts : w.counts_after ≡ w.counts
 
 -- the source was read to its end and gave this script
 pub record IsScript (w : Outside) (script : List ℕ) : Type 0 where
@@ -43,12 +68,61 @@ pub record IsScript (w : Outside) (script : List ℕ) : Type 0 where
   pub at_end : IsAtEnd w.left_after
   pub few_bytes : length script ≤ most_bytes
 
--- a run over a script within the limits, on a base and with at most so many objects
-pub record RanOver (base : Base) (most : ℕ) (w : Outside) (end : End) : Type 0 where
+-- a script within the limits, of these lines
+pub record IsGiven (w : Outside) (reads : List Read) : Type 0 where
   pub script : List ℕ
   pub is_script : IsScript w script
   pub few_lines : length (lines_of script) ≤ most_lines
-  pub run : Ran base most AreAnswered end script w.held w.held_after w.writes w.writes_after
+  pub read : AreRead (lines_of script) reads
+
+-- whether it's known what the disk did in each step
+abbrev pub IsToldAll : Outside → Type 0
+IsToldAll w = IsKnown w.tells w.counts.stops w.counts_after.stops
+
+-- A disk stands for a state: what a read gives does, and each image that a crash may leave.
+pub record HoldsState (now : View) (state : Durable) : Type 0 where
+  pub gives : StandsFor now.gives state
+  pub crash : (image : List ℕ) → now.may_leave image → StandsFor image state
+
+-- the world that a run on this one comes to, with its last restart
+abbrev pub end_of : List Read → List Fates → World → World
+end_of reads fates start = let ran : Ran = run_from (bound reads) 1 reads fates start in (close ran.ending ran).world
+
+-- The durable state that a drill on this one comes to. Where the opening would spend a counter, nothing is changed.
+abbrev pub state_after : List Read → List Fates → Durable → Durable
+state_after reads fates d = elim (open_world d) [ Err n ↦ d | Ok start ↦ (end_of reads fates start).durable ]
+
+-- A run that ended by itself: all its lines were written, of which the last one says why it ended early.
+pub record RanWhole (most number : ℕ) (w : Outside) : Type 0 where
+  pub reads : List Read
+  pub given : IsGiven w reads
+  -- the disk stood for this state; an empty one was formatted
+  pub state : Durable
+  pub opens : Opens w.tells w.disk.gives most state
+  -- what the disk did in each step
+  pub fates : List Fates
+  pub stopped : AreOf fates w.counts.stops w.counts_after.stops
+  -- the lines and the status are the machine's
+  pub shown : List Shown
+  pub lines : IsToldAll w → (drill reads fates state).0 ≡ shown
+  pub status : IsToldAll w → (drill reads fates state).1 ≡ number
+  pub bytes : Appends w.held w.held_after (text_of shown)
+  -- the disk stands for the machine's state
+  pub disk : w.tells → HoldsState w.disk_after (state_after reads fates state)
+
+-- A run that was cut off: a front of its lines was written, and perhaps a part of the next one.
+pub record RanInPart (most : ℕ) (w : Outside) (last : List ℕ) : Type 0 where
+  pub reads : List Read
+  pub given : IsGiven w reads
+  pub state : Durable
+  pub opens : Opens w.tells w.disk.gives most state
+  pub fates : List Fates
+  pub stopped : AreOf fates w.counts.stops w.counts_after.stops
+  pub shown : List Shown
+  pub unwritten : List Shown
+  pub front : IsToldAll w → (rest : List Shown) × ((drill reads fates state).0 ≡ shown ++ (unwritten ++ rest))
+  pub bytes : Appends w.held w.held_after (text_of shown ++ last)
+  pub part : IsPartOf unwritten last
 
 -- The source has too much: more bytes than the limit, of which one more than the limit was read, or too many lines.
 abbrev pub IsOver : Outside → LimitName → ℕ → Type 0
@@ -56,32 +130,47 @@ IsOver w limit.Bytes n = (n ≡ most_bytes + 1) × (bytes : List ℕ) × Consume
 IsOver w limit.Lines n = (script : List ℕ) × IsScript w script × (n ≡ length (lines_of script)) × (most_lines < n)
 IsOver w limit.Pending n = ⊥
 
--- the source has too much, and the sink took a part of the line that says so
+-- The disk isn't empty, stands for no state, and this is its first bad place. It gives what it gave.
+abbrev pub IsBad : Outside → ℕ → Type 0
+IsBad w place = w.tells → (length w.disk.gives ≡ 0 → ⊥) × IsBadAt w.disk.gives place × (w.disk_after.gives ≡ w.disk.gives)
+
+-- Why nothing was carried out, with the line that says so.
+pub data Unbegun (w : Outside) : Shown → Type 0 where
+  over : (name : LimitName) (n : ℕ) → IsOver w name n → IsDiskUntouched w → Unbegun w (Limit name n)
+  bad : (place : ℕ) (reads : List Read) → IsGiven w reads → IsBad w place → Unbegun w (DiskBad place)
+
+-- nothing was carried out, and the sink took a part of the line that says so
 pub record RefusedInPart (w : Outside) : Type 0 where
-  pub name : LimitName
-  pub number : ℕ
-  pub over : IsOver w name number
-  pub count : ℕ
-  pub short : count < length (shown_text (Limit name number))
-  pub bytes : Appends w.held w.held_after (take count (shown_text (Limit name number)))
+  pub line : Shown
+  pub why : Unbegun w line
+  pub last : List ℕ
+  pub part : (last ≡ []) ⊎ IsFront (shown_text line) last
+  pub bytes : Appends w.held w.held_after last
 
--- The line that says so was written, or a part of it.
-abbrev pub LimitTold : Status → List ℕ → Option (List ℕ) → Option (List ℕ) → ℕ → ℕ → Type 0
-LimitTold status.Limit text held now faults later = Appends held now text
-LimitTold status.SinkFault text held now faults later = Rose faults later × (count : ℕ) × (count < length text) × Appends held now (take count text)
-LimitTold status.NoMemory text held now faults later = (count : ℕ) × (count < length text) × Appends held now (take count text)
-LimitTold _ text held now faults later = ⊥
+-- the line that tells a limit or a bad disk was written
+abbrev pub TellsLimit : Outside → Type 0
+TellsLimit w = (name : LimitName) × (n : ℕ) × IsOver w name n × IsDiskUntouched w × Appends w.held w.held_after (shown_text (Limit name n))
 
--- nothing was written
-abbrev pub IsSilent : Outside → Type 0
-IsSilent w = Keeps w.held w.held_after
+abbrev pub TellsBadDisk : Outside → Type 0
+TellsBadDisk w = (place : ℕ) × (reads : List Read) × IsGiven w reads × IsBad w place × Appends w.held w.held_after (shown_text (DiskBad place))
+
+-- a run that was cut off between two lines, or before the first
+abbrev pub IsCutClean : ℕ → Outside → Type 0
+IsCutClean most w = RanInPart most w [] ⊎ IsSilent w
+
+-- a run that was cut off, perhaps in a line
+abbrev pub IsCut : ℕ → Outside → Type 0
+IsCut most w = ((last : List ℕ) × RanInPart most w last) ⊎ RefusedInPart w
 
 -- Each status, by its causes, with what was written.
-abbrev pub Drilled : Base → ℕ → Status → Outside → Type 0
-Drilled base most status.Done w = RanOver base most w ending.Done
-Drilled base most status.Usage w = ⊥
-Drilled base most status.BadLine w = RanOver base most w ending.Bad
-Drilled base most status.SourceFault w = Rose w.reads w.reads_after × IsSilent w
-Drilled base most status.SinkFault w = Rose w.writes w.writes_after × (RanOver base most w ending.Sink ⊎ RefusedInPart w)
-Drilled base most status.NoMemory w = RanOver base most w ending.NoMemory ⊎ RefusedInPart w ⊎ IsSilent w
-Drilled base most status.Limit w = (name : LimitName) × (number : ℕ) × IsOver w name number × Appends w.held w.held_after (shown_text (Limit name number))
+abbrev pub Drilled : ℕ → Status → Outside → Type 0
+Drilled most status.Done w = RanWhole most 0 w
+Drilled most status.Usage w = ⊥
+Drilled most status.BadLine w = RanWhole most 3 w
+Drilled most status.SourceFault w = Rose w.reads w.reads_after × IsSilent w × IsDiskUntouched w
+Drilled most status.SinkFault w = Rose w.writes w.writes_after × IsCut most w
+Drilled most status.DiskFault w = Rose w.counts.faults w.counts_after.faults × IsCutClean most w
+Drilled most status.BadDisk w = TellsBadDisk w
+Drilled most status.NoMemory w = IsCut most w ⊎ IsSilent w
+Drilled most status.Limit w = TellsLimit w ⊎ RanWhole most 11 w
+Drilled most status.Spent w = RanWhole most 15 w

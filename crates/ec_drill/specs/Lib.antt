@@ -1,10 +1,9 @@
 pub mod Limits
-pub mod Streams
-pub mod Promise
-pub mod Answers
-pub mod Run
+pub mod Script
+pub mod Lines
+pub mod Fates
+pub mod Cuts
 pub mod Steps
-pub mod Numbers
-pub mod Laws
-pub mod OneClerk
 pub mod Drill
+pub mod Closing
+pub mod Starts

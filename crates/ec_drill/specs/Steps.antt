@@ -1,86 +1,173 @@
 -- No public clause cites this module: it says what the private steps of a run do.
-use Rattle.std.specs.Prelude.{◌≡◌, ◌⊎◌, ℕ, ◌+◌, List, [], ◌∷◌, ◌++◌, length, take, Option}
+use Rattle.std.specs.Prelude.{◌≡◌, ◌⊎◌, ◌<◌, ◌≤◌, ◌+◌, ℕ, List, [], ◌∷◌, ◌++◌, Option, Some, None, Result, Ok, Err, ⊤}
 use Rattle.std.specs.Io.KnownBytes.{Appends}
 use Rattle.ec_base.specs.Outside.{Rose}
-use Rattle.ec_history.specs.History.{Base}
+use Rattle.ec_disk.specs.Disk.{Counts}
 use Rattle.ec_history.specs.declared.shown.Shown.{Shown}
-use Rattle.ec_history.specs.declared.shown.Shown.TheVariants.{Bad}
-use Rattle.ec_script.specs.Grammar.{IsLine, IsFault}
-use Rattle.ec_script.specs.declared.line.LineFault.TheVariants as fault
-use Rattle.ec_script.specs.declared.line.Line.{Line}
+use Rattle.ec_protocol.specs.World.{Moving, pending, forget}
+use Rattle.ec_protocol.specs.Drill.{Fates, Read, Ran, run_from, joined, close, last_line}
+use Rattle.ec_protocol.specs.Drill as machine
+use Rattle.ec_protocol.specs.declared.world.World.{World}
+use Rattle.ec_protocol.specs.declared.world.WorldFault.{WorldFault}
+use Rattle.ec_protocol.specs.declared.world.WorldFault.TheVariants as fault
 use Rattle.ec_text.specs.Lines.{shown_text, text_of}
-use Rattle.ec_drill.specs.Promise.{Lines, Pieces, Promise}
-use Rattle.ec_drill.specs.Run.{IsFront}
-use Rattle.ec_drill.specs.declared.running.End.{End}
-use Rattle.ec_drill.specs.declared.running.End.TheVariants as ending
+use Rattle.ec_drill.specs.Fates.{AllRun, AreOf, IsKnown}
+use Rattle.ec_drill.specs.Cuts.{IsFront, IsPartOf}
+use Rattle.ec_drill.specs.declared.writing.Cut.{Cut}
+use Rattle.ec_drill.specs.declared.writing.Cut.TheVariants as cut
+use Rattle.ec_drill.specs.declared.running.Ending.{Ending}
+use Rattle.ec_drill.specs.declared.running.Ending.TheVariants as ending
 
--- a part of this text was written, not the whole, and why no more
-abbrev pub CutBy : End → List ℕ → List ℕ → ℕ → ℕ → Type 0
-CutBy ending.Done text last before now = ⊥
-CutBy ending.Bad text last before now = ⊥
-CutBy ending.Sink text last before now = Rose before now × IsFront text last
-CutBy ending.NoMemory text last before now = (last ≡ []) ⊎ IsFront text last
+-- Steps of the world.
 
-pub record CutText (end : End) (text : List ℕ) (held now : Option (List ℕ)) (faults later : ℕ) : Type 0 where
+-- the machine's faults
+abbrev pub IsSeen : WorldFault → Type 0
+IsSeen (fault.BadDisk p) = ⊥
+IsSeen fault.DiskFailed = ⊥
+IsSeen (fault.Spent n) = ⊤
+IsSeen fault.NoSuchOp = ⊤
+IsSeen fault.NoSuchMsg = ⊤
+IsSeen fault.NoMemory = ⊥
+
+-- a step under way that has shown these lines
+abbrev pub going : World → List Shown → Moving
+going w shown = record { world = w; shown = shown; fault = None }
+
+-- What the machine does comes to this world, these lines and this fault.
+abbrev pub Comes : {X : Type 0} → Result X WorldFault → Moving → World → List Shown → Type 0
+Comes (Ok x) m w shown = m ≡ going w shown
+Comes (Err f) m w shown = IsSeen f → m ≡ record (going w shown) { fault = Some f }
+
+-- a fact that holds but behind a fault which the machine doesn't have
+abbrev pub Stays : {X : Type 0} → Result X WorldFault → Type 0 → Type 0
+Stays (Ok x) P = P
+Stays (Err f) P = IsSeen f → P
+
+-- Counts don't fall, and faults rose where a call answers so. What stops a disk doesn't fail it.
+pub record IsLater (old new : Counts) (Failing : Type 0) : Type 0 where
+  pub faults : old.faults ≤ new.faults
+  pub stops : old.stops ≤ new.stops
+  pub failed : Failing → Rose old.faults new.faults
+
+-- what the disk did in the steps of a line
+abbrev pub AreOfLine : Fates → Counts → Counts → Type 0
+AreOfLine fates old new = AllRun fates ⊎ Rose old.stops new.stops
+
+-- Lines written.
+
+-- why no more of this text was written than these bytes
+abbrev pub CutBy : Cut → List ℕ → List ℕ → ℕ → ℕ → Type 0
+CutBy cut.Disk text last before now = ⊥
+CutBy cut.Sink text last before now = Rose before now × IsFront text last
+CutBy cut.NoMemory text last before now = (last ≡ []) ⊎ IsFront text last
+
+pub record CutText (c : Cut) (text : List ℕ) (held now : Option (List ℕ)) (before later : ℕ) : Type 0 where
   pub last : List ℕ
   pub bytes : Appends held now last
-  pub why : CutBy end text last faults later
+  pub why : CutBy c text last before later
 
 -- of these lines some were written, and a part of the next one
-pub record CutIn (end : End) (lines : List Shown) (held now : Option (List ℕ)) (faults later : ℕ) : Type 0 where
+pub record CutLines (c : Cut) (lines : List Shown) (held now : Option (List ℕ)) (before later : ℕ) : Type 0 where
   pub written : List Shown
   pub first : Shown
   pub more : List Shown
   pub front : lines ≡ written ++ first ∷ more
   pub last : List ℕ
   pub bytes : Appends held now (text_of written ++ last)
-  pub why : CutBy end (shown_text first) last faults later
+  pub why : CutBy c (shown_text first) last before later
 
--- the last line was written, or a part of it
-abbrev pub LastWritten : End → List ℕ → Option (List ℕ) → Option (List ℕ) → ℕ → ℕ → Type 0
-LastWritten ending.Done text held now faults later = ⊥
-LastWritten ending.Bad text held now faults later = Appends held now text
-LastWritten ending.Sink text held now faults later = CutText ending.Sink text held now faults later
-LastWritten ending.NoMemory text held now faults later = CutText ending.NoMemory text held now faults later
+-- Runs.
 
--- one more line was carried out, and its piece written
-pub record CarriedOut (Stands : Lines → Pieces → Type 0) (lines : Lines) (line : Line) (pieces : Pieces) (held now : Option (List ℕ)) : Type 0 where
+-- the machine's ending
+abbrev pub ending_of : Ending → machine.Ending
+ending_of ending.Done = machine.Done
+ending_of (ending.BadLine number column) = machine.BadLine number column
+ending_of (ending.TooMany n) = machine.TooMany n
+ending_of (ending.Spent n) = machine.IsSpent n
+
+-- these pieces before those of a run
+abbrev pub behind : List (List Shown) → Ran → Ran
+behind pieces r = record r { pieces = pieces ++ r.pieces }
+
+-- The lines of a run that are still ahead, from this number on, and what was done and written before.
+pub record Sofar (tells : Type 0) (before now k : ℕ) (all : List Read) (start : World) (number : ℕ) (ahead : List Read) (w : World) (held mid : Option (List ℕ)) : Type 0 where
+  pub fates : List Fates
+  pub are : AreOf fates before now
+  pub pieces : List (List Shown)
+  pub run : IsKnown tells before now → (more : List Fates) → run_from k 1 all (fates ++ more) start ≡ behind pieces (run_from k number ahead more w)
+  pub bytes : Appends held mid (text_of (joined pieces))
+
+-- A run that ended, with all its pieces written.
+pub record Ended (tells : Type 0) (before now k : ℕ) (all : List Read) (start : World) (end : machine.Ending) (w : World) (held mid : Option (List ℕ)) : Type 0 where
+  pub fates : List Fates
+  pub are : AreOf fates before now
+  pub pieces : List (List Shown)
+  pub run : IsKnown tells before now → run_from k 1 all fates start ≡ record { world = w; pieces = pieces; ending = end }
+  pub bytes : Appends held mid (text_of (joined pieces))
+
+-- why a run was cut off, with these bytes of a line
+abbrev pub IsCause : Cut → List ℕ → ℕ → ℕ → ℕ → ℕ → Type 0
+IsCause cut.Disk last writes writes_after faults faults_after = Rose faults faults_after × (last ≡ [])
+IsCause cut.Sink last writes writes_after faults faults_after = Rose writes writes_after
+IsCause cut.NoMemory last writes writes_after faults faults_after = Unit {0}
+
+-- A front of a run's lines was written. `lines` are those of the run in which the disk did this in its steps.
+pub record InPart (tells : Type 0) (before now : ℕ) (lines : List Fates → List Shown) (last : List ℕ) (held mid : Option (List ℕ)) : Type 0 where
+  pub fates : List Fates
+  pub are : AreOf fates before now
+  pub shown : List Shown
+  pub unwritten : List Shown
+  pub front : IsKnown tells before now → (rest : List Shown) × (lines fates ≡ shown ++ (unwritten ++ rest))
+  pub bytes : Appends held mid (text_of shown ++ last)
+  pub part : IsPartOf unwritten last
+
+-- the lines of a run's pieces
+abbrev pub run_lines : ℕ → List Read → World → List Fates → List Shown
+run_lines k all start fates = joined (run_from k 1 all fates start).pieces
+
+pub record CutOff (tells : Type 0) (before now k : ℕ) (all : List Read) (start : World) (c : Cut) (held mid : Option (List ℕ)) (writes writes_after faults faults_after : ℕ) : Type 0 where
+  pub last : List ℕ
+  pub cause : IsCause c last writes writes_after faults faults_after
+  pub part : InPart tells before now (run_lines k all start) last held mid
+
+-- One line.
+
+-- The machine goes on behind a line, or its run ends there.
+abbrev pub LineEnds : Option Ending → ℕ → ℕ → Read → List Read → Fates → World → World → List Shown → Type 0
+LineEnds None k number r ahead fates w v piece = (more : List Fates) → run_from k number (r ∷ ahead) (fates ∷ more) w ≡ behind (piece ∷ []) (run_from k (number + 1) ahead more v)
+LineEnds (Some e) k number r ahead fates w v piece = (more : List Fates) → run_from k number (r ∷ ahead) (fates ∷ more) w ≡ record { world = v; pieces = piece ∷ []; ending = ending_of e }
+
+-- A line that was carried out, with its piece written.
+pub record LineDone (tells : Type 0) (old new : Counts) (k number : ℕ) (r : Read) (w v : World) (e : Option Ending) (held mid : Option (List ℕ)) : Type 0 where
+  pub fates : Fates
+  pub are : AreOfLine fates old new
   pub piece : List Shown
-  pub stands : Stands (lines ++ line ∷ []) (pieces ++ piece ∷ [])
-  pub bytes : Appends held now (text_of piece)
+  pub run : IsKnown tells old.stops new.stops → (ahead : List Read) → LineEnds e k number r ahead fates w v piece
+  pub bytes : Appends held mid (text_of piece)
 
--- one more line was carried out, and a part of its piece written
-pub record CutAfter (base : Base) (most : ℕ) (Shows : Lines → Pieces → Type 0) (end : End) (lines : Lines) (line : Line) (pieces : Pieces) (held now : Option (List ℕ)) (faults later : ℕ) : Type 0 where
-  pub piece : List Shown
-  pub shows : Shows (lines ++ line ∷ []) (pieces ++ piece ∷ [])
-  pub fronts : (k : ℕ) → Promise base most (lines ++ line ∷ []) (pieces ++ take k piece ∷ [])
-  pub cut : CutIn end piece held now faults later
+-- A line in which the run was cut off: its piece is written in part, or not at all.
+pub record LineCut (tells : Type 0) (old new : Counts) (k number : ℕ) (r : Read) (w : World) (c : Cut) (held mid : Option (List ℕ)) (writes writes_after : ℕ) : Type 0 where
+  pub fates : Fates
+  pub are : AreOfLine fates old new
+  pub shown : List Shown
+  pub unwritten : List Shown
+  pub front : IsKnown tells old.stops new.stops → (ahead : List Read) (more : List Fates) → (rest : List Shown) × (joined (run_from k number (r ∷ ahead) (fates ∷ more) w).pieces ≡ shown ++ (unwritten ++ rest))
+  pub last : List ℕ
+  pub bytes : Appends held mid (text_of shown ++ last)
+  pub part : IsPartOf unwritten last
+  pub cause : IsCause c last writes writes_after old.faults new.faults
 
--- want of memory before anything was written
-abbrev pub IsOut : End → Option (List ℕ) → Option (List ℕ) → Type 0
-IsOut end held now = (end ≡ ending.NoMemory) × Appends held now []
+-- what a line makes of the run, by the fault that carrying it out came to
+abbrev pub line_end : {X : Type 0} → Result X WorldFault → ℕ → ℕ → Result (Option Ending) Cut
+line_end (Ok x) number column = Ok None
+line_end (Err (fault.Spent n)) number column = Ok (Some (ending.Spent n))
+line_end (Err fault.NoSuchOp) number column = Ok (Some (ending.BadLine number column))
+line_end (Err fault.NoSuchMsg) number column = Ok (Some (ending.BadLine number column))
+line_end (Err fault.DiskFailed) number column = Err cut.Disk
+line_end (Err (fault.BadDisk p)) number column = Err cut.NoMemory
+line_end (Err fault.NoMemory) number column = Err cut.NoMemory
 
-abbrev pub CutOff : Base → ℕ → (Lines → Pieces → Type 0) → End → Lines → Line → Pieces → Option (List ℕ) → Option (List ℕ) → ℕ → ℕ → Type 0
-CutOff base most Shows end lines line pieces held now faults later = IsOut end held now ⊎ CutAfter base most Shows end lines line pieces held now faults later
-
--- one more line of the script was read and carried out
-pub record Stepped (Stands : Lines → Pieces → Type 0) (bytes : List ℕ) (lines : Lines) (pieces : Pieces) (held now : Option (List ℕ)) : Type 0 where
-  pub line : Line
-  pub read : IsLine bytes line
-  pub carried : CarriedOut Stands lines line pieces held now
-
--- a line outside the grammar
-pub record Refused (end : End) (bytes : List ℕ) (n : ℕ) (held now : Option (List ℕ)) (faults later : ℕ) : Type 0 where
-  pub column : ℕ
-  pub bad : IsFault bytes (fault.At column)
-  pub last : LastWritten end (shown_text (Bad n column)) held now faults later
-
--- a line that was read, and in which the run ended
-pub record EndedIn (base : Base) (most : ℕ) (Shows : Lines → Pieces → Type 0) (end : End) (bytes : List ℕ) (lines : Lines) (pieces : Pieces) (held now : Option (List ℕ)) (faults later : ℕ) : Type 0 where
-  pub line : Line
-  pub read : IsLine bytes line
-  pub cut : CutOff base most Shows end lines line pieces held now faults later
-
-abbrev pub Stopped : Base → ℕ → (Lines → Pieces → Type 0) → End → List ℕ → Lines → Pieces → Option (List ℕ) → Option (List ℕ) → ℕ → ℕ → Type 0
-Stopped base most Shows end bytes lines pieces held now faults later =
-    IsOut end held now ⊎ Refused end bytes (length lines + 1) held now faults later ⊎ EndedIn base most Shows end bytes lines pieces held now faults later
+-- Too many messages are pending, or old ones are forgotten.
+abbrev pub PendingEnd : Option Ending → World → World → Type 0
+PendingEnd None w v = (pending w ≤ machine.max_pending) × (v ≡ forget w)
+PendingEnd (Some e) w v = (machine.max_pending < pending w) × (e ≡ ending.TooMany (pending w)) × (v ≡ w)

@@ -1,17 +1,16 @@
-//! Drills: a script's lines carried out by a machine, and the transcript that they give.
+//! Drills: a script's lines carried out on a world over a disk, and the transcript that they give.
 #![tactic(auto)]
 
-mod laws;
+mod carrying;
+mod closing;
+mod event;
 mod limits;
-mod machine;
-mod one_clerk;
 mod running;
+mod script;
 mod start;
 mod status;
-mod streams;
+mod writing;
 
-pub use limits::{MOST_BYTES, MOST_LINES, MOST_OBJECTS};
-pub use machine::Machine;
-pub use running::{End, run};
+pub use limits::{DELIVERIES, MOST_BYTES, MOST_LINES, MOST_OBJECTS, MOST_PENDING};
 pub use start::drill;
 pub use status::Status;

@@ -8,3 +8,9 @@ pub const MOST_LINES: usize = 65_536;
 
 /// The greatest number of objects, where no other is given.
 pub const MOST_OBJECTS: u32 = 1_024;
+
+/// After a line at most so many messages are delivered for each clerk that the script names, and once more so many.
+pub const DELIVERIES: u64 = 4_096;
+
+/// So many messages may be pending when a line has settled.
+pub const MOST_PENDING: u64 = 4_096;

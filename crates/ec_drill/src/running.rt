@@ -1,149 +1,153 @@
-// A run over a whole script.
-ghost use Rattle.std.specs.Prelude.{◌≡◌, ◌≤◌, ◌+◌, ℕ, List, [], ◌∷◌, length, IfErr, OnOk};
-ghost use Rattle.std.specs.Io.KnownBytes.{Appends};
-ghost use Rattle.ec_history.specs.History.{Base};
-ghost use Rattle.ec_history.specs.declared.shown.Shown.TheVariants as shown;
-ghost use Rattle.ec_script.specs.Lines.{lines_of};
-ghost use Rattle.ec_script.specs.Grammar.{IsSmall, IsLine};
-ghost use Rattle.ec_text.specs.Lines.{shown_text, text_of};
-ghost use Rattle.ec_drill.specs.Promise.{Lines, Pieces};
+// A run over the lines of a script.
+ghost use Rattle.std.specs.Prelude.{◌≡◌, ◌≤◌, ℕ, [], map, length, MatchResult, OnOk};
+ghost use Rattle.ec_protocol.specs.Drill.{reads};
+ghost use Rattle.ec_world.specs.Worlds.{view_of, IsInStep, Keeps};
 ghost use Rattle.ec_drill.specs.Limits.{most_lines};
-ghost use Rattle.ec_drill.specs.Run.{Ran};
-ghost use Rattle.ec_drill.specs.Steps.{CutIn, CutText, CarriedOut, CutOff, Stepped, Stopped, LastWritten};
+ghost use Rattle.ec_drill.specs.Lines.{read_of};
+ghost use Rattle.ec_drill.specs.Steps.{Ended, CutOff, LineDone, LineCut, IsLater, PendingEnd, ending_of, line_end};
+ghost use Rattle.ec_drill.specs.Script.{machine_line};
 
-use crate::machine::Machine;
-use crate::streams::{WriteFault, write_whole};
-use ec_base::Sink;
-use ec_history::Shown;
-use ec_script::{Line, LineFault, read_line, split_line};
-use ec_text::print;
+use crate::carrying::carry_out;
+use crate::limits::MOST_PENDING;
+use crate::script::ScriptLine;
+use crate::writing::{Cut, write_lines};
+use ec_base::{Counter, Sink};
+use ec_disk::CrashDisk;
+use ec_protocol::WorldFault;
+use ec_script::full::Line;
+use ec_world::World;
 use std::alloc::Global;
 
-/// Why a run ended.
+/// Why the lines of a run ended.
 #[derive(Clone, Copy, Debug, Drop, PartialEq, Eq)]
-pub enum End {
-    /// The script's lines ended.
+pub(crate) enum Ending {
+    /// All were carried out.
     Done,
-    /// A line is outside the grammar.
-    Bad,
-    /// The sink failed.
-    Sink,
-    NoMemory,
+    /// This line couldn't be, from this column on.
+    BadLine(u32, u32),
+    /// So many messages are pending.
+    TooMany(u64),
+    /// This counter would pass its limit.
+    Spent(Counter),
 }
 
-/// Runs a script on a machine that stands behind no line yet, and writes its transcript.
-pub fn run<M: Machine, K: Sink>(alloc: Global, machine: &mut M, script: &[u8], sink: &mut K) -> End
-    requires stands { (base : Base) × (most : ℕ) × M.stands machine.old base most [] [] }
-    requires few { length (lines_of script.now) ≤ most_lines }
-    ensures ran { (base : Base) (most : ℕ) → M.stands machine.old base most [] []
-        → Ran base most (M.shows base most) result script.now (K.held sink.old) (K.held sink.new) (K.faults sink.old) (K.faults sink.new) }
+/// Carries out the lines of a script in order, and writes the piece of each.
+pub(crate) fn run<D: CrashDisk, K: Sink>(
+    alloc: Global,
+    world: &mut World,
+    disk: &mut D,
+    sink: &mut K,
+    bound: u64,
+    lines: Vec<ScriptLine>,
+) -> Result<Ending, Cut>
+    requires in_step { IsInStep D.tells (D.view disk.old) world.old }
+    requires few { length lines.items ≤ most_lines }
+    ensures ran { MatchResult result
+        (λ ending. Ended D.tells (D.counts disk.old).stops (D.counts disk.new).stops bound (map read_of lines.items) (view_of world.old) (ending_of ending) (view_of world.new) (K.held sink.old) (K.held sink.new))
+        (λ cut. CutOff D.tells (D.counts disk.old).stops (D.counts disk.new).stops bound (map read_of lines.items) (view_of world.old) cut (K.held sink.old) (K.held sink.new) (K.faults sink.old) (K.faults sink.new) (D.counts disk.old).faults (D.counts disk.new).faults) }
+    ensures in_step { OnOk result (IsInStep D.tells (D.view disk.new) world.new) }
+    ensures counts { IsLater (D.counts disk.old) (D.counts disk.new) ⊥ }
     ensures later { K.faults sink.old ≤ K.faults sink.new }
 {
-    let mut ahead = script;
+    let mut ahead = lines.into_iter();
     let mut number: u32 = 1;
-    'lines: while !ahead.is_empty() {
-        let (line, next) = split_line(ahead);
-        if let Err(end) = step(alloc, machine, sink, number, line) {
-            return end;
+    'lines: while let Some(line) = ahead.next() {
+        match carry(alloc, world, disk, sink, bound, number, line) {
+            Ok(None) => number += 1,
+            Ok(Some(ending)) => return Ok(ending),
+            Err(cut) => return Err(cut),
         }
-        ahead = next;
-        number += 1;
     }
-    End::Done
+    Ok(Ending::Done)
 }
 
-// Reads and carries out the line of this number, and writes its piece.
-fn step<M: Machine, K: Sink>(
+// Carries out the line of this number, if it's in the grammar, and writes its piece.
+fn carry<D: CrashDisk, K: Sink>(
     alloc: Global,
-    machine: &mut M,
+    world: &mut World,
+    disk: &mut D,
     sink: &mut K,
+    bound: u64,
     number: u32,
-    bytes: &[u8],
-) -> Result<(), End>
-    requires stands { (base : Base) × (most : ℕ) × (lines : Lines) × (pieces : Pieces) × M.stands machine.old base most lines pieces
-        × (number ≡ length lines + 1) }
-    requires few { number ≤ most_lines }
-    ensures ok { (base : Base) (most : ℕ) (lines : Lines) (pieces : Pieces) → M.stands machine.old base most lines pieces
-        → number ≡ length lines + 1
-        → OnOk result (Stepped (M.stands machine.new base most) bytes.now lines pieces (K.held sink.old) (K.held sink.new)) }
-    ensures err { (base : Base) (most : ℕ) (lines : Lines) (pieces : Pieces) → M.stands machine.old base most lines pieces
-        → number ≡ length lines + 1
-        → IfErr result (λ end. Stopped base most (M.shows base most) end bytes.now lines pieces (K.held sink.old) (K.held sink.new) (K.faults sink.old)
-        (K.faults sink.new)) }
+    line: ScriptLine,
+) -> Result<Option<Ending>, Cut>
+    requires { IsInStep D.tells (D.view disk.old) world.old }
+    ensures carried { MatchResult result
+        (λ ending. LineDone D.tells (D.counts disk.old) (D.counts disk.new) bound number (read_of line) (view_of world.old) (view_of world.new) ending (K.held sink.old) (K.held sink.new))
+        (λ cut. LineCut D.tells (D.counts disk.old) (D.counts disk.new) bound number (read_of line) (view_of world.old) cut (K.held sink.old) (K.held sink.new) (K.faults sink.old) (K.faults sink.new)) }
+    ensures in_step { OnOk result (IsInStep D.tells (D.view disk.new) world.new) }
+    ensures counts { IsLater (D.counts disk.old) (D.counts disk.new) ⊥ }
     ensures later { K.faults sink.old ≤ K.faults sink.new }
 {
-    let line = match read_line(alloc, bytes) {
-        Ok(line) => line,
-        Err(LineFault::At(column)) => return Err(refuse(alloc, sink, number, column)),
-        Err(LineFault::NoMemory) => return Err(End::NoMemory),
-    };
-    carry(alloc, machine, sink, number, line)
+    match line {
+        ScriptLine::Fits(line, column) => {
+            carry_fit(alloc, world, disk, sink, bound, number, line, column)
+        }
+        ScriptLine::Unfit(column) => Ok(Some(Ending::BadLine(number, column))),
+    }
 }
 
-// Carries out the line of this number, and writes its piece.
-fn carry<M: Machine, K: Sink>(
+fn carry_fit<D: CrashDisk, K: Sink>(
     alloc: Global,
-    machine: &mut M,
+    world: &mut World,
+    disk: &mut D,
     sink: &mut K,
+    bound: u64,
     number: u32,
     line: Line,
-) -> Result<(), End>
-    requires stands { (base : Base) × (most : ℕ) × (lines : Lines) × (pieces : Pieces) × M.stands machine.old base most lines pieces
-        × (number ≡ length lines + 1) }
-    requires few { number ≤ most_lines }
-    requires small { IsSmall line }
-    ensures ok { (base : Base) (most : ℕ) (lines : Lines) (pieces : Pieces) → M.stands machine.old base most lines pieces
-        → number ≡ length lines + 1
-        → OnOk result (CarriedOut (M.stands machine.new base most) lines line pieces (K.held sink.old) (K.held sink.new)) }
-    ensures err { (base : Base) (most : ℕ) (lines : Lines) (pieces : Pieces) → M.stands machine.old base most lines pieces
-        → number ≡ length lines + 1
-        → IfErr result (λ end. CutOff base most (M.shows base most) end lines line pieces (K.held sink.old) (K.held sink.new) (K.faults sink.old)
-        (K.faults sink.new)) }
+    column: u32,
+) -> Result<Option<Ending>, Cut>
+    requires { IsInStep D.tells (D.view disk.old) world.old }
+    ensures carried { MatchResult result
+        (λ ending. LineDone D.tells (D.counts disk.old) (D.counts disk.new) bound number (reads (machine_line line) column) (view_of world.old) (view_of world.new) ending (K.held sink.old) (K.held sink.new))
+        (λ cut. LineCut D.tells (D.counts disk.old) (D.counts disk.new) bound number (reads (machine_line line) column) (view_of world.old) cut (K.held sink.old) (K.held sink.new) (K.faults sink.old) (K.faults sink.new)) }
+    ensures in_step { OnOk result (IsInStep D.tells (D.view disk.new) world.new) }
+    ensures counts { IsLater (D.counts disk.old) (D.counts disk.new) ⊥ }
     ensures later { K.faults sink.old ≤ K.faults sink.new }
 {
-    match machine.carry_out(alloc, number, line) {
-        Ok(piece) => write_lines(alloc, sink, &piece),
-        Err(_) => Err(End::NoMemory),
-    }
-}
-
-// Writes lines, each as one piece of bytes.
-fn write_lines<K: Sink>(alloc: Global, sink: &mut K, lines: &[Shown]) -> Result<(), End>
-    ensures ok { OnOk result (Appends (K.held sink.old) (K.held sink.new) (text_of lines.now)) }
-    ensures err { IfErr result (λ end. CutIn end lines.now (K.held sink.old) (K.held sink.new) (K.faults sink.old) (K.faults sink.new)) }
-    ensures later { K.faults sink.old ≤ K.faults sink.new }
-{
-    'writing: for line in lines {
-        if let Err(end) = write_line(alloc, sink, line) {
-            return Err(end);
-        }
-    }
-    Ok(())
-}
-
-// Writes a line as one piece of bytes.
-fn write_line<K: Sink>(alloc: Global, sink: &mut K, line: &Shown) -> Result<(), End>
-    ensures ok { OnOk result (Appends (K.held sink.old) (K.held sink.new) (shown_text line.now)) }
-    ensures err { IfErr result (λ end. CutText end (shown_text line.now) (K.held sink.old) (K.held sink.new) (K.faults sink.old) (K.faults sink.new)) }
-    ensures later { K.faults sink.old ≤ K.faults sink.new }
-{
-    let Ok(text) = print(alloc, line) else {
-        return Err(End::NoMemory);
+    let mut piece = Vec::new(alloc);
+    let carried = carry_out(alloc, world, disk, bound, number, line, &mut piece);
+    let ending = match line_end(carried, number, column) {
+        Ok(ending) => ending,
+        Err(cut) => return Err(cut),
     };
-    match write_whole(sink, &text) {
-        Ok(()) => Ok(()),
-        Err(WriteFault::Failed) => Err(End::Sink),
-        Err(WriteFault::NoMemory) => Err(End::NoMemory),
+    if let Err(cut) = write_lines(alloc, sink, &piece) {
+        return Err(cut);
+    }
+    if ending.is_some() {
+        return Ok(ending);
+    }
+    Ok(pending_end(world))
+}
+
+// What a line that was carried out so makes of the run.
+fn line_end(
+    carried: Result<(), WorldFault>,
+    number: u32,
+    column: u32,
+) -> Result<Option<Ending>, Cut>
+    ensures { result ≡ line_end carried number column }
+{
+    match carried {
+        Ok(()) => Ok(None),
+        Err(WorldFault::Spent(counter)) => Ok(Some(Ending::Spent(counter))),
+        Err(WorldFault::NoSuchOp) => Ok(Some(Ending::BadLine(number, column))),
+        Err(WorldFault::NoSuchMsg) => Ok(Some(Ending::BadLine(number, column))),
+        Err(WorldFault::DiskFailed) => Err(Cut::Disk),
+        Err(WorldFault::BadDisk(_)) => Err(Cut::NoMemory),
+        Err(WorldFault::NoMemory) => Err(Cut::NoMemory),
     }
 }
 
-// Writes the last line, at a line outside the grammar.
-fn refuse<K: Sink>(alloc: Global, sink: &mut K, number: u32, column: u32) -> End
-    ensures end { LastWritten result (shown_text (shown.Bad number column)) (K.held sink.old) (K.held sink.new) (K.faults sink.old) (K.faults sink.new) }
-    ensures later { K.faults sink.old ≤ K.faults sink.new }
+// Too many pending messages end a run; else old ones are forgotten.
+fn pending_end(world: &mut World) -> Option<Ending>
+    ensures end { PendingEnd result (view_of world.old) (view_of world.new) }
+    ensures same { Keeps world.old world.new }
 {
-    match write_line(alloc, sink, &Shown::Bad(number, column)) {
-        Ok(()) => End::Bad,
-        Err(end) => end,
+    let pending = world.pending();
+    if pending > MOST_PENDING {
+        return Some(Ending::TooMany(pending));
     }
+    world.forget();
+    None
 }

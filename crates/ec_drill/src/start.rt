@@ -1,31 +1,46 @@
-// A drill from a source to a sink.
-ghost use Rattle.std.specs.Prelude.{◌≡◌, ◌≤◌, ◌^◌, ◌<◌};
-ghost use Rattle.ec_history.specs.Legal.{from_formatted};
-ghost use Rattle.ec_history.specs.declared.shown.Shown.TheVariants as shown;
+// A drill from a source to a sink, over a disk.
+ghost use Rattle.std.specs.Prelude.{◌≡◌, ◌≤◌, ◌<◌, ◌^◌, None, map, length, MatchResult, IfOk, IfErr, OnOk};
+ghost use Rattle.std.specs.Io.KnownBytes.{Appends};
+ghost use Rattle.ec_durable.specs.WellFormed.{least_max_objects, most_max_objects};
 ghost use Rattle.ec_text.specs.Lines.{shown_text};
-ghost use Rattle.ec_drill.specs.Drill.{Drilled, LimitTold};
+ghost use Rattle.ec_world.specs.Worlds.{view_of, IsInStep};
+ghost use Rattle.ec_drill.specs.Drill.{Drilled};
+ghost use Rattle.ec_drill.specs.Lines.{read_of};
+ghost use Rattle.ec_drill.specs.Limits.{most_lines};
+ghost use Rattle.ec_drill.specs.Starts.{GivesScript, Withholds, RefusedWith, TellsUnopened, DrilledOn, DrillsOver, status_of};
+ghost use Rattle.ec_protocol.specs.Drill.{bound as bound_over};
+ghost use Rattle.ec_drill.specs.Steps.{IsLater};
 
+use crate::closing::close;
 use crate::limits::{MOST_BYTES, MOST_LINES};
-use crate::one_clerk::OneClerk;
-use crate::running::{End, run};
+use crate::running::run;
+use crate::script::{ScriptLine, bound_of, read_script};
 use crate::status::Status;
-use crate::streams::{ReadFault, WriteFault, read_whole, write_whole};
+use crate::writing::{Cut, write_line};
 use ec_base::{Sink, Source};
+use ec_disk::CrashDisk;
 use ec_history::{LimitName, Shown};
+use ec_protocol::WorldFault;
 use ec_script::count_lines;
-use ec_text::print;
+use ec_streams::{ReadFault, read_whole};
+use ec_world::World;
 use std::alloc::Global;
 
-/// Runs the script that the source gives on a formatted volume with at most so many objects, and
-/// writes its transcript to the sink. The source is read to its end first.
-pub fn drill<S: Source, K: Sink>(
+/// Runs the script that the source gives over the disk, and writes its transcript to the sink. The source is read to its end first, and then
+/// the disk is opened, which isn't armed. An empty disk is formatted for 32 to 1,024 objects.
+pub fn drill<S: Source, K: Sink, D: CrashDisk>(
     alloc: Global,
     source: &mut S,
     sink: &mut K,
+    disk: &mut D,
     max_objects: u32,
 ) -> Status
+    requires least { least_max_objects ≤ max_objects }
+    requires limit { max_objects ≤ most_max_objects }
+    requires not_armed { (D.counts disk.old).armed ≡ None }
     ensures later { (S.faults source.old ≤ S.faults source.new) × (K.faults sink.old ≤ K.faults sink.new) }
-    ensures drilled { Drilled from_formatted max_objects result
+    ensures counts { ((D.counts disk.old).faults ≤ (D.counts disk.new).faults) × ((D.counts disk.old).stops ≤ (D.counts disk.new).stops) }
+    ensures drilled { Drilled max_objects result
         (record {
           left = S.left source.old;
           left_after = S.left source.new;
@@ -35,42 +50,170 @@ pub fn drill<S: Source, K: Sink>(
           held_after = K.held sink.new;
           writes = K.faults sink.old;
           writes_after = K.faults sink.new;
+          tells = D.tells;
+          disk = D.view disk.old;
+          disk_after = D.view disk.new;
+          counts = D.counts disk.old;
+          counts_after = D.counts disk.new;
         }) }
 {
-    let script = match read_whole(alloc, source, MOST_BYTES) {
-        Ok(script) => script,
-        Err(ReadFault::TooMany) => {
-            return refuse(alloc, sink, LimitName::Bytes, MOST_BYTES as u64 + 1);
+    match script_of(alloc, source) {
+        Ok(lines) => drill_lines(alloc, lines, sink, disk, max_objects),
+        Err(Withheld::Bytes) => {
+            refuse(
+                alloc,
+                sink,
+                Shown::Limit(LimitName::Bytes, MOST_BYTES as u64 + 1),
+                Status::Limit,
+            )
         }
-        Err(ReadFault::Failed) => return Status::SourceFault,
-        Err(ReadFault::NoMemory) => return Status::NoMemory,
-    };
-    let lines = count_lines(&script);
-    if lines > MOST_LINES {
-        return refuse(alloc, sink, LimitName::Lines, lines as u64);
-    }
-    let Ok(mut machine) = OneClerk::open(alloc, max_objects) else {
-        return Status::NoMemory;
-    };
-    match run(alloc, &mut machine, &script, sink) {
-        End::Done => Status::Done,
-        End::Bad => Status::BadLine,
-        End::Sink => Status::SinkFault,
-        End::NoMemory => Status::NoMemory,
+        Err(Withheld::Lines(count)) => {
+            refuse(
+                alloc,
+                sink,
+                Shown::Limit(LimitName::Lines, count),
+                Status::Limit,
+            )
+        }
+        Err(Withheld::Source) => Status::SourceFault,
+        Err(Withheld::NoMemory) => Status::NoMemory,
     }
 }
 
-// Writes the last line, at a script that has too much.
-fn refuse<K: Sink>(alloc: Global, sink: &mut K, name: LimitName, number: u64) -> Status
-    ensures later { K.faults sink.old ≤ K.faults sink.new }
-    ensures told { LimitTold result (shown_text (shown.Limit name number)) (K.held sink.old) (K.held sink.new) (K.faults sink.old) (K.faults sink.new) }
+// Why there is no script to run.
+#[derive(Clone, Copy, Debug, Drop, PartialEq, Eq)]
+enum Withheld {
+    /// The source has too many bytes.
+    Bytes,
+    /// It has so many lines.
+    Lines(u64),
+    /// The source failed.
+    Source,
+    NoMemory,
+}
+
+// The lines of the script that the source gives, read to its end.
+fn script_of<S: Source>(alloc: Global, source: &mut S) -> Result<Vec<ScriptLine>, Withheld>
+    ensures given { MatchResult result
+        (λ lines. GivesScript (S.left source.old) (S.left source.new) (map read_of lines.items))
+        (λ why. Withholds (S.left source.old) (S.left source.new) (S.faults source.old) (S.faults source.new) why) }
+    ensures later { S.faults source.old ≤ S.faults source.new }
 {
-    let Ok(text) = print(alloc, &Shown::Limit(name, number)) else {
+    let script = match read_whole(alloc, source, MOST_BYTES) {
+        Ok(script) => script,
+        Err(ReadFault::TooMany) => return Err(Withheld::Bytes),
+        Err(ReadFault::Failed) => return Err(Withheld::Source),
+        Err(ReadFault::NoMemory) => return Err(Withheld::NoMemory),
+    };
+    let count = count_lines(&script);
+    if count > MOST_LINES {
+        return Err(Withheld::Lines(count as u64));
+    }
+    match read_script(alloc, &script) {
+        Ok(lines) => Ok(lines),
+        Err(_) => Err(Withheld::NoMemory),
+    }
+}
+
+// Opens the disk and runs these lines.
+fn drill_lines<K: Sink, D: CrashDisk>(
+    alloc: Global,
+    lines: Vec<ScriptLine>,
+    sink: &mut K,
+    disk: &mut D,
+    max_objects: u32,
+) -> Status
+    requires least { least_max_objects ≤ max_objects }
+    requires limit { max_objects ≤ most_max_objects }
+    requires not_armed { (D.counts disk.old).armed ≡ None }
+    requires few { length lines.items ≤ most_lines }
+    ensures later { K.faults sink.old ≤ K.faults sink.new }
+    ensures counts { IsLater (D.counts disk.old) (D.counts disk.new) ⊥ }
+    ensures drilled { DrillsOver max_objects (map read_of lines.items) result
+        (record {
+          left = None;
+          left_after = None;
+          reads = 0;
+          reads_after = 0;
+          held = K.held sink.old;
+          held_after = K.held sink.new;
+          writes = K.faults sink.old;
+          writes_after = K.faults sink.new;
+          tells = D.tells;
+          disk = D.view disk.old;
+          disk_after = D.view disk.new;
+          counts = D.counts disk.old;
+          counts_after = D.counts disk.new;
+        }) }
+{
+    let Ok(bound) = bound_of(alloc, &lines) else {
         return Status::NoMemory;
     };
-    match write_whole(sink, &text) {
-        Ok(()) => Status::Limit,
-        Err(WriteFault::Failed) => Status::SinkFault,
-        Err(WriteFault::NoMemory) => Status::NoMemory,
+    let mut world = match World::open(alloc, disk, max_objects) {
+        Ok(world) => world,
+        Err(fault) => return tell_unopened(alloc, sink, fault),
+    };
+    drill_on(alloc, &mut world, lines, bound, sink, disk)
+}
+
+// Tells why the disk wasn't opened.
+fn tell_unopened<K: Sink>(alloc: Global, sink: &mut K, fault: WorldFault) -> Status
+    ensures later { K.faults sink.old ≤ K.faults sink.new }
+    ensures told { TellsUnopened fault result (K.held sink.old) (K.held sink.new) (K.faults sink.old) (K.faults sink.new) }
+{
+    match fault {
+        WorldFault::BadDisk(place) => refuse(alloc, sink, Shown::DiskBad(place), Status::BadDisk),
+        WorldFault::Spent(counter) => refuse(alloc, sink, Shown::Spent(counter), Status::Spent),
+        WorldFault::DiskFailed => Status::DiskFault,
+        WorldFault::NoSuchOp => Status::NoMemory,
+        WorldFault::NoSuchMsg => Status::NoMemory,
+        WorldFault::NoMemory => Status::NoMemory,
+    }
+}
+
+// Runs these lines on a world that was opened.
+fn drill_on<K: Sink, D: CrashDisk>(
+    alloc: Global,
+    world: &mut World,
+    lines: Vec<ScriptLine>,
+    bound: u64,
+    sink: &mut K,
+    disk: &mut D,
+) -> Status
+    requires in_step { IsInStep D.tells (D.view disk.old) world.old }
+    requires few { length lines.items ≤ most_lines }
+    requires bound { bound ≡ bound_over (map read_of lines.items) }
+    ensures later { K.faults sink.old ≤ K.faults sink.new }
+    ensures counts { IsLater (D.counts disk.old) (D.counts disk.new) ⊥ }
+    ensures drilled { DrilledOn result D.tells (D.counts disk.old) (D.counts disk.new) (D.view disk.new) (map read_of lines.items) (view_of world.old) (K.held sink.old) (K.held sink.new) (K.faults sink.old) (K.faults sink.new) }
+{
+    let ending = match run(alloc, world, disk, sink, bound, lines) {
+        Ok(ending) => ending,
+        Err(cut) => return status_of(cut),
+    };
+    match close(alloc, world, disk, sink, ending) {
+        Ok(status) => status,
+        Err(cut) => status_of(cut),
+    }
+}
+
+fn status_of(cut: Cut) -> Status
+    ensures { result ≡ status_of cut }
+{
+    match cut {
+        Cut::Disk => Status::DiskFault,
+        Cut::Sink => Status::SinkFault,
+        Cut::NoMemory => Status::NoMemory,
+    }
+}
+
+// Writes the one line of a drill that carried out nothing, and answers this status.
+fn refuse<K: Sink>(alloc: Global, sink: &mut K, line: Shown, status: Status) -> Status
+    ensures later { K.faults sink.old ≤ K.faults sink.new }
+    ensures told { RefusedWith line status result (K.held sink.old) (K.held sink.new) (K.faults sink.old) (K.faults sink.new) }
+{
+    match write_line(alloc, sink, &line) {
+        Ok(()) => status,
+        Err(cut) => status_of(cut),
     }
 }

@@ -9,15 +9,22 @@ pub enum Status {
     Done,
     /// The words are none of the program's.
     Usage,
-    /// A line of the script is outside the grammar; the lines before it were carried out.
+    /// A line of the script is outside the grammar, or names an operation or a message that there
+    /// isn't; the lines before it were carried out.
     BadLine,
     /// The source failed.
     SourceFault,
     /// The sink failed.
     SinkFault,
+    /// The disk failed.
+    DiskFault,
+    /// The disk stands for no state.
+    BadDisk,
     NoMemory,
-    /// The script has too many bytes or lines.
+    /// The script has too many bytes or lines, or left too many messages pending.
     Limit,
+    /// A counter would pass its limit.
+    Spent,
 }
 
 impl Status {
@@ -31,8 +38,11 @@ impl Status {
             Status::BadLine => 3,
             Status::SourceFault => 4,
             Status::SinkFault => 5,
+            Status::DiskFault => 6,
+            Status::BadDisk => 7,
             Status::NoMemory => 9,
             Status::Limit => 11,
+            Status::Spent => 15,
         }
     }
 }

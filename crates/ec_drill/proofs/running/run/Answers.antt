@@ -1,40 +1,106 @@
-use Rattle.std.proofs.Common.{◌≤◌, arith}
-use Rattle.ec_drill.specs.Limits.{most_lines}
-use Rattle.ec_drill.proofs.Sofar.{begins, goes_on, ends_well, ends_by, few_before, none_left}
+use Rattle.std.proofs.Common.{◌+◌, ◌≤◌, arith, refl, sym, ap, subst, List, length, map, Option}
+use Rattle.std.specs.Vec.Iter.{into_iter_items, into_iter_len}
+use Rattle.ec_world.specs.Worlds.{view_of}
+use Rattle.ec_drill.specs.Lines.{read_of}
+use Rattle.ec_drill.specs.Steps.{Sofar, LineDone}
+use Rattle.ec_drill.specs.declared.running.Ending.{Ending}
+use Rattle.ec_drill.specs.declared.script.ScriptLine.{ScriptLine}
+use Rattle.ec_drill.proofs.Carried.{later_same, later_two}
+use Rattle.ec_drill.proofs.Runs.{sofar, goes_on, ends_at, cut_at, ends_done, no_more}
+use Rattle.ec_drill.proofs.Ends.{cause_from}
 use Rattle.ec_drill.proofs.running.run.Goals as goal
 
 pub lines-init : goal.lines-init
-lines-init g c = (λ base most s. begins _ _ _ s, omega arith)
-
-pub step-requires-clause-stands : goal.step-requires-clause-stands
-step-requires-clause-stands g c =
-    let at = c.requires.stands in
-    let s = c.lines.invariant.0 at.0 at.1 at.2 in
-    (at.0, at.1, s.lines, s.pieces, s.stands, s.number)
-
-pub step-requires-clause-few : goal.step-requires-clause-few
-step-requires-clause-few g c =
-    let at = c.requires.stands in
-    few_before _ _ _ c.split_line.result.1.now _ _ _ _ _ (c.lines.invariant.0 at.0 at.1 at.2) c.split_line.ensures.lines c.requires.few
-
-pub returns-in-Err-clause-ran : goal.returns-in-Err-clause-ran
-returns-in-Err-clause-ran g c = λ base most is.
-    let s = c.lines.invariant.0 base most is in
-    ends_by base most _ _ (g.met.M.Machine.promises c.lines.machine base most) c.in-Err.end _ _ c.split_line.result.1.now _ _ _ _ _ _ _ _ s c.split_line.ensures.lines c.lines.invariant.1 (c.in-Err.ensures.err base most s.lines s.pieces s.stands s.number)
-
-pub overflow_add-number : goal.overflow_add-number
-overflow_add-number g c =
-    let at = c.requires.stands in
-    let few : c.lines.number ≤ most_lines = few_before _ _ _ c.split_line.result.1.now _ _ _ _ _ (c.lines.invariant.0 at.0 at.1 at.2) c.split_line.ensures.lines c.requires.few in
-    omega (arith, few)
+lines-init g c =
+    let counts = g.D.Disk.counts c.args.disk.now in
+    let start = view_of c.args.world.now in
+    let held = g.K.Sink.held c.args.sink.now in
+    let all = map read_of c.args.lines.items in (
+      subst (λ (ls : List ScriptLine). Sofar g.D.Disk.tells counts.stops counts.stops c.args.bound all start 1 (map read_of ls) start held held) (sym c.into_iter-ahead.ensures.rest)
+          (sofar g.D.Disk.tells counts.stops c.args.bound all start held),
+      c.requires.in_step,
+      later_same counts,
+      omega arith,
+      subst (λ (ls : List ScriptLine). 1 + length ls ≤ 65537) (sym c.into_iter-ahead.ensures.rest) (omega (arith, c.requires.few)),
+    )
 
 pub lines-preserved : goal.lines-preserved
-lines-preserved g c = (
-  λ base most is.
-      let s = c.lines.invariant.0 base most is in
-      goes_on _ _ _ _ c.split_line.result.1.now _ _ _ _ _ s c.split_line.ensures.lines (c.in_default.ensures.ok base most s.lines s.pieces s.stands s.number),
-  omega (arith, c.lines.invariant.1, c.step.ensures.later),
-)
+lines-preserved g c =
+    let tells = g.D.Disk.tells in
+    let first = g.D.Disk.counts c.args.disk.now in
+    let old = g.D.Disk.counts c.lines.disk in
+    let new = g.D.Disk.counts c.carry.new.disk in
+    let start = view_of c.args.world.now in
+    let world = view_of c.lines.world in
+    let now = view_of c.carry.new.world in
+    let begun = g.K.Sink.held c.args.sink.now in
+    let held = g.K.Sink.held c.lines.sink in
+    let written = g.K.Sink.held c.carry.new.sink in
+    let all = map read_of c.args.lines.items in
+    let did = c.in-Ok-None.ensures in
+    let line = c.in-Some.line in (
+      goes_on tells first.stops old.stops old new c.args.bound all start c.lines.number (read_of line) (map read_of (into_iter_items c.next.new.self)) world begun held written
+          (subst (λ (ls : List ScriptLine). Sofar tells first.stops old.stops c.args.bound all start c.lines.number (map read_of ls) world begun held) c.in-Some.ensures.items c.lines.invariant.0)
+          refl c.lines.invariant.2.stops did.counts.stops now
+          (subst (λ (e : Option Ending). LineDone tells old new c.args.bound c.lines.number (read_of line) world now e held written) c.in-Ok-None.field-0-is did.carried),
+      did.in_step,
+      later_two _ _ _ _ _ c.lines.invariant.2 did.counts,
+      omega (arith, c.lines.invariant.3, did.later),
+      (let all_left = c.lines.invariant.4 in let one = ap (length {A = ScriptLine}) c.in-Some.ensures.items in omega (arith, all_left, one)),
+    )
+
+pub returns-in-Ok-Some-clause-ran : goal.returns-in-Ok-Some-clause-ran
+returns-in-Ok-Some-clause-ran g c =
+    let tells = g.D.Disk.tells in
+    let first = g.D.Disk.counts c.args.disk.now in
+    let old = g.D.Disk.counts c.lines.disk in
+    let new = g.D.Disk.counts c.carry.new.disk in
+    let start = view_of c.args.world.now in
+    let world = view_of c.lines.world in
+    let now = view_of c.carry.new.world in
+    let begun = g.K.Sink.held c.args.sink.now in
+    let held = g.K.Sink.held c.lines.sink in
+    let written = g.K.Sink.held c.carry.new.sink in
+    let all = map read_of c.args.lines.items in
+    let did = c.in-Ok-Some.ensures in
+    let line = c.in-Some.line in
+    ends_at tells first.stops old.stops old new c.args.bound all start c.lines.number (read_of line) (map read_of (into_iter_items c.next.new.self)) world begun held written
+    (subst (λ (ls : List ScriptLine). Sofar tells first.stops old.stops c.args.bound all start c.lines.number (map read_of ls) world begun held) c.in-Some.ensures.items c.lines.invariant.0)
+    refl c.lines.invariant.2.stops did.counts.stops now c.in-Ok-Some.ending
+    (subst (λ (e : Option Ending). LineDone tells old new c.args.bound c.lines.number (read_of line) world now e held written) c.in-Ok-Some.field-0-is did.carried)
+
+pub returns-in-Err-clause-ran : goal.returns-in-Err-clause-ran
+returns-in-Err-clause-ran g c =
+    let tells = g.D.Disk.tells in
+    let first = g.D.Disk.counts c.args.disk.now in
+    let old = g.D.Disk.counts c.lines.disk in
+    let new = g.D.Disk.counts c.carry.new.disk in
+    let start = view_of c.args.world.now in
+    let world = view_of c.lines.world in
+    let begun = g.K.Sink.held c.args.sink.now in
+    let held = g.K.Sink.held c.lines.sink in
+    let written = g.K.Sink.held c.carry.new.sink in
+    let all = map read_of c.args.lines.items in
+    let did = c.in-Err.ensures in
+    let line = c.in-Some.line in
+    let writes = g.K.Sink.faults c.args.sink.now in
+    let writes_now = g.K.Sink.faults c.lines.sink in
+    let writes_after = g.K.Sink.faults c.carry.new.sink in
+    cut_at tells first.stops old.stops old new c.args.bound all start c.lines.number (read_of line) (map read_of (into_iter_items c.next.new.self)) world begun held written
+    (subst (λ (ls : List ScriptLine). Sofar tells first.stops old.stops c.args.bound all start c.lines.number (map read_of ls) world begun held) c.in-Some.ensures.items c.lines.invariant.0)
+    refl c.lines.invariant.2.stops did.counts.stops c.in-Err.cut writes writes_now writes_after first.faults did.carried
+    (λ last. cause_from c.in-Err.cut last writes writes_now writes_after first.faults old.faults new.faults c.lines.invariant.3 c.lines.invariant.2.faults)
 
 pub returns-clause-ran : goal.returns-clause-ran
-returns-clause-ran g c = λ base most is. ends_well base most _ _ (g.met.M.Machine.promises c.lines.machine base most) _ _ _ _ _ _ _ (c.lines.invariant.0 base most is) (none_left _ c.lines-test.ensures)
+returns-clause-ran g c =
+    let tells = g.D.Disk.tells in
+    let first = g.D.Disk.counts c.args.disk.now in
+    let old = g.D.Disk.counts c.lines.disk in
+    let start = view_of c.args.world.now in
+    let world = view_of c.lines.world in
+    let begun = g.K.Sink.held c.args.sink.now in
+    let held = g.K.Sink.held c.lines.sink in
+    let all = map read_of c.args.lines.items in
+    ends_done tells first.stops old.stops c.args.bound all start c.lines.number world begun held
+    (subst (λ (ls : List ScriptLine). Sofar tells first.stops old.stops c.args.bound all start c.lines.number (map read_of ls) world begun held)
+    (no_more (into_iter_items c.lines.ahead) (into_iter_len c.lines.ahead) c.lines.ahead.rest.ok.0 c.in_default.ensures.cases.0) c.lines.invariant.0)

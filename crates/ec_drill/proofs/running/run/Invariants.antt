@@ -1,12 +1,18 @@
-use Rattle.std.proofs.Common.{ℕ, ◌≤◌, length, []}
-use Rattle.ec_history.specs.History.{Base}
-use Rattle.ec_drill.proofs.Sofar.{Sofar}
+use Rattle.std.proofs.Common.{◌+◌, ◌≤◌, length, map}
+use Rattle.std.specs.Vec.Iter.{into_iter_items, into_iter_len}
+use Rattle.ec_world.specs.Worlds.{view_of, IsInStep}
+use Rattle.ec_drill.specs.Lines.{read_of}
+use Rattle.ec_drill.specs.Limits.{most_lines}
+use Rattle.ec_drill.specs.Steps.{Sofar, IsLater}
 use Rattle.ec_drill.proofs.running.run.Given as goal
 
 abbrev pub invariant-lines : goal.invariant-lines
 invariant-lines g l =
-    ((base : Base) (most : ℕ) → g.M.Machine.stands l.fn.machine base most [] [] → Sofar (g.M.Machine.stands l.machine base most) l.script l.ahead l.number (g.K.Sink.held l.fn.sink) (g.K.Sink.held l.sink))
+    Sofar g.D.Disk.tells (g.D.Disk.counts l.fn.disk).stops (g.D.Disk.counts l.disk).stops l.bound (map read_of l.fn.lines.items) (view_of l.fn.world) l.number (map read_of (into_iter_items l.ahead)) (view_of l.world) (g.K.Sink.held l.fn.sink) (g.K.Sink.held l.sink)
+    × IsInStep g.D.Disk.tells (g.D.Disk.view l.disk) l.world
+    × IsLater (g.D.Disk.counts l.fn.disk) (g.D.Disk.counts l.disk) ⊥
     × (g.K.Sink.faults l.fn.sink ≤ g.K.Sink.faults l.sink)
+    × (l.number + length (into_iter_items l.ahead) ≤ most_lines + 1)
 
 abbrev pub decreases-lines : goal.decreases-lines
-decreases-lines g l = length l.ahead
+decreases-lines g l = into_iter_len l.ahead

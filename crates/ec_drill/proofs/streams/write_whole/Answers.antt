@@ -1,8 +1,0 @@
-use Rattle.std.proofs.Common.{arith}
-use Rattle.ec_drill.proofs.Texts.{appends_two, take_on}
-use Rattle.ec_drill.proofs.streams.write_whole.Goals as goal
-
-pub writing-preserved : goal.writing-preserved
-writing-preserved g c =
-    let gave = c.in-Bytes.ensures in
-    (appends_two _ _ _ _ _ _ c.writing.invariant.0 gave.answer.0 (take_on c.writing.at c.in-Bytes.count c.args.piece.now), omega (arith, gave.counts, c.writing.invariant.1), omega (arith, gave.answer.2, c.writing-test.true))

@@ -1,0 +1,21 @@
+-- What the disk did in the steps of a run, and whether that is known.
+use Rattle.std.specs.Prelude.{◌≡◌, ◌⊎◌, ℕ, List, [], ◌∷◌}
+use Rattle.ec_base.specs.Outside.{Rose}
+use Rattle.ec_protocol.specs.World.{runs}
+use Rattle.ec_protocol.specs.Drill.{Fates}
+
+abbrev pub AllRun : Fates → Type 0
+AllRun [] = Unit {0}
+AllRun (f ∷ fs) = (f ≡ runs) × AllRun fs
+
+abbrev pub EachRuns : List Fates → Type 0
+EachRuns [] = Unit {0}
+EachRuns (fs ∷ more) = AllRun fs × EachRuns more
+
+-- A step is stopped only where the disk's stops rose.
+abbrev pub AreOf : List Fates → ℕ → ℕ → Type 0
+AreOf fates before now = EachRuns fates ⊎ Rose before now
+
+-- What a stop leaves is read back from the disk. So what a run did is known on a disk that tells its content, and on one that didn't stop.
+abbrev pub IsKnown : Type 0 → ℕ → ℕ → Type 0
+IsKnown tells before now = tells ⊎ (Rose before now → ⊥)

@@ -1,0 +1,139 @@
+// A line is carried out: its event happens, and then the world settles.
+ghost use Rattle.std.specs.Prelude.{◌≡◌, ◌⊎◌, [], ℕ, Err};
+ghost use Rattle.ec_protocol.specs.World.{Fate, happen};
+ghost use Rattle.ec_protocol.specs.Drill.{Fates, onward, line_happens, settle, carry_out};
+ghost use Rattle.ec_protocol.specs.declared.world.WorldFault.TheVariants as fault;
+ghost use Rattle.ec_world.specs.Worlds.{view_of, IsInStep, Keeps};
+ghost use Rattle.ec_world.specs.Steps.{FateOf, IsTold};
+ghost use Rattle.ec_drill.specs.Script.{machine_line};
+ghost use Rattle.ec_drill.specs.Fates.{IsKnown};
+ghost use Rattle.ec_drill.specs.Steps.{going, Comes, Stays, IsLater, AreOfLine};
+
+use crate::event::event_of;
+use ec_disk::CrashDisk;
+use ec_history::Shown;
+use ec_protocol::{Event, WorldFault};
+use ec_script::full::Line;
+use ec_world::World;
+use std::alloc::Global;
+
+/// Carries out the line of this number, and adds the lines that it shows to the piece. After it at most so many messages are delivered.
+pub(crate) fn carry_out<D: CrashDisk>(
+    alloc: Global,
+    world: &mut World,
+    disk: &mut D,
+    bound: u64,
+    number: u32,
+    line: Line,
+    piece: &mut Vec<Shown>,
+) -> Result<(), WorldFault>
+    requires in_step { IsInStep D.tells (D.view disk.old) world.old }
+    requires empty { piece.old.items ≡ [] }
+    ensures carried { (fates : Fates) × AreOfLine fates (D.counts disk.old) (D.counts disk.new)
+        × (IsKnown D.tells (D.counts disk.old).stops (D.counts disk.new).stops
+        → Comes result (carry_out bound fates number (machine_line line) (view_of world.old)) (view_of world.new) piece.new.items) }
+    ensures in_step { Stays result (IsInStep D.tells (D.view disk.new) world.new) }
+    ensures counts { IsLater (D.counts disk.old) (D.counts disk.new) (result ≡ Err fault.DiskFailed) }
+{
+    if let Err(fault) = begin(alloc, world, disk, number, line, piece) {
+        return Err(fault);
+    }
+    settle(alloc, world, disk, bound, piece)
+}
+
+// The event of a line.
+fn begin<D: CrashDisk>(
+    alloc: Global,
+    world: &mut World,
+    disk: &mut D,
+    number: u32,
+    line: Line,
+    piece: &mut Vec<Shown>,
+) -> Result<(), WorldFault>
+    requires in_step { IsInStep D.tells (D.view disk.old) world.old }
+    requires empty { piece.old.items ≡ [] }
+    ensures begun { (fate : Fate) × FateOf fate (D.counts disk.old) (D.counts disk.new)
+        × (IsTold fate D.tells
+        → Comes result (onward (going (view_of world.old) []) (line_happens fate number (machine_line line) (view_of world.old))) (view_of world.new) piece.new.items) }
+    ensures in_step { Stays result (IsInStep D.tells (D.view disk.new) world.new) }
+    ensures counts { IsLater (D.counts disk.old) (D.counts disk.new) (result ≡ Err fault.DiskFailed) }
+{
+    match event_of(world, number, line) {
+        Ok(Some(event)) => step(alloc, world, disk, event, piece),
+        Ok(None) => Ok(()),
+        Err(fault) => Err(fault),
+    }
+}
+
+// Delivers the least message that can be delivered, again and again, at most so many times.
+fn settle<D: CrashDisk>(
+    alloc: Global,
+    world: &mut World,
+    disk: &mut D,
+    bound: u64,
+    piece: &mut Vec<Shown>,
+) -> Result<(), WorldFault>
+    requires { IsInStep D.tells (D.view disk.old) world.old }
+    ensures settled { (fates : Fates) × AreOfLine fates (D.counts disk.old) (D.counts disk.new)
+        × (IsKnown D.tells (D.counts disk.old).stops (D.counts disk.new).stops
+        → Comes result (settle bound fates (going (view_of world.old) piece.old.items)) (view_of world.new) piece.new.items) }
+    ensures in_step { Stays result (IsInStep D.tells (D.view disk.new) world.new) }
+    ensures counts { IsLater (D.counts disk.old) (D.counts disk.new) (result ≡ Err fault.DiskFailed) }
+{
+    let mut left = bound;
+    'settling: while left > 0 {
+        let Some(number) = world.due() else {
+            return Ok(());
+        };
+        if let Err(fault) = step(alloc, world, disk, Event::Deliver(number), piece) {
+            return Err(fault);
+        }
+        left -= 1;
+    }
+    end_settling(alloc, world, piece)
+}
+
+// Nothing more is due, or the line is shown to be unsettled.
+fn end_settling(alloc: Global, world: &mut World, piece: &mut Vec<Shown>) -> Result<(), WorldFault>
+    ensures rested { Comes result (settle 0 [] (going (view_of world.old) piece.old.items)) (view_of world.new) piece.new.items }
+    ensures same { Keeps world.old world.new }
+    ensures no_fault { result ≡ Err fault.DiskFailed → ⊥ }
+{
+    let Some(_) = world.due() else {
+        return Ok(());
+    };
+    let Ok(line) = world.show_unsettled(alloc) else {
+        return Err(WorldFault::NoMemory);
+    };
+    if piece.push(line).is_err() {
+        return Err(WorldFault::NoMemory);
+    }
+    Ok(())
+}
+
+// One step of the world, whose lines are added to the piece.
+fn step<D: CrashDisk>(
+    alloc: Global,
+    world: &mut World,
+    disk: &mut D,
+    event: Event,
+    piece: &mut Vec<Shown>,
+) -> Result<(), WorldFault>
+    requires { IsInStep D.tells (D.view disk.old) world.old }
+    ensures stepped { (fate : Fate) × FateOf fate (D.counts disk.old) (D.counts disk.new)
+        × (IsTold fate D.tells
+        → Comes result (onward (going (view_of world.old) piece.old.items) (happen fate event (view_of world.old))) (view_of world.new) piece.new.items) }
+    ensures in_step { Stays result (IsInStep D.tells (D.view disk.new) world.new) }
+    ensures counts { IsLater (D.counts disk.old) (D.counts disk.new) (result ≡ Err fault.DiskFailed) }
+{
+    let lines = match world.step(alloc, disk, event) {
+        Ok(lines) => lines,
+        Err(fault) => return Err(fault),
+    };
+    'adding: for line in lines {
+        if piece.push(line).is_err() {
+            return Err(WorldFault::NoMemory);
+        }
+    }
+    Ok(())
+}

@@ -1,0 +1,108 @@
+// The lines of a script, as they are read.
+ghost use Rattle.std.specs.Prelude.{◌≡◌, ◌≤◌, ◌+◌, [], ◌∷◌, map, length, IfOk, OnOk, MatchOption};
+ghost use Rattle.ec_protocol.specs.Drill.{bound, named_in, clerk_in};
+ghost use Rattle.ec_script.specs.Lines.{lines_of};
+ghost use Rattle.ec_volume.specs.Update.{member};
+ghost use Rattle.ec_drill.specs.Limits.{most_lines};
+ghost use Rattle.ec_drill.specs.Script.{AreRead, IsRead, machine_line};
+ghost use Rattle.ec_drill.specs.Lines.{read_of, noted};
+
+use crate::limits::DELIVERIES;
+use ec_base::{ClerkId, NoMemory};
+use ec_script::full::{Line, read_line};
+use ec_script::{LineFault, last_column, split_line};
+use std::alloc::Global;
+
+/// A line of a script, as it was read.
+#[derive(Debug, Drop)]
+pub(crate) enum ScriptLine {
+    /// The line, and the column of its last word.
+    Fits(Line, u32),
+    /// It's outside the grammar, from this column on.
+    Unfit(u32),
+}
+
+/// Reads all lines of a script.
+pub(crate) fn read_script(alloc: Global, script: &[u8]) -> Result<Vec<ScriptLine>, NoMemory>
+    ensures { IfOk result (λ lines. AreRead (lines_of script.now) (map read_of lines.items)) }
+{
+    let mut lines = Vec::new(alloc);
+    let mut ahead = script;
+    'lines: while !ahead.is_empty() {
+        let (line, next) = split_line(ahead);
+        lines.push(read(alloc, line)?)?;
+        ahead = next;
+    }
+    Ok(lines)
+}
+
+fn read(alloc: Global, line: &[u8]) -> Result<ScriptLine, NoMemory>
+    ensures { IfOk result (λ read. IsRead line.now (read_of read)) }
+{
+    match read_line(alloc, line) {
+        Ok(read) => Ok(ScriptLine::Fits(read, last_column(line))),
+        Err(LineFault::At(column)) => Ok(ScriptLine::Unfit(column)),
+        Err(LineFault::NoMemory) => Err(NoMemory),
+    }
+}
+
+/// How many messages are delivered after a line before it's unsettled, by the clerks that lines name.
+pub(crate) fn bound_of(alloc: Global, lines: &[ScriptLine]) -> Result<u64, NoMemory>
+    requires { length lines.now ≤ most_lines }
+    ensures { IfOk result (λ n. n ≡ bound (map read_of lines.now)) }
+{
+    let mut named: Vec<ClerkId> = Vec::new(alloc);
+    'naming: for line in lines {
+        note_clerk(&mut named, line)?;
+    }
+    Ok(DELIVERIES * (named.len() as u64 + 1))
+}
+
+// Notes the clerk that the line names, if none before names it.
+fn note_clerk(named: &mut Vec<ClerkId>, line: &ScriptLine) -> Result<(), NoMemory>
+    ensures names { OnOk result (named.new.items ≡ noted named.old.items (named_in (read_of line.now ∷ []))) }
+    ensures few { OnOk result (length named.new.items ≤ length named.old.items + 1) }
+{
+    let Some(clerk) = clerk_in(line) else {
+        return Ok(());
+    };
+    if is_one_of(named, clerk) {
+        return Ok(());
+    }
+    named.push(clerk)?;
+    Ok(())
+}
+
+fn is_one_of(named: &[ClerkId], clerk: ClerkId) -> bool
+    ensures { result ≡ member clerk named.now }
+{
+    named.contains(&clerk)
+}
+
+fn clerk_in(line: &ScriptLine) -> Option<ClerkId>
+    ensures { MatchOption result (named_in (read_of line.now ∷ []) ≡ []) (λ clerk. named_in (read_of line.now ∷ []) ≡ clerk ∷ []) }
+{
+    match line {
+        ScriptLine::Fits(line, _) => clerk_of(line),
+        ScriptLine::Unfit(_) => None,
+    }
+}
+
+fn clerk_of(line: &Line) -> Option<ClerkId>
+    ensures { MatchOption result (clerk_in (machine_line line.now) ≡ []) (λ clerk. clerk_in (machine_line line.now) ≡ clerk ∷ []) }
+{
+    match line {
+        Line::Comment | Line::Stop | Line::Restart => None,
+        Line::Arm(_, _) => None,
+        Line::Call(clerk, _) => Some(*clerk),
+        Line::Push(clerk, _) => Some(*clerk),
+        Line::Drop(clerk, _, _) => Some(*clerk),
+        Line::Repeat(clerk, _, _) => Some(*clerk),
+        Line::Deliver(clerk, _, _) => Some(*clerk),
+        Line::Cut(clerk) => Some(*clerk),
+        Line::Uncut(clerk) => Some(*clerk),
+        Line::Resend(clerk) => Some(*clerk),
+        Line::Crash(clerk) => Some(*clerk),
+        Line::End(clerk) => Some(*clerk),
+    }
+}

@@ -1,0 +1,51 @@
+// Transcript lines are written.
+ghost use Rattle.std.specs.Prelude.{◌≡◌, ◌≤◌, IfErr, OnOk};
+ghost use Rattle.std.specs.Io.KnownBytes.{Appends};
+ghost use Rattle.ec_text.specs.Lines.{shown_text, text_of};
+ghost use Rattle.ec_drill.specs.Steps.{CutText, CutLines};
+
+use ec_base::Sink;
+use ec_history::Shown;
+use ec_streams::{WriteFault, write_whole};
+use ec_text::print;
+use std::alloc::Global;
+
+/// Why a run was cut off.
+#[derive(Clone, Copy, Debug, Drop, PartialEq, Eq)]
+pub(crate) enum Cut {
+    /// The disk failed.
+    Disk,
+    /// The sink failed.
+    Sink,
+    NoMemory,
+}
+
+/// Writes lines, each as one piece of bytes.
+pub(crate) fn write_lines<K: Sink>(alloc: Global, sink: &mut K, lines: &[Shown]) -> Result<(), Cut>
+    ensures ok { OnOk result (Appends (K.held sink.old) (K.held sink.new) (text_of lines.now)) }
+    ensures err { IfErr result (λ cut. CutLines cut lines.now (K.held sink.old) (K.held sink.new) (K.faults sink.old) (K.faults sink.new)) }
+    ensures later { K.faults sink.old ≤ K.faults sink.new }
+{
+    'writing: for line in lines {
+        if let Err(cut) = write_line(alloc, sink, line) {
+            return Err(cut);
+        }
+    }
+    Ok(())
+}
+
+/// Writes a line as one piece of bytes.
+pub(crate) fn write_line<K: Sink>(alloc: Global, sink: &mut K, line: &Shown) -> Result<(), Cut>
+    ensures ok { OnOk result (Appends (K.held sink.old) (K.held sink.new) (shown_text line.now)) }
+    ensures err { IfErr result (λ cut. CutText cut (shown_text line.now) (K.held sink.old) (K.held sink.new) (K.faults sink.old) (K.faults sink.new)) }
+    ensures later { K.faults sink.old ≤ K.faults sink.new }
+{
+    let Ok(text) = print(alloc, line) else {
+        return Err(Cut::NoMemory);
+    };
+    match write_whole(sink, &text) {
+        Ok(()) => Ok(()),
+        Err(WriteFault::Failed) => Err(Cut::Sink),
+        Err(WriteFault::NoMemory) => Err(Cut::NoMemory),
+    }
+}
