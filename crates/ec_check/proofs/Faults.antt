@@ -7,8 +7,8 @@ use Rattle.ec_history.specs.declared.rule.Rule.{Rule}
 use Rattle.ec_history.specs.declared.shown.Shown.{Shown}
 use Rattle.ec_judge.specs.Faults.{IsFirstEntry}
 use Rattle.ec_judge.proofs.Firsts as entry
-use Rattle.ec_legal.specs.Faults.{IsFirstLine}
-use Rattle.ec_legal.proofs.Excluded as line
+use Rattle.ec_lines.specs.Faults.{IsFirstLine}
+use Rattle.ec_lines.proofs.Excluded as line
 use Rattle.ec_check.specs.declared.checking.Checked.TheVariants as checked
 use Rattle.ec_check.specs.Verdicts.{IsVerdict}
 

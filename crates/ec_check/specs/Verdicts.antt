@@ -5,7 +5,7 @@ use Rattle.ec_history.specs.Placing.{place, ArePlaceable}
 use Rattle.ec_history.specs.declared.rule.Rule.{Rule}
 use Rattle.ec_history.specs.declared.shown.Shown.{Shown}
 use Rattle.ec_judge.specs.Faults.{IsFirstEntry}
-use Rattle.ec_legal.specs.Faults.{IsFirstLine}
+use Rattle.ec_lines.specs.Faults.{IsFirstLine}
 use Rattle.ec_check.specs.declared.checking.Checked.{Checked}
 use Rattle.ec_check.specs.declared.checking.Checked.TheVariants as checked
 

@@ -1,22 +1,19 @@
 -- The entries of one line, by what stands above it.
-use Rattle.std.proofs.Common.{◌≡◌, refl, sym, ap, subst, ◌∙◌, arith, ◌≤◌, ◌<◌, ◌+◌, ℕ, zero, suc, true, cond, List, [], ◌∷◌, ◌++◌, length, take, drop, Option, Some, append-nil, append_assoc}
+use Rattle.std.proofs.Common.{◌≡◌, refl, sym, ap, subst, ◌∙◌, arith, ◌≤◌, ◌<◌, ◌+◌, ℕ, zero, suc, true, cond, List, [], ◌∷◌, ◌++◌, length, take, drop, Option, Some, append_assoc}
 use Rattle.std.specs.Prelude.{slice_get}
 use Rattle.std.proofs.lemmas.Option.{get_or_from_slice_get, slice_get_within}
 use Rattle.ec_laws.proofs.More.{watch-step}
 use Rattle.ec_laws.proofs.Watching.{held-ended}
 use Rattle.ec_history.specs.History.{History}
 use Rattle.ec_history.specs.declared.entry.Entry.TheVariants as entry
-use Rattle.ec_history.specs.Placing.{watch, watch_next, late, ops_in, or_zero, owner, is_running, line_entries, place_from, MayFollow, ArePlaceable}
+use Rattle.ec_history.specs.Placing.{watch, watch_next, late, ops_in, or_zero, owner, is_running, line_entries, place_from}
 use Rattle.ec_history.specs.declared.shown.Shown.{Shown}
 use Rattle.ec_history.specs.declared.shown.Shown.TheVariants.{Answered, Ended}
 use Rattle.ec_history.specs.declared.watch.Watch.{Watch}
 use Rattle.ec_legal.specs.Watches.{loss_of, answer_of}
 use Rattle.ec_legal.proofs.Late.{above-at, line-at, from-laws}
 use Rattle.ec_watch.proofs.Watched.{few-at}
-use Rattle.std.proofs.lemmas.List.{take-append-drop}
 use Rattle.ec_base.specs.Limits.{clerk_count}
-use Rattle.ec_history.specs.declared.rule.Rule.{Rule}
-use Rattle.ec_legal.specs.Faults.{IsFirstLine, BreaksLine}
 use Rattle.ec_legal.specs.Watches.{IsHeld}
 use Rattle.ec_watch.specs.Watches.{AreWatched}
 
@@ -74,27 +71,6 @@ place-step ss i s all xs ys g a y =
     ∙ sym (append_assoc xs (line_entries past s rest) (place_from (past ++ s ∷ []) rest))
     ∙ ap (λ h. h ++ place_from (past ++ s ∷ []) rest) (sym y)
     ∙ ap (λ p. ys ++ place_from p rest) (sym (front-at ss i s g))
-
-placeable-push : (past ss : List Shown) (s : Shown) → ArePlaceable past ss → MayFollow (past ++ ss) s → ArePlaceable past (ss ++ s ∷ [])
-placeable-push past [] s h m = (subst (λ p. MayFollow p s) (append-nil past) m, tt)
-placeable-push past (t ∷ ss) s h m = (h.0, placeable-push (past ++ t ∷ []) ss s h.1 (subst (λ p. MayFollow p s) (sym (append_assoc past (t ∷ []) ss)) m))
-
-pub placeable-step : (ss : List Shown) (i : ℕ) (s : Shown) → slice_get ss i ≡ Some s → ArePlaceable [] (take i ss) → MayFollow (take i ss) s → ArePlaceable [] (take (i + 1) ss)
-placeable-step ss i s g h m = subst (ArePlaceable []) (sym (front-at ss i s g)) (placeable-push [] (take i ss) s h m)
-
--- the line at this place is the first that may not follow
-pub first-fault : (ss : List Shown) (i : ℕ) (s : Shown) (r : Rule) → slice_get ss i ≡ Some s → ArePlaceable [] (take i ss) → BreaksLine (take i ss) s r → IsFirstLine ss (i + 1) r
-first-fault ss i s r g h b =
-    let within : i < length ss = slice_get_within ss i s g in
-    record {
-      above = take i ss;
-      line = s;
-      below = drop (i + 1) ss;
-      parts = ap (λ ts. take i ss ++ ts) (sym (rest-at ss i s g)) ∙ take-append-drop i ss;
-      place = ap (λ n. n + 1) (sym (front-length ss i (omega (arith, within))));
-      placeable = h;
-      broken = b;
-    }
 
 -- starts are few where lines are
 pub starts-few : (ws : List Watch) (ss : List Shown) (i n : ℕ) → AreWatched ws (take i ss) → i ≤ length ss → length ss < n → (w : Watch) (c : ℕ) → slice_get ws c ≡ Some w → w.starts < n

@@ -1,6 +1,6 @@
 -- Late answers, one by one.
 use Rattle.std.proofs.Common.{◌≡◌, refl, sym, ap, subst, ◌∙◌, ◌<◌, ◌+◌, ℕ, suc, Bool, true, false, ◌==◌, cond, List, [], ◌∷◌, ◌++◌, length, take, drop, get_or, Option, append_assoc, add-one}
-use Rattle.std.proofs.lemmas.Bool.{cond-true, cond-false, eqb-true}
+use Rattle.std.proofs.lemmas.Bool.{cond-true, cond-false, eqb-true, false≢true}
 use Rattle.std.proofs.lemmas.List.{take_more}
 use Rattle.std.proofs.Math.Seq.{drop-cons}
 use Rattle.ec_laws.proofs.More.{watch-step}
@@ -8,10 +8,11 @@ use Rattle.ec_laws.proofs.Watching as laws
 use Rattle.ec_volume.specs.Update.{listed}
 use Rattle.ec_history.specs.History.{History}
 use Rattle.ec_history.specs.declared.entry.Entry.TheVariants as entry
-use Rattle.ec_history.specs.Placing.{watch, begun, late, ops_in, call_entry, is_end_of, is_call_of, is_numbered, gives_entry, last_place, before_line, watch_next}
+use Rattle.ec_history.specs.Placing.{watch, begun, late, ops_in, call_entry, is_end_of, is_call_of}
 use Rattle.ec_history.specs.declared.shown.Shown.{Shown}
 use Rattle.ec_history.specs.declared.shown.Shown.TheVariants.{Answered}
 use Rattle.ec_history.specs.declared.watch.Watch.{Watch}
+use Rattle.ec_lines.specs.Index.{begins, begun_in}
 use Rattle.ec_legal.specs.Watches.{IsHeld, call_of_start, own_call}
 
 pub to-laws : (b : ℕ) (w : Watch) → IsHeld b w → laws.IsHeld b w
@@ -63,12 +64,16 @@ ops-append ((p, entry.Loss c b ns) ∷ h) g = ops-append h g
 pub carry : {A : Type 0} (all xs ys zs one rest : List A) → all ≡ xs ++ zs → ys ≡ xs ++ one → zs ≡ one ++ rest → all ≡ ys ++ rest
 carry all xs ys zs one rest a y z = a ∙ ap (λ q. xs ++ q) z ∙ sym (append_assoc xs one rest) ∙ ap (λ q. q ++ rest) (sym y)
 
--- The start of a call's entry, one line on.
-pub begun-step : (c b n : ℕ) (ss : List Shown) (i : ℕ) (s d : Shown) (w w' : Watch) (f f' p : ℕ) → i < length ss → s ≡ get_or ss i d → is_numbered n s ≡ false → w' ≡ watch_next c w s → f' ≡ cond (gives_entry c b w s) (i + 1) f
-    → p ≡ last_place c b w (i + 1) f (before_line n (drop i ss)) → p ≡ last_place c b w' (i + 1 + 1) f' (before_line n (drop (i + 1) ss))
-begun-step c b n ss i s d w w' f f' p l e m v g z =
-    z
-    ∙ ap (λ ts. last_place c b w (i + 1) f (before_line n ts)) (line-at ss i s d l e)
-    ∙ ap (last_place c b w (i + 1) f) (cond-false (is_numbered n s) [] (s ∷ before_line n (drop (i + 1) ss)) m)
-    ∙ ap (λ u. last_place c b u (i + 1 + 1) (cond (gives_entry c b w s) (i + 1) f) (before_line n (drop (i + 1) ss))) (sym v)
-    ∙ ap (λ k. last_place c b w' (i + 1 + 1) k (before_line n (drop (i + 1) ss))) (sym g)
+-- Where the call of the clerk's own answer began, by the start that is held.
+
+begun-own : (c b n : ℕ) (past : List Shown) (s : Shown) → is_call_of c s ≡ true → IsHeld b (watch c past) → n ≡ begins past s → n ≡ begun_in b past s
+begun-own c b n past (Answered l d cl a op) o h e =
+    e ∙ ap (λ k. begun_in k past (Answered l d cl a op)) (subst (λ k. (begun (watch k past)).starts ≡ b) (eqb-true c d o) (held-start b (watch c past) h))
+begun-own c b n past s o h e = absurd (false≢true o)
+
+pub begun-owns : (c b n : ℕ) (past : List Shown) (s : Shown) (q : Bool) → q ≡ is_call_of c s → q ≡ true → IsHeld b (watch c past) → n ≡ begins past s → n ≡ begun_in b past s
+begun-owns c b n past s q e t h f = begun-own c b n past s (sym e ∙ t) h f
+
+pub begun-answer : (w : Watch) (past : List Shown) (l c : ℕ) (cl : _) (a : _) (op : Option ℕ) (n : ℕ) (s : Shown) → s ≡ Answered l c cl a op → w ≡ watch c past → n ≡ begins past s → n ≡ begun_in (begun w).starts past s
+begun-answer w past l c cl a op n s e v f =
+    f ∙ ap (begins past) e ∙ ap (λ u. begun_in (begun u).starts past (Answered l c cl a op)) (sym v) ∙ ap (begun_in (begun w).starts past) (sym e)

@@ -1,4 +1,3 @@
-pub mod Faults
 pub mod Watches
 pub mod Placed
 pub mod Bounded

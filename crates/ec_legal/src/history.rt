@@ -6,13 +6,15 @@ ghost use Rattle.ec_history.specs.Legal.{IsLegal, from_formatted};
 ghost use Rattle.ec_judge.specs.Fault.{IsEntryFault};
 ghost use Rattle.ec_legal.specs.Bounded.{is_bounded_line};
 ghost use Rattle.ec_history.specs.Placing.{place, ArePlaceable};
+ghost use Rattle.ec_lines.specs.Index.{AreBegins};
 ghost use Rattle.ec_legal.specs.Placed.{IsPlaceFault};
 ghost use Rattle.ec_watch.specs.Watches.{AreWatched};
 
-use crate::{lines, placing};
+use crate::placing;
 use ec_base::{ClerkId, NoMemory, ObjId, OpNo};
 use ec_history::{Entry, Shown, Watch};
 use ec_judge::HistoryFault;
+use ec_lines::{PlaceFault, begins};
 use ec_volume::Update;
 use std::alloc::Global;
 use std::marker::Model;
@@ -86,31 +88,33 @@ pub fn place(alloc: Global, shown: &[Shown]) -> Result<History, HistoryFault>
     ensures placeable { IfOk result (λ history. ArePlaceable [] shown.now) }
     ensures fault { IfErr result (λ fault. IsPlaceFault shown.now fault) }
 {
+    let begins = match begins(alloc, shown) {
+        Ok(begins) => begins,
+        Err(PlaceFault::At(line, rule)) => return Err(HistoryFault::At(line, rule)),
+        Err(PlaceFault::NoMemory) => return Err(HistoryFault::NoMemory),
+    };
     let mut watches = ec_watch::none_watched(alloc)?;
     let mut entries = Vec::new(alloc);
-    place_all(alloc, &mut watches, shown, &mut entries)?;
+    place_all(alloc, &mut watches, shown, &begins, &mut entries)?;
     Ok(History { entries })
 }
 
-// Adds the entries of these lines.
+// Adds the entries of these lines, whose calls began at these places.
 fn place_all(
     alloc: Global,
     watches: &mut [Watch],
     shown: &[Shown],
+    begins: &[u32],
     entries: &mut Vec<(u32, Entry)>,
-) -> Result<(), HistoryFault>
+) -> Result<(), NoMemory>
     requires few { length shown.now < 2 ^ 31 }
     requires watched { AreWatched watches.old [] }
-    ensures placed { OnOk result (entries.new.items ≡ entries.old.items ++ place shown.now) }
-    ensures placeable { OnOk result (ArePlaceable [] shown.now) }
-    ensures fault { IfErr result (λ fault. IsPlaceFault shown.now fault) }
+    requires begins { AreBegins [] shown.now begins.now }
+    ensures { OnOk result (entries.new.items ≡ entries.old.items ++ place shown.now) }
 {
     for at in 0..shown.len() {
         let line = &shown[at];
-        if let Some(rule) = lines::broken(&shown[..at], watches, line) {
-            return Err(HistoryFault::At(at as u32 + 1, rule));
-        }
-        placing::push(alloc, watches, shown, at, line, entries)?;
+        placing::push(alloc, watches, shown, begins, at, line, entries)?;
         ec_watch::note(alloc, watches, line)?;
     }
     Ok(())

@@ -1,12 +1,9 @@
 //! Which transcripts are legal.
 #![tactic(auto)]
 
-mod calls;
 mod history;
-mod laws;
-mod lines;
 mod placing;
 
 pub use ec_judge::HistoryFault;
+pub use ec_lines::lines_at_fault_have_no_history;
 pub use history::{History, place};
-pub use laws::lines_at_fault_have_no_history;

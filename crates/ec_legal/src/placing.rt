@@ -1,75 +1,38 @@
 // The entries of a transcript's lines.
 ghost use Rattle.std.specs.Prelude.{◌≡◌, ◌<◌, ◌≤◌, ◌+◌, ◌^◌, ◌++◌, ◌∷◌, [], ℕ, List as Listed, Some, None, true, length, take, drop, slice_get, is_some, IfOk, OnOk};
 ghost use Rattle.ec_volume.specs.Update.{listed};
-ghost use Rattle.ec_history.specs.Placing.{watch as watched, unwatched, begun, last_place, before_line, is_numbered, gives_entry, is_end_of, is_call_of, late, line_entries, ops_in, is_running, owner};
+ghost use Rattle.ec_history.specs.Placing.{watch as watched, begun as start_behind, is_end_of, is_call_of, late, line_entries, ops_in, is_running, owner};
 ghost use Rattle.ec_watch.specs.Watches.{AreWatched};
+ghost use Rattle.ec_lines.specs.Index.{AreBegins, begins as begun_at, begun_in};
 ghost use Rattle.ec_legal.specs.Watches.{IsHeld, call_of_start, own_call, late_calls, loss_of, answer_of};
 
 use ec_base::{ClerkId, Duplicate, List, NoMemory, OpNo};
 use ec_history::{Entry, Shown, Watch};
 use std::alloc::Global;
 
-// Whether the line begins or answers the call of this number.
-fn is_numbered(number: u32, line: &Shown) -> bool
-    ensures { result ≡ is_numbered number line.now }
+// Where the call of the answer at this place began.
+fn begins_at(begins: &[u32], shown: &[Shown], at: usize, line: &Shown) -> u32
+    requires line { slice_get shown.now at ≡ Some line.now }
+    requires begins { AreBegins [] shown.now begins.now }
+    ensures { result ≡ begun_at (take at shown.now) line.now }
 {
-    match line {
-        Shown::Waits(same, _, _) => *same == number,
-        Shown::Answered(same, _, _, _, _) => *same == number,
-        _ => false,
-    }
-}
-
-// Whether the line gives an entry of this start.
-fn gives_entry(clerk: ClerkId, boot: u64, watch: &Watch, line: &Shown) -> bool
-    requires { watch.now.starts < 2 ^ 32 }
-    ensures { result ≡ gives_entry clerk boot watch.now line.now }
-{
-    match line {
-        Shown::Answered(_, of, _, _, _) => *of == clerk && ec_watch::start(watch) == boot,
-        Shown::Ended(of, _) => *of == clerk && ec_watch::owner(watch) == Some(boot),
-        _ => false,
-    }
-}
-
-// The place of the last line, above the first one of this number, that gives an entry of the start.
-fn begun_at(
-    alloc: Global,
-    clerk: ClerkId,
-    boot: u64,
-    number: u32,
-    above: &[Shown],
-) -> Result<u32, NoMemory>
-    requires { length above.now < 2 ^ 31 }
-    ensures { IfOk result (λ place. place ≡ last_place clerk boot unwatched 1 0 (before_line number above.now)) }
-{
-    let mut watch = ec_watch::unwatched(alloc);
-    let mut found = 0;
-    for (at, line) in above.iter().enumerate() {
-        if is_numbered(number, line) {
-            return Ok(found);
-        }
-        if gives_entry(clerk, boot, &watch, line) {
-            found = at as u32 + 1;
-        }
-        ec_watch::follow(alloc, clerk, &mut watch, line)?;
-    }
-    Ok(found)
+    begins[at]
 }
 
 // Adds the entry of an answer of this start.
 fn push_call(
     alloc: Global,
     boot: u64,
+    begun: u32,
     above: &[Shown],
     line: &Shown,
     entries: &mut Vec<(u32, Entry)>,
 ) -> Result<(), NoMemory>
-    requires { length above.now < 2 ^ 31 }
+    requires few { length above.now < 2 ^ 31 }
+    requires begun { begun ≡ begun_in boot above.now line.now }
     ensures { OnOk result (entries.new.items ≡ entries.old.items ++ call_of_start boot above.now line.now) }
 {
     if let Shown::Answered(number, clerk, call, answer, op) = line {
-        let begun = begun_at(alloc, *clerk, boot, *number, above)?;
         let entry = Entry::Call {
             clerk: *clerk,
             boot,
@@ -118,17 +81,20 @@ fn push_own(
     alloc: Global,
     clerk: ClerkId,
     boot: u64,
+    begun: u32,
     above: &[Shown],
     line: &Shown,
     entries: &mut Vec<(u32, Entry)>,
     ops: &mut Vec<OpNo>,
 ) -> Result<(), NoMemory>
-    requires { length above.now < 2 ^ 31 }
+    requires few { length above.now < 2 ^ 31 }
+    requires held { IsHeld boot (watched clerk above.now) }
+    requires begun { begun ≡ begun_at above.now line.now }
     ensures entries { OnOk result (entries.new.items ≡ entries.old.items ++ own_call clerk boot above.now line.now) }
     ensures ops { OnOk result (ops.new.items ≡ ops.old.items ++ ops_in (own_call clerk boot above.now line.now)) }
 {
     if is_call_of(clerk, line) {
-        push_call(alloc, boot, above, line, entries)?;
+        push_call(alloc, boot, begun, above, line, entries)?;
         push_op(ops, line)?;
     }
     Ok(())
@@ -140,11 +106,13 @@ fn push_late(
     clerk: ClerkId,
     boot: u64,
     shown: &[Shown],
+    begins: &[u32],
     from: usize,
     entries: &mut Vec<(u32, Entry)>,
     ops: &mut Vec<OpNo>,
 ) -> Result<(), NoMemory>
     requires few { length shown.now < 2 ^ 31 }
+    requires begins { AreBegins [] shown.now begins.now }
     requires held { IsHeld boot (watched clerk (take from shown.now)) }
     ensures entries { OnOk result (entries.new.items ≡ entries.old.items ++ late clerk (take from shown.now) (drop from shown.now)) }
     ensures ops { OnOk result (ops.new.items ≡ ops.old.items ++ ops_in (late clerk (take from shown.now) (drop from shown.now))) }
@@ -154,7 +122,8 @@ fn push_late(
         if is_end_of(clerk, line) {
             return Ok(());
         }
-        push_own(alloc, clerk, boot, &shown[..at], line, entries, ops)?;
+        let begun = begins_at(begins, shown, at, line);
+        push_own(alloc, clerk, boot, begun, &shown[..at], line, entries, ops)?;
     }
     Ok(())
 }
@@ -165,18 +134,29 @@ fn push_late_calls(
     clerk: ClerkId,
     watch: &Watch,
     shown: &[Shown],
+    begins: &[u32],
     at: usize,
     entries: &mut Vec<(u32, Entry)>,
     ops: &mut Vec<OpNo>,
 ) -> Result<(), NoMemory>
     requires few { length shown.now < 2 ^ 31 }
+    requires begins { AreBegins [] shown.now begins.now }
     requires within { at < length shown.now }
     requires held { is_running watch.now (owner watch.now) ≡ true → IsHeld watch.now.starts (watched clerk (take (at + 1) shown.now)) }
     ensures entries { OnOk result (entries.new.items ≡ entries.old.items ++ late_calls clerk watch.now shown.now at) }
     ensures ops { OnOk result (ops.new.items ≡ ops.old.items ++ ops_in (late_calls clerk watch.now shown.now at)) }
 {
     if ec_watch::ends_running(watch) {
-        push_late(alloc, clerk, watch.starts, shown, at + 1, entries, ops)?;
+        push_late(
+            alloc,
+            clerk,
+            watch.starts,
+            shown,
+            begins,
+            at + 1,
+            entries,
+            ops,
+        )?;
     }
     Ok(())
 }
@@ -188,16 +168,18 @@ fn push_loss(
     watch: &Watch,
     lost: &List<OpNo>,
     shown: &[Shown],
+    begins: &[u32],
     at: usize,
     entries: &mut Vec<(u32, Entry)>,
 ) -> Result<(), NoMemory>
     requires few { length shown.now < 2 ^ 31 }
+    requires begins { AreBegins [] shown.now begins.now }
     requires within { at < length shown.now }
     requires held { is_running watch.now (owner watch.now) ≡ true → IsHeld watch.now.starts (watched clerk (take (at + 1) shown.now)) }
     ensures { OnOk result (entries.new.items ≡ entries.old.items ++ loss_of clerk watch.now lost.now shown.now at) }
 {
     let mut ops = lost.duplicate()?.into_vec();
-    push_late_calls(alloc, clerk, watch, shown, at, entries, &mut ops)?;
+    push_late_calls(alloc, clerk, watch, shown, begins, at, entries, &mut ops)?;
     let entry = Entry::Loss {
         clerk,
         boot: ec_watch::owner(watch).unwrap_or(0),
@@ -211,16 +193,18 @@ fn push_loss(
 fn push_answer(
     alloc: Global,
     watch: &Watch,
+    begun: u32,
     above: &[Shown],
     line: &Shown,
     entries: &mut Vec<(u32, Entry)>,
 ) -> Result<(), NoMemory>
     requires few { length above.now < 2 ^ 31 }
     requires starts { watch.now.starts < 2 ^ 32 }
+    requires begun { begun ≡ begun_in (start_behind watch.now).starts above.now line.now }
     ensures { OnOk result (entries.new.items ≡ entries.old.items ++ answer_of watch.now above.now line.now) }
 {
     if watch.untold.is_none() {
-        push_call(alloc, ec_watch::start(watch), above, line, entries)?;
+        push_call(alloc, ec_watch::start(watch), begun, above, line, entries)?;
     }
     Ok(())
 }
@@ -230,23 +214,26 @@ pub fn push(
     alloc: Global,
     watches: &[Watch],
     shown: &[Shown],
+    begins: &[u32],
     at: usize,
     line: &Shown,
     entries: &mut Vec<(u32, Entry)>,
 ) -> Result<(), NoMemory>
     requires few { length shown.now < 2 ^ 31 }
     requires line { slice_get shown.now at ≡ Some line.now }
+    requires begins { AreBegins [] shown.now begins.now }
     requires watched { AreWatched watches.now (take at shown.now) }
     ensures { OnOk result (entries.new.items ≡ entries.old.items ++ line_entries (take at shown.now) line.now (drop (at + 1) shown.now)) }
 {
     match line {
         Shown::Answered(_, clerk, _, _, _) => {
             let watch = ec_watch::watch_of(watches, *clerk);
-            push_answer(alloc, watch, &shown[..at], line, entries)
+            let begun = begins_at(begins, shown, at, line);
+            push_answer(alloc, watch, begun, &shown[..at], line, entries)
         }
         Shown::Ended(clerk, lost) => {
             let watch = ec_watch::watch_of(watches, *clerk);
-            push_loss(alloc, *clerk, watch, lost, shown, at, entries)
+            push_loss(alloc, *clerk, watch, lost, shown, begins, at, entries)
         }
         _ => Ok(()),
     }

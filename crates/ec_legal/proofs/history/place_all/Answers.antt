@@ -1,16 +1,8 @@
-use Rattle.std.proofs.Common.{◌<◌, ◌≤◌, ◌+◌, sym, subst, refl, arith, length, take}
+use Rattle.std.proofs.Common.{◌<◌, ◌≤◌, sym, subst, refl, arith, length, take}
 use Rattle.std.proofs.lemmas.Option.{slice_get_read}
 use Rattle.ec_watch.specs.Watches.{AreWatched}
-use Rattle.ec_legal.proofs.Entries.{first-fault, starts-few, front-at, place-step, placeable-step}
+use Rattle.ec_legal.proofs.Entries.{starts-few, front-at, place-step}
 use Rattle.ec_legal.proofs.history.place_all.Goals as goal
-
-pub returns-in-Some-clause-fault : goal.returns-in-Some-clause-fault
-returns-in-Some-clause-fault c =
-    let ss = c.args.shown.now in
-    let i = c.loop-at.at in
-    let s = c.index-shown-at.result in
-    let within : i < length ss = omega (arith, c.loop-at-test.true) in
-    first-fault ss i s c.in-Some.rule (slice_get_read ss (length ss) i s refl within c.index-shown-at.is) c.loop-at.invariant.1 (rw c.in-Some.is at c.broken.ensures)
 
 pub push-requires-clause-line : goal.push-requires-clause-line
 push-requires-clause-line c =
@@ -33,6 +25,5 @@ loop-at-preserved c =
     let within : i < length ss = omega (arith, c.loop-at-test.true) in
     let g = slice_get_read ss (length ss) i s refl within c.index-shown-at.is in (
       subst (AreWatched c.note.new.watches) (sym (front-at ss i s g)) (c.in_ok-note.ensures (take i ss) c.loop-at.invariant.0),
-      placeable-step ss i s g c.loop-at.invariant.1 (rw c.in_default.is at c.broken.ensures),
-      place-step ss i s _ c.loop-at.entries.items c.push.new.entries.items g c.loop-at.invariant.2 c.in_ok-push.ensures,
+      place-step ss i s _ c.loop-at.entries.items c.push.new.entries.items g c.loop-at.invariant.1 c.in_ok-push.ensures,
     )

@@ -1,8 +1,15 @@
-use Rattle.std.proofs.Common.{◌≡◌, ◌<◌, ◌≤◌, ◌++◌, subst, arith, length, OnOk}
+use Rattle.std.proofs.Common.{◌≡◌, ◌<◌, ◌≤◌, ◌++◌, subst, arith, length, take, OnOk}
 use Rattle.std.proofs.lemmas.Option.{slice_get_within}
-use Rattle.ec_legal.proofs.Watched.{named-at}
+use Rattle.ec_watch.proofs.Watched.{named-at}
 use Rattle.ec_legal.proofs.Entries.{starts-few, loss-held, line-loss}
+use Rattle.ec_legal.proofs.Late.{begun-answer}
 use Rattle.ec_legal.proofs.placing.push.Goals as goal
+
+pub push_answer-requires-clause-begun : goal.push_answer-requires-clause-begun
+push_answer-requires-clause-begun c =
+    let w = c.watch_of-watch.result.now in
+    let own = named-at c.args.watches.now _ c.in-Answered.clerk w c.requires.watched c.watch_of-watch.ensures.below c.watch_of-watch.ensures.value in
+    begun-answer w (take c.args.at c.args.shown.now) _ c.in-Answered.clerk _ _ _ c.begins_at-begun.result c.args.line.now c.in-Answered.is own c.begins_at-begun.ensures
 
 pub push_answer-requires-clause-starts : goal.push_answer-requires-clause-starts
 push_answer-requires-clause-starts c =

@@ -1,0 +1,5 @@
+pub mod Named
+pub mod Excluded
+pub mod Starts
+pub mod Indexed
+pub mod Onward

@@ -1,0 +1,5 @@
+pub mod Faults
+pub mod Named
+pub mod Index
+pub mod Seen
+pub mod Fault

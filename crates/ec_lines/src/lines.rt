@@ -1,0 +1,120 @@
+// Which lines may follow those above them.
+ghost use Rattle.std.specs.Prelude.{◌≡◌, ◌<◌, ◌^◌, T, length, nat_eq, Decides, MatchOption};
+ghost use Rattle.std.specs.HashMap.{get};
+ghost use Rattle.std.specs.List.{list_all};
+ghost use Rattle.ec_volume.specs.Update.{member};
+ghost use Rattle.ec_history.specs.Placing.{Agrees, Unanswered, EachLine, MayFollow};
+ghost use Rattle.ec_lines.specs.Faults.{HasShape, BreaksLine};
+ghost use Rattle.ec_lines.specs.Index.{IsIndex};
+ghost use Rattle.ec_lines.specs.Named.{IsNamed};
+ghost use Rattle.ec_lines.specs.Seen.{Sees};
+
+use crate::calls;
+use crate::index::{self, Calls};
+use crate::seen::Seen;
+use ec_base::{ClerkId, List, OpNo};
+use ec_history::{Rule, Shown, Watch};
+use ec_plain::Call;
+
+/// The first rule that the line breaks behind those above it, as they are seen.
+pub fn broken(above: &[Shown], seen: &Seen, line: &Shown) -> Option<Rule>
+    requires sees { Sees seen.now above.now }
+    requires few { length above.now < 2 ^ 31 }
+    ensures { MatchOption result (MayFollow above.now line.now) (λ rule. BreaksLine above.now line.now rule) }
+{
+    if !has_shape(above, &seen.calls, line) {
+        return Some(Rule::Shape);
+    }
+    match ec_watch::clerk_of(line) {
+        Some(clerk) => {
+            if is_named(ec_watch::watch_of(&seen.watches, clerk), line) {
+                None
+            } else {
+                Some(Rule::Named)
+            }
+        }
+        None => None,
+    }
+}
+
+// Whether its number has one clerk, one call and one answer.
+fn has_shape(above: &[Shown], calls: &Calls, line: &Shown) -> bool
+    requires { IsIndex (get nat_eq calls.now) above.now }
+    ensures { Decides result (HasShape above.now line.now) }
+{
+    match line {
+        Shown::Waits(number, clerk, call) => all_agree(above, calls, *number, *clerk, call),
+        Shown::Answered(number, clerk, call, _, _) => {
+            all_agree(above, calls, *number, *clerk, call) && is_unanswered(above, calls, *number)
+        }
+        _ => true,
+    }
+}
+
+// Whether each line of this number above has this clerk and call.
+fn all_agree(above: &[Shown], calls: &Calls, number: u32, clerk: ClerkId, call: &Call) -> bool
+    requires { IsIndex (get nat_eq calls.now) above.now }
+    ensures { Decides result (EachLine (Agrees number clerk call.now) above.now) }
+{
+    match index::find(calls, number) {
+        Some(lines) => agrees(number, clerk, call, &above[lines.first]),
+        None => true,
+    }
+}
+
+fn agrees(number: u32, clerk: ClerkId, call: &Call, line: &Shown) -> bool
+    ensures { Decides result (Agrees number clerk call.now line.now) }
+{
+    match line {
+        Shown::Waits(same, of, its) => *same != number || is_call(clerk, call, *of, its),
+        Shown::Answered(same, of, its, _, _) => *same != number || is_call(clerk, call, *of, its),
+        _ => true,
+    }
+}
+
+// Whether it is the same call of the same clerk.
+fn is_call(clerk: ClerkId, call: &Call, of: ClerkId, its: &Call) -> bool
+    ensures { Decides result ((of ≡ clerk) × (its.now ≡ call.now)) }
+{
+    of == clerk && calls::is_same(its, call)
+}
+
+// Whether no line above answers the call of this number.
+fn is_unanswered(above: &[Shown], calls: &Calls, number: u32) -> bool
+    requires { IsIndex (get nat_eq calls.now) above.now }
+    ensures { Decides result (EachLine (Unanswered number) above.now) }
+{
+    match index::find(calls, number) {
+        Some(lines) => !lines.is_answered,
+        None => true,
+    }
+}
+
+// Whether it names what it may behind the watch of its clerk.
+fn is_named(watch: &Watch, line: &Shown) -> bool
+    requires { watch.now.starts < 2 ^ 32 }
+    ensures { Decides result (IsNamed watch.now line.now) }
+{
+    match line {
+        Shown::Answered(_, _, call, answer, _) => {
+            !ec_watch::shows(call, answer) || ec_watch::may_show(watch)
+        }
+        Shown::Durable(_, ops) => may_be_durable(watch, ops),
+        Shown::Ended(_, ops) => {
+            ec_watch::owner(watch).is_some()
+                && ec_watch::same_numbers(ops.as_slice(), ec_watch::to_lose(watch))
+        }
+        Shown::Unseen(_) => watch.crashed && watch.open_start.is_none(),
+        Shown::Told(_, ops) => match &watch.untold {
+            Some(lost) => ec_watch::same_numbers(ops.as_slice(), lost.as_slice()),
+            None => false,
+        },
+        _ => true,
+    }
+}
+
+fn may_be_durable(watch: &Watch, ops: &List<OpNo>) -> bool
+    ensures { Decides result (T (list_all (λ n. member n watch.now.undurable) ops.now)) }
+{
+    ec_watch::are_among(ops.as_slice(), watch.undurable.as_slice())
+}
