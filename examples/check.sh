@@ -2,7 +2,8 @@
 # Runs each example through the program, and compares its bytes and its exit status with the files beside it.
 # Usage: examples/check.sh PROGRAM
 #
-# NAME.script goes to standard input, NAME.expected is the transcript and NAME.status the exit status that have to come.
+# NAME.script goes to standard input, NAME.expected is the output and NAME.status the exit status that have to come. Each run has a folder
+# of its own, since the program keeps its disk in a file there.
 # NAME.args has the program's words, one a line; with no such file they are `drill`. Standard error has to say
 # something exactly where the status isn't 0. Then a script and a transcript that fail are tried.
 set -u
@@ -42,7 +43,9 @@ example() {
     else
         set -- drill
     fi
-    "$program" "$@" < "$name.script" > "$folder/$name" 2> "$folder/error"
+    rm -rf "$folder/run"
+    mkdir "$folder/run"
+    (cd "$folder/run" && "$program" "$@") < "$name.script" > "$folder/$name" 2> "$folder/error"
     ended "$name" $? "$(cat "$name.status")" || return 1
     cmp "$folder/$name" "$name.expected"
 }
@@ -53,11 +56,26 @@ for script in *.script; do
 done
 
 # A folder can't be read, and a full device can't be written.
-"$program" drill < . > "$folder/none" 2> "$folder/error"
+rm -rf "$folder/run"
+mkdir "$folder/run"
+(cd "$folder/run" && "$program" drill) < . > "$folder/none" 2> "$folder/error"
 ended "a script that can't be read" $? 4 && [ ! -s "$folder/none" ]
 count $?
-"$program" drill < read_back.script > /dev/full 2> "$folder/error"
+(cd "$folder/run" && "$program" drill) < read_back.script > /dev/full 2> "$folder/error"
 ended "a transcript that can't be written" $? 5
+count $?
+
+# What is no disk is told, and left as it is; a folder in its place can't be opened.
+rm -rf "$folder/run"
+mkdir "$folder/run"
+echo "no disk at all, but a text" > "$folder/run/echofs.disk"
+(cd "$folder/run" && "$program" drill) < read_back.script > "$folder/none" 2> "$folder/error"
+ended "a file that is no disk" $? 7 && [ "$(cat "$folder/none")" = "disk bad 0" ] && [ "$(cat "$folder/run/echofs.disk")" = "no disk at all, but a text" ]
+count $?
+rm "$folder/run/echofs.disk"
+mkdir "$folder/run/echofs.disk"
+(cd "$folder/run" && "$program" drill) < read_back.script > "$folder/none" 2> "$folder/error"
+ended "a disk that can't be opened" $? 6 && [ ! -s "$folder/none" ]
 count $?
 
 echo "examples: $passed passed, $failed failed"

@@ -1,36 +1,64 @@
 //! echofs: a coherent file cache with directory write-behind. This program drills it: it runs a
-//! script of calls and crashes, and prints what was answered and what was lost.
+//! script of calls and faults over clerks, a server and its disk, and prints what was answered and
+//! what was lost. It also judges whether such a transcript is legal.
 #![tactic(auto)]
 
-ghost use Rattle.std.specs.Prelude.{◌≡◌, ◌≢◌, ◌↔◌, ◌≤◌, ◌⊎◌, [], ◌∷◌, map, codes, MatchBool, IsSome, IfOk, IfErr};
+ghost use Rattle.std.specs.Prelude.{◌≡◌, ◌≢◌, ◌↔◌, ◌≤◌, ◌⊎◌, None, Some, map, IsSome, IfOk, IfErr};
 ghost use Rattle.std.specs.Process.{exit_status};
 ghost use Rattle.std.specs.String.{string_bytes};
-ghost use Rattle.ec_drill.specs.Drill.{code};
-ghost use Rattle.ec_drill.specs.declared.status.Status.{Status};
-ghost use Rattle.ec_drill.specs.declared.status.Status.TheVariants as status;
-ghost use Rattle.echofs.specs.Echo.{Echoes, words_of, AnswersUsage};
+ghost use Rattle.ec_disk.specs.Turns.{counts_of};
+ghost use Rattle.echofs.specs.Echo.{Echoes, words_of};
+ghost use Rattle.echofs.specs.Statuses.{code};
+ghost use Rattle.echofs.specs.Words.{Spells};
+ghost use Rattle.echofs.specs.declared.command.Command.{Command};
+ghost use Rattle.echofs.specs.declared.status.Status.{Status};
+ghost use Rattle.echofs.specs.declared.status.Status.TheVariants as status;
 
+mod checking;
+mod command;
+mod making;
+mod soaking;
+mod status;
+mod writing;
+
+use checking::check;
+use command::{Command, command_of};
 use ec_base::{Sink, Source, StdSink, StdSource};
-use ec_drill::{MOST_OBJECTS, Status, drill};
+use ec_disk::{CrashDisk, FileDisk, MemDisk};
+use ec_drill::drill;
+use making::make;
+use soaking::soak;
+use status::Status;
 use std::alloc::Global;
 use std::env::Args;
+use std::fs::File;
 use std::io::Eprint;
 use std::process::ExitCode;
 use std::{env, io};
 
-/// Does all that the program does, over any source and sink, and answers the exit status. The words
-/// are those behind the program's name; `boot` is the number of this start of the process.
-pub fn echo_main<R: AllocGlobal, S: Source, K: Sink>(
+/// The file that has the disk, in the current folder.
+const DISK_FILE: &str = "echofs.disk";
+
+const USAGE: &str =
+    "usage: echofs drill [N] < SCRIPT, echofs check [N] < TRANSCRIPT, echofs make N, or echofs soak N";
+
+/// Does all that the program does, over any source, sink and disk that isn't armed, and answers the
+/// exit status. The words are those behind the program's name; `boot` is the number of this start of
+/// the process.
+pub fn echo_main<R: AllocGlobal, S: Source, K: Sink, D: CrashDisk + Send>(
     rt: &R,
     words: &[String],
     source: &mut S,
     sink: &mut K,
+    disk: &mut D,
     boot: u64,
 ) -> u8
-    ensures usage { (result ≡ 2) ↔ (map string_bytes words.now ≢ codes "drill" ∷ []) }
+    requires { (D.counts disk.old).armed ≡ None }
+    ensures usage { (result ≡ 2) ↔ ((c : Command) → Spells (map string_bytes words.now) c → ⊥) }
     ensures later { (S.faults source.old ≤ S.faults source.new) × (K.faults sink.old ≤ K.faults sink.new) }
+    ensures counts { ((D.counts disk.old).faults ≤ (D.counts disk.new).faults) × ((D.counts disk.old).stops ≤ (D.counts disk.new).stops) }
     ensures echoes { (status : Status) × (result ≡ code status)
-        × Echoes status (record {
+        × Echoes (map string_bytes words.now) status (record {
           left = S.left source.old;
           left_after = S.left source.new;
           reads = S.faults source.old;
@@ -39,22 +67,22 @@ pub fn echo_main<R: AllocGlobal, S: Source, K: Sink>(
           held_after = K.held sink.new;
           writes = K.faults sink.old;
           writes_after = K.faults sink.new;
+          tells = D.tells;
+          disk = D.view disk.old;
+          disk_after = D.view disk.new;
+          counts = D.counts disk.old;
+          counts_after = D.counts disk.new;
         }) }
 {
     let _ = boot;
-    if is_drill(words) {
-        drill(rt.alloc(), source, sink, MOST_OBJECTS).code()
-    } else {
-        Status::Usage.code()
-    }
-}
-
-fn is_drill(words: &[String]) -> bool
-    ensures { MatchBool result (map string_bytes words.now ≡ codes "drill" ∷ []) (map string_bytes words.now ≢ codes "drill" ∷ []) }
-{
-    match words {
-        [word] => word.as_str() == "drill",
-        _ => false,
+    match command_of(words) {
+        Some(Command::Drill(max_objects)) => {
+            Status::of_drill(drill(rt.alloc(), source, sink, disk, max_objects)).code()
+        }
+        Some(Command::Check(max_objects)) => check(rt.alloc(), source, sink, max_objects).code(),
+        Some(Command::Make(number)) => make(rt.alloc(), number, sink).code(),
+        Some(Command::Soak(number)) => soak(rt.alloc(), number, sink, disk).code(),
+        None => Status::Usage.code(),
     }
 }
 
@@ -64,54 +92,65 @@ fn reason(status: u8) -> Option<&'static str>
 {
     match status {
         0 => None,
-        2 => Some("usage: echofs drill < SCRIPT"),
-        3 => Some("echofs: a line of the script is outside the grammar; the last line names it"),
-        4 => Some("echofs: the script can't be read"),
-        5 => Some("echofs: the transcript can't be written"),
+        2 => Some(USAGE),
+        3 => Some("echofs: a line can't be read or carried out; the last line names it"),
+        4 => Some("echofs: the input can't be read"),
+        5 => Some("echofs: the output can't be written"),
+        6 => Some("echofs: the disk failed"),
+        7 => Some("echofs: the disk is bad; the last line tells where"),
         9 => Some("echofs: out of memory"),
-        11 => Some("echofs: the script is too large; the last line tells the limit"),
+        11 => Some("echofs: too much; the last line tells the limit"),
+        12 => Some("echofs: the transcript isn't legal; the last line names its first fault"),
+        15 => Some("echofs: a counter is spent; the last line names it"),
         _ => Some("echofs: stopped"),
     }
 }
 
-/// All that the process does: it answers the words behind the program's name, with these streams, and
-/// says on standard error why it ends otherwise than well. Arguments that can't be read are no words
-/// of the program. What can't be said on standard error is no fault.
-fn process<R: AllocGlobal + Eprint, S: Source, K: Sink>(
+/// All that the process does with words and a disk: it answers the words, with these streams, and
+/// says on standard error why it ends otherwise than well. What can't be said on standard error is no
+/// fault.
+fn process<R: AllocGlobal + Eprint, S: Source, K: Sink, D: CrashDisk + Send>(
     rt: &R,
-    args: io::Result<Args>,
+    words: &[String],
     source: &mut S,
     sink: &mut K,
+    disk: &mut D,
 ) -> ExitCode
-    ensures usage { AnswersUsage (words_of string_bytes args) (exit_status result) }
+    requires { (D.counts disk.old).armed ≡ None }
+    ensures usage { (exit_status result ≡ 2) ↔ ((c : Command) → Spells (map string_bytes words.now) c → ⊥) }
     ensures later { (S.faults source.old ≤ S.faults source.new) × (K.faults sink.old ≤ K.faults sink.new) }
-    ensures echoes { (status : Status) × (exit_status result ≡ code status) × Echoes status (record { left = S.left source.old; left_after = S.left source.new; reads = S.faults source.old; reads_after = S.faults source.new; held = K.held sink.old; held_after = K.held sink.new; writes = K.faults sink.old; writes_after = K.faults sink.new }) }
+    ensures counts { ((D.counts disk.old).faults ≤ (D.counts disk.new).faults) × ((D.counts disk.old).stops ≤ (D.counts disk.new).stops) }
+    ensures echoes { (status : Status) × (exit_status result ≡ code status)
+        × Echoes (map string_bytes words.now) status (record {
+          left = S.left source.old;
+          left_after = S.left source.new;
+          reads = S.faults source.old;
+          reads_after = S.faults source.new;
+          held = K.held sink.old;
+          held_after = K.held sink.new;
+          writes = K.faults sink.old;
+          writes_after = K.faults sink.new;
+          tells = D.tells;
+          disk = D.view disk.old;
+          disk_after = D.view disk.new;
+          counts = D.counts disk.old;
+          counts_after = D.counts disk.new;
+        }) }
 {
-    let status = answer(rt, args, source, sink);
+    end(rt, echo_main(rt, words, source, sink, disk, 1))
+}
+
+// Ends with this status, and says why.
+fn end<R: Eprint>(rt: &R, status: u8) -> ExitCode
+    ensures { exit_status result ≡ status }
+{
     if let Some(reason) = reason(status) {
         let _ = eprintln!(rt; "{reason}");
     }
     ExitCode::from(status)
 }
 
-// The number that the process ends with.
-fn answer<R: AllocGlobal, S: Source, K: Sink>(
-    rt: &R,
-    args: io::Result<Args>,
-    source: &mut S,
-    sink: &mut K,
-) -> u8
-    ensures usage { AnswersUsage (words_of string_bytes args) result }
-    ensures later { (S.faults source.old ≤ S.faults source.new) × (K.faults sink.old ≤ K.faults sink.new) }
-    ensures echoes { (status : Status) × (result ≡ code status) × Echoes status (record { left = S.left source.old; left_after = S.left source.new; reads = S.faults source.old; reads_after = S.faults source.new; held = K.held sink.old; held_after = K.held sink.new; writes = K.faults sink.old; writes_after = K.faults sink.new }) }
-{
-    match own_words(rt.alloc(), args) {
-        Ok(words) => echo_main(rt, &words, source, sink, 1),
-        Err(fault) => fault.code(),
-    }
-}
-
-// The words behind the program's name.
+// The words behind the program's name. Arguments that can't be read are no words of the program.
 fn own_words(alloc: Global, args: io::Result<Args>) -> Result<Vec<String>, Status>
     ensures ok { IfOk result (λ words. words_of string_bytes args ≡ Some (map string_bytes words.items)) }
     ensures err { IfErr result (λ fault. (fault ≡ status.NoMemory) ⊎ ((fault ≡ status.Usage) × (words_of string_bytes args ≡ None))) }
@@ -131,10 +170,40 @@ fn own_words(alloc: Global, args: io::Result<Args>) -> Result<Vec<String>, Statu
     Ok(words)
 }
 
+// The disk over the program's file, which is made with length 0 where it isn't there.
+fn open_disk(rt: HostRuntime) -> Result<FileDisk<File>, Status>
+    ensures { IfOk result (λ disk. (counts_of disk.turns).armed ≡ None) }
+{
+    let mut options = File::options();
+    options.read(true).write(true).create(true);
+    let Ok(file) = options.open(&rt, DISK_FILE) else {
+        return Err(Status::DiskFault);
+    };
+    match FileDisk::new(rt.alloc(), file) {
+        Ok(disk) => Ok(disk),
+        Err(_) => Err(Status::NoMemory),
+    }
+}
+
 fn main(rt: HostRuntime) -> ExitCode {
     let mut source = StdSource::new(rt.reader());
     let mut sink = StdSink::new(io::writer(&rt));
-    process(&rt, env::args(&rt), &mut source, &mut sink)
+    let words = match own_words(rt.alloc(), env::args(&rt)) {
+        Ok(words) => words,
+        Err(fault) => return end(&rt, fault.code()),
+    };
+    let asks_for_disk = command_of(&words).is_some_and(|command| command.uses_disk());
+    if asks_for_disk {
+        match open_disk(rt) {
+            Ok(mut disk) => process(&rt, &words, &mut source, &mut sink, &mut disk),
+            Err(fault) => end(&rt, fault.code()),
+        }
+    } else {
+        match MemDisk::new(rt.alloc(), Vec::new(rt.alloc())) {
+            Ok(mut disk) => process(&rt, &words, &mut source, &mut sink, &mut disk),
+            Err(_) => end(&rt, Status::NoMemory.code()),
+        }
+    }
 }
 
 #[cfg(test)]

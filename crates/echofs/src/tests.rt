@@ -2,132 +2,147 @@ use super::*;
 use ec_base::{MemSink, MemSource};
 use std::test::Fail;
 
-// The status and the transcript of a script, whose source and sink fail at these calls.
-fn drilled(
+// The status and the output of these words over a script and a new disk, where the source, the sink
+// and the disk fail at these calls.
+fn echoed(
     rt: &impl AllocGlobal,
+    words: &[&str],
     script: &[u8],
     reads: &[u64],
     writes: &[u64],
+    fails: &[u64],
 ) -> Result<(u8, Vec<u8>), Fail> {
-    let mut words = Vec::new(rt.alloc());
-    words.push(String::from_str(rt.alloc(), "drill")?)?;
+    let mut own = Vec::new(rt.alloc());
+    for word in words {
+        own.push(String::from_str(rt.alloc(), word)?)?;
+    }
     let script = Vec::from_slice(rt.alloc(), script)?;
     let mut source = MemSource::new(script, Vec::from_slice(rt.alloc(), reads)?);
     let mut sink = MemSink::new(rt.alloc(), Vec::from_slice(rt.alloc(), writes)?);
-    let status = echo_main(rt, &words, &mut source, &mut sink, 1);
+    let mut disk = MemDisk::new(rt.alloc(), Vec::from_slice(rt.alloc(), fails)?)?;
+    let status = echo_main(rt, &own, &mut source, &mut sink, &mut disk, 1);
     Ok((status, sink.bytes().to_vec(rt.alloc())?))
 }
 
 #[test]
 fn answers_and_loses(rt: HostRuntime) -> Result<(), Fail> {
     let script = b"A create /f\nA write /f 0 hi\ncrash A\nA read /f 0 9\ncrash A\ncrash A\n";
-    let (status, text) = drilled(&rt, script, &[], &[])?;
+    let (status, text) = echoed(&rt, &["drill"], script, &[], &[], &[])?;
     assert_eq!(rt; status, 0);
     assert!(rt;
         text.as_slice()
-            == b"1 A create /f -> ok op 1\n2 A write /f 0 hi -> ok op 2\ncrashed A\nended A lost 1 2\n4 A read /f 0 9 -> refused NotFound 1\ncrashed A\nnone\n".as_slice()
+            == b"1 A create /f -> waits\n1 A create /f -> ok op 1\n2 A write /f 0 hi -> ok op 2\ncrashed A\n4 A read /f 0 9 -> waits\nended A lost 1 2\n4 A read /f 0 9 -> refused NotFound 1\ncrashed A\nnone\n".as_slice()
     );
-    let (status, text) = drilled(&rt, b"", &[], &[])?;
-    assert_eq!(rt; status, 0);
-    assert!(rt; text.is_empty());
     Ok(())
 }
 
 #[test]
 fn tells_a_bad_line(rt: HostRuntime) -> Result<(), Fail> {
-    let (status, text) = drilled(&rt, b"A create /f\nB create /g\n", &[], &[])?;
+    let script = b"A create /f\nA create f\n";
+    let (status, text) = echoed(&rt, &["drill"], script, &[], &[], &[])?;
     assert_eq!(rt; status, 3);
-    assert!(rt; text.as_slice() == b"1 A create /f -> ok op 1\nbad 2 col 1\n".as_slice());
+    assert!(rt;
+        text.as_slice()
+            == b"1 A create /f -> waits\n1 A create /f -> ok op 1\nbad 2 col 10\n".as_slice()
+    );
     Ok(())
 }
 
 #[test]
 fn tells_faults(rt: HostRuntime) -> Result<(), Fail> {
-    let script = b"A create /f\nA write /f 0 hi\nA read /f 0 9\n";
-    let (status, text) = drilled(&rt, script, &[1], &[])?;
+    let script = b"A create /f\nA write /f 0 hi\n";
+    let (status, text) = echoed(&rt, &["drill"], script, &[1], &[], &[])?;
     assert_eq!(rt; status, 4);
     assert!(rt; text.is_empty());
-    let (status, _) = drilled(&rt, script, &[2], &[])?;
-    assert_eq!(rt; status, 4);
-    let (_, whole) = drilled(&rt, script, &[], &[])?;
-    for call in 1..=3 {
-        let (status, text) = drilled(&rt, script, &[], &[call])?;
-        assert_eq!(rt; status, 5);
-        assert!(rt; whole.as_slice().starts_with(text.as_slice()));
-        let lines = text.iter().filter(|byte| **byte == b'\n').count();
-        assert_eq!(rt; lines as u64, call - 1);
-    }
-    let (_, text) = drilled(&rt, script, &[], &[2])?;
-    assert!(rt; text.as_slice() == b"1 A create /f -> ok op 1\n".as_slice());
+    let (status, text) = echoed(&rt, &["drill"], script, &[], &[2], &[])?;
+    assert_eq!(rt; status, 5);
+    assert!(rt; text.as_slice() == b"1 A create /f -> waits\n".as_slice());
+    let (status, text) = echoed(&rt, &["drill"], script, &[], &[], &[1])?;
+    assert_eq!(rt; status, 6);
+    assert!(rt; text.is_empty());
     Ok(())
 }
 
 #[test]
 fn tells_the_limits(rt: HostRuntime) -> Result<(), Fail> {
     let lines = vec![in rt.alloc(); b'\n'; 65_537]?;
-    let (status, text) = drilled(&rt, &lines, &[], &[])?;
+    let (status, text) = echoed(&rt, &["drill"], &lines, &[], &[], &[])?;
     assert_eq!(rt; status, 11);
     assert!(rt; text.as_slice() == b"limit lines 65537\n".as_slice());
-    let bytes = vec![in rt.alloc(); b'#'; 1_048_577]?;
-    let (status, text) = drilled(&rt, &bytes, &[], &[])?;
-    assert_eq!(rt; status, 11);
-    assert!(rt; text.as_slice() == b"limit bytes 1048577\n".as_slice());
+    Ok(())
+}
+
+const LEGAL: &[u8] =
+    b"1 A create /f -> waits\n1 A create /f -> ok op 1\ncrashed A\n3 A stat /f -> waits\nended A lost 1\n3 A stat /f -> refused NotFound 1\n";
+
+const ILLEGAL: &[u8] =
+    b"1 A create /f -> waits\n1 A create /f -> ok op 1\ncrashed A\n3 A stat /f -> waits\nended A lost -\n3 A stat /f -> refused NotFound 1\n";
+
+#[test]
+fn judges_transcripts(rt: HostRuntime) -> Result<(), Fail> {
+    let (status, text) = echoed(&rt, &["check"], LEGAL, &[], &[], &[])?;
+    assert_eq!(rt; status, 0);
+    assert!(rt; text.as_slice() == b"legal\n".as_slice());
+    let (status, text) = echoed(&rt, &["check", "32"], ILLEGAL, &[], &[], &[])?;
+    assert_eq!(rt; status, 12);
+    assert!(rt; text.as_slice() == b"illegal 5 named\n".as_slice());
+    let (status, text) = echoed(&rt, &["check"], b"crashed A\nnonsense\n", &[], &[], &[])?;
+    assert_eq!(rt; status, 3);
+    assert!(rt; text.as_slice() == b"bad 2 col 1\n".as_slice());
     Ok(())
 }
 
 #[test]
-fn takes_the_most_that_the_limits_allow(rt: HostRuntime) -> Result<(), Fail> {
-    let lines = vec![in rt.alloc(); b'\n'; 65_536]?;
-    let (status, text) = drilled(&rt, &lines, &[], &[])?;
-    assert_eq!(rt; status, 0);
+fn tells_faults_of_a_check(rt: HostRuntime) -> Result<(), Fail> {
+    let (status, text) = echoed(&rt, &["check"], LEGAL, &[1], &[], &[])?;
+    assert_eq!(rt; status, 4);
     assert!(rt; text.is_empty());
-    let bytes = vec![in rt.alloc(); b'#'; 1_048_576]?;
-    let (status, text) = drilled(&rt, &bytes, &[], &[])?;
+    let (status, text) = echoed(&rt, &["check"], LEGAL, &[], &[1], &[])?;
+    assert_eq!(rt; status, 5);
+    assert!(rt; text.is_empty());
+    // It uses no disk.
+    let (status, text) = echoed(&rt, &["check"], LEGAL, &[], &[], &[1])?;
     assert_eq!(rt; status, 0);
+    assert!(rt; text.as_slice() == b"legal\n".as_slice());
+    Ok(())
+}
+
+#[test]
+fn soaks(rt: HostRuntime) -> Result<(), Fail> {
+    let (status, text) = echoed(&rt, &["soak", "7"], b"", &[], &[], &[])?;
+    assert_eq!(rt; status, 0);
+    assert!(rt;
+        text.as_slice() == b"soak 7 lines 2000 answers 2000 waiting 0 unsettled 0\n".as_slice()
+    );
+    let (status, text) = echoed(&rt, &["soak", "7"], b"", &[], &[1], &[])?;
+    assert_eq!(rt; status, 5);
+    assert!(rt; text.is_empty());
+    let (status, text) = echoed(&rt, &["soak", "7"], b"", &[], &[], &[1])?;
+    assert_eq!(rt; status, 6);
     assert!(rt; text.is_empty());
     Ok(())
 }
 
-// The exit status and the transcript of a process with these arguments, over a script of one line.
-fn processed(
-    rt: &(impl AllocGlobal + Eprint),
-    args: io::Result<Args>,
-) -> Result<(ExitCode, Vec<u8>), Fail> {
-    let script = Vec::from_slice(rt.alloc(), b"A create /f\n")?;
-    let mut source = MemSource::new(script, Vec::new(rt.alloc()));
-    let mut sink = MemSink::new(rt.alloc(), Vec::new(rt.alloc()));
-    let exit = process(rt, args, &mut source, &mut sink);
-    Ok((exit, sink.bytes().to_vec(rt.alloc())?))
-}
-
-fn args_of(rt: &impl AllocGlobal, words: &[&str]) -> Result<Args, Fail> {
-    let mut args = Vec::new(rt.alloc());
-    for word in words {
-        args.push(String::from_str(rt.alloc(), word)?)?;
+#[test]
+fn knows_its_words(rt: HostRuntime) -> Result<(), Fail> {
+    let (status, text) = echoed(&rt, &["drill", "32"], b"", &[], &[], &[])?;
+    assert_eq!(rt; status, 0);
+    assert!(rt; text.is_empty());
+    let (status, text) = echoed(&rt, &["make", "1"], b"", &[], &[], &[])?;
+    assert_eq!(rt; status, 0);
+    let lines = text.iter().filter(|byte| **byte == b'\n').count();
+    assert_eq!(rt; lines as u64, 2_000);
+    for words in [
+        ["drill", "31"],
+        ["drill", "1025"],
+        ["drill", "032"],
+        ["check", "1025"],
+        ["make", "-1"],
+        ["soak", "4294967296"],
+    ] {
+        let (status, text) = echoed(&rt, &words, b"", &[], &[], &[])?;
+        assert_eq!(rt; status, 2);
+        assert!(rt; text.is_empty());
     }
-    Ok(args.into_iter())
-}
-
-#[test]
-fn the_first_argument_is_no_word(rt: HostRuntime) -> Result<(), Fail> {
-    let args = args_of(&rt, &["echofs", "drill"])?;
-    let (exit, text) = processed(&rt, Ok(args))?;
-    assert!(rt; exit == ExitCode::from(0));
-    assert!(rt; text.as_slice() == b"1 A create /f -> ok op 1\n".as_slice());
-    let args = args_of(&rt, &["drill"])?;
-    let (exit, text) = processed(&rt, Ok(args))?;
-    assert!(rt; exit == ExitCode::from(2));
-    assert!(rt; text.is_empty());
-    Ok(())
-}
-
-#[test]
-fn ends_where_the_arguments_cannot_be_read(rt: HostRuntime) -> Result<(), Fail> {
-    let (exit, text) = processed(&rt, Err(io::Error::from(io::ErrorKind::InvalidData)))?;
-    assert!(rt; exit == ExitCode::from(2));
-    assert!(rt; text.is_empty());
-    let (exit, text) = processed(&rt, Err(io::Error::from(io::ErrorKind::OutOfMemory)))?;
-    assert!(rt; exit == ExitCode::from(9));
-    assert!(rt; text.is_empty());
     Ok(())
 }

@@ -1,0 +1,3 @@
+mod Judging
+mod Usage
+pub mod Soaks

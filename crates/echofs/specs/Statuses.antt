@@ -1,0 +1,33 @@
+-- How the program ends.
+use Rattle.std.specs.Prelude.{ℕ}
+use Rattle.ec_drill.specs.declared.status.Status.TheVariants as drill
+use Rattle.ec_drill.specs.declared.status.Status as drilled
+use Rattle.echofs.specs.declared.status.Status.{Status}
+use Rattle.echofs.specs.declared.status.Status.TheVariants as status
+
+-- the number that the process answers
+abbrev pub code : Status → ℕ
+code status.Done = 0
+code status.Usage = 2
+code status.BadLine = 3
+code status.SourceFault = 4
+code status.SinkFault = 5
+code status.DiskFault = 6
+code status.BadDisk = 7
+code status.NoMemory = 9
+code status.Limit = 11
+code status.Illegal = 12
+code status.Spent = 15
+
+-- the program ends as its drill does
+abbrev pub of_drill : drilled.Status → Status
+of_drill drill.Done = status.Done
+of_drill drill.Usage = status.Usage
+of_drill drill.BadLine = status.BadLine
+of_drill drill.SourceFault = status.SourceFault
+of_drill drill.SinkFault = status.SinkFault
+of_drill drill.DiskFault = status.DiskFault
+of_drill drill.BadDisk = status.BadDisk
+of_drill drill.NoMemory = status.NoMemory
+of_drill drill.Limit = status.Limit
+of_drill drill.Spent = status.Spent

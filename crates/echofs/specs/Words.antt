@@ -1,0 +1,28 @@
+-- The words of the program.
+use Rattle.std.specs.Prelude.{◌≡◌, ◌⊎◌, ◌-◌, ◌^◌, ℕ, Bool, true, false, List, [], ◌∷◌, codes}
+use Rattle.ec_words.specs.Spelling.{IsNumberIn}
+use Rattle.ec_durable.specs.WellFormed.{least_max_objects, most_max_objects}
+use Rattle.ec_drill.specs.Limits.{most_objects}
+use Rattle.echofs.specs.declared.command.Command.{Command}
+use Rattle.echofs.specs.declared.command.Command.TheVariants.{Drill, Check, Make, Soak}
+
+-- a word, and a number within these limits
+abbrev pub IsNumbered : List ℕ → ℕ → ℕ → List (List ℕ) → ℕ → Type 0
+IsNumbered text least most words n = (word : List ℕ) × (words ≡ text ∷ word ∷ []) × IsNumberIn least most word n
+
+-- a word, and the greatest number of objects of a volume, which may be left out
+abbrev pub IsOfVolume : List ℕ → List (List ℕ) → ℕ → Type 0
+IsOfVolume text words most = ((words ≡ text ∷ []) × (most ≡ most_objects)) ⊎ IsNumbered text least_max_objects most_max_objects words most
+
+-- the forms of words, and what each asks for
+abbrev pub Spells : List (List ℕ) → Command → Type 0
+Spells words (Drill most) = IsOfVolume (codes "drill") words most
+Spells words (Check most) = IsOfVolume (codes "check") words most
+Spells words (Make n) = IsNumbered (codes "make") 0 (2 ^ 32 - 1) words n
+Spells words (Soak n) = IsNumbered (codes "soak") 0 (2 ^ 32 - 1) words n
+
+abbrev pub uses_disk : Command → Bool
+uses_disk (Drill most) = true
+uses_disk (Check most) = false
+uses_disk (Make n) = false
+uses_disk (Soak n) = true

@@ -1,0 +1,74 @@
+// What the words of the program ask for.
+ghost use Rattle.std.specs.Prelude.{◌≡◌, [], ◌∷◌, map, MatchOption};
+ghost use Rattle.std.specs.String.{string_bytes};
+ghost use Rattle.echofs.specs.Words.{Spells, uses_disk};
+ghost use Rattle.echofs.specs.declared.command.Command.{Command};
+
+use ec_drill::MOST_OBJECTS;
+use ec_words::number_in;
+
+/// What the program does.
+#[derive(Clone, Copy, Debug, Drop, PartialEq, Eq)]
+pub enum Command {
+    /// Drills a script. A new disk is formatted for so many objects.
+    Drill(u32),
+    /// Judges a transcript that began on a disk formatted for so many objects.
+    Check(u32),
+    /// Writes the script of this number.
+    Make(u32),
+    /// Drills the script of this number, and counts what the transcript tells.
+    Soak(u32),
+}
+
+impl Command {
+    /// Whether it uses the disk.
+    pub fn uses_disk(self) -> bool
+        ensures { result ≡ uses_disk self }
+    {
+        match self {
+            Command::Drill(_) | Command::Soak(_) => true,
+            Command::Check(_) | Command::Make(_) => false,
+        }
+    }
+}
+
+/// What these words ask for.
+pub fn command_of(words: &[String]) -> Option<Command>
+    ensures { MatchOption result ((c : Command) → Spells (map string_bytes words.now) c → ⊥) (λ c. Spells (map string_bytes words.now) c) }
+{
+    match words {
+        [word] => alone(word.as_bytes()),
+        [word, number] => numbered(word.as_bytes(), number.as_bytes()),
+        _ => None,
+    }
+}
+
+fn alone(word: &[u8]) -> Option<Command>
+    ensures { MatchOption result ((c : Command) → Spells (word.now ∷ []) c → ⊥) (λ c. Spells (word.now ∷ []) c) }
+{
+    if word == b"drill".as_slice() {
+        return Some(Command::Drill(MOST_OBJECTS));
+    }
+    if word == b"check".as_slice() {
+        return Some(Command::Check(MOST_OBJECTS));
+    }
+    None
+}
+
+fn numbered(word: &[u8], number: &[u8]) -> Option<Command>
+    ensures { MatchOption result ((c : Command) → Spells (word.now ∷ number.now ∷ []) c → ⊥) (λ c. Spells (word.now ∷ number.now ∷ []) c) }
+{
+    if word == b"drill".as_slice() {
+        return Some(Command::Drill(number_in(number, 32, 1_024)? as u32));
+    }
+    if word == b"check".as_slice() {
+        return Some(Command::Check(number_in(number, 32, 1_024)? as u32));
+    }
+    if word == b"make".as_slice() {
+        return Some(Command::Make(number_in(number, 0, 4_294_967_295)? as u32));
+    }
+    if word == b"soak".as_slice() {
+        return Some(Command::Soak(number_in(number, 0, 4_294_967_295)? as u32));
+    }
+    None
+}
