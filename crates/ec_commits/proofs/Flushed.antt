@@ -32,11 +32,13 @@ use Rattle.ec_coherence.proofs.Flushed.{flushes}
 use Rattle.ec_coherence.proofs.Lists.{and_first, filter-alike}
 use Rattle.ec_coherence.proofs.OpenSlots.{at-open, open-at}
 use Rattle.ec_coherence.proofs.Tables.{equal, is-true, same, same_some}
+use Rattle.ec_commits.specs.Starts.{StartsAgree}
 use Rattle.ec_commits.specs.Watches.{WatchesAgree, still_in}
 use Rattle.ec_commits.proofs.Durables as durables
 use Rattle.ec_commits.proofs.Durables.{durable-events, member-less, numbers-left}
 use Rattle.ec_commits.proofs.Given.{before-lines, before-record, ended-unclaimed}
 use Rattle.ec_commits.proofs.Shown.{lines-agree}
+use Rattle.ec_commits.proofs.Starting.{alike-with, quiet-with, starts-behind}
 use Rattle.ec_commits.proofs.Stopping.{stops-behind}
 
 all-members : (P : ℕ → Bool) (xs : List ℕ) → ((n : ℕ) → T (member n xs) → T (P n)) → T (list_all P xs)
@@ -223,3 +225,7 @@ module _ (g : System) (γ : Ghost) (t : Serving) (u : Under g t γ) (none : t.re
 
   pub flush-shows : WatchesAgree (serving_in (flush c s b ops sl t) γ' g)
   flush-shows = subst (λ z. WatchesAgree (serving_in z γ' g)) (sym flush-is) flush-watches
+
+  pub flush-starts : StartsAgree here → StartsAgree (serving_in (flush c s b ops sl t) γ' g)
+  flush-starts st = subst (λ z. StartsAgree (serving_in z γ' g)) (sym flush-is)
+      (starts-behind g γ t st γ' done (quiet-with g γ t st c (Kept s now.epoch b) tt) st.owned st.above (alike-with g γ t st c (sl.age).boot (keys ops)))

@@ -6,6 +6,7 @@ use Rattle.ec_volume.specs.Update.{member}
 use Rattle.ec_sessions.specs.Limits.{last_first_id, last_grants}
 use Rattle.ec_sessions.specs.Slots.{with_ids}
 use Rattle.ec_sessions.specs.declared.slot.Slot.{Slot}
+use Rattle.ec_wire.specs.declared.msg.Msg.TheVariants.{Ids}
 use Rattle.ec_durable.specs.Durable.{is_full, slot, step}
 use Rattle.ec_durable.specs.declared.record.Record.TheVariants as record_of
 use Rattle.ec_tokens.specs.Tokens as tokens
@@ -22,8 +23,10 @@ use Rattle.ec_coherence.proofs.GiveAgrees as giving
 use Rattle.ec_coherence.proofs.GiveAgrees.{give-agrees}
 use Rattle.ec_coherence.proofs.OpenSlots.{at-open, open-at}
 use Rattle.ec_coherence.proofs.Tables.{holds, none_some, same_some}
+use Rattle.ec_commits.specs.Starts.{StartsAgree}
 use Rattle.ec_commits.specs.Watches.{FirstsAgree, WatchesAgree, still_in}
 use Rattle.ec_commits.proofs.Framed.{framed-events}
+use Rattle.ec_commits.proofs.Starting.{quiet-with, starts-behind}
 use Rattle.ec_commits.proofs.Stopping.{stops-behind}
 use Rattle.ec_commits.proofs.Watched.{reslotted-watches}
 
@@ -109,6 +112,10 @@ module _ (g : System) (γ : Ghost) (t : Serving) (u : Under g t γ) (none : t.re
 
   pub give-stands : Under g (grant_ids c sl.session sl.grants ask t) γ'
   give-stands = subst (λ z. Under g z γ') (sym (giving.grant-is g γ t u c sl in_slot opened k there claimed taken current ask room enough small)) given
+
+  pub give-starts : StartsAgree here → StartsAgree (serving_in (grant_ids c sl.session sl.grants ask t) γ' g)
+  give-starts st = subst (λ z. StartsAgree (serving_in z γ' g)) (sym (giving.grant-is g γ t u c sl in_slot opened k there claimed taken current ask room enough small))
+      (starts-behind g γ t st γ' now (quiet-with g γ t st c (Ids sl.session t.server.durable.epoch sl.grants (t.server.number + 1) t.server.durable.next_id) tt) st.owned st.above st.alike)
 
   module _ (wa : WatchesAgree here) where
     given-watches : WatchesAgree behind

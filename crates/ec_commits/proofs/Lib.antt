@@ -6,6 +6,7 @@ pub mod Given
 pub mod Opened
 pub mod Durables
 pub mod Flushed
+pub mod Starting
 pub mod Opening
 pub mod Spending
 pub mod Claiming

@@ -10,6 +10,7 @@ use Rattle.ec_volume.specs.Update.{member}
 use Rattle.ec_history.specs.History.{Each, Op, numbers, of_start}
 use Rattle.ec_history.specs.declared.shown.Shown.{Shown}
 use Rattle.ec_sessions.specs.declared.slot.Slot.{Slot}
+use Rattle.ec_wire.specs.declared.msg.Msg.TheVariants.{Opened}
 use Rattle.ec_durable.specs.Durable.{slot, step}
 use Rattle.ec_durable.specs.declared.record.Record.TheVariants as record_of
 use Rattle.ec_tokens.specs.Tokens as tokens
@@ -26,9 +27,11 @@ use Rattle.ec_coherence.proofs.OpenAgrees as opening
 use Rattle.ec_coherence.proofs.OpenAgrees.{open-agrees}
 use Rattle.ec_coherence.proofs.OpenSlots.{at-open, open-at, owner-slot}
 use Rattle.ec_coherence.proofs.Tables.{differ, equal, holds, is-true, none_some, same_some}
+use Rattle.ec_commits.specs.Starts.{StartsAgree}
 use Rattle.ec_commits.specs.Watches.{WatchesAgree, still_in}
 use Rattle.ec_commits.proofs.Framed.{framed-events}
 use Rattle.ec_commits.proofs.Given.{before-lines, before-record, ended-unclaimed}
+use Rattle.ec_commits.proofs.Starting.{owned-with, quiet-with, starts-behind}
 use Rattle.ec_commits.proofs.Stopping.{stops-behind}
 use Rattle.ec_commits.proofs.Watched.{reslotted-watches}
 
@@ -154,3 +157,7 @@ module _ (g : System) (γ : Ghost) (t : Serving) (u : Under g t γ) (none : t.re
 
     pub open-watches : WatchesAgree (serving_in (open_new c age None t) γ' g)
     open-watches = subst (λ z. WatchesAgree (serving_in z γ' g)) (sym (opening.open-is g γ t u c age within idle greater reached small)) opened-watches
+
+  pub open-starts : g.first_boot c < age.boot → StartsAgree here → StartsAgree (serving_in (open_new c age None t) γ' g)
+  open-starts above st = subst (λ z. StartsAgree (serving_in z γ' g)) (sym (opening.open-is g γ t u c age within idle greater reached small))
+      (starts-behind g γ t st γ' now (quiet-with g γ t st c (Opened age s t.server.durable.epoch) tt) (owned-with g γ t st c age s (above, reached.1)) st.above st.alike)

@@ -1,9 +1,9 @@
 -- The whole invariant behind each want, token given back and batch that a server takes.
 use Rattle.std.proofs.Common.{◌≡◌, refl, sym, ap, subst, ◌∙◌, inl, inr, ◌⊎◌, ℕ, Bool, true, false, not, ◌==◌, ◌&&◌, ◌||◌, T, List, [], ◌∷◌, ◌++◌, Option, Some, None, append-nil, cond, arith}
-use Rattle.std.specs.Prelude.{◌+◌, ◌≤◌, zero, suc, Contains, is_none, is_some, nat_le, nat_lt, Result, Ok, Err}
+use Rattle.std.specs.Prelude.{◌+◌, ◌<◌, ◌≤◌, zero, suc, Contains, is_none, is_some, nat_le, nat_lt, Result, Ok, Err}
 use Rattle.std.specs.List.{list_all}
 use Rattle.std.proofs.lemmas.Bool.{and_parts, true≢false}
-use Rattle.ec_base.specs.Tables.{Table, at, keys, or_else, put}
+use Rattle.ec_base.specs.Tables.{Table, at, at_or, keys, or_else, put}
 use Rattle.ec_base.specs.Ages.{is_older}
 use Rattle.ec_base.specs.Limits.{last_counter}
 use Rattle.ec_base.specs.declared.counter.Counter.TheVariants as counter
@@ -19,7 +19,7 @@ use Rattle.ec_sessions.specs.declared.slot.Greeting.TheVariants as greeted_of
 use Rattle.ec_sessions.specs.declared.slot.Slot.{Slot}
 use Rattle.ec_wire.specs.declared.msg.Msg.{Msg}
 use Rattle.ec_wire.specs.Messages.{is_held_mode, is_sound, rises}
-use Rattle.ec_wire.specs.declared.msg.Msg.TheVariants.{Hello, Want, Back, Flush, Room, Claim, Opened, Kept, Ids, NoRoom, Restarted}
+use Rattle.ec_wire.specs.declared.msg.Msg.TheVariants.{Hello, Want, Back, Flush, Room, Claim, Opened, Kept, Ids, NoRoom, Ended, Restarted, OldBoot}
 use Rattle.ec_durable.specs.Durable.{is_full, live, reserved, slot, step}
 use Rattle.ec_durable.specs.declared.record.RecordFault.{RecordFault}
 use Rattle.ec_durable.specs.declared.state.Durable.{Durable}
@@ -46,19 +46,21 @@ use Rattle.ec_coherence.proofs.Tables.{at-put, equal, fails, holds, none_some, s
 use Rattle.ec_coherence.proofs.Lists.{and_first}
 use Rattle.ec_coherence.proofs.GiveAgrees.{grant-is}
 use Rattle.ec_coherence.proofs.OpenAgrees.{open-is}
-use Rattle.ec_commits.specs.Laws.{Stands, Takes, show_batch}
+use Rattle.ec_commits.specs.Laws.{AllAgree, Stands, Takes, show_batch}
+use Rattle.ec_commits.specs.Starts.{Greets}
 use Rattle.ec_commits.specs.Watches.{FirstsAgree, WatchesAgree}
 use Rattle.ec_commits.proofs.Claiming.{claims-clear}
-use Rattle.ec_commits.proofs.Flushed.{flush-is, flush-shows, flush-stands}
-use Rattle.ec_commits.proofs.Given.{give-firsts, give-stands, give-watches, ids-in-range}
-use Rattle.ec_commits.proofs.Opened.{open-stands, open-watches}
+use Rattle.ec_commits.proofs.Flushed.{flush-is, flush-shows, flush-stands, flush-starts}
+use Rattle.ec_commits.proofs.Given.{give-firsts, give-stands, give-starts, give-watches, ids-in-range}
+use Rattle.ec_commits.proofs.Opened.{open-stands, open-starts, open-watches}
 use Rattle.ec_commits.proofs.Spending.{serve-kept}
+use Rattle.ec_commits.proofs.Starting.{AreQuiet, quiet-so-far, quiet-with, serve-quiet, starts-begin, starts-on}
 use Rattle.ec_commits.proofs.Watched.{watches-read}
 
 -- A step of a running server begins.
-module _ (g : System) (v : Server) (i : Invariant g) (wa : WatchesAgree g) (fa : FirstsAgree g.ghost) (up : g.server ≡ Some v) where
+module _ (g : System) (v : Server) (all : AllAgree g) (up : g.server ≡ Some v) where
   runs-on : (v.durable ≡ g.durable) × (g.unshown ≡ None)
-  runs-on = subst (RunsOn g) up i.stops.runs
+  runs-on = subst (RunsOn g) up (all.0).stops.runs
 
   pub begins : Stands g (serving v) g.ghost
   begins = (
@@ -66,10 +68,11 @@ module _ (g : System) (v : Server) (i : Invariant g) (wa : WatchesAgree g) (fa :
       committed = runs-on.0;
       shown = sym (append-nil g.ghost.shown);
       invariant = subst (λ p. Invariant (record g { durable = v.durable; server = Some v; pool = p })) (sym (append-nil g.pool))
-          (subst (λ s. Invariant (record g { durable = v.durable; server = s })) up (subst (λ d. Invariant (record g { durable = d })) (sym runs-on.0) i));
+          (subst (λ s. Invariant (record g { durable = v.durable; server = s })) up (subst (λ d. Invariant (record g { durable = d })) (sym runs-on.0) all.0));
     },
-    watches-read g v.durable (Some v) (g.pool ++ []) (ap (λ d. d.sessions) runs-on.0) wa,
-    fa,
+    watches-read g v.durable (Some v) (g.pool ++ []) (ap (λ d. d.sessions) runs-on.0) all.1,
+    all.2,
+    starts-begin g v.durable (Some v) all.3,
   )
 
 -- a counter is spent, or none is so far, and the step stands
@@ -80,13 +83,21 @@ pub served : (g : System) (f : Serving) → Going g f → T (is_some (serve f).s
 served g f (inl p) = inl (serve-kept f p)
 served g f (inr (γ, s, n)) = elim (serve-serves g γ f s.0 n) [
   | inl p ↦ inl p
-  | inr q ↦ inr (γ, (q.0, watches-read (serving_in f γ g) (serve f).server.durable (Some (serve f).server) (g.pool ++ (serve f).sent) (ap (λ d. d.sessions) q.1) s.1, s.2))
+  | inr q ↦ inr (
+    γ,
+    (
+      q.0,
+      watches-read (serving_in f γ g) (serve f).server.durable (Some (serve f).server) (g.pool ++ (serve f).sent) (ap (λ d. d.sessions) q.1) s.1,
+      s.2,
+      starts-on g γ f s.3 (serve f) (serve-quiet g f (quiet-so-far g γ f s.3)),
+    ),
+  )
 ]
 
 -- A message by its session.
 module _ (g : System) (γ : Ghost) (t : Serving) (st : Stands g t γ) (unspent : t.spent ≡ None) (c s e : ℕ) where
-  said : (m : Msg) → Under g (tell c m t) γ → Going g (tell c m t)
-  said m u = inr (γ, (u, watches-read (serving_in t γ g) t.server.durable (Some t.server) (g.pool ++ (tell c m t).sent) refl st.1, st.2), unspent)
+  said : (m : Msg) → Greets g c m → Under g (tell c m t) γ → Going g (tell c m t)
+  said m q u = inr (γ, (u, watches-read (serving_in t γ g) t.server.durable (Some t.server) (g.pool ++ (tell c m t).sent) refl st.1, st.2, starts-on g γ t st.3 (tell c m t) (quiet-with g γ t st.3 c m q)), unspent)
 
   pub as-it-is : Going g t
   as-it-is = inr (γ, st, unspent)
@@ -97,7 +108,7 @@ module _ (g : System) (γ : Ghost) (t : Serving) (st : Stands g t γ) (unspent :
     where
       current : (sl : Slot) → slot t.server.durable c ≡ Some sl → sl.session ≡ s → T sl.is_open → (b : Bool) → ((e == t.server.durable.epoch) && (needs_no_claim || has_claimed s t.server)) ≡ b
           → Going g (elim b as (λ z. Serving) [ false ↦ tell c (Restarted s (epoch t)) t | true ↦ f sl t ])
-      current sl p q o false x = said (Restarted s (epoch t)) (restarted-stands g γ t st.0 c s)
+      current sl p q o false x = said (Restarted s (epoch t)) tt (restarted-stands g γ t st.0 c s)
       current sl p q o true x =
           let both = and_parts (e == t.server.durable.epoch) (needs_no_claim || has_claimed s t.server) x in
           here sl p q o (equal e t.server.durable.epoch both.0) (holds (needs_no_claim || has_claimed s t.server) both.1)
@@ -107,7 +118,7 @@ module _ (g : System) (γ : Ghost) (t : Serving) (st : Stands g t γ) (unspent :
             | false ↦ tell_ended c sl t
             | true ↦ elim ((e == t.server.durable.epoch) && (needs_no_claim || has_claimed s t.server)) as (λ z. Serving) [ false ↦ tell c (Restarted s (epoch t)) t | true ↦ f sl t ]
           ])
-      opened sl p q false o = said _ (tell-ended-stands g γ t st.0 c sl p (fails sl.is_open o))
+      opened sl p q false o = said (Ended sl.session sl.window.low sl.window.mask) tt (tell-ended-stands g γ t st.0 c sl p (fails sl.is_open o))
       opened sl p q true o = current sl p q (holds sl.is_open o) ((e == t.server.durable.epoch) && (needs_no_claim || has_claimed s t.server)) refl
 
       its : (sl : Slot) → slot t.server.durable c ≡ Some sl → (b : Bool) → (sl.session == s) ≡ b
@@ -136,7 +147,7 @@ module _ (g : System) (γ : Ghost) (t : Serving) (st : Stands g t γ) (unspent :
       go (Some sl) p = its sl p (sl.session == s) refl
 
 -- Each message.
-module _ (g : System) (v : Server) (i : Invariant g) (wa : WatchesAgree g) (fa : FirstsAgree g.ghost) (up : g.server ≡ Some v) (c : ℕ) where
+module _ (g : System) (v : Server) (whole : AllAgree g) (up : g.server ≡ Some v) (c : ℕ) where
   abbrev t : Serving
   t = serving v
 
@@ -144,7 +155,7 @@ module _ (g : System) (v : Server) (i : Invariant g) (wa : WatchesAgree g) (fa :
   here = serving_in t g.ghost g
 
   st : Stands g t g.ghost
-  st = begins g v i wa fa up
+  st = begins g v whole up
 
   in-pool : (m : Msg) → Contains g.pool (c, m) → Contains here.pool (c, m)
   in-pool m p = subst (λ ms. Contains ms (c, m)) (sym (append-nil g.pool)) p
@@ -162,8 +173,8 @@ module _ (g : System) (v : Server) (i : Invariant g) (wa : WatchesAgree g) (fa :
   ends m w = served g (taken c m t) w
 
   -- a step of the tables alone
-  went : (f : Serving) → Under g f g.ghost → f.server.durable.sessions ≡ v.durable.sessions → f.spent ≡ None → Going g f
-  went f u same unspent = inr (g.ghost, (u, watches-read here f.server.durable (Some f.server) (g.pool ++ f.sent) same st.1, st.2), unspent)
+  went : (f : Serving) → Under g f g.ghost → f.server.durable.sessions ≡ v.durable.sessions → AreQuiet g f.sent → f.spent ≡ None → Going g f
+  went f u same quiet unspent = inr (g.ghost, (u, watches-read here f.server.durable (Some f.server) (g.pool ++ f.sent) same st.1, st.2, starts-on g g.ghost t st.3 f quiet), unspent)
 
   abbrev lowering : ℕ → ℕ → ℕ → Hold → Bool → Serving
   lowering s x n h b = elim b as (λ z. Serving) [ true ↦ record t { server = record v { tokens = lowered s x h n v.tokens } } | false ↦ t ]
@@ -176,11 +187,15 @@ module _ (g : System) (v : Server) (i : Invariant g) (wa : WatchesAgree g) (fa :
 
   pub takes-back : (s e x n : ℕ) (h : Hold) → Contains g.pool (c, Back s e x n h) → Takes g c (Back s e x n h) v
   takes-back s e x n h p = ends (Back s e x n h) (within g g.ghost t st refl c s e false (λ sl. back s x n h)
-      (λ sl q r o now claimed. went (back s x n h t) (back-stands g g.ghost t st.0 s x claimed e n h (of-tokens (Back s e x n h) p) now) (same (fits_back (token v.tokens s x) n h)) (unspent (fits_back (token v.tokens s x) n h))))
+      (λ sl q r o now claimed. went (back s x n h t) (back-stands g g.ghost t st.0 s x claimed e n h (of-tokens (Back s e x n h) p) now) (same (fits_back (token v.tokens s x) n h)) (quiet (fits_back (token v.tokens s x) n h)) (unspent (fits_back (token v.tokens s x) n h))))
     where
       same : (b : Bool) → (lowering s x n h b).server.durable.sessions ≡ v.durable.sessions
       same true = refl
       same false = refl
+
+      quiet : (b : Bool) → AreQuiet g (lowering s x n h b).sent
+      quiet true = tt
+      quiet false = tt
 
       unspent : (b : Bool) → (lowering s x n h b).spent ≡ None
       unspent true = refl
@@ -189,7 +204,7 @@ module _ (g : System) (v : Server) (i : Invariant g) (wa : WatchesAgree g) (fa :
   pub takes-want : (s e x l : ℕ) (h : Hold) → Contains g.pool (c, Want s e x h l) → Takes g c (Want s e x h l) v
   takes-want s e x l h p = ends (Want s e x h l) (within g g.ghost t st refl c s e false (λ sl. want c s x h l)
       (λ sl q r o now claimed. went (want c s x h l t) (want-stands g g.ghost t st.0 s x claimed c e l h (of-sessions (Want s e x h l) p) (of-tokens (Want s e x h l) p) now)
-      (same (token v.tokens s x)) (unspent (token v.tokens s x))))
+      (same (token v.tokens s x)) (quiet (token v.tokens s x)) (unspent (token v.tokens s x))))
     where
       same : (o : Option Token) → (wanting s x h l o).server.durable.sessions ≡ v.durable.sessions
       same None = refl
@@ -198,6 +213,14 @@ module _ (g : System) (v : Server) (i : Invariant g) (wa : WatchesAgree g) (fa :
           go : (b : Bool) → (granting s x h k b).server.durable.sessions ≡ v.durable.sessions
           go true = refl
           go false = refl
+
+      quiet : (o : Option Token) → AreQuiet g (wanting s x h l o).sent
+      quiet None = tt
+      quiet (Some k) = go (nat_lt l k.number)
+        where
+          go : (b : Bool) → AreQuiet g (granting s x h k b).sent
+          go true = (tt, tt)
+          go false = tt
 
       unspent : (o : Option Token) → (wanting s x h l o).spent ≡ None
       unspent None = refl
@@ -230,7 +253,7 @@ module _ (g : System) (v : Server) (i : Invariant g) (wa : WatchesAgree g) (fa :
           subst (λ z. Going g (elim z as (λ y. Serving) [
             | true ↦ tell c (Kept s (epoch t) b) t
             | false ↦ elim (may_write v.tokens s ops) as (λ y. Serving) [ true ↦ commit (record_of.Batch c s b ops) (λ u. tell c (Kept s (epoch u) b) u) (finish c sl) t | false ↦ finish c sl t ]
-          ])) (sym m) (said g g.ghost t st refl c s e (Kept s (epoch t) b) (tell-stands g g.ghost t c (Kept s (epoch t) b) st.0
+          ])) (sym m) (said g g.ghost t st refl c s e (Kept s (epoch t) b) tt (tell-stands g g.ghost t c (Kept s (epoch t) b) st.0
           (of-sessions (Flush s e b ops) p, λ so y w. subst (λ z. T (has z.window b)) (same_some (sym q ∙ y)) (holds (has sl.window b) m)) tt tt tt))
       comes sl q r o claimed false m =
           let unmarked : T (not (has sl.window b)) = fails (has sl.window b) m in
@@ -243,7 +266,7 @@ module _ (g : System) (v : Server) (i : Invariant g) (wa : WatchesAgree g) (fa :
           let mine = subst (λ x. T (member x v.claimed)) (sym r) claimed in
           inr (
             show_batch c (sl.age).boot (keys (batch b (k.0).log)) g.ghost,
-            (flush-stands g g.ghost t st.0 refl st.1 c sl k.0 q o its-in mine b ns.0 ns.1 unmarked, flush-shows g g.ghost t st.0 refl st.1 c sl k.0 q o its-in mine b ns.0 ns.1 unmarked, st.2),
+            (flush-stands g g.ghost t st.0 refl st.1 c sl k.0 q o its-in mine b ns.0 ns.1 unmarked, flush-shows g g.ghost t st.0 refl st.1 c sl k.0 q o its-in mine b ns.0 ns.1 unmarked, st.2, flush-starts g g.ghost t st.0 refl st.1 c sl k.0 q o its-in mine b ns.0 ns.1 unmarked st.3),
             ap (λ z. z.spent) (flush-is g g.ghost t st.0 refl st.1 c sl k.0 q o its-in mine b ns.0 ns.1 unmarked),
           )))
 
@@ -273,7 +296,7 @@ module _ (g : System) (v : Server) (i : Invariant g) (wa : WatchesAgree g) (fa :
             | true ↦ t
             | false ↦ elim (is_none (first_clash v.tokens s l)) as (λ y. Serving) [ true ↦ record t { server = record v { tokens = claimed s l v.tokens; claimed = s ∷ v.claimed } } | false ↦ finish c sl t ]
           ])) (sym m) (subst (λ z. Going g (elim (is_none z) as (λ y. Serving) [ true ↦ record t { server = record v { tokens = claimed s l v.tokens; claimed = s ∷ v.claimed } } | false ↦ finish c sl t ])) (sym clear)
-          (went (record t { server = record v { tokens = claimed s l v.tokens; claimed = s ∷ v.claimed } }) (claim-stands g g.ghost t st.0 s e l fits sound now is-open new clear) refl refl))
+          (went (record t { server = record v { tokens = claimed s l v.tokens; claimed = s ∷ v.claimed } }) (claim-stands g g.ghost t st.0 s e l fits sound now is-open new clear) refl tt refl))
 
   -- a clerk greets, and no session is open in whose place a new one would come
   pub takes-hello : (from : ℕ) (age : Age) → ((sl : Slot) → slot v.durable c ≡ Some sl → T sl.is_open → is_older sl.age age ≡ false) → Contains g.pool (c, Hello from age) → Takes g c (Hello from age) v
@@ -282,6 +305,9 @@ module _ (g : System) (v : Server) (i : Invariant g) (wa : WatchesAgree g) (fa :
       fits : sessions.Fits here c (Hello from age)
       fits = of-sessions (Hello from age) p
 
+      above : g.first_boot c < age.boot
+      above = each-of (λ z. Greets g z.0 z.1) here.pool (c, Hello from age) (st.3).greets (in-pool (Hello from age) p)
+
       opens : ((sl : Slot) → slot v.durable c ≡ Some sl → T (not sl.is_open)) → ((sl : Slot) → slot v.durable c ≡ Some sl → T (is_older sl.age age)) → Going g (open_new c age None t)
       opens idle greater = by (nat_le last_counter v.durable.next_session) refl
         where
@@ -289,7 +315,7 @@ module _ (g : System) (v : Server) (i : Invariant g) (wa : WatchesAgree g) (fa :
           by true m = subst (λ z. Going g (elim z as (λ y. Serving) [ true ↦ spend counter.Session t | false ↦ commit (record_of.Open c age v.durable.next_session) (tell_opened c age v.durable.next_session None) stay t ])) (sym m) (inl tt)
           by false m = inr (
             open_session c age v.durable.next_session g.ghost,
-            (open-stands g g.ghost t st.0 refl c age fits.1 idle greater fits.2 m, open-watches g g.ghost t st.0 refl c age fits.1 idle greater fits.2 m st.1, st.2),
+            (open-stands g g.ghost t st.0 refl c age fits.1 idle greater fits.2 m, open-watches g g.ghost t st.0 refl c age fits.1 idle greater fits.2 m st.1, st.2, open-starts g g.ghost t st.0 refl c age fits.1 idle greater fits.2 m above st.3),
             ap (λ z. z.spent) (open-is g g.ghost t st.0 c age fits.1 idle greater fits.2 m),
           )
 
@@ -301,14 +327,14 @@ module _ (g : System) (v : Server) (i : Invariant g) (wa : WatchesAgree g) (fa :
           here-slot so r = same_some (sym q ∙ r)
 
           again : (a : Bool) → sl.is_open ≡ a → is_older sl.age age ≡ false → is_older age sl.age ≡ false → Going g (greet c age (cond a (greeted_of.Same sl.session) (greeted_of.Ended sl.session sl.window)) t)
-          again true r m n = said g g.ghost t st refl c 0 0 _ (opened-again-stands g g.ghost t st.0 c sl q age m n)
+          again true r m n = said g g.ghost t st refl c 0 0 (Opened age sl.session (epoch t)) tt (opened-again-stands g g.ghost t st.0 c sl q age m n)
           again false r m n =
               let one = opened-again-stands g g.ghost t st.0 c sl q age m n in
               let two = tell-ended-stands g g.ghost (tell c (Opened age sl.session (epoch t)) t) one c sl q (fails sl.is_open r) in
-              inr (g.ghost, (two, watches-read here v.durable (Some v) (g.pool ++ (tell_ended c sl (tell c (Opened age sl.session (epoch t)) t)).sent) refl st.1, st.2), refl)
+              inr (g.ghost, (two, watches-read here v.durable (Some v) (g.pool ++ (tell_ended c sl (tell c (Opened age sl.session (epoch t)) t)).sent) refl st.1, st.2, starts-on g g.ghost t st.3 (tell_ended c sl (tell c (Opened age sl.session (epoch t)) t)) (tt, (tt, tt))), refl)
 
           younger : (b : Bool) → is_older age sl.age ≡ b → is_older sl.age age ≡ false → Going g (greet c age (cond b (greeted_of.OldBoot sl.age) (cond sl.is_open (greeted_of.Same sl.session) (greeted_of.Ended sl.session sl.window))) t)
-          younger true n m = said g g.ghost t st refl c 0 0 _ (old-boot-stands g g.ghost t st.0 c age sl.age)
+          younger true n m = said g g.ghost t st refl c 0 0 (OldBoot age sl.age) tt (old-boot-stands g g.ghost t st.0 c age sl.age)
           younger false n m = again sl.is_open refl m n
 
           idle : is_older sl.age age ≡ true → (b : Bool) → sl.is_open ≡ b → Going g (greet c age (greeted_of.Greater (cond b (Some sl.session) None)) t)
@@ -346,7 +372,7 @@ module _ (g : System) (v : Server) (i : Invariant g) (wa : WatchesAgree g) (fa :
           let taken-now = subst (λ x. T (g.ghost.taken x)) (sym r) (fits.0).0 in
           subst (λ x. Going g (grant_ids c x got ask t)) r (subst (λ n. Going g (grant_ids c sl.session n ask t)) (sym now) (inr (
             give_ids sl.session v.durable.next_id g.ghost,
-            (give-stands g g.ghost t st.0 refl c sl q o k.0 its mine taken-now current ask room enough small, give-watches g g.ghost t st.0 refl c sl q o k.0 its mine taken-now current ask room enough small st.1, give-firsts g.ghost sl.session v.durable.next_id (ids-in-range sl.grants t enough) st.2),
+            (give-stands g g.ghost t st.0 refl c sl q o k.0 its mine taken-now current ask room enough small, give-watches g g.ghost t st.0 refl c sl q o k.0 its mine taken-now current ask room enough small st.1, give-firsts g.ghost sl.session v.durable.next_id (ids-in-range sl.grants t enough) st.2, give-starts g g.ghost t st.0 refl c sl q o k.0 its mine taken-now current ask room enough small st.3),
             ap (λ z. z.spent) (grant-is g g.ghost t st.0 c sl q o k.0 its mine taken-now current ask room enough small),
           )))
 
@@ -365,7 +391,7 @@ module _ (g : System) (v : Server) (i : Invariant g) (wa : WatchesAgree g) (fa :
       grants sl q r o claimed now true b d x y z = subst (λ w. Going g (elim w as (λ y. Serving) [
         | true ↦ tell c (NoRoom s (epoch t) ask (live v.durable) (reserved v.durable)) t
         | false ↦ elim (ids_are_spent got t) as (λ y. Serving) [ true ↦ spend counter.Id t | false ↦ commit (record_of.Ids c s got v.durable.next_id) (λ u. send_ids c s got v.durable.next_id (record_ids s v.durable.next_id u)) stay t ]
-      ])) (sym x) (said g g.ghost t st refl c s e (NoRoom s (epoch t) ask (live v.durable) (reserved v.durable)) (tell-stands g g.ghost t c (NoRoom s (epoch t) ask (live v.durable) (reserved v.durable)) st.0 tt tt tt tt))
+      ])) (sym x) (said g g.ghost t st refl c s e (NoRoom s (epoch t) ask (live v.durable) (reserved v.durable)) tt (tell-stands g g.ghost t c (NoRoom s (epoch t) ask (live v.durable) (reserved v.durable)) st.0 tt tt tt tt))
       grants sl q r o claimed now false true d x y z = subst (λ w. Going g (elim w as (λ y. Serving) [
         | true ↦ tell c (NoRoom s (epoch t) ask (live v.durable) (reserved v.durable)) t
         | false ↦ elim (ids_are_spent got t) as (λ y. Serving) [ true ↦ spend counter.Id t | false ↦ commit (record_of.Ids c s got v.durable.next_id) (λ u. send_ids c s got v.durable.next_id (record_ids s v.durable.next_id u)) stay t ]
@@ -385,14 +411,15 @@ module _ (g : System) (v : Server) (i : Invariant g) (wa : WatchesAgree g) (fa :
           (elim b as (λ z. Serving) [ true ↦ spend counter.Number t | false ↦ record t { server = record v { number = v.number + 1 } } ])) m
 
       -- they are recorded, and told
-      told : (f : Serving) → Under g f g.ghost → f.server.durable ≡ v.durable → f.spent ≡ None → (n : ℕ) → at s f.server.recorded ≡ Some n → got + 1 ≡ g.ghost.grants s → Going g (send_ids c s got (g.ghost.first s) f)
-      told f u same unspent n z grants = inr (
+      told : (f : Serving) → Under g f g.ghost → f.server.durable ≡ v.durable → f.sent ≡ [] → f.spent ≡ None → (n : ℕ) → at s f.server.recorded ≡ Some n → got + 1 ≡ g.ghost.grants s → Going g (send_ids c s got (g.ghost.first s) f)
+      told f u same silent unspent n z grants = inr (
         g.ghost,
         (
           subst (λ x. Under g (tell c (Ids s f.server.durable.epoch got x (g.ghost.first s)) f) g.ghost) (sym (ap (or_else 0) z))
-              (send-ids-stands g g.ghost f u c s got n (g.ghost.first s) (of-sessions (Room s e got ask) p) z grants refl (fits.0).0 (fa s (some-grants got (g.ghost.grants s) grants))),
+              (send-ids-stands g g.ghost f u c s got n (g.ghost.first s) (of-sessions (Room s e got ask) p) z grants refl (fits.0).0 ((st.2) s (some-grants got (g.ghost.grants s) grants))),
           watches-read here f.server.durable (Some f.server) (g.pool ++ (send_ids c s got (g.ghost.first s) f).sent) (ap (λ d. d.sessions) same) st.1,
           st.2,
+          starts-on g g.ghost t st.3 (send_ids c s got (g.ghost.first s) f) (subst (λ ms. AreQuiet g (ms ++ (c, Ids s (epoch f) got (at_or 0 s f.server.recorded) (g.ghost.first s)) ∷ [])) (sym silent) (tt, tt)),
         ),
         unspent,
       )
@@ -402,7 +429,7 @@ module _ (g : System) (v : Server) (i : Invariant g) (wa : WatchesAgree g) (fa :
 
       again : (sl : Slot) → slot v.durable c ≡ Some sl → sl.session ≡ s → T sl.is_open → e ≡ v.durable.epoch → T (member s v.claimed) → got + 1 ≡ g.ghost.grants s → (o : Option ℕ) → at s v.recorded ≡ o → (b : Bool) → is_last_number t ≡ b
           → Going g (send_ids c s got (g.ghost.first s) (elim (is_some o) as (λ z. Serving) [ true ↦ t | false ↦ record_ids s (g.ghost.first s) t ]))
-      again sl q r o now claimed grants (Some n) z b m = told t st.0 refl refl n z grants
+      again sl q r o now claimed grants (Some n) z b m = told t st.0 refl refl refl n z grants
       again sl q r o now claimed grants None z true m = inl (subst (λ b. T (is_some (elim b as (λ z. Serving) [ true ↦ spend counter.Number t | false ↦ record t { server = record v { number = v.number + 1 } } ]).spent)) (sym m) tt)
       again sl q r o now claimed grants None z false m =
           let is-open : T (is_open here s) = at-open s v.durable.sessions c sl (q, r, o) in
@@ -410,7 +437,7 @@ module _ (g : System) (v : Server) (i : Invariant g) (wa : WatchesAgree g) (fa :
           let same-got : got ≡ (k.0).got = (fits.1 (side k.0) (ap side_in k.1)).1 now is-open z grants in
           let u = record-ids-stands g g.ghost t st.0 s (side k.0) claimed (ap side_in k.1) (ap (λ n. n + 1) (sym same-got) ∙ grants) z m in
           subst (λ f. Going g (send_ids c s got (g.ghost.first s) f)) (sym (recorded-is m))
-          (told _ (subst (λ f. Under g f g.ghost) (recorded-is m) u) refl refl (v.number + 1) (at-put s s (v.number + 1) v.recorded ∙ ap (λ b. cond b (Some (v.number + 1)) (at s v.recorded)) (same s)) grants)
+          (told _ (subst (λ f. Under g f g.ghost) (recorded-is m) u) refl refl refl (v.number + 1) (at-put s s (v.number + 1) v.recorded ∙ ap (λ b. cond b (Some (v.number + 1)) (at s v.recorded)) (same s)) grants)
 
       resends : (sl : Slot) → slot v.durable c ≡ Some sl → sl.session ≡ s → T sl.is_open → e ≡ v.durable.epoch → T (member s v.claimed) → got + 1 ≡ sl.grants → Going g (resend_ids c s got sl.last_first t)
       resends sl q r o now claimed grants =

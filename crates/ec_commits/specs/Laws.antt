@@ -21,15 +21,20 @@ use Rattle.ec_coherence.specs.Sessions.{IsReached}
 use Rattle.ec_coherence.specs.Invariant.{Invariant}
 use Rattle.ec_coherence.specs.Steps.{give_ids, keep_batch, open_session, serving_in, Under}
 use Rattle.ec_coherence.specs.Opening.{opening}
+use Rattle.ec_commits.specs.Starts.{StartsAgree}
 use Rattle.ec_commits.specs.Watches.{FirstsAgree, WatchesAgree}
 
--- A step under way stands, the lines show what they are to show, and ids are in their range.
+-- A step under way stands, the lines show what they are to show, ids are in their range, and starts are of this run.
 abbrev pub Stands : System → Serving → Ghost → Type 0
-Stands g t γ = Under g t γ × WatchesAgree (serving_in t γ g) × FirstsAgree γ
+Stands g t γ = Under g t γ × WatchesAgree (serving_in t γ g) × FirstsAgree γ × StartsAgree (serving_in t γ g)
 
--- what the lines are to show they show before anything happened
+-- all these facts of a state
+abbrev pub AllAgree : System → Type 0
+AllAgree g = Invariant g × WatchesAgree g × FirstsAgree g.ghost × StartsAgree g
+
+-- what the lines are to show they show before anything happened, and all starts are still to come
 abbrev pub OpeningShows : Type 0
-OpeningShows = (most : ℕ) → WatchesAgree (opening most) × FirstsAgree (opening most).ghost
+OpeningShows = (most : ℕ) → WatchesAgree (opening most) × FirstsAgree (opening most).ghost × StartsAgree (opening most)
 
 -- a change of the server that leaves the slots, with messages that are sent, leaves that
 abbrev pub LinesStand : Type 0
@@ -46,7 +51,7 @@ GiveStands = (g : System) (γ : Ghost) (t : Serving) → Stands g t γ → t.rec
 abbrev pub OpenStands : Type 0
 OpenStands = (g : System) (γ : Ghost) (t : Serving) → Stands g t γ → t.rec ≡ None → (c : ℕ) (age : Age) → c < 16
     → ((sl : Slot) → slot t.server.durable c ≡ Some sl → T (not sl.is_open)) → ((sl : Slot) → slot t.server.durable c ≡ Some sl → T (is_older sl.age age))
-    → IsReached (serving_in t γ g) c age → nat_le last_counter t.server.durable.next_session ≡ false
+    → IsReached (serving_in t γ g) c age → g.first_boot c < age.boot → nat_le last_counter t.server.durable.next_session ≡ false
     → Stands g (open_new c age None t) (open_session c age t.server.durable.next_session γ)
 
 -- a batch is kept, and a line says so
@@ -67,7 +72,7 @@ Takes g c m v = T (is_some (take c m v).spent) ⊎ ((γ : Ghost) × Stands g (ta
 
 -- a running server takes a message that was sent
 abbrev pub TakesEach : (Msg → Type 0) → Type 0
-TakesEach P = (g : System) (v : Server) → Invariant g → WatchesAgree g → FirstsAgree g.ghost → g.server ≡ Some v → (c : ℕ) (m : Msg) → P m → Contains g.pool (c, m) → Takes g c m v
+TakesEach P = (g : System) (v : Server) → AllAgree g → g.server ≡ Some v → (c : ℕ) (m : Msg) → P m → Contains g.pool (c, m) → Takes g c m v
 
 -- a want, a token given back, and a batch
 abbrev pub IsWant : Msg → Type 0
@@ -89,7 +94,7 @@ IsClaim _ = ⊥
 
 -- a greeting, where no session is open in whose place a new one would come
 abbrev pub TakesHellos : Type 0
-TakesHellos = (g : System) (v : Server) → Invariant g → WatchesAgree g → FirstsAgree g.ghost → g.server ≡ Some v → (c from : ℕ) (age : Age)
+TakesHellos = (g : System) (v : Server) → AllAgree g → g.server ≡ Some v → (c from : ℕ) (age : Age)
     → ((sl : Slot) → slot v.durable c ≡ Some sl → T sl.is_open → is_older sl.age age ≡ false) → Contains g.pool (c, Hello from age) → Takes g c (Hello from age) v
 
 -- an asking for ids

@@ -1,9 +1,10 @@
 use Rattle.ec_commits.proofs.Opening.{opening-firsts, opening-watches}
+use Rattle.ec_commits.proofs.Starting.{opening-starts}
 use Rattle.ec_commits.proofs.Watched.{watches-read}
 use Rattle.ec_commits.proofs.lines_show_what_stands.Goals as goal
 
 pub returns-clause-opening : goal.returns-clause-opening
-returns-clause-opening c most = (opening-watches most, opening-firsts most)
+returns-clause-opening c most = (opening-watches most, opening-firsts most, opening-starts most)
 
 pub returns-clause-tables : goal.returns-clause-tables
 returns-clause-tables c = watches-read

@@ -1,0 +1,10 @@
+pub mod Goes
+pub mod Same
+pub mod Rests
+pub mod Doings
+pub mod Steps
+pub mod Batches
+pub mod Lines
+pub mod Crashes
+pub mod Served
+pub mod Halts

@@ -1,0 +1,10 @@
+pub mod Twins
+pub mod Its
+pub mod Lost
+pub mod Behind
+pub mod Told
+pub mod Unseen
+pub mod Gone
+pub mod Finishes
+pub mod Over
+pub mod Takes
