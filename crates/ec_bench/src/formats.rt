@@ -2,8 +2,7 @@
 use anyhow::bail;
 use ec_base::NoMemory;
 use ec_history::Shown;
-use ec_script::LineFault;
-use ec_script::full::read_line;
+use ec_script::{LineFault, read_line};
 use ec_shown::read;
 use ec_text::print;
 use ec_wire::{WireFault, decode, encode};

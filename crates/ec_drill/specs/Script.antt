@@ -2,9 +2,9 @@
 use Rattle.std.specs.Prelude.{◌≡◌, ◌-◌, ℕ, List, [], ◌∷◌, length}
 use Rattle.ec_words.specs.Words.{words_of}
 use Rattle.ec_words.specs.Rows.{shown_column}
-use Rattle.ec_script.specs.Lined.{IsLine, IsFault}
-use Rattle.ec_script.specs.declared.full.Line.{Line}
-use Rattle.ec_script.specs.declared.full.Line.TheVariants as line
+use Rattle.ec_script.specs.Grammar.{IsLine, IsFault}
+use Rattle.ec_script.specs.declared.line.Line.{Line}
+use Rattle.ec_script.specs.declared.line.Line.TheVariants as line
 use Rattle.ec_script.specs.declared.line.LineFault.TheVariants as fault
 use Rattle.ec_protocol.specs.declared.script.Line.{Line as MachineLine}
 use Rattle.ec_protocol.specs.declared.script.Line.TheVariants as machine

@@ -13,7 +13,7 @@ use crate::event::event_of;
 use ec_disk::CrashDisk;
 use ec_history::Shown;
 use ec_protocol::{Event, WorldFault};
-use ec_script::full::Line;
+use ec_script::Line;
 use ec_world::World;
 use std::alloc::Global;
 

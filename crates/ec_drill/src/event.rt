@@ -8,7 +8,7 @@ ghost use Rattle.ec_drill.specs.Script.{machine_line};
 ghost use Rattle.ec_drill.specs.Lines.{happens, IsNothing};
 
 use ec_protocol::{Event, WorldFault};
-use ec_script::full::Line;
+use ec_script::Line;
 use ec_world::World;
 
 /// What a line asks of the world: an event, or nothing. The number of a call is that of its line.

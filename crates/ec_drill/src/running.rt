@@ -14,7 +14,7 @@ use crate::writing::{Cut, write_lines};
 use ec_base::{Counter, Sink};
 use ec_disk::CrashDisk;
 use ec_protocol::WorldFault;
-use ec_script::full::Line;
+use ec_script::Line;
 use ec_world::World;
 use std::alloc::Global;
 

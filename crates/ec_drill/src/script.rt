@@ -9,8 +9,7 @@ ghost use Rattle.ec_drill.specs.Lines.{read_of, noted};
 
 use crate::limits::DELIVERIES;
 use ec_base::{ClerkId, NoMemory};
-use ec_script::full::{Line, read_line};
-use ec_script::{LineFault, last_column, split_line};
+use ec_script::{Line, LineFault, last_column, read_line, split_line};
 use std::alloc::Global;
 
 /// A line of a script, as it was read.

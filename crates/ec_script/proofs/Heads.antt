@@ -6,15 +6,15 @@ use Rattle.ec_words.specs.declared.cursor.Misfit.TheVariants as misfit
 use Rattle.ec_words.specs.Rows.{IsMisfit, joined_len}
 use Rattle.ec_words.specs.Calls.{SpellsCall}
 use Rattle.ec_words.proofs.Misfits.{choice_lacks, choice_has, choice_is, made}
-use Rattle.ec_script.specs.declared.full.Line.{Line}
-use Rattle.ec_script.specs.declared.full.Line.TheVariants as line
-use Rattle.ec_script.specs.Lined.{Says}
+use Rattle.ec_script.specs.declared.line.Line.{Line}
+use Rattle.ec_script.specs.declared.line.Line.TheVariants as line
+use Rattle.ec_script.specs.Grammar.{Says}
 use Rattle.ec_script.specs.Heads.{a_line}
 use Rattle.std.proofs.Common.{inl, inr, ◌≡◌, ℕ, ◌+◌, [], ◌∷◌, List, length, get_or, sym, ap, ◌∙◌, arith}
 use Rattle.ec_words.specs.declared.name.Keyword.{Keyword}
 use Rattle.ec_words.specs.Rows.{Word}
 use Rattle.ec_words.specs.Spelling.{IsClerk, IsKeyword, keyword_name}
-use Rattle.ec_script.specs.Lined.{Head, IsHead, Begun, Spells}
+use Rattle.ec_script.specs.Grammar.{Head, IsHead, Begun, Spells}
 use Rattle.ec_words.proofs.Named.{keyword_once, keyword_long}
 
 cons_not_nil : (w : Word) (ws : List Word) → w ∷ ws ≡ [] → ⊥

@@ -1,6 +1,4 @@
 pub mod Splits
-pub mod Unfit
-pub mod Once
 pub mod Heads
 pub mod Outside
 pub mod LinedOnce

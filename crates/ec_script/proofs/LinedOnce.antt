@@ -1,7 +1,7 @@
 -- A line of the whole grammar has one reading or one column.
 use Rattle.std.proofs.Common.{◌≡◌, inl, inr, ℕ, ◌+◌, ◌≤◌, List, [], ◌∷◌, length, get_or, sym, ap, subst, ◌∙◌, arith}
 use Rattle.ec_plain.specs.declared.call.Call.{Call}
-use Rattle.ec_script.specs.declared.full.Line.{Line}
+use Rattle.ec_script.specs.declared.line.Line.{Line}
 use Rattle.ec_script.specs.declared.line.LineFault.TheVariants as fault
 use Rattle.ec_words.specs.declared.name.Keyword.{Keyword}
 use Rattle.ec_words.specs.declared.name.Keyword.TheVariants as keyword
@@ -12,7 +12,7 @@ use Rattle.ec_script.specs.Grammar.{IsComment}
 use Rattle.ec_words.specs.Rows.{Last, shown_column}
 use Rattle.ec_words.specs.Spelling.{IsClerk, IsSmallNumber, IsNumber, IsArmed, IsLane, IsKind, IsChoice, keyword_name}
 use Rattle.ec_words.specs.Calls.{SpellsCall}
-use Rattle.ec_script.specs.Lined.{Says, Begun, Head, IsHead, Spells, SpellsLane, IsLine, IsOutside}
+use Rattle.ec_script.specs.Grammar.{Says, Begun, Head, IsHead, Spells, SpellsLane, IsLine, IsOutside}
 use Rattle.ec_words.proofs.Named.{kind_once, choice_once}
 use Rattle.ec_script.proofs.Heads.{clerk_once, head_once}
 use Rattle.ec_words.proofs.OneCall.{OneValue, last_once, makes_once, choice_row_once, in_range_once, small, number, call_once}

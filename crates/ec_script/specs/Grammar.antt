@@ -1,60 +1,49 @@
--- What a line of a script may be, and which word of a line outside the grammar is the first that doesn't fit.
-use Rattle.std.specs.Prelude.{◌≡◌, ◌≢◌, ◌<◌, ◌≤◌, ◌-◌, ◌^◌, ℕ, min, List, [], ◌∷◌, length, codes, ⊤}
-use Rattle.std.specs.Fmt.{decimal}
-use Rattle.ec_base.specs.Names.{IsName}
-use Rattle.ec_plain.specs.Walk.{Path}
+-- The grammar of a line.
+use Rattle.std.specs.Prelude.{◌≡◌, ◌⊎◌, ℕ, List, [], ◌∷◌, ⊤}
+use Rattle.std.proofs.Common.{inl, inr}
 use Rattle.ec_plain.specs.declared.call.Call.{Call}
-use Rattle.ec_plain.specs.declared.call.Call.TheVariants as call
+use Rattle.ec_words.specs.declared.cursor.Misfit.{Misfit}
+use Rattle.ec_words.specs.declared.cursor.Misfit.TheVariants as misfit
+use Rattle.ec_words.specs.declared.name.Keyword.{Keyword}
+use Rattle.ec_words.specs.declared.name.Keyword.TheVariants as keyword
+use Rattle.ec_words.specs.Words.{words_of}
+use Rattle.ec_words.specs.Rows.{Word, ◌▸◌, End, Last, ◌⊳◌, ◌makes◌, FirstUnfit, column_left, shown_column}
+use Rattle.ec_words.specs.Spelling.{IsClerk, IsSmallNumber, IsNumber, IsArmed, IsLane, IsKind, IsChoice, IsKeyword}
+use Rattle.ec_words.specs.Calls.{SpellsCall}
 use Rattle.ec_script.specs.declared.line.Line.{Line}
 use Rattle.ec_script.specs.declared.line.Line.TheVariants as line
 use Rattle.ec_script.specs.declared.line.LineFault.{LineFault}
 use Rattle.ec_script.specs.declared.line.LineFault.TheVariants as fault
-use Rattle.ec_words.specs.Words.{words_of, column_of}
-use Rattle.ec_words.specs.Rows.{Word, ◌▸◌, End, FirstUnfit}
 
--- Words, by what they stand for.
+-- what stands behind the first word of a line, and the line that it makes
+abbrev pub Says : Keyword → List Word → Line → Type 0
+Says keyword.Push = (IsClerk ▸ Last IsNumber) makes λ x. line.Push x.0 x.1
+Says keyword.Cut = Last IsClerk makes line.Cut
+Says keyword.Uncut = Last IsClerk makes line.Uncut
+Says keyword.Drop = (IsClerk ▸ IsKind ▸ Last IsSmallNumber) makes λ x. line.Drop x.0 x.1.0 x.1.1
+Says keyword.Repeat = (IsClerk ▸ IsKind ▸ Last IsSmallNumber) makes λ x. line.Repeat x.0 x.1.0 x.1.1
+Says keyword.Deliver = (IsClerk ▸ IsKind ▸ Last IsSmallNumber) makes λ x. line.Deliver x.0 x.1.0 x.1.1
+Says keyword.Resend = Last IsClerk makes line.Resend
+Says keyword.Crash = Last IsClerk makes line.Crash
+Says keyword.End = Last IsClerk makes line.End
+Says keyword.Stop = End makes λ x. line.Stop
+Says keyword.Arm = (IsArmed ▸ Last IsChoice) makes λ x. line.Arm x.0 x.1
+Says keyword.Restart = End makes λ x. line.Restart
 
--- bytes that stand for themselves in a path or a text: printed ones, and no `%`
-abbrev pub IsPlain : List ℕ → Type 0
-IsPlain [] = ⊤
-IsPlain (byte ∷ bytes) = (33 ≤ byte) × (byte ≤ 126) × (byte ≢ 37) × IsPlain bytes
+-- what a line begins with: a clerk, or a keyword
+abbrev pub Head : Type 0
+Head = ℕ ⊎ Keyword
 
--- the only clerk is `A`, the first one
-abbrev pub IsClerkWord : Word → ℕ → Type 0
-IsClerkWord w c = (w ≡ codes "A") × (c ≡ 0)
+abbrev pub IsHead : Word → Head → Type 0
+IsHead w (inl c) = IsClerk w c
+IsHead w (inr k) = IsKeyword w k
 
--- `/` and one name
-abbrev pub IsPathWord : Word → Path → Type 0
-IsPathWord w [] = ⊥
-IsPathWord w (n ∷ []) = (w ≡ 47 ∷ n) × IsPlain n × IsName n
-IsPathWord w (n ∷ m ∷ ns) = ⊥
-
--- a number of 32 bits in decimal, without leading zeros
-abbrev pub IsNumberWord : Word → ℕ → Type 0
-IsNumberWord w n = (w ≡ decimal n) × (n < 2 ^ 32)
-
--- how many bytes a read asks for
-abbrev pub IsCountWord : Word → ℕ → Type 0
-IsCountWord w n = IsNumberWord w n × (n ≤ 4096)
-
--- the bytes of a write
-abbrev pub IsTextWord : Word → List ℕ → Type 0
-IsTextWord w bytes = (w ≡ bytes) × IsPlain w × (1 ≤ length w) × (length w ≤ 4096)
-
--- Words of a line, and the values that they spell.
-
-abbrev pub SpellsCall : List Word → Call → Type 0
-SpellsCall [] c = ⊥
-SpellsCall (w ∷ ws) (call.Create p) = (w ≡ codes "create") × (IsPathWord ▸ End) ws (p, tt)
-SpellsCall (w ∷ ws) (call.Write p at bytes) = (w ≡ codes "write") × (IsPathWord ▸ IsNumberWord ▸ IsTextWord ▸ End) ws (p, (at, (bytes, tt)))
-SpellsCall (w ∷ ws) (call.Read p at count) = (w ≡ codes "read") × (IsPathWord ▸ IsNumberWord ▸ IsCountWord ▸ End) ws (p, (at, (count, tt)))
-SpellsCall (w ∷ ws) c = ⊥
+abbrev pub Begun : Head → List Word → Line → Type 0
+Begun (inl c) = SpellsCall makes line.Call c
+Begun (inr k) = Says k
 
 abbrev pub Spells : List Word → Line → Type 0
-Spells [] l = ⊥
-Spells (w ∷ ws) line.Comment = ⊥
-Spells (w ∷ ws) (line.Call clerk c) = IsClerkWord w clerk × SpellsCall ws c
-Spells (w ∷ ws) (line.Crash clerk) = (w ≡ codes "crash") × (IsClerkWord ▸ End) ws (clerk, tt)
+Spells = IsHead ⊳ Begun
 
 -- a line that is empty or begins with `#`
 abbrev pub IsComment : List ℕ → Type 0
@@ -63,27 +52,25 @@ IsComment (byte ∷ bytes) = byte ≡ 35
 
 -- The grammar: the line is read so.
 abbrev pub IsLine : List ℕ → Line → Type 0
-IsLine bytes line.Comment = IsComment bytes
-IsLine bytes (line.Call clerk c) = Spells (words_of bytes) (line.Call clerk c)
-IsLine bytes (line.Crash clerk) = Spells (words_of bytes) (line.Crash clerk)
+IsLine bytes l = (IsComment bytes × (l ≡ line.Comment)) ⊎ Spells (words_of bytes) l
 
--- Lines outside the grammar.
+-- Outside a grammar of words: the column of the first word that doesn't fit.
+abbrev pub IsOutside : {X : Type 0} → (List Word → X → Type 0) → List ℕ → LineFault → Type 0
+IsOutside G bytes (fault.At column) = (k : ℕ) × (FirstUnfit G (words_of bytes) k × (column ≡ shown_column bytes k))
+IsOutside G bytes fault.NoMemory = ⊤
 
--- The column of the first word that doesn't fit. Columns from 2^32 on are shown as 2^32 - 1.
 abbrev pub IsFault : List ℕ → LineFault → Type 0
-IsFault bytes (fault.At column) =
-    ((l : Line) → IsLine bytes l → ⊥) × ((k : ℕ) × (FirstUnfit Spells (words_of bytes) k × (column ≡ min (column_of bytes k) (2 ^ 32 - 1))))
+IsFault bytes (fault.At column) = ((l : Line) → IsLine bytes l → ⊥) × IsOutside Spells bytes (fault.At column)
 IsFault bytes fault.NoMemory = ⊤
 
--- What such a line may ask for: a crash of the clerk 0 or its create, write or read of a path of one name, within the bounds of these calls.
+-- a line of a lane: the lane's number and a call
+abbrev pub SpellsLane : List Word → ℕ × Call → Type 0
+SpellsLane = IsLane ▸ SpellsCall
 
-abbrev pub IsSmallCall : Call → Type 0
-IsSmallCall (call.Create p) = length p ≡ 1
-IsSmallCall (call.Write p at bytes) = (length p ≡ 1) × (at < 2 ^ 32) × (1 ≤ length bytes) × (length bytes ≤ 4096)
-IsSmallCall (call.Read p at count) = (length p ≡ 1) × (at < 2 ^ 32) × (count ≤ 4096)
-IsSmallCall c = ⊥
+abbrev pub IsLaneLine : List ℕ → ℕ × Call → Type 0
+IsLaneLine bytes = SpellsLane (words_of bytes)
 
-abbrev pub IsSmall : Line → Type 0
-IsSmall line.Comment = ⊤
-IsSmall (line.Call clerk c) = (clerk ≡ 0) × IsSmallCall c
-IsSmall (line.Crash clerk) = clerk ≡ 0
+-- the fault of a line whose words are refused so
+abbrev pub fault_at : List ℕ → Misfit → LineFault
+fault_at bytes (misfit.Unfit n) = fault.At (column_left bytes n)
+fault_at bytes misfit.NoMemory = fault.NoMemory

@@ -1,9 +1,9 @@
 // Lines that are no calls, by their words.
 ghost use Rattle.std.specs.Prelude.{MatchResult};
-ghost use Rattle.ec_script.specs.Lined.{Says};
+ghost use Rattle.ec_script.specs.Grammar.{Says};
 ghost use Rattle.ec_words.specs.Rows.{IsMisfit, left};
 
-use crate::full::Line;
+use crate::line::Line;
 use ec_base::{ClerkId, OpNo};
 use ec_disk::Choice;
 use ec_wire::MsgKind;

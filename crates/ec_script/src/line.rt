@@ -1,23 +1,38 @@
 // The grammar of a line.
-ghost use Rattle.std.specs.Prelude.{◌≡◌, ◌∷◌, drop, codes, IfOk, MatchBool, MatchResult};
-ghost use Rattle.ec_script.specs.Grammar.{Spells, SpellsCall, IsComment, IsLine, IsFault, IsSmall};
-ghost use Rattle.ec_script.specs.Reading.{texts, IsRefused};
+ghost use Rattle.std.specs.Prelude.{◌≡◌, MatchBool, MatchResult};
+ghost use Rattle.ec_script.specs.Grammar.{Spells, SpellsLane, IsComment, IsLine, IsFault, IsLaneLine, IsOutside, fault_at};
+ghost use Rattle.ec_words.specs.Rows.{IsMisfit, left};
 
-use crate::value::{WordFault, clerk_at, count_at, end_at, number_at, path_at, text_at, word_at};
-use crate::word::{column, words};
-use ec_base::{ClerkId, NoMemory};
+use crate::keyword::read_keyword;
+use ec_base::{ClerkId, NoMemory, OpNo};
+use ec_disk::Choice;
 use ec_plain::Call;
-use ec_words::is_word;
+use ec_wire::MsgKind;
+use ec_words::{Lane, Misfit, Words, clerk_of, column_left, first, keyword_of, read_call};
 use std::alloc::Global;
 use thiserror::Error;
 
-/// A line of a script.
+/// A line of a script. The number behind a kind of message counts those of this kind between this
+/// clerk and the server.
 #[derive(Debug, Drop)]
 pub enum Line {
     /// An empty line, or one that begins with `#`.
     Comment,
     Call(ClerkId, Call),
+    /// The closure of this operation is to be sent until it is durable.
+    Push(ClerkId, OpNo),
+    Cut(ClerkId),
+    Uncut(ClerkId),
+    Drop(ClerkId, MsgKind, u32),
+    Repeat(ClerkId, MsgKind, u32),
+    Deliver(ClerkId, MsgKind, u32),
+    Resend(ClerkId),
     Crash(ClerkId),
+    End(ClerkId),
+    Stop,
+    /// A stop in one of the next device calls, from 1 to 1,000,000, and what the power cut leaves.
+    Arm(u64, Choice),
+    Restart,
 }
 
 /// Why a line was not read.
@@ -43,21 +58,28 @@ impl From<NoMemory> for LineFault {
 
 /// Reads a line, given without its end.
 pub fn read_line(alloc: Global, line: &[u8]) -> Result<Line, LineFault>
-    ensures read { MatchResult result (IsLine line.now) (IsFault line.now) }
-    ensures small { IfOk result IsSmall }
+    ensures { MatchResult result (IsLine line.now) (IsFault line.now) }
 {
     if is_comment(line) {
         return Ok(Line::Comment);
     }
-    let words = words(alloc, line)?;
-    match read_words(alloc, words.as_slice()) {
+    match read_words(alloc, Words::of(line)) {
         Ok(read) => Ok(read),
-        Err(WordFault::Unfit(at)) => Err(LineFault::At(column(line, words.as_slice(), at))),
-        Err(WordFault::NoMemory) => Err(LineFault::NoMemory),
+        Err(misfit) => Err(fault_at(line, misfit)),
     }
 }
 
-pub(crate) fn is_comment(line: &[u8]) -> bool
+/// Reads a line of a lane, given without its end: the lane's number, 1 to 8, and a call.
+pub fn read_lane(alloc: Global, line: &[u8]) -> Result<(u8, Call), LineFault>
+    ensures { MatchResult result (IsLaneLine line.now) (IsOutside SpellsLane line.now) }
+{
+    match read_lane_words(alloc, Words::of(line)) {
+        Ok(read) => Ok(read),
+        Err(misfit) => Err(fault_at(line, misfit)),
+    }
+}
+
+fn is_comment(line: &[u8]) -> bool
     ensures { MatchBool result (IsComment line.now) (IsComment line.now → ⊥) }
 {
     match line {
@@ -66,75 +88,36 @@ pub(crate) fn is_comment(line: &[u8]) -> bool
     }
 }
 
-fn read_words(alloc: Global, words: &[&[u8]]) -> Result<Line, WordFault>
-    ensures { MatchResult result (Spells (texts words.now)) (IsRefused Spells 0 (texts words.now)) }
+fn read_lane_words(alloc: Global, words: Words<'_>) -> Result<(u8, Call), Misfit>
+    ensures { MatchResult result (SpellsLane (left words.entry)) (IsMisfit SpellsLane (left words.entry)) }
 {
-    if is_word(word_at(words, 0)?, b"crash") {
-        return read_crash(words);
+    let (lane, rest) = first::<Lane>(alloc, words)?;
+    let call = read_call(alloc, rest)?;
+    Ok((lane.0, call))
+}
+
+fn read_words(alloc: Global, words: Words<'_>) -> Result<Line, Misfit>
+    ensures { MatchResult result (Spells (left words.entry)) (IsMisfit Spells (left words.entry)) }
+{
+    let Some((word, rest)) = words.split() else {
+        return Err(Misfit::Unfit(0));
+    };
+    if let Some(clerk) = clerk_of(word) {
+        let call = read_call(alloc, rest)?;
+        return Ok(Line::Call(clerk, call));
     }
-    let clerk = clerk_at(words, 0)?;
-    Ok(Line::Call(clerk, read_call(alloc, words)?))
-}
-
-fn read_crash(words: &[&[u8]]) -> Result<Line, WordFault>
-    requires { texts words.now ≡ codes "crash" ∷ drop 1 (texts words.now) }
-    ensures { MatchResult result (Spells (texts words.now)) (IsRefused Spells 0 (texts words.now)) }
-{
-    let clerk = clerk_at(words, 1)?;
-    end_at(words, 2)?;
-    Ok(Line::Crash(clerk))
-}
-
-fn read_call(alloc: Global, words: &[&[u8]]) -> Result<Call, WordFault>
-    ensures { MatchResult result
-        (SpellsCall (drop 1 (texts words.now)))
-        (IsRefused SpellsCall 1 (texts words.now)) }
-{
-    let verb = word_at(words, 1)?;
-    if is_word(verb, b"create") {
-        read_create(alloc, words)
-    } else if is_word(verb, b"write") {
-        read_write(alloc, words)
-    } else if is_word(verb, b"read") {
-        read_read(alloc, words)
-    } else {
-        Err(WordFault::Unfit(1))
+    match keyword_of(word) {
+        Some(keyword) => read_keyword(alloc, keyword, rest),
+        None => Err(Misfit::Unfit(words.len())),
     }
 }
 
-fn read_create(alloc: Global, words: &[&[u8]]) -> Result<Call, WordFault>
-    requires { drop 1 (texts words.now) ≡ codes "create" ∷ drop 2 (texts words.now) }
-    ensures { MatchResult result
-        (SpellsCall (drop 1 (texts words.now)))
-        (IsRefused SpellsCall 1 (texts words.now)) }
+/// The fault of a line whose words are refused so.
+pub fn fault_at(line: &[u8], misfit: Misfit) -> LineFault
+    ensures { result ≡ fault_at line.now misfit }
 {
-    let path = path_at(alloc, words, 2)?;
-    end_at(words, 3)?;
-    Ok(Call::Create(path))
-}
-
-fn read_write(alloc: Global, words: &[&[u8]]) -> Result<Call, WordFault>
-    requires { drop 1 (texts words.now) ≡ codes "write" ∷ drop 2 (texts words.now) }
-    ensures { MatchResult result
-        (SpellsCall (drop 1 (texts words.now)))
-        (IsRefused SpellsCall 1 (texts words.now)) }
-{
-    let path = path_at(alloc, words, 2)?;
-    let at = number_at(words, 3)?;
-    let text = text_at(alloc, words, 4)?;
-    end_at(words, 5)?;
-    Ok(Call::Write(path, at, text))
-}
-
-fn read_read(alloc: Global, words: &[&[u8]]) -> Result<Call, WordFault>
-    requires { drop 1 (texts words.now) ≡ codes "read" ∷ drop 2 (texts words.now) }
-    ensures { MatchResult result
-        (SpellsCall (drop 1 (texts words.now)))
-        (IsRefused SpellsCall 1 (texts words.now)) }
-{
-    let path = path_at(alloc, words, 2)?;
-    let at = number_at(words, 3)?;
-    let count = count_at(words, 4)?;
-    end_at(words, 5)?;
-    Ok(Call::Read(path, at, count))
+    match misfit {
+        Misfit::Unfit(left) => LineFault::At(column_left(line, left)),
+        Misfit::NoMemory => LineFault::NoMemory,
+    }
 }

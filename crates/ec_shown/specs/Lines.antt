@@ -8,7 +8,7 @@ use Rattle.ec_words.specs.Words.{words_of}
 use Rattle.ec_words.specs.Rows.{Word, ◌▸◌, End, Last, ◌⊳◌, ◌makes◌}
 use Rattle.ec_words.specs.Spelling.{IsClerk, IsSmallNumber, IsNumber}
 use Rattle.ec_script.specs.declared.line.LineFault.{LineFault}
-use Rattle.ec_script.specs.Lined.{IsOutside}
+use Rattle.ec_script.specs.Grammar.{IsOutside}
 use Rattle.ec_shown.specs.declared.answer.Outcome.{Outcome}
 use Rattle.ec_shown.specs.declared.answer.Outcome.TheVariants as outcome
 use Rattle.ec_shown.specs.declared.name.Head.{Head}

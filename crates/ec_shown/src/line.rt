@@ -18,8 +18,7 @@ use crate::row::behind;
 use ec_base::{ClerkId, Counter, List, OpNo};
 use ec_history::{LimitName, Shown};
 use ec_plain::Call;
-use ec_script::LineFault;
-use ec_script::full::fault_at;
+use ec_script::{LineFault, fault_at};
 use ec_words::{Misfit, Words, first, no_more, one};
 use std::alloc::Global;
 

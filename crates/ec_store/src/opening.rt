@@ -27,8 +27,8 @@ use ec_journal::{Found, read_records};
 use ec_layout::{Head, JOURNAL_BYTES, Side};
 use ec_sessions::Sessions;
 use ec_table::{Table, Version};
-use ec_volume::Image;
-use ec_well_formed::{is_well_formed, volume_of};
+use ec_volume::{Image, Volume};
+use ec_well_formed::is_well_formed;
 use std::alloc::Global;
 
 /// The checkpoint that a disk holds.
@@ -196,7 +196,7 @@ fn assemble(
     if !is_formed {
         return Ok(None);
     }
-    let volume = volume_of(alloc, images)?;
+    let volume = Volume::of(images)?;
     let sessions = Sessions::of(slots.into_vec())?;
     let state = Durable {
         volume,

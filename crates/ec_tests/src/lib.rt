@@ -8,7 +8,6 @@ mod codes;
 #[cfg(test)]
 mod durable;
 #[cfg(test)]
-mod full_script;
 #[cfg(test)]
 mod generator;
 #[cfg(test)]

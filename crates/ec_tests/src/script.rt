@@ -1,7 +1,8 @@
 //! Lines that are read, and the columns of bad ones.
 
+use ec_base::OpNo;
 use ec_plain::Call;
-use ec_script::{Line, LineFault, count_lines, read_line, split_line};
+use ec_script::{Line, LineFault, count_lines, read_lane, read_line, split_line};
 use std::alloc::Global;
 use std::test::*;
 
@@ -13,55 +14,49 @@ fn column(alloc: Global, line: &[u8]) -> u32 {
 }
 
 #[test]
-fn bad_lines(rt: HostRuntime) {
+fn lines_of_each_form(rt: HostRuntime) {
+    let alloc = rt.alloc();
+    assert!(rt; matches!(read_line(alloc, b"push A 1"), Ok(Line::Push(_, OpNo(1)))));
+    assert_eq!(rt; column(alloc, b"push A"), 7);
+    assert_eq!(rt; column(alloc, b"push A x"), 8);
+    assert_eq!(rt; column(alloc, b"push A 1 2"), 10);
+    assert!(rt;
+        matches!(
+            read_line(alloc, b"P chown /a%2Fb 7"),
+            Ok(Line::Call(_, Call::Chown(_, 7)))
+        )
+    );
+    assert!(rt; matches!(read_lane(alloc, b"8 sync"), Ok((8, Call::Sync))));
+    assert!(rt; matches!(read_lane(alloc, b"9 sync"), Err(LineFault::At(1))));
+}
+
+#[test]
+fn columns_of_bad_lines(rt: HostRuntime) {
     let cases = [
-        (b"B create /g".as_slice(), 1),
-        (b"push A 1".as_slice(), 1),
-        (b" A create /f".as_slice(), 1),
-        (b"A stat /f".as_slice(), 3),
-        (b"crash".as_slice(), 6),
-        (b"crash A A".as_slice(), 9),
-        (b"A create  /f".as_slice(), 10),
-        (b"A create /f ".as_slice(), 13),
-        (b"A write /g x hi".as_slice(), 12),
-        (b"A write /g 0 h%41".as_slice(), 14),
-        (b"A write /g 0".as_slice(), 13),
-        (b"A read /g 00 1".as_slice(), 11),
+        (b"Q stat /".as_slice(), 1),
+        (b"A".as_slice(), 2),
+        (b"A  sync".as_slice(), 3),
+        (b"A statt /".as_slice(), 3),
+        (b"A sync ".as_slice(), 8),
+        (b"A stat f".as_slice(), 8),
+        (b"A stat /%2".as_slice(), 8),
+        (b"A stat /a/a/a/a/a/a/a/a/a/a/a/a/a/a/a/a/a".as_slice(), 8),
+        (b"A write /g 00 x".as_slice(), 12),
+        (b"A write /g 0 ".as_slice(), 14),
         (b"A read /g 4294967296 1".as_slice(), 11),
         (b"A read /g 0 4097".as_slice(), 13),
-        (b"A create /".as_slice(), 10),
-        (b"A create /a/b".as_slice(), 10),
-        (b"A create /..".as_slice(), 10),
+        (b"A chmod /g 0648".as_slice(), 12),
+        (b"A touch /g 18446744073709551616".as_slice(), 12),
+        (b"A rename /a".as_slice(), 12),
+        (b"A forder / / / / / / / / /".as_slice(), 26),
+        (b"drop A hallo 1".as_slice(), 8),
+        (b"arm 1000001 old".as_slice(), 5),
+        (b"arm 1 older".as_slice(), 7),
+        (b"stop A".as_slice(), 6),
     ];
     for (line, want) in cases {
         assert_eq!(rt; column(rt.alloc(), line), want);
     }
-}
-
-#[test]
-fn good_lines(rt: HostRuntime) {
-    let alloc = rt.alloc();
-    assert!(rt; matches!(read_line(alloc, b""), Ok(Line::Comment)));
-    assert!(rt; matches!(read_line(alloc, b"# A"), Ok(Line::Comment)));
-    assert!(rt; matches!(read_line(alloc, b"crash A"), Ok(Line::Crash(_))));
-    assert!(rt;
-        matches!(
-            read_line(alloc, b"A create /f"),
-            Ok(Line::Call(_, Call::Create(_)))
-        )
-    );
-    assert!(rt;
-        matches!(
-            read_line(alloc, b"A write /f 7 #hi"),
-            Ok(Line::Call(_, Call::Write(_, 7, _)))
-        )
-    );
-    assert!(rt;
-        matches!(
-            read_line(alloc, b"A read /f 0 4096"),
-            Ok(Line::Call(_, Call::Read(_, 0, 4096)))
-        )
-    );
 }
 
 #[test]

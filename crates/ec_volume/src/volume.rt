@@ -1,5 +1,5 @@
 // All objects by their ids.
-ghost use Rattle.std.specs.Prelude.{◌≡◌, ◌≤◌, ℕ, T, true, false, None, Some, [], ◌∷◌, length, not, MatchOption, IfOk, OnOk, OnErr, IfErr, slice_get, IfSome};
+ghost use Rattle.std.specs.Prelude.{◌≡◌, ◌≤◌, ℕ, T, true, false, None, Some, Ok, [], ◌∷◌, length, not, MatchOption, IfOk, OnOk, OnErr, IfErr, slice_get, IfSome};
 ghost use Rattle.std.specs.Ordering.{nat_cmp};
 ghost use Rattle.std.specs.FinMap.{is_sorted};
 ghost use Rattle.ec_volume.specs.Image.{is_gone, new_object};
@@ -65,6 +65,16 @@ impl Volume {
         let mut map = SortedMap::new(alloc);
         map.insert(ObjId::root(), Image::new_object(alloc, Kind::Dir))?;
         Ok(Volume { map })
+    }
+
+    /// The volume of these images, by rising ids. It takes no memory.
+    pub fn of(list: Vec<(ObjId, Image)>) -> Result<Volume, NoMemory>
+        requires { IsVolume list.items }
+        ensures { result ≡ Ok list.items }
+    {
+        Ok(Volume {
+            map: SortedMap::of(list),
+        })
     }
 
     /// The image of a live object.

@@ -3,8 +3,8 @@ use Rattle.ec_words.specs.declared.name.Keyword.TheVariants as keyword
 use Rattle.ec_words.specs.Rows.{◌▸◌, End, Last, left}
 use Rattle.ec_words.specs.Spelling.{IsClerk, IsSmallNumber, IsNumber, IsArmed, IsKind, IsChoice}
 use Rattle.ec_words.proofs.Misfits.{asked, asked_is, made}
-use Rattle.ec_script.specs.declared.full.Line.TheVariants as line
-use Rattle.ec_script.specs.Lined.{Says}
+use Rattle.ec_script.specs.declared.line.Line.TheVariants as line
+use Rattle.ec_script.specs.Grammar.{Says}
 use Rattle.ec_script.proofs.keyword.read_keyword.Goals as goal
 
 pub returns-in_err-clerk-in-Push : goal.returns-in_err-clerk-in-Push

@@ -1,19 +1,22 @@
+use Rattle.ec_words.specs.Rows.{left}
 use Rattle.ec_script.specs.Grammar.{Spells}
-use Rattle.ec_script.specs.Reading.{texts}
-use Rattle.ec_script.proofs.Unfit.{at_fault, line_missing, line_unknown, in_line_call}
+use Rattle.ec_words.proofs.Misfits.{returned}
+use Rattle.ec_script.proofs.Heads.{missing, unknown, behind_clerk, called, behind_keyword}
 use Rattle.ec_script.proofs.line.read_words.Goals as goal
 
-pub returns-in_err-word_at : goal.returns-in_err-word_at
-returns-in_err-word_at c =
-    let ws = texts c.args.words.now in
-    at_fault Spells 0 ws _ _ c.from_residual.ensures.1 (line_missing ws _ c.in_err-word_at.ensures.0 c.in_err-word_at.ensures.1)
+pub returns-in_default : goal.returns-in_default
+returns-in_default c = missing (left c.args.words) c.in_default.ensures
 
-pub returns-in_err-clerk : goal.returns-in_err-clerk
-returns-in_err-clerk c =
-    let ws = texts c.args.words.now in
-    at_fault Spells 0 ws _ _ c.from_residual-in_err-clerk.ensures.1 (line_unknown ws _ _ c.in_ok-word_at.ensures c.if-is_word.ensures c.in_err-clerk.ensures)
+pub returns-in_err-call : goal.returns-in_err-call
+returns-in_err-call c =
+    let ws = left c.args.words in
+    returned Spells ws _ _ c.from_residual.ensures.1 (behind_clerk ws c.in-Some.word.now (left c.in-Some.rest) c.in-Some-clerk_of.clerk _ c.in-Some.ensures c.in-Some-clerk_of.ensures c.in_err-call.ensures)
 
-pub returns-in_err-read_call : goal.returns-in_err-read_call
-returns-in_err-read_call c =
-    let ws = texts c.args.words.now in
-    at_fault Spells 0 ws _ _ c.from_residual-in_err-read_call.ensures.1 (in_line_call ws _ _ c.in_ok-clerk.ensures c.in_err-read_call.ensures)
+pub returns-in-Some-clerk_of : goal.returns-in-Some-clerk_of
+returns-in-Some-clerk_of c = called (left c.args.words) c.in-Some.word.now (left c.in-Some.rest) c.in-Some-clerk_of.clerk c.in_ok-call.call c.in-Some.ensures c.in-Some-clerk_of.ensures c.in_ok-call.ensures
+
+pub returns-in-Some-keyword_of : goal.returns-in-Some-keyword_of
+returns-in-Some-keyword_of c = behind_keyword (left c.args.words) c.in-Some.word.now (left c.in-Some.rest) c.in-Some-keyword_of.keyword c.read_keyword.result c.in-Some.ensures c.in-Some-keyword_of.ensures c.read_keyword.ensures
+
+pub returns-in-None : goal.returns-in-None
+returns-in-None c = unknown (left c.args.words) c.in-Some.word.now (left c.in-Some.rest) c.len.result c.in-Some.ensures c.len.ensures c.in_default-clerk_of.ensures c.in-None.ensures

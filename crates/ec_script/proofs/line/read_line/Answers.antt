@@ -1,6 +1,6 @@
 use Rattle.ec_words.specs.Rows.{left}
 use Rattle.ec_script.proofs.Outside.{faulty}
-use Rattle.ec_script.proofs.full.read_line.Goals as goal
+use Rattle.ec_script.proofs.line.read_line.Goals as goal
 
 pub returns-in-Err : goal.returns-in-Err
 returns-in-Err c = faulty c.args.line.now (left c.of.result) c.in-Err.misfit c.fault_at.result c.if-is_comment.ensures c.of.ensures c.in-Err.ensures c.fault_at.ensures

@@ -3,9 +3,9 @@ use Rattle.ec_words.specs.Spelling.{IsLane}
 use Rattle.ec_words.specs.Examples.{a_lane}
 use Rattle.ec_words.specs.Calls.{a_call}
 use Rattle.ec_words.specs.Calls.{SpellsCall}
-use Rattle.ec_script.specs.Lined.{SpellsLane}
+use Rattle.ec_script.specs.Grammar.{SpellsLane}
 use Rattle.ec_words.proofs.Misfits.{returned, row_lacks, row_has, begins_row}
-use Rattle.ec_script.proofs.full.read_lane_words.Goals as goal
+use Rattle.ec_script.proofs.line.read_lane_words.Goals as goal
 
 pub returns-in_err-lane : goal.returns-in_err-lane
 returns-in_err-lane c =

@@ -1,7 +1,7 @@
 use Rattle.ec_words.specs.Rows.{left}
-use Rattle.ec_script.specs.Lined.{SpellsLane}
+use Rattle.ec_script.specs.Grammar.{SpellsLane}
 use Rattle.ec_script.proofs.Outside.{outside}
-use Rattle.ec_script.proofs.full.read_lane.Goals as goal
+use Rattle.ec_script.proofs.line.read_lane.Goals as goal
 
 pub returns-in-Err : goal.returns-in-Err
 returns-in-Err c = outside SpellsLane c.args.line.now (left c.of.result) c.in-Err.misfit c.fault_at.result c.of.ensures c.in-Err.ensures c.fault_at.ensures
