@@ -3,7 +3,7 @@ use Rattle.ec_codes.specs.Formats.{rows_fit}
 use Rattle.ec_codes.specs.Fields.{word, id}
 use Rattle.ec_durable.specs.declared.state.Durable.{Durable}
 use Rattle.ec_table.specs.Codes.{id_above, place_after}
-use Rattle.ec_table.proofs.tests.written.Goals as goal
+use Rattle.ec_state_tests.proofs.table.written.Goals as goal
 
 root_fits : (most root : ℕ) → most ≡ 32 → root ≡ 1 → rows_fit (place_after most) [] ((root, 0) ∷ []) ≡ true
 unfolding place_after id_above id word

@@ -1,6 +1,6 @@
 //! A pool's calls, each on its happy path.
-use crate::Pool;
 use ec_base::{ClerkId, SessionNo};
+use ec_pool::Pool;
 use ec_wire::{Msg, MsgKind};
 use std::test::*;
 

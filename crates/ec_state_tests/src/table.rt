@@ -1,7 +1,7 @@
-use super::*;
 use ec_base::{NoMemory, ObjId};
 use ec_codes::CodeFault;
 use ec_durable::Durable;
+use ec_table::{Version, get_table, put_table};
 use std::alloc::Global;
 use std::test::*;
 

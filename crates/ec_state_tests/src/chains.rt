@@ -1,7 +1,7 @@
 //! Closures among three operations that a forder ties.
 
-use crate::{Order, OrderFault};
 use ec_base::{List, ObjId, OpNo};
+use ec_chains::{Order, OrderFault};
 use ec_volume::Update;
 use std::alloc::Global;
 use std::test::*;

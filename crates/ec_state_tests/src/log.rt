@@ -1,7 +1,7 @@
 //! Picks, batch by batch, and a full log.
 
-use crate::{Asked, Log, LogFault, MAX_UNDURABLE, Pick};
 use ec_base::{List, Name, ObjId, OpNo};
+use ec_log::{Asked, Log, LogFault, MAX_UNDURABLE, Pick};
 use ec_volume::{Kind, Update};
 use std::alloc::Global;
 use std::test::*;

@@ -3,11 +3,11 @@
 ghost use Rattle.std.specs.Prelude.{◌≡◌, true};
 ghost use Rattle.ec_cache.specs.Held.{is_within};
 
-use crate::{Verdict, evaluate};
 use ec_base::{Hold, List, ObjId, OpNo, Path};
 use ec_cache::Cache;
 use ec_plain::Call;
 use ec_report::Report;
+use ec_resolve::{Verdict, evaluate};
 use ec_volume::{Entries, Image};
 use std::alloc::Global;
 use std::test::*;

@@ -2,9 +2,10 @@ ghost use Rattle.std.specs.Prelude.{◌≡◌};
 ghost use Rattle.ec_cache.specs.Cache.{images_held};
 ghost use Rattle.ec_volume.specs.Update.{fits};
 
-use super::*;
-use Hold::{Free, Read, Write};
-use ec_base::List;
+use ec_base::Hold::{self, Free, Read, Write};
+use ec_base::{List, NoMemory, ObjId};
+use ec_cache::Cache;
+use ec_volume::{Image, Look, Update};
 use std::process::Abort;
 use std::test::Fail;
 

@@ -1,10 +1,10 @@
 //! Lines that are read, and lines that aren't.
 
-use crate::read;
 use ec_base::{List, OpNo};
 use ec_history::{Answer, Shown};
 use ec_plain::{Call, Reply};
 use ec_script::LineFault;
+use ec_shown::read;
 use ec_text::{print, print_answer, print_call};
 use std::alloc::Global;
 use std::test::*;
