@@ -160,4 +160,4 @@ module _ (g : System) (γ : Ghost) (t : Serving) (u : Under g t γ) (none : t.re
 
   pub open-starts : g.first_boot c < age.boot → StartsAgree here → StartsAgree (serving_in (open_new c age None t) γ' g)
   open-starts above st = subst (λ z. StartsAgree (serving_in z γ' g)) (sym (opening.open-is g γ t u c age within idle greater reached small))
-      (starts-behind g γ t st γ' now (quiet-with g γ t st c (Opened age s t.server.durable.epoch) tt) (owned-with g γ t st c age s (above, reached.1)) st.above st.alike)
+      (starts-behind g γ t st γ' now (quiet-with g γ t st c (Opened age s t.server.durable.epoch) tt) (owned-with g γ t st c age s (λ f. (λ z. above, reached.1))) st.above st.alike)

@@ -62,7 +62,7 @@ module _ (g : System) where
 -- A step that says these.
 module _ (g : System) (γ : Ghost) (t : Serving) (st : StartsAgree (serving_in t γ g)) where
   -- with other ghosts
-  pub starts-behind : (γ' : Ghost) (f : Serving) → AreQuiet g f.sent → ((s c : ℕ) (a : Age) → γ'.owner s ≡ Some (c, a) → IsOfStart g c a) → Each (λ o. g.first_boot o.clerk < o.boot) γ'.kept → AreAlike γ'
+  pub starts-behind : (γ' : Ghost) (f : Serving) → AreQuiet g f.sent → ((s c : ℕ) (a : Age) → γ'.owner s ≡ Some (c, a) → IsOfStart g (γ'.frozen s) c a) → Each (λ o. g.first_boot o.clerk < o.boot) γ'.kept → AreAlike γ'
       → StartsAgree (serving_in f γ' g)
   starts-behind γ' f quiet owned above alike = record {
     owned = owned;
@@ -87,11 +87,11 @@ module _ (g : System) (γ : Ghost) (t : Serving) (st : StartsAgree (serving_in t
   starts-on f quiet = starts-behind γ f quiet st.owned st.above st.alike
 
   -- a session is opened
-  pub owned-with : (c : ℕ) (age : Age) (s : ℕ) → IsOfStart g c age → (r d : ℕ) (a : Age) → (open_session c age s γ).owner r ≡ Some (d, a) → IsOfStart g d a
+  pub owned-with : (c : ℕ) (age : Age) (s : ℕ) → ((f : Option (List Op)) → IsOfStart g f c age) → (r d : ℕ) (a : Age) → (open_session c age s γ).owner r ≡ Some (d, a) → IsOfStart g (γ.frozen r) d a
   owned-with c age s new r d a = go (r == s)
     where
-      go : (b : Bool) → elim b as (λ z. Option (ℕ × Age)) [ true ↦ Some (c, age) | false ↦ γ.owner r ] ≡ Some (d, a) → IsOfStart g d a
-      go true e = let p = same_some e in subst (λ z. IsOfStart g z.0 z.1) p new
+      go : (b : Bool) → elim b as (λ z. Option (ℕ × Age)) [ true ↦ Some (c, age) | false ↦ γ.owner r ] ≡ Some (d, a) → IsOfStart g (γ.frozen r) d a
+      go true e = let p = same_some e in subst (λ z. IsOfStart g (γ.frozen r) z.0 z.1) p (new (γ.frozen r))
       go false e = st.owned r d a e
 
   -- a batch is kept

@@ -3,6 +3,7 @@ use Rattle.std.proofs.Common.{◌≡◌, refl, sym, ap, subst, ◌∙◌, arith,
 use Rattle.std.specs.Prelude.{◌<◌, is_some, Result, Ok, Err}
 use Rattle.std.specs.List.{filter}
 use Rattle.std.proofs.lemmas.Bool.{true≢false}
+use Rattle.ec_base.specs.declared.ids.Age.{Age}
 use Rattle.ec_volume.specs.Update.{member}
 use Rattle.ec_volume.specs.Volume.{Fits}
 use Rattle.ec_history.specs.History.{Op, updates}
@@ -29,6 +30,7 @@ use Rattle.ec_coherence.proofs.FinishAgrees as finished
 use Rattle.ec_coherence.proofs.Lists.{each-fewer}
 use Rattle.ec_coherence.proofs.Tables.{differ, is-true, none_some, same, same_some}
 use Rattle.ec_commits.specs.Laws.{AllAgree, Stands}
+use Rattle.ec_commits.specs.Starts.{IsOfStart}
 use Rattle.ec_commits.proofs.Given.{before-lines, before-record, ended-unclaimed}
 use Rattle.ec_commits.proofs.Shown.{lines-agree}
 use Rattle.ec_commits.proofs.Starting.{AreQuiet, quiet-so-far, quiet-with, starts-behind}
@@ -131,6 +133,14 @@ module _ (g : System) (γ : Ghost) (t : Serving) (st : Stands g t γ) (none : t.
   lines-are = ap (λ ss. ss ++ ended_line here c b ∷ []) same-shown ∙ ap (λ l. g.ghost.shown ++ l ∷ []) same-line ∙ ap (λ ls. g.ghost.shown ++ ls) (sym (ap (λ d. end_lines g c (slot d c)) (sym (before-record g γ t u none))
       ∙ ap (end_lines g c) in_slot ∙ ap (λ z. elim z as (λ y. List Shown) [ true ↦ ended_line g c b ∷ [] | false ↦ [] ]) (is-true sl.is_open opened)))
 
+  -- its session is frozen now, and the others as before
+  owned-still : (r d : ℕ) (a : Age) → γ''.owner r ≡ Some (d, a) → IsOfStart g (γ''.frozen r) d a
+  owned-still r d a p = let f = (st.3).owned r d a p in ((λ z. f.0 (go (r == s) z)), f.1)
+    where
+      go : (z : Bool) → elim z as (λ y. Option (List Op)) [ true ↦ Some γ.kept | false ↦ γ.frozen r ] ≡ None → γ.frozen r ≡ None
+      go true e = absurd (none_some (sym e))
+      go false e = e
+
   -- All facts, with the messages that are sent.
   module _ (ms : List (ℕ × Msg)) (agrees : Agrees (serving_in (sending ms) γ' g)) (quiet : AreQuiet g ms) where
     lined : Agrees (serving_in (sending ms) γ'' g)
@@ -145,7 +155,7 @@ module _ (g : System) (γ : Ghost) (t : Serving) (st : Stands g t γ) (none : t.
           record { sessions = lined.sessions; tokens = lined.tokens; logs = lined.logs; images = lined.images; events = shows.0; stops = stops-behind g γ γ'' t (sending ms) u lined.images },
           shows.1,
           (λ r l. st.2 r l),
-          starts-behind g γ t st.3 γ'' (sending ms) quiet (st.3).owned (each-fewer (λ o. g.first_boot o.clerk < o.boot) (λ k. not (is_of (γ.owner s) k && not (γ.is_durable k))) γ.kept (st.3).above) (st.3).alike,
+          starts-behind g γ t st.3 γ'' (sending ms) quiet owned-still (each-fewer (λ o. g.first_boot o.clerk < o.boot) (λ k. not (is_of (γ.owner s) k && not (γ.is_durable k))) γ.kept (st.3).above) (st.3).alike,
         )
 
   -- before the message is sent

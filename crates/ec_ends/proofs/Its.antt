@@ -58,7 +58,7 @@ module _ (g : System) (i : Invariant g) (wa : WatchesAgree g) (st : StartsAgree 
   open-now = at-open s (g.durable).sessions c sl (in_slot, refl, opened)
 
   pub above : g.first_boot c < b
-  above = ((st.owned s c sl.age owner-is).0)
+  above = (st.owned s c sl.age owner-is).0 (i.images.unfrozen s open-now)
 
   -- its start is at the age with which it was opened
   pub its-age : (k : Clerk) → g.clerks c b ≡ Some k → k.age ≡ sl.age
