@@ -1,0 +1,3 @@
+pub mod Rebase
+pub mod Lines
+pub mod Stored

@@ -1,0 +1,8 @@
+use Rattle.ec_headline.proofs.Lines.{line-tells, quiet-tells}
+use Rattle.ec_headline.proofs.lines_go_on_to_tell.Goals as goal
+
+pub returns-clause-quiet : goal.returns-clause-quiet
+returns-clause-quiet c = quiet-tells
+
+pub returns-clause-line : goal.returns-clause-line
+returns-clause-line c g h s before behind go t = line-tells g h before behind s go t
