@@ -1,0 +1,11 @@
+pub mod Outs
+pub mod Said
+pub mod Hellos
+pub mod Slots
+pub mod Kept
+pub mod Joined
+pub mod SameIn
+pub mod Outside
+pub mod Counted
+pub mod Start
+pub mod Begins
