@@ -9,3 +9,7 @@ pub mod Outside
 pub mod Counted
 pub mod Start
 pub mod Begins
+pub mod Owing
+pub mod Left
+pub mod Leaving
+pub mod Wholes

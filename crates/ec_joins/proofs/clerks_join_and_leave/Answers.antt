@@ -1,6 +1,7 @@
 use Rattle.ec_joins.proofs.Hellos.{hello-cuts, hello-stands}
 use Rattle.ec_joins.proofs.Joined.{opened-cuts, opened-go}
 use Rattle.ec_joins.proofs.Outside.{outside-all, outside-cuts}
+use Rattle.ec_joins.proofs.Leaving.{ended-stands}
 use Rattle.ec_joins.proofs.clerks_join_and_leave.Goals as goal
 
 pub returns-clause-hello : goal.returns-clause-hello
@@ -17,3 +18,6 @@ returns-clause-opened z g c b d γ st without outside age s e owns fits its-age 
   opened-go g c b d γ st without outside age s e owns fits its-age,
   opened-cuts g c b d γ st without outside age s e owns fits its-age,
 )
+
+pub returns-clause-ended : goal.returns-clause-ended
+returns-clause-ended z = ended-stands
