@@ -1,0 +1,4 @@
+pub mod Known
+pub mod Frames
+pub mod Opening
+pub mod Quiet
