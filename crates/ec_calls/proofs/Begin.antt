@@ -172,9 +172,9 @@ module _ (g : System) (events : EventsAgree g) (c b l : ℕ) (cl : Call) (k : Cl
             waits = subst T (sym (list_any-append (λ w. w.no == m) k.waiting (v ∷ []))) (or_first (has_number m k.waiting) _ (subst (λ z. T (has_number m z.waiting)) one o.waits));
             bounded = o.bounded;
             own = o.own;
-            open = o.open;
+            unanswered = o.unanswered;
           }
-      go false e = record { boot = o.boot; clerk = o.clerk; running = o.running; stands = other-start c b f o.boot (add_call cl k) g.clerks e ∙ o.stands; waits = o.waits; bounded = o.bounded; own = o.own; open = o.open }
+      go false e = record { boot = o.boot; clerk = o.clerk; running = o.running; stands = other-start c b f o.boot (add_call cl k) g.clerks e ∙ o.stands; waits = o.waits; bounded = o.bounded; own = o.own; unanswered = o.unanswered }
 
   calls-now : (f m j : ℕ) (dl : Call) → call_of f m h.calls ≡ Some (j, dl) → IsOpenCall h f m j dl
   calls-now f m j dl x = go ((f == c) && (m == n)) refl
@@ -193,7 +193,7 @@ module _ (g : System) (events : EventsAgree g) (c b l : ℕ) (cl : Call) (k : Cl
             waits = subst T (sym (list_any-append (λ w. w.no == n) k.waiting (v ∷ []))) (or_next (has_number n k.waiting) _ (or_first (n == n) false (holds (n == n) (same n))));
             bounded = bounded;
             own = lines.0;
-            open = lines.1;
+            unanswered = lines.1;
           }))))
 
   lines-now : (f o m i j : ℕ) (dl el : Call) → call_of f m h.calls ≡ Some (j, dl) → call_of o i h.calls ≡ Some (j, el) → (f ≡ o) × (m ≡ i)
@@ -230,4 +230,4 @@ module _ (g : System) (events : EventsAgree g) (c b l : ℕ) (cl : Call) (k : Cl
     where
       still : (ws : List Waiting) → Each (λ w. w.no ≤ k.calls) ws → Each (λ w. T (does_wait w k) × HasLine g c w) ws → Each (λ w. T (does_wait w (add_call cl k)) × HasLine h c w) ws
       still [] le r = tt
-      still (w ∷ ws) le r = (((r.0).0, ((r.0).1).0, other-call c w.no (less w.no le.0) ∙ ((r.0).1).1, ((r.0).1).2), still ws le.1 r.1)
+      still (w ∷ ws) le r = (((r.0).0, (((r.0).1).0, other-call c w.no (less w.no le.0) ∙ ((r.0).1).1, ((r.0).1).2)), still ws le.1 r.1)

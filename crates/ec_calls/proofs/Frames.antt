@@ -92,15 +92,12 @@ module _ (g : System) (d : Durable) (v : Option Server) (r : Option Record) (p :
     lost = lost;
   }
     where
-      abbrev sb : ℕ
-      sb = shown_boot g c b
-
-      lost : Each (LosesBelow c sb k.log.first) (told_to c sb (watch c γ.shown).untold γ.history)
+      lost : Each (LosesBelow c (shown_boot g c b) k.log.first) (told_to c (shown_boot g c b) (watch c γ.shown).untold γ.history)
       lost =
-          subst (λ z. Each (LosesBelow c sb k.log.first) (told_to c sb (watch c z).untold γ.history)) (sym shown)
-          (subst (λ z. Each (LosesBelow c sb k.log.first) (told_to c sb (watch c (g.ghost.shown ++ ls)).untold z)) (sym history-is)
-          (knows-kept c sb k.log.first g.ghost.shown ls quiet placeable (old.starts c b run)
-          (subst (λ z. Each (LosesBelow c sb k.log.first) (told_to c sb (watch c g.ghost.shown).untold z)) (sym old.placed) q.lost)))
+          subst (λ z. Each (LosesBelow c (shown_boot g c b) k.log.first) (told_to c (shown_boot g c b) (watch c z).untold γ.history)) (sym shown)
+          (subst (λ z. Each (LosesBelow c (shown_boot g c b) k.log.first) (told_to c (shown_boot g c b) (watch c (g.ghost.shown ++ ls)).untold z)) (sym history-is)
+          (knows-kept c (shown_boot g c b) k.log.first g.ghost.shown ls quiet placeable (old.starts c b run)
+          (subst (λ z. Each (LosesBelow c (shown_boot g c b) k.log.first) (told_to c (shown_boot g c b) (watch c g.ghost.shown).untold z)) (sym old.placed) q.lost)))
 
   open-call : (c n l : ℕ) (cl : Call) → IsOpenCall g c n l cl → IsOpenCall h c n l cl
   open-call c n l cl q =
@@ -113,7 +110,7 @@ module _ (g : System) (d : Durable) (v : Option Server) (r : Option Record) (p :
         waits = q.waits;
         bounded = q.bounded;
         own = subst (EachLine (Agrees l c cl)) (sym shown) (lines-append (Agrees l c cl) g.ghost.shown ls q.own more.0);
-        open = subst (EachLine (Unanswered l)) (sym shown) (lines-append (Unanswered l) g.ghost.shown ls q.open more.1);
+        unanswered = subst (EachLine (Unanswered l)) (sym shown) (lines-append (Unanswered l) g.ghost.shown ls q.unanswered more.1);
       }
 
   pub calls-kept : CallsAgree g → CallsAgree h
@@ -124,7 +121,7 @@ module _ (g : System) (d : Durable) (v : Option Server) (r : Option Record) (p :
   }
 
   pub rest-kept : AreAtRest g → AreAtRest h
-  rest-kept q c b k run there = each-map (λ w. T (does_wait w k) × HasLine g c w) (λ w. T (does_wait w k) × HasLine h c w) (λ w x. (x.0, (x.1).0, (x.1).1, shown-still (x.1).0 ∙ (x.1).2)) k.waiting (q c b k run there)
+  rest-kept q c b k run there = each-map (λ w. T (does_wait w k) × HasLine g c w) (λ w. T (does_wait w k) × HasLine h c w) (λ w x. (x.0, ((x.1).0, (x.1).1, shown-still (x.1).0 ∙ (x.1).2))) k.waiting (q c b k run there)
 
 -- The lines of a record.
 

@@ -21,20 +21,20 @@ use Rattle.ec_laws.proofs.Watching.{running-owner, running-told, sound}
 use Rattle.ec_calls.specs.Calls.{IsBefore, LosesBelow, before_last, told_to}
 use Rattle.ec_calls.specs.Laws.{is_quiet}
 
-same : (k : ℕ) → (k == k) ≡ true
+pub same : (k : ℕ) → (k == k) ≡ true
 same k = grind arith
 
-differ : (j k : ℕ) → (j ≡ k → ⊥) → (j == k) ≡ false
+pub differ : (j k : ℕ) → (j ≡ k → ⊥) → (j == k) ≡ false
 differ j k d = grind arith
 
-none_some : {A : Type 0} {x : A} → None ≡ Some x → ⊥
+pub none_some : {A : Type 0} {x : A} → None ≡ Some x → ⊥
 none_some e = absurd (cc)
 
 and_false : (x : Bool) → (x && false) ≡ false
 and_false true = refl
 and_false false = refl
 
-both : (a b : Bool) → T (a && b) → T a × T b
+pub both : (a b : Bool) → T (a && b) → T a × T b
 both true b t = (tt, t)
 both false b t = absurd t
 

@@ -99,7 +99,7 @@ module _ (g : System) (c b : ℕ) (d e : Doing) (γ : Ghost) (quiet : IsQuiet d 
         waits = subst (λ ws. T (has_number n ws)) (sym quiet.waiting) w;
         bounded = q.bounded;
         own = q.own;
-        open = q.open;
+        unanswered = q.unanswered;
       })
       (λ n' p same run w. record {
         boot = q.boot;
@@ -109,7 +109,7 @@ module _ (g : System) (c b : ℕ) (d e : Doing) (γ : Ghost) (quiet : IsQuiet d 
         waits = w;
         bounded = q.bounded;
         own = q.own;
-        open = q.open;
+        unanswered = q.unanswered;
       }) refl q.running q.waits
 
   pub quiet-calls : CallsAgree was → CallsAgree now

@@ -83,7 +83,7 @@ pub record IsOpenCall (g : System) (c n l : ℕ) (cl : Call) : Type 0 where
   pub waits : T (has_number n clerk.waiting)
   pub bounded : T (is_bounded cl)
   pub own : EachLine (Agrees l c cl) g.ghost.shown
-  pub open : EachLine (Unanswered l) g.ghost.shown
+  pub unanswered : EachLine (Unanswered l) g.ghost.shown
 
 pub record CallsAgree (g : System) : Type 0 where
   pub starts : (c b : ℕ) (k : Clerk) → g.running c ≡ Some b → g.clerks c b ≡ Some k → StartCalls g c b k

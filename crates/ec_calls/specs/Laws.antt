@@ -18,10 +18,10 @@ use Rattle.ec_protocol.specs.declared.clerk.Clerk.{Clerk}
 use Rattle.ec_protocol.specs.declared.clerk.Out.TheVariants as out
 use Rattle.ec_protocol.specs.declared.clerk.Waiting.{Waiting}
 use Rattle.ec_protocol.specs.declared.server.Server.{Server}
-use Rattle.ec_coherence.specs.System.{System, Ghost, with_start}
+use Rattle.ec_coherence.specs.System.{System, Ghost, at_session, with_start}
 use Rattle.ec_coherence.specs.Events.{EventsAgree}
 use Rattle.ec_coherence.specs.ChangeLaws.{Calls}
-use Rattle.ec_coherence.specs.Steps.{call_of, calls_after, doing_in, serving_in}
+use Rattle.ec_coherence.specs.Steps.{call_of, calls_after, doing_in, less_call, serving_in}
 use Rattle.ec_commits.specs.Laws.{AllAgree, Stands}
 use Rattle.ec_changes.specs.Laws.{crashed, lined}
 use Rattle.ec_calls.specs.Calls.{CallsAgree, is_shown}
@@ -95,5 +95,28 @@ CallsBegin = (g : System) → EventsAgree g → (c b l : ℕ) (cl : Call) (k : C
 
 -- its line is shown
 abbrev pub WaitsKeepCalls : Type 0
-WaitsKeepCalls = (g : System) → EventsAgree g → (c n l : ℕ) (cl : Call) → call_of c n g.calls ≡ Some (l, cl) → EventsAgree (lined g (show.Waits l c cl))
-    → CallsAgree g → CallsAgree (lined g (show.Waits l c cl)) × ((b : ℕ) (k : Clerk) → g.running c ≡ Some b → g.clerks c b ≡ Some k → AreInTurn g c k → Each (HasLine (lined g (show.Waits l c cl)) c) k.waiting)
+WaitsKeepCalls = (g : System) → EventsAgree g → (c n l : ℕ) (cl : Call) → call_of c n g.calls ≡ Some (l, cl) → CallsAgree g → CallsAgree (lined g (show.Waits l c cl))
+    × ((k : Clerk) (earlier : List Waiting) (w : Waiting) → k.waiting ≡ earlier ++ w ∷ [] → w.no ≡ n → w.call ≡ cl → Each (HasLine g c) earlier → Each (HasLine (lined g (show.Waits l c cl)) c) k.waiting)
+
+-- A clerk's start changes, with these calls under way, and sends messages.
+
+abbrev pub with_change : System → ℕ → ℕ → Clerk → Calls → List (ℕ × Msg) → Ghost → System
+with_change g c b k calls p γ = record g { clerks = with_start c b k g.clerks; calls = calls; pool = p; ghost = γ }
+
+-- it's told that its session ended
+abbrev pub TellsKeepCalls : Type 0
+TellsKeepCalls = (g : System) → EventsAgree g → (c b : ℕ) (k now : Clerk) → g.running c ≡ Some b → g.clerks c b ≡ Some k → (p : List (ℕ × Msg)) (γ : Ghost) (ns : List ℕ) → γ.shown ≡ g.ghost.shown ++ show.Told c ns ∷ []
+    → EventsAgree (with_change g c b now g.calls p γ) → now.waiting ≡ k.waiting → now.calls ≡ k.calls → now.log.next ≡ k.log.next → now.log.first ≡ now.log.next → now.log.undurable ≡ [] → CallsAgree g → CallsAgree (with_change g c b now g.calls p γ)
+
+-- it answers this call
+abbrev pub AnswersKeepCalls : Type 0
+AnswersKeepCalls = (g : System) → EventsAgree g → (c b : ℕ) (k now : Clerk) → g.running c ≡ Some b → g.clerks c b ≡ Some k → (before after : List Waiting) (w : Waiting) (l : ℕ) → k.waiting ≡ before ++ w ∷ after → call_of c w.no g.calls ≡ Some (l, w.call)
+    → (p : List (ℕ × Msg)) (γ : Ghost) (a : Answer) (op : Option ℕ) → γ.shown ≡ g.ghost.shown ++ show.Answered l c w.call a op ∷ [] → EventsAgree (with_change g c b now (less_call c w.no g.calls) p γ)
+    → now.waiting ≡ before ++ after → now.calls ≡ k.calls → now.log.first ≡ k.log.first → (op ≡ None → now.log.next ≡ k.log.next) → T (is_from now.log.first now.log.undurable)
+    → (op ≡ None) ⊎ Each (HasLine g c) (before ++ after)
+    → CallsAgree g → CallsAgree (with_change g c b now (less_call c w.no g.calls) p γ) × (Each (HasLine g c) (before ++ after) → Each (HasLine (with_change g c b now (less_call c w.no g.calls) p γ) c) (before ++ after))
+
+-- A clerk's next start, without a call, comes up.
+abbrev pub StartsKeepCalls : Type 0
+StartsKeepCalls = (g : System) (c b : ℕ) (k : Clerk) (bs : ℕ → ℕ) (p : List (ℕ × Msg)) → let h = record g { clerks = with_start c b k g.clerks; running = at_session c (Some b) g.running; boots = bs; pool = p } in
+    g.running c ≡ None → EventsAgree h → k.waiting ≡ [] → k.log.first ≡ k.log.next → k.log.undurable ≡ [] → (CallsAgree g → CallsAgree h) × (AreAtRest g → AreAtRest h)
