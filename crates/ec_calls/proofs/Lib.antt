@@ -7,3 +7,5 @@ pub mod Quiet
 pub mod Begin
 pub mod Lined
 pub mod Leave
+pub mod Left
+pub mod Told

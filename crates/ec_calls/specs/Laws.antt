@@ -1,5 +1,5 @@
 -- What is proved of calls under way, as contracts name it.
-use Rattle.std.specs.Prelude.{◌≡◌, ◌≢◌, ◌⊎◌, ◌==◌, ◌+◌, ℕ, T, Bool, true, false, not, is_some, if◌then◌else◌, List, [], ◌∷◌, ◌++◌, Option, None, Some}
+use Rattle.std.specs.Prelude.{◌≡◌, ◌≤◌, ◌≢◌, ◌⊎◌, ◌==◌, ◌+◌, ℕ, T, Bool, true, false, not, is_some, if◌then◌else◌, List, [], ◌∷◌, ◌++◌, Option, None, Some}
 use Rattle.std.specs.List.{list_all}
 use Rattle.ec_base.specs.Tables.{at_or, put}
 use Rattle.ec_plain.specs.Bounds.{is_bounded}
@@ -56,7 +56,7 @@ ServersKeepCalls = (g : System) → AllAgree g → (γ : Ghost) (t : Serving) �
 
 -- behind a crash, with which its calls go
 abbrev pub CrashesKeepCalls : Type 0
-CrashesKeepCalls = (g : System) → EventsAgree g → (c : ℕ) → EventsAgree (crashed g c) → (CallsAgree g → CallsAgree (crashed g c)) × (AreAtRest g → AreAtRest (crashed g c))
+CrashesKeepCalls = (g : System) (c : ℕ) → (CallsAgree g → CallsAgree (crashed g c)) × (AreAtRest g → AreAtRest (crashed g c))
 
 -- Of a clerk's step.
 
@@ -112,7 +112,7 @@ TellsKeepCalls = (g : System) → EventsAgree g → (c b : ℕ) (k now : Clerk) 
 abbrev pub AnswersKeepCalls : Type 0
 AnswersKeepCalls = (g : System) → EventsAgree g → (c b : ℕ) (k now : Clerk) → g.running c ≡ Some b → g.clerks c b ≡ Some k → (before after : List Waiting) (w : Waiting) (l : ℕ) → k.waiting ≡ before ++ w ∷ after → call_of c w.no g.calls ≡ Some (l, w.call)
     → (p : List (ℕ × Msg)) (γ : Ghost) (a : Answer) (op : Option ℕ) → γ.shown ≡ g.ghost.shown ++ show.Answered l c w.call a op ∷ [] → EventsAgree (with_change g c b now (less_call c w.no g.calls) p γ)
-    → now.waiting ≡ before ++ after → now.calls ≡ k.calls → now.log.first ≡ k.log.first → (op ≡ None → now.log.next ≡ k.log.next) → T (is_from now.log.first now.log.undurable)
+    → now.waiting ≡ before ++ after → now.calls ≡ k.calls → now.log.first ≡ k.log.first → (op ≡ None → now.log.next ≡ k.log.next) → T (is_from now.log.first now.log.undurable) → now.log.first ≤ now.log.next
     → (op ≡ None) ⊎ Each (HasLine g c) (before ++ after)
     → CallsAgree g → CallsAgree (with_change g c b now (less_call c w.no g.calls) p γ) × (Each (HasLine g c) (before ++ after) → Each (HasLine (with_change g c b now (less_call c w.no g.calls) p γ) c) (before ++ after))
 

@@ -2,7 +2,7 @@
 //! empty body, and its contract is a law.
 #![tactic(auto)]
 
-ghost use Rattle.ec_calls.specs.Laws.{CallsBegin, CallsBeginSteps, LinesKeepCalls, OpeningCalls, QuietKeepsCalls, ServersKeepCalls, WaitsKeepCalls};
+ghost use Rattle.ec_calls.specs.Laws.{AnswersKeepCalls, CallsBegin, CallsBeginSteps, CrashesKeepCalls, LinesKeepCalls, OpeningCalls, QuietKeepsCalls, ServersKeepCalls, StartsKeepCalls, TellsKeepCalls, WaitsKeepCalls};
 
 /// Where nobody runs no call is under way, and behind what a server does with its lines each waits as it did.
 pub fn servers_keep_calls()
@@ -21,4 +21,17 @@ pub fn steps_keep_calls()
 pub fn calls_begin()
     ensures begin { CallsBegin }
     ensures waits { WaitsKeepCalls }
+{}
+
+/// An answer takes its call away, with a line.
+pub fn answers_keep_calls()
+    ensures { AnswersKeepCalls }
+{}
+
+/// A start that is told its loss goes on with its calls, one that crashes takes them along, and the next one
+/// comes up without any.
+pub fn starts_keep_calls()
+    ensures told { TellsKeepCalls }
+    ensures crash { CrashesKeepCalls }
+    ensures start { StartsKeepCalls }
 {}
