@@ -9,3 +9,7 @@ pub mod Lined
 pub mod Leave
 pub mod Left
 pub mod Told
+pub mod Sessionless
+pub mod Follows
+pub mod Covered
+pub mod Settled

@@ -1,10 +1,21 @@
 -- What is proved of calls under way, as contracts name it.
-use Rattle.std.specs.Prelude.{◌≡◌, ◌≤◌, ◌≢◌, ◌⊎◌, ◌==◌, ◌+◌, ℕ, T, Bool, true, false, not, is_some, if◌then◌else◌, List, [], ◌∷◌, ◌++◌, Option, None, Some}
-use Rattle.std.specs.List.{list_all}
+use Rattle.std.specs.Prelude.{◌≡◌, ◌≤◌, ◌≢◌, ◌⊎◌, ◌==◌, ◌+◌, ℕ, T, Bool, true, false, not, is_some, if◌then◌else◌, List, [], ◌∷◌, ◌++◌, ◌&&◌, Option, None, Some}
+use Rattle.std.specs.List.{filter, list_all}
 use Rattle.ec_base.specs.Tables.{at_or, put}
 use Rattle.ec_plain.specs.Bounds.{is_bounded}
 use Rattle.ec_plain.specs.declared.call.Call.{Call}
-use Rattle.ec_history.specs.History.{Each}
+use Rattle.ec_history.specs.History.{Each, Op, Covers, numbers, updates}
+use Rattle.ec_history.specs.Placing.{MayFollow, shows}
+use Rattle.ec_volume.specs.Volume.{after}
+use Rattle.ec_plain.specs.declared.call.Outcome.{Outcome}
+use Rattle.ec_sessions.specs.declared.window.Window.{Window}
+use Rattle.ec_report.specs.Report.{Owed}
+use Rattle.ec_resolve.specs.Agreement.{Shows}
+use Rattle.ec_resolve.specs.declared.verdict.Verdict.TheVariants.{Done}
+use Rattle.ec_coherence.specs.Log.{Knows}
+use Rattle.ec_coherence.specs.Sessions.{HasNone}
+use Rattle.ec_events.specs.Answers.{Gives, IsLive, Sees, based, fresh_of}
+use Rattle.ec_events.specs.Comes.{entry_next}
 use Rattle.ec_history.specs.declared.entry.Answer.{Answer}
 use Rattle.ec_history.specs.declared.shown.Shown.{Shown}
 use Rattle.ec_history.specs.declared.shown.Shown.TheVariants as show
@@ -12,20 +23,20 @@ use Rattle.ec_log.specs.Log.{is_from}
 use Rattle.ec_wire.specs.declared.msg.Msg.{Msg}
 use Rattle.ec_durable.specs.declared.state.Durable.{Durable}
 use Rattle.ec_durable.specs.declared.record.Record.{Record}
-use Rattle.ec_protocol.specs.Clerk.{Doing, add_call, doing}
+use Rattle.ec_protocol.specs.Clerk.{Doing, add_call, doing, first_id, verdict}
 use Rattle.ec_protocol.specs.Server.{Serving}
 use Rattle.ec_protocol.specs.declared.clerk.Clerk.{Clerk}
 use Rattle.ec_protocol.specs.declared.clerk.Out.TheVariants as out
 use Rattle.ec_protocol.specs.declared.clerk.Waiting.{Waiting}
 use Rattle.ec_protocol.specs.declared.server.Server.{Server}
-use Rattle.ec_coherence.specs.System.{System, Ghost, at_session, with_start}
-use Rattle.ec_coherence.specs.Events.{EventsAgree}
+use Rattle.ec_coherence.specs.System.{System, Ghost, at_session, is_of, with_start}
+use Rattle.ec_coherence.specs.Events.{CutAgrees, EventsAgree, shown_boot}
 use Rattle.ec_coherence.specs.ChangeLaws.{Calls}
 use Rattle.ec_coherence.specs.Steps.{call_of, calls_after, doing_in, less_call, serving_in}
 use Rattle.ec_commits.specs.Laws.{AllAgree, Stands}
 use Rattle.ec_changes.specs.Laws.{crashed, lined}
 use Rattle.ec_calls.specs.Calls.{CallsAgree, is_shown}
-use Rattle.ec_calls.specs.Waits.{AreAtRest, AreInTurn, HasLine}
+use Rattle.ec_calls.specs.Waits.{AreAtRest, AreInTurn, HasLine, does_wait}
 
 -- Where nobody runs and no call is under way.
 abbrev pub OpeningCalls : Type 0
@@ -120,3 +131,40 @@ AnswersKeepCalls = (g : System) → EventsAgree g → (c b : ℕ) (k now : Clerk
 abbrev pub StartsKeepCalls : Type 0
 StartsKeepCalls = (g : System) (c b : ℕ) (k : Clerk) (bs : ℕ → ℕ) (p : List (ℕ × Msg)) → let h = record g { clerks = with_start c b k g.clerks; running = at_session c (Some b) g.running; boots = bs; pool = p } in
     g.running c ≡ None → EventsAgree h → k.waiting ≡ [] → k.log.first ≡ k.log.next → k.log.undurable ≡ [] → (CallsAgree g → CallsAgree h) × (AreAtRest g → AreAtRest h)
+
+-- What answers need.
+
+-- the call on this line waits at the running start of the clerk
+pub record IsWaiting (g : System) (c b : ℕ) (k : Clerk) (w : Waiting) (l : ℕ) : Type 0 where
+  pub running : g.running c ≡ Some b
+  pub stands : g.clerks c b ≡ Some k
+  pub before : List Waiting
+  pub after : List Waiting
+  pub waits : k.waiting ≡ before ++ w ∷ after
+  pub line : call_of c w.no g.calls ≡ Some (l, w.call)
+
+-- its answer may follow, in a session, whether it ended or not; without one where it shows none
+abbrev pub AnswersMayFollow : Type 0
+AnswersMayFollow = (g : System) → AllAgree g → CallsAgree g → (c b : ℕ) (k : Clerk) (w : Waiting) (l : ℕ) → IsWaiting g c b k w l → (a : Answer) (op : Option ℕ) → (k.session ≡ None → shows w.call a ≡ false) → MayFollow g.ghost.shown (show.Answered l c w.call a op)
+
+-- which it does of any call within its bounds, and without an operation
+abbrev pub OutsideShowsNone : Type 0
+OutsideShowsNone = (k : Clerk) → HasNone k → (cl : Call) → T (is_bounded cl) → (most : ℕ) (a : Answer) (op : Option ℕ) (rest : Owed) → Gives most k (verdict cl k) a op rest → (shows cl a ≡ false) × (op ≡ None)
+
+-- the call's try answers it, where its verdict is an outcome
+abbrev pub Passes : Clerk → Waiting → Type 0
+Passes k w = (o : Outcome) → verdict w.call k ≡ Done o → does_wait w k ≡ false
+
+-- what the answer of a clerk that isn't cut off covers is durable
+abbrev pub SettledStands : Type 0
+SettledStands = (g : System) → AllAgree g → CallsAgree g → (c b : ℕ) (k : Clerk) (w : Waiting) (l : ℕ) → IsWaiting g c b k w l → IsLive g c k → Sees g k → Passes k w
+    → (most : ℕ) (a : Answer) (op : Option ℕ) (rest : Owed) → Gives most k (verdict w.call k) a op rest
+    → (o : Op) → Covers (based g (fresh_of k)) g.ghost.history (entry_next g c b l w.call a op) o.clerk (shown_boot g o.clerk o.boot) o.number → T (g.ghost.is_durable o)
+
+-- and the late answer of one that is cut off covers nothing of what it lost, where its log agrees with what it sees
+abbrev pub LateSettledStands : Type 0
+LateSettledStands = (g : System) → AllAgree g → CallsAgree g → (c b s : ℕ) (k : Clerk) (ks : List Op) (w : Waiting) (l : ℕ) → IsWaiting g c b k w l → g.ghost.owner s ≡ Some (c, k.age)
+    → Shows k.cache (first_id k.ids) (after g.origin (updates ks)) → (window : Window) → Knows k.log window (filter (is_of (g.ghost.owner s)) ks) g.ghost.is_durable
+    → (z : CutAgrees g c b s k ks) → z.lost ≡ numbers (filter (λ o. is_of (g.ghost.owner s) o && not (g.ghost.is_durable o)) ks) → Passes k w
+    → (most : ℕ) (a : Answer) (op : Option ℕ) (rest : Owed) → Gives most k (verdict w.call k) a op rest
+    → Each (λ n. ¬ (Covers (based g (fresh_of k)) z.before (entry_next g c b l w.call a op) c (shown_boot g c b) n)) z.lost

@@ -2,7 +2,7 @@
 //! empty body, and its contract is a law.
 #![tactic(auto)]
 
-ghost use Rattle.ec_calls.specs.Laws.{AnswersKeepCalls, CallsBegin, CallsBeginSteps, CrashesKeepCalls, LinesKeepCalls, OpeningCalls, QuietKeepsCalls, ServersKeepCalls, StartsKeepCalls, TellsKeepCalls, WaitsKeepCalls};
+ghost use Rattle.ec_calls.specs.Laws.{AnswersKeepCalls, AnswersMayFollow, CallsBegin, CallsBeginSteps, CrashesKeepCalls, LateSettledStands, LinesKeepCalls, OpeningCalls, OutsideShowsNone, QuietKeepsCalls, ServersKeepCalls, SettledStands, StartsKeepCalls, TellsKeepCalls, WaitsKeepCalls};
 
 /// Where nobody runs no call is under way, and behind what a server does with its lines each waits as it did.
 pub fn servers_keep_calls()
@@ -34,4 +34,16 @@ pub fn starts_keep_calls()
     ensures told { TellsKeepCalls }
     ensures crash { CrashesKeepCalls }
     ensures start { StartsKeepCalls }
+{}
+
+/// The line of a waiting call's answer may follow the lines before it: its clerk is in a session, or shows none.
+pub fn answers_may_follow()
+    ensures line { AnswersMayFollow }
+    ensures outside { OutsideShowsNone }
+{}
+
+/// What the answer of a call covers that its try answers is durable; a late one covers nothing that its start lost.
+pub fn answers_cover_what_is_durable()
+    ensures settled { SettledStands }
+    ensures late { LateSettledStands }
 {}
