@@ -1,0 +1,5 @@
+pub mod Pool
+pub mod Outs
+pub mod Standing
+pub mod Serving
+pub mod Frames
