@@ -209,7 +209,7 @@ abbrev pub SettlesRest : Type 0
 SettlesRest = (d : Doing) → (d.clerk.session ≡ None → d.clerk.recalls ≡ []) → NoneReady (prepared d).clerk
 
 abbrev pub TriesRest : Type 0
-TriesRest = (d : Doing) → NoneReady d.clerk → T (is_some (try_all d).spent) ⊎ (Each (λ w. T (does_wait w (try_all d).clerk)) (try_all d).clerk.waiting × NoneReady (try_all d).clerk)
+TriesRest = (d : Doing) → NoneReady d.clerk → Each (λ w. T (does_wait w (try_all d).clerk)) (try_all d).clerk.waiting × NoneReady (try_all d).clerk
 
 abbrev pub EvictsRest : Type 0
 EvictsRest = (d : Doing) → ((x : ℕ) → first_id d.clerk.ids ≡ Some x → images_held d.clerk.cache x ≡ Gone) → Each (λ w. T (does_wait w d.clerk)) d.clerk.waiting → NoneReady d.clerk
