@@ -131,10 +131,13 @@ module _ (k now : Clerk) (less : HoldsLess k now) (cl : Call) where
   -- the same losses are reported
   lost-still : (ns xs : List ℕ) → evaluate now.cache k.owed cl fresh ≡ Lost ns xs → (ms : List ℕ) × (ys : List ℕ) × (evaluate k.cache k.owed cl fresh ≡ Lost ms ys)
   lost-still ns xs e =
-      let last = reports-some (due (met k.owed cl owing.touched) k.owed) (met k.owed cl owing.touched) (lacking k.cache (lacks_id fresh out.update) out) some in
-      (last.0, last.1, ap (λ z. in_order k.cache k.owed cl fresh z (lacking k.cache (lacks_id fresh out.update) out)) touched
-      ∙ ap (λ z. elim z as (λ y. Verdict) [ Some x ↦ Need x Read | None ↦ or_else (lacking k.cache (lacks_id fresh out.update) out) (reported (due (met k.owed cl owing.touched) k.owed) (met k.owed cl owing.touched)) ]) (first-nothing (is_unread k.cache fresh) owing.touched (λ x t. unread-still x ((owing.read).held x t)))
-      ∙ last.2)
+      let last = reports-some (due (met k.owed cl owing.touched) k.owed) (met k.owed cl owing.touched) (lacking k.cache (lacks_id fresh out.update) out) some in (
+        last.0,
+        last.1,
+        ap (λ z. in_order k.cache k.owed cl fresh z (lacking k.cache (lacks_id fresh out.update) out)) touched
+            ∙ ap (λ z. elim z as (λ y. Verdict) [ Some x ↦ Need x Read | None ↦ or_else (lacking k.cache (lacks_id fresh out.update) out) (reported (due (met k.owed cl owing.touched) k.owed) (met k.owed cl owing.touched)) ]) (first-nothing (is_unread k.cache fresh) owing.touched (λ x t. unread-still x ((owing.read).held x t)))
+            ∙ last.2,
+      )
     where
       owing : IsOwed now.cache k.owed cl fresh (or_else 0 fresh) out ns xs
       owing = lost-says now.cache k.owed cl fresh ns xs e V shows (or_else 0 fresh) its

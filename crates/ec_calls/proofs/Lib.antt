@@ -16,3 +16,4 @@ pub mod Settled
 pub mod Still
 pub mod Less
 pub mod Resting
+pub mod Quiets

@@ -226,8 +226,7 @@ begins-still d n = go (has_session d.clerk)
     go : (z : Bool) → IsStill d (elim z as (λ y. Doing) [ true ↦ ask_pushes (answer_recalls d) | false ↦ d ]) × NoneReady (elim z as (λ y. Doing) [ true ↦ ask_pushes (answer_recalls d) | false ↦ d ]).clerk
     go true =
         let one = recalls-still d.clerk.recalls (record d { clerk = record (d.clerk) { recalls = [] } }) n tt in
-        let two = asks-still (answer_recalls d) in
-        (
+        let two = asks-still (answer_recalls d) in (
           still-then d (answer_recalls d) (ask_pushes (answer_recalls d)) (still-then d (record d { clerk = record (d.clerk) { recalls = [] } }) (answer_recalls d) (record { quiet = record { waiting = refl; calls = refl; next = refl; first = refl; own = λ n t. t; outs = λ c x. refl }; cache = refl; owed = refl; ids = refl; undurable = refl }) one.0) two.0,
           subst (λ rs. Each (λ r. T (not (is_ready r (ask_pushes (answer_recalls d)).clerk))) rs) (sym two.1) (none-still (answer_recalls d) (ask_pushes (answer_recalls d)) two.0 (answer_recalls d).clerk.recalls one.1),
         )

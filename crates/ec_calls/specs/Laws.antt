@@ -23,9 +23,10 @@ use Rattle.ec_history.specs.declared.shown.Shown.{Shown}
 use Rattle.ec_history.specs.declared.shown.Shown.TheVariants as show
 use Rattle.ec_log.specs.Log.{is_from}
 use Rattle.ec_wire.specs.declared.msg.Msg.{Msg}
+use Rattle.ec_wire.specs.declared.msg.Msg.TheVariants.{Ended, NoRoom}
 use Rattle.ec_durable.specs.declared.state.Durable.{Durable}
 use Rattle.ec_durable.specs.declared.record.Record.{Record}
-use Rattle.ec_protocol.specs.Clerk.{Answered, Doing, Tried, Waits, add_call, answer_recalls, ask_pushes, doing, evict, first_id, has_session, try, try_all, verdict}
+use Rattle.ec_protocol.specs.Clerk.{Answered, Doing, Tried, Waits, add_call, answer_recalls, ask_pushes, doing, evict, first_id, has_session, hello, is_session, keep_push, resend, taken, try, try_all, verdict}
 use Rattle.ec_protocol.specs.Server.{Serving}
 use Rattle.ec_protocol.specs.declared.clerk.Clerk.{Clerk}
 use Rattle.ec_protocol.specs.declared.clerk.Out.TheVariants as out
@@ -214,3 +215,21 @@ TriesRest = (d : Doing) → NoneReady d.clerk → Each (λ w. T (does_wait w (tr
 abbrev pub EvictsRest : Type 0
 EvictsRest = (d : Doing) → ((x : ℕ) → first_id d.clerk.ids ≡ Some x → images_held d.clerk.cache x ≡ Gone) → Each (λ w. T (does_wait w d.clerk)) d.clerk.waiting → NoneReady d.clerk
     → Each (λ w. T (does_wait w (evict d).clerk)) (evict d).clerk.waiting × NoneReady (evict d).clerk
+
+-- Whole functions that answer nothing.
+
+-- a message that doesn't end the clerk's session, and answers no asking for ids
+abbrev pub is_calm : Msg → Doing → Bool
+is_calm (Ended s low mask) d = not (is_session s d.clerk.session)
+is_calm (NoRoom s e ask live reserved) d = not (is_session ask d.clerk.asking)
+is_calm _ d = true
+
+pub record AreQuiet : Type 0 where
+  pub prepared : (d : Doing) → IsQuiet d (prepared d)
+  pub evict : (d : Doing) → IsQuiet d (evict d)
+  pub push : (n : ℕ) (d : Doing) → IsQuiet d (keep_push n d)
+  pub hello : (d : Doing) → IsQuiet d (hello d)
+  pub resend : (k : Clerk) → IsQuiet (doing k) (resend k)
+  pub taken : (m : Msg) (d : Doing) → T (is_calm m d) → IsQuiet d (taken m d)
+  pub still : (d : Doing) → IsQuiet d d
+  pub on : (d e f : Doing) → IsQuiet d e → IsQuiet e f → IsQuiet d f
