@@ -17,3 +17,5 @@ pub mod Still
 pub mod Less
 pub mod Resting
 pub mod Quiets
+pub mod Shown
+pub mod Once

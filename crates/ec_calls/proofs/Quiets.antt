@@ -27,8 +27,8 @@ use Rattle.ec_protocol.specs.declared.clerk.Out.TheVariants as out
 use Rattle.ec_protocol.specs.declared.clerk.Recalled.{Recalled}
 use Rattle.ec_coherence.specs.ChangeLaws.{Calls}
 use Rattle.ec_coherence.specs.Steps.{call_of, calls_after, less_call}
-use Rattle.ec_calls.specs.Laws.{IsQuiet, is_calm, prepared}
-use Rattle.ec_calls.proofs.Still.{asks-still, calls-sent, quiet-same, quiet-then, still-ask}
+use Rattle.ec_calls.specs.Laws.{IsQuiet, IsStill, is_calm, prepared}
+use Rattle.ec_calls.proofs.Still.{asks-still, calls-sent, quiet-same, quiet-then, still-ask, still-same, still-sent, still-then}
 
 -- A change of what calls don't read, and a message behind it.
 
@@ -110,6 +110,41 @@ quiet-hello d = quiet-sent _ d
 
 pub quiet-resend : (k : Clerk) → IsQuiet (doing k) (resend k)
 quiet-resend k = quiet-if (has_session k) (doing k) (send_outstanding (claim (doing k))) (hello (doing k)) (quiet-then (doing k) (claim (doing k)) _ (quiet-claim (doing k)) (quiet-outstanding (claim (doing k)))) (quiet-hello (doing k))
+
+-- it leaves what is held, too
+abbrev LeavesAll : Doing → Doing → Type 0
+LeavesAll d e = IsStill d e × (e.clerk.recalls ≡ d.clerk.recalls)
+
+leaves-then : (d e f : Doing) → LeavesAll d e → LeavesAll e f → LeavesAll d f
+leaves-then d e f p q = (still-then d e f p.0 q.0, q.1 ∙ p.1)
+
+leaves-if : (z : Bool) (d e f : Doing) → LeavesAll d e → LeavesAll d f → LeavesAll d (elim z as (λ y. Doing) [ true ↦ e | false ↦ f ])
+leaves-if true d e f p q = p
+leaves-if false d e f p q = q
+
+leaves-want : (x : ℕ) (h : Hold) (sent : List (ℕ × Hold)) (d : Doing) → LeavesAll d (resend_want x h sent d)
+leaves-want x h sent d = leaves-if (may_want x h d.clerk && not (list_any (is_need x h) sent)) d (send_want x h d) d
+    (record { quiet = quiet-on _ d _ (quiet-clerk d _ refl refl refl); cache = refl; owed = refl; ids = refl; undurable = refl }, refl) (still-same d, refl)
+
+leaves-needs : (sent ps : List (ℕ × Hold)) (d : Doing) → LeavesAll d (resend_needs sent ps d)
+leaves-needs sent [] d = (still-same d, refl)
+leaves-needs sent (p ∷ ps) d = leaves-then d (resend_want p.0 p.1 sent d) _ (leaves-want p.0 p.1 sent d) (leaves-needs (p ∷ sent) ps (resend_want p.0 p.1 sent d))
+
+leaves-room : (o : Option ℕ) (d : Doing) → LeavesAll d (resend_room o d)
+leaves-room None d = (still-same d, refl)
+leaves-room (Some n) d = (still-sent _ d, refl)
+
+leaves-batches : (bs : List ℕ) (d : Doing) → LeavesAll d (resend_batches bs d)
+leaves-batches [] d = (still-same d, refl)
+leaves-batches (b ∷ bs) d = leaves-then d (send_batch b d) _ (still-sent _ d, refl) (leaves-batches bs (send_batch b d))
+
+leaves-outstanding : (d : Doing) → LeavesAll d (send_outstanding d)
+leaves-outstanding d =
+    let e : Doing = resend_needs [] (needs d.clerk.waiting d.clerk) d in
+    leaves-then d e (send_outstanding d) (leaves-needs [] (needs d.clerk.waiting d.clerk) d) (leaves-then e (resend_room e.clerk.asking e) (send_outstanding d) (leaves-room e.clerk.asking e) (leaves-batches (keys e.clerk.log.batches) (resend_room e.clerk.asking e)))
+
+pub leaves-resend : (k : Clerk) → LeavesAll (doing k) (resend k)
+leaves-resend k = leaves-if (has_session k) (doing k) (send_outstanding (claim (doing k))) (hello (doing k)) (leaves-then (doing k) (claim (doing k)) _ (still-sent _ (doing k), refl) (leaves-outstanding (claim (doing k)))) (still-sent _ (doing k), refl)
 
 pub quiet-pushed : (n : ℕ) (d : Doing) → IsQuiet d (keep_push n d)
 quiet-pushed n d = quiet-clerk d _ refl refl refl

@@ -5,7 +5,7 @@ use Rattle.ec_base.specs.Tables.{at_or, put}
 use Rattle.ec_plain.specs.Bounds.{is_bounded}
 use Rattle.ec_plain.specs.declared.call.Call.{Call}
 use Rattle.ec_history.specs.History.{Each, Op, Covers, numbers, updates}
-use Rattle.ec_history.specs.Placing.{MayFollow, shows}
+use Rattle.ec_history.specs.Placing.{Agrees, ArePlaceable, EachLine, MayFollow, Unanswered, shows}
 use Rattle.ec_volume.specs.Volume.{after}
 use Rattle.ec_volume.specs.declared.image.Image.TheVariants.{Gone}
 use Rattle.ec_cache.specs.Cache.{images_held}
@@ -233,3 +233,19 @@ pub record AreQuiet : Type 0 where
   pub taken : (m : Msg) (d : Doing) → T (is_calm m d) → IsQuiet d (taken m d)
   pub still : (d : Doing) → IsQuiet d d
   pub on : (d e f : Doing) → IsQuiet d e → IsQuiet e f → IsQuiet d f
+
+-- sending again changes nothing that calls read, or recalls
+abbrev pub ResendsAreStill : Type 0
+ResendsAreStill = (k : Clerk) → IsStill (doing k) (resend k) × ((resend k).clerk.recalls ≡ k.recalls)
+
+-- All facts behind the line of a waiting call, of a clerk that runs.
+abbrev pub WaitsStand : Type 0
+WaitsStand = (g : System) → AllAgree g → (c b l : ℕ) (cl : Call) → g.running c ≡ Some b → EachLine (Agrees l c cl) g.ghost.shown → AllAgree (lined g (show.Waits l c cl))
+
+-- Of all lines: each number is answered at most once, and all lines of it are of the clerk and the call of that answer.
+pub record IsAnsweredOnce (l c : ℕ) (cl : Call) (others : List Shown) : Type 0 where
+  pub own : EachLine (Agrees l c cl) others
+  pub once : EachLine (Unanswered l) others
+
+abbrev pub AnsweredOnce : Type 0
+AnsweredOnce = (ss : List Shown) → ArePlaceable [] ss → (before after : List Shown) (l c : ℕ) (cl : Call) (a : Answer) (op : Option ℕ) → before ++ show.Answered l c cl a op ∷ after ≡ ss → IsAnsweredOnce l c cl (before ++ after)

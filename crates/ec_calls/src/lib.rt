@@ -2,7 +2,7 @@
 //! empty body, and its contract is a law.
 #![tactic(auto)]
 
-ghost use Rattle.ec_calls.specs.Laws.{AnswersKeepCalls, AnswersMayFollow, AreQuiet, BeginsAreStill, CallsBegin, CallsBeginSteps, CrashesKeepCalls, EvictsRest, LateSettledStands, LinesKeepCalls, OpeningCalls, OutsideShowsNone, QuietKeepsCalls, ServersKeepCalls, SettledStands, SettlesRest, StartsKeepCalls, StillWaits, TellsKeepCalls, TriesAnswer, TriesRest, WaitsKeepCalls};
+ghost use Rattle.ec_calls.specs.Laws.{AnsweredOnce, AnswersKeepCalls, AnswersMayFollow, AreQuiet, BeginsAreStill, CallsBegin, CallsBeginSteps, CrashesKeepCalls, EvictsRest, LateSettledStands, LinesKeepCalls, OpeningCalls, OutsideShowsNone, QuietKeepsCalls, ResendsAreStill, ServersKeepCalls, SettledStands, SettlesRest, StartsKeepCalls, StillWaits, TellsKeepCalls, TriesAnswer, TriesRest, WaitsKeepCalls, WaitsStand};
 
 /// Where nobody runs no call is under way, and behind what a server does with its lines each waits as it did.
 pub fn servers_keep_calls()
@@ -21,6 +21,7 @@ pub fn steps_keep_calls()
 pub fn calls_begin()
     ensures begin { CallsBegin }
     ensures waits { WaitsKeepCalls }
+    ensures stands { WaitsStand }
 {}
 
 /// An answer takes its call away, with a line.
@@ -65,5 +66,11 @@ pub fn steps_end_at_rest()
 
 /// Which functions of a clerk answer nothing.
 pub fn messages_are_quiet()
-    ensures { AreQuiet }
+    ensures quiet { AreQuiet }
+    ensures again { ResendsAreStill }
+{}
+
+/// Each line number is answered at most once, by the clerk and with the call of all its lines.
+pub fn lines_are_answered_once()
+    ensures { AnsweredOnce }
 {}
