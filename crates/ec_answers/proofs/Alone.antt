@@ -38,6 +38,7 @@ use Rattle.ec_coherence.proofs.Tables.{by-session, is-true, none_some, same}
 use Rattle.ec_commits.specs.Watches.{WatchAgrees, WatchesAgree, still_in}
 use Rattle.ec_events.specs.Answers.{Gives}
 use Rattle.ec_answers.specs.Answering.{Suits}
+use Rattle.ec_answers.specs.Laws.{IsBegun}
 use Rattle.ec_answers.proofs.Outside.{holds-none, no-update, reads-none}
 use Rattle.ec_answers.proofs.Rootless.{touches-nothing}
 
@@ -102,10 +103,6 @@ module _ (k : Clerk) (none : HasNone k) (cl : Call) where
       ∙ touches-nothing (images_held k.cache) cl id (ap (λ z. z.touched) is ∙ no-members o.touched (λ x m. unread x (r.read x m))) (ap (λ z. z.update) is ∙ no-update k none cl o e f)
 
 -- What the lines show of each clerk then. Of its own start they may show no line before.
-
--- the watches, where the next line begins the start of this clerk
-abbrev pub IsBegun : System → ℕ → Type 0
-IsBegun g c = ((d : ℕ) → (d == c) ≡ false → WatchAgrees g d (watch d g.ghost.shown)) × WatchAgrees g c (begun (watch c g.ghost.shown))
 
 module _ (g : System) (c : ℕ) (ws : IsBegun g c) (l : ℕ) (cl : Call) (a : Answer) (op : Option ℕ) (no_op : op ≡ None) (quiet : shows cl a ≡ false)
     (f : ℕ → ℕ → Option Clerk) (calls : Rattle.ec_coherence.specs.ChangeLaws.Calls) (p : List (ℕ × Rattle.ec_wire.specs.declared.msg.Msg.Msg)) (ks : List Op) (same_kept : ks ≡ g.ghost.kept) (hi : History) (fr : Table ℕ) where

@@ -31,10 +31,10 @@ use Rattle.ec_events.specs.Comes.{after_answer, entry_next}
 use Rattle.ec_events.proofs.Answering.{fresh-here, is-at, kept-now}
 use Rattle.ec_events.proofs.Touching.{each-holds, each-passing, none-such, or-right, touched-held}
 use Rattle.ec_answers.specs.Answering.{Suits, answered_clerk, answering}
-use Rattle.ec_answers.specs.Laws.{IsSettled}
+use Rattle.ec_answers.specs.Laws.{IsBegun, IsSettled}
 use Rattle.ec_answers.specs.Zeros.{LeaveOut, ZerosAgree}
 use Rattle.ec_answers.proofs.Alone as alone
-use Rattle.ec_answers.proofs.Alone.{IsBegun, shows-none}
+use Rattle.ec_answers.proofs.Alone.{shows-none}
 use Rattle.ec_answers.proofs.Framed as framed
 use Rattle.ec_answers.proofs.Outside as outside
 use Rattle.ec_answers.proofs.Outside.{IsQuiet, holds-none, no-number, no-ops, quiet-now, reads-none}
