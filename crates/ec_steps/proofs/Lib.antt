@@ -3,3 +3,5 @@ pub mod Outs
 pub mod Standing
 pub mod Serving
 pub mod Frames
+pub mod Events
+pub mod Calls
