@@ -89,14 +89,14 @@ module _ (P : ℕ → ℕ → Call → Type 0) where
 
   module _ (w : World) (a : AreOf P w) where
     -- nothing of it changed
-    quiet-tells : (v : World) → v.calls ≡ w.calls → v.shown ≡ w.shown → Tells P w (moving v)
+    pub quiet-tells : (v : World) → v.calls ≡ w.calls → v.shown ≡ w.shown → Tells P w (moving v)
     quiet-tells v q r = record { lines = r ∙ sym (append-nil w.shown); of = record { calls = subst (EachCall P) (sym q) a.calls; shown = subst (EachLine (IsOf P)) (sym r) a.shown } }
 
     fails-tells : (f : WorldFault) → Tells P w (world.fails f w)
     fails-tells f = record { lines = sym (append-nil w.shown); of = a }
 
   -- a line more
-  line-tells : (w : World) (m : Moving) → Tells P w m → (s : Shown) → IsOf P s → Tells P w (world.show_line s m)
+  pub line-tells : (w : World) (m : Moving) → Tells P w m → (s : Shown) → IsOf P s → Tells P w (world.show_line s m)
   line-tells w m t s p = record {
     lines = ap (λ x. x ++ s ∷ []) t.lines ∙ append_assoc w.shown m.shown (s ∷ []);
     of = record { calls = t.of.calls; shown = each-line (IsOf P) m.world.shown (s ∷ []) t.of.shown (p, tt) };

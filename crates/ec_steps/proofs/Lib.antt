@@ -5,3 +5,4 @@ pub mod Serving
 pub mod Frames
 pub mod Events
 pub mod Calls
+pub mod Drills
