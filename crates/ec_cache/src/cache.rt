@@ -289,6 +289,3 @@ fn give_all_up(
         slots::remove(slots, *obj);
     }
 }
-
-#[cfg(test)]
-mod tests;

@@ -7,8 +7,6 @@ mod needed;
 mod operand;
 mod order;
 mod settling;
-#[cfg(test)]
-mod tests;
 
 pub use closure::Ask;
 pub use needed::Needed;

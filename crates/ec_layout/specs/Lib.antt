@@ -10,3 +10,4 @@ pub mod Pieces
 pub mod Places
 pub mod Reading
 pub mod Selected
+pub mod Traces

@@ -6,6 +6,7 @@ ghost use Rattle.ec_disk.specs.Runs.{Ran};
 ghost use Rattle.ec_layout.specs.Places as place;
 ghost use Rattle.ec_layout.specs.Layout.{Layout, Lies, IsLaid, HasSide, HasSlots, Follows};
 ghost use Rattle.ec_layout.specs.Pieces.{pieces_of, AreApart, InPieces};
+ghost use Rattle.ec_layout.specs.Traces.{NoSync, FirstSync};
 
 use crate::side::{SELECT_AT, Side};
 use crate::slots::write_slots;
@@ -30,6 +31,9 @@ pub fn prepare<D: Disk>(
     ensures front { D.tells → result ≡ said.Done → (i : ℕ) → i < place.journals_at → byte (D.view disk.new).gives i ≡ byte (D.view disk.old).gives i }
     ensures synced { D.tells → result ≡ said.Done → IsSynced (D.view disk.new) }
     ensures calls { result ≡ said.Done → Called (length pieces.now + 3) (D.counts disk.old) (D.counts disk.new) }
+    // The sync is the first one.
+    ensures unsynced { (result ≡ said.Done → ⊥) → NoSync D.does disk.old disk.new }
+    ensures first { result ≡ said.Done → FirstSync D.does disk.old disk.new }
     ensures counts { Counted (D.counts disk.old) (D.counts disk.new) (result ≡ said.Failed) (result ≡ said.Stopped) }
 {
     let written = write_side(disk, side, pieces, table);
@@ -52,6 +56,7 @@ fn write_side<D: Disk>(
     ensures slots { D.tells → result ≡ said.Done → HasSlots (D.view disk.new).gives (pieces_of pieces.now) }
     ensures front { D.tells → result ≡ said.Done → (i : ℕ) → i < place.journals_at → byte (D.view disk.new).gives i ≡ byte (D.view disk.old).gives i }
     ensures calls { result ≡ said.Done → Called (length pieces.now + 2) (D.counts disk.old) (D.counts disk.new) }
+    ensures unsynced { NoSync D.does disk.old disk.new }
     ensures counts { Counted (D.counts disk.old) (D.counts disk.new) (result ≡ said.Failed) (result ≡ said.Stopped) }
 {
     let answer = write_slots(disk, pieces);

@@ -6,6 +6,7 @@ ghost use Rattle.ec_disk.specs.Runs.{Ran};
 ghost use Rattle.ec_layout.specs.Places as place;
 ghost use Rattle.ec_layout.specs.Layout.{HasSlots};
 ghost use Rattle.ec_layout.specs.Pieces.{pieces_of, AreApart, InSlots};
+ghost use Rattle.ec_layout.specs.Traces.{NoSync};
 
 use ec_disk::{Disk, DiskAnswer};
 
@@ -29,6 +30,7 @@ pub fn write_slots<D: Disk>(disk: &mut D, pieces: &[(u32, Vec<u8>)]) -> DiskAnsw
     ensures written { D.tells → result ≡ said.Done → HasSlots (D.view disk.new).gives (pieces_of pieces.now) }
     ensures below { D.tells → result ≡ said.Done → (i : ℕ) → i < place.slot_at 0 → byte (D.view disk.new).gives i ≡ byte (D.view disk.old).gives i }
     ensures calls { result ≡ said.Done → Called (length pieces.now) (D.counts disk.old) (D.counts disk.new) }
+    ensures unsynced { NoSync D.does disk.old disk.new }
     ensures counts { Counted (D.counts disk.old) (D.counts disk.new) (result ≡ said.Failed) (result ≡ said.Stopped) }
 {
     'slots: for piece in pieces {

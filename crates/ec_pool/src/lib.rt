@@ -8,8 +8,6 @@ mod forget;
 mod kinds;
 mod links;
 mod pool;
-#[cfg(test)]
-mod tests;
 
 pub use kinds::{is_for_server, kind_of};
 pub use pool::Pool;

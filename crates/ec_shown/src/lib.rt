@@ -9,8 +9,6 @@ mod list;
 mod name;
 mod number;
 mod row;
-#[cfg(test)]
-mod tests;
 mod text;
 
 pub use laws::one_reading;

@@ -49,7 +49,7 @@ step_ok d e is = cc
 step_clash : (d : Durable) (f : RecordFault) → ◌≡◌ {A = Result Durable RecordFault} (Ok d) (Err f) → ⊥
 step_clash d f e = cc
 
-read_clash : {A : Type 0} (x : A) (f : CodeFault) → ◌≡◌ {A = Result A CodeFault} (Ok x) (Err f) → ⊥
+pub read_clash : {A : Type 0} (x : A) (f : CodeFault) → ◌≡◌ {A = Result A CodeFault} (Ok x) (Err f) → ⊥
 read_clash x f e = cc
 
 pub one_table : (image : List ℕ) (most : ℕ) (v w : Version) (t u : Table) → HasTable image most v t → HasTable image most w u → (v ≡ w) × (t ≡ u)
@@ -115,7 +115,7 @@ one_state image a b one other =
 
 -- Bad places.
 
-no_bad_image : (v : Version) (image : List ℕ) (places : List (ℕ × ℕ)) (es : List (ℕ × Image)) (place : ℕ) → HasImages v image places es → HasBadImage v image places place → ⊥
+pub no_bad_image : (v : Version) (image : List ℕ) (places : List (ℕ × ℕ)) (es : List (ℕ × Image)) (place : ℕ) → HasImages v image places es → HasBadImage v image places place → ⊥
 no_bad_image v image [] es place has is = is
 no_bad_image v image (p ∷ places) [] place has is = has
 no_bad_image v image (p ∷ places) (e ∷ es) place has (inl is) = here is
@@ -127,7 +127,7 @@ no_bad_image v image (p ∷ places) (e ∷ es) place has (inl is) = here is
         other (ap (λ (x : (ℕ × Image) × ℕ). x.0.0) (sym same) ∙ has.0.1)
 no_bad_image v image (p ∷ places) (e ∷ es) place has (inr later) = no_bad_image v image places es place has.1 later.2
 
-refused_stops : (body : List ℕ) (after : List (List ℕ)) (d e : Durable) → IsRefused body d → StepsTo (body ∷ after) d e → ⊥
+pub refused_stops : (body : List ℕ) (after : List (List ℕ)) (d e : Durable) → IsRefused body d → StepsTo (body ∷ after) d e → ⊥
 refused_stops body after d e (no_record fault read) steps = said_clash steps.0 fault (sym steps.2 ∙ read)
 refused_stops body after d e (no_step r fault read refuses) steps =
     step_clash steps.1 fault (sym steps.3 ∙ ap (λ (x : Record). step x d) (said_ok steps.0 r (sym steps.2 ∙ read)) ∙ refuses)

@@ -7,10 +7,11 @@ ghost use Rattle.ec_durable.specs.Durable.{step};
 ghost use Rattle.ec_layout.specs.Layout.{Layout, Lies};
 ghost use Rattle.ec_stands.specs.Stands.{StandsFor, IsBadAt, IsCheckpoint, StepsTo};
 
-/// An image stands for at most one state, and for none where it has a bad place.
+/// An image stands for at most one state, and for none where it has a bad place. Its first bad place is one.
 pub fn images_stand_for_one_state()
     ensures one { (image : List ℕ) (a b : Durable) → StandsFor image a → StandsFor image b → a ≡ b }
     ensures not_both { (image : List ℕ) (state : Durable) (place : ℕ) → StandsFor image state → IsBadAt image place → ⊥ }
+    ensures first { (image : List ℕ) (a b : ℕ) → IsBadAt image a → IsBadAt image b → a ≡ b }
 {}
 
 /// An image that has the layout of a state's checkpoint stands for the state behind its records, and each record more steps that state.

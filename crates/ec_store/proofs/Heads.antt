@@ -1,10 +1,10 @@
 -- What a head, and what a slot shows.
 use Rattle.std.proofs.Common.{◌≡◌, ◌⊎◌, ℕ, ◌+◌, ◌<◌, ◌≤◌, true, false, List, length, get_or, take, drop, Result, Ok, Err, refl, sym, ap, subst, ◌∙◌, arith, inl, inr, ⊎_elim}
-use Rattle.std.specs.Int.{w32, to_be_bytes, from_be_bytes}
+use Rattle.std.specs.Int.{w32, to_be_bytes}
 use Rattle.std.proofs.lemmas.Bool.{cases_lt}
 use Rattle.std.proofs.lemmas.Nat.{be_bytes_4}
 use Rattle.std.proofs.lemmas.List.{length-drop, length-take, drop-take, take-take, get_or_past}
-use Rattle.ec_disk.specs.Disk.{byte, part}
+use Rattle.ec_disk.specs.Disk.{part}
 use Rattle.ec_disk.specs.Images.{byte-part}
 use Rattle.ec_volume.specs.declared.image.Image.{Image}
 use Rattle.ec_codes.specs.Formats.{Read, Spells, StandsAt, Fails}
@@ -14,7 +14,7 @@ use Rattle.ec_table.specs.declared.table.Version.{Version}
 use Rattle.ec_layout.specs.declared.reading.Head.{Head}
 use Rattle.ec_layout.specs.Reading.{IsHead}
 use Rattle.ec_layout.specs.Places.{slot_at}
-use Rattle.ec_stands.specs.Stands.{slot_code, slot_part, fault_at, most_in, side_in, HasGoodHead, IsSpelled, IsBadImage, IsBadAt}
+use Rattle.ec_stands.specs.Stands.{slot_code, slot_part, side_in, HasGoodHead, IsSpelled, IsBadImage, IsBadAt}
 use Rattle.ec_stands.specs.Stands.{short_head, other_word, other_most, other_form, no_image, another_image}
 use Rattle.ec_store.specs.Reading.{place_of}
 use Rattle.ec_store.specs.declared.fault.StoreFault.{StoreFault}

@@ -13,3 +13,5 @@ pub mod Rows
 pub mod ReadBack
 pub mod Replaying
 pub mod Opens
+pub mod Renewing
+pub mod Formatting

@@ -1,7 +1,9 @@
 -- What a store that is opened holds.
-use Rattle.std.proofs.Common.{◌≡◌, ℕ, false, List, length, Some, refl, sym, ap, subst, ◌∙◌, inl}
+use Rattle.std.proofs.Common.{◌≡◌, ℕ, false, List, length, Some, Result, Ok, Err, sym, subst, ◌∙◌, inl, inr, ⊎_elim}
+use Rattle.std.specs.Prelude.{IfOk}
 use Rattle.ec_base.specs.Tables.{at}
 use Rattle.ec_disk.specs.Disk.{View, Rests, IsSynced, LeavesOnly}
+use Rattle.ec_disk.specs.Runs.{leaves_then}
 use Rattle.ec_volume.specs.Update.{member}
 use Rattle.ec_durable.specs.declared.state.Durable.{Durable}
 use Rattle.ec_durable.specs.WellFormed.{WellFormed}
@@ -10,10 +12,12 @@ use Rattle.ec_table.specs.Codes.{numbers_in}
 use Rattle.ec_table.specs.declared.table.Version.TheVariants.{Two}
 use Rattle.ec_layout.specs.Selected.{IsSelected}
 use Rattle.ec_stands.specs.Stands.{StandsFor, IsReadBack}
-use Rattle.ec_store.specs.Opening.{IsOpened, WasLeftOrStands}
+use Rattle.ec_store.specs.Opening.{IsOpened, WasLeftOrStands, IsSameOrStands}
+use Rattle.ec_store.specs.declared.fault.StoreFault.{StoreFault}
 use Rattle.ec_store.specs.Store.{Holds, IsHeld, view_of}
 use Rattle.ec_store.specs.declared.opening.Opened.{Opened}
 use Rattle.ec_store.specs.declared.store.Store.{Store}
+use Rattle.ec_store.proofs.Holding.{leaves_map, leaves_none}
 use Rattle.ec_store.proofs.ReadBack.{opened_stands, opened_holds}
 use Rattle.ec_store.proofs.Resting.{rests_leave}
 
@@ -34,3 +38,32 @@ is_held now image opened store synced same two formed is state_is parts kept =
 -- where nothing was written
 pub rests_open : (old new : View) → Rests old new → ((c : List ℕ) → old.left_since old.moment c → old.may_leave c) → LeavesOnly old new (WasLeftOrStands old)
 rests_open old new rests only = rests_leave (WasLeftOrStands old) old new rests only (λ c left. inl left)
+
+-- Behind a sync.
+
+pub same_leaves : (old new : View) → IsSynced old → Rests old new → ((c : List ℕ) → old.left_since old.moment c → old.may_leave c) → LeavesOnly old new (IsSameOrStands old.gives)
+same_leaves old new synced rests only = rests_leave (IsSameOrStands old.gives) old new rests only (λ c left. inl (synced c left))
+
+pub none_leaves : (now : View) (before : List ℕ) → IsSynced now → now.gives ≡ before → ((c : List ℕ) → now.left_since now.moment c → now.may_leave c) → LeavesOnly now now (IsSameOrStands before)
+none_leaves now before synced same only = leaves_none (IsSameOrStands before) now only (λ c left. inl (synced c left ∙ same))
+
+-- what was read, and then written in another version
+pub renewed_opens : (old mid new : View) (opened : Opened) → IsSynced old → Rests old mid → ((c : List ℕ) → old.left_since old.moment c → old.may_leave c) → IsOpened old.gives opened → LeavesOnly mid new (λ image. StandsFor image opened.state) → LeavesOnly old new (IsSameOrStands old.gives)
+renewed_opens old mid new opened synced rests only is leaves =
+    leaves_then (IsSameOrStands old.gives) old mid new (same_leaves old mid synced rests only)
+    (leaves_map (λ image. StandsFor image opened.state) (IsSameOrStands old.gives) mid new (λ c stands. inr (opened.state, opened_stands old.gives opened is, stands)) leaves)
+
+pub opened_there : (old mid : View) (opened : Opened) → Rests old mid → IsOpened old.gives opened → IsOpened mid.gives opened
+opened_there old mid opened rests is = subst (λ image. IsOpened image opened) (sym rests.gives) is
+
+-- the sync, and all that came behind it
+pub open_leaves : (old mid new : View) → old.may_leave old.gives → ((c : List ℕ) → old.left_since old.moment c → old.may_leave c) → Rests old mid → LeavesOnly mid new (IsSameOrStands mid.gives) → LeavesOnly old new (WasLeftOrStands old)
+open_leaves old mid new given only rests leaves =
+    leaves_then (WasLeftOrStands old) old mid new (rests_open old mid rests only) (leaves_map (IsSameOrStands mid.gives) (WasLeftOrStands old) mid new left_or_stands leaves)
+  where
+    left_or_stands : (c : List ℕ) → IsSameOrStands mid.gives c → WasLeftOrStands old c
+    left_or_stands c is = ⊎_elim (λ e. inl (subst old.may_leave (sym (e ∙ rests.gives)) given)) (λ s. inr (s.0, subst (λ image. StandsFor image s.0) rests.gives s.1, s.2)) is
+
+pub stood_before : (r : Result Store StoreFault) (Tells : Type 0) (here before : List ℕ) → (Tells → here ≡ before) → IfOk r (λ store. Tells → StandsFor here (view_of store)) → IfOk r (λ store. Tells → StandsFor before (view_of store))
+stood_before (Ok store) Tells here before same stands = λ told. subst (λ image. StandsFor image store.state) (same told) (stands told)
+stood_before (Err e) Tells here before same stands = tt

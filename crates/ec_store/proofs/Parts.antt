@@ -1,23 +1,21 @@
 -- Parts of images that are read, and objects that are read one by one.
-use Rattle.std.proofs.Common.{◌≡◌, ◌⊎◌, ℕ, zero, suc, ◌+◌, ◌-◌, ◌<◌, ◌≤◌, true, List, [], ◌∷◌, ◌++◌, length, get_or, take, drop, Err, refl, sym, ap, subst, ◌∙◌, arith, inl, inr, ⊎_elim}
-use Rattle.std.specs.Prelude.{◌≢◌, min}
+use Rattle.std.proofs.Common.{◌≡◌, ℕ, zero, suc, ◌+◌, ◌-◌, ◌<◌, ◌≤◌, true, List, [], ◌∷◌, ◌++◌, length, get_or, take, drop, refl, sym, ap, subst, ◌∙◌, arith, inl, inr}
+use Rattle.std.specs.Prelude.{min}
 use Rattle.std.specs.Int.{w32, from_be_bytes}
 use Rattle.std.specs.List.{list_all}
 use Rattle.std.proofs.lemmas.Bool.{cases_lt, and_parts, and_from}
 use Rattle.std.proofs.lemmas.List.{take_all, take_more, take-take, drop-take, length-drop, length-take}
 use Rattle.ec_base.specs.Tables.{keys}
-use Rattle.ec_disk.specs.Disk.{byte, part}
+use Rattle.ec_disk.specs.Disk.{part}
 use Rattle.ec_disk.specs.Images.{byte-part}
 use Rattle.ec_volume.specs.declared.image.Image.{Image}
 use Rattle.ec_codes.specs.declared.fault.CodeFault.{CodeFault}
 use Rattle.ec_codes.specs.declared.fault.CodeFault.TheVariants.{Short, Field, NoMemory}
-use Rattle.ec_codes.specs.Formats.{Spells}
 use Rattle.ec_codes.specs.Images.{is_sound_image}
 use Rattle.ec_table.specs.Codes.{ids_in}
 use Rattle.ec_table.specs.declared.table.Version.{Version}
 use Rattle.ec_layout.specs.declared.reading.Head.{Head}
 use Rattle.ec_layout.specs.Reading.{IsHead}
-use Rattle.ec_layout.specs.Head.{first_word, form}
 use Rattle.ec_layout.specs.Places.{side_of}
 use Rattle.ec_stands.specs.Stands.{slot_code, slot_part, IsSpelled, AreSpelled, HasImage, IsBadImage, HasBadImage, fault_at}
 use Rattle.ec_stands.specs.Laws.{slot_is}

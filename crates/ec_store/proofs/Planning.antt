@@ -11,7 +11,8 @@ use Rattle.ec_durable.specs.WellFormed.{WellFormed}
 use Rattle.ec_layout.specs.Head.{first_word, form}
 use Rattle.ec_layout.specs.Layout.{IsFree, IsAmong}
 use Rattle.ec_layout.specs.declared.side.Side.TheVariants as side
-use Rattle.ec_stands.specs.Stands.{slot_code, AreSlots, StandsFor}
+use Rattle.ec_stands.specs.Stands.{slot_code, AreSlots, IsCheckpoint, StandsFor}
+use Rattle.ec_stands.specs.Laws.{lies_stands}
 use Rattle.ec_store.proofs.Placing.{slots_of, StandsIn, new_slots, new_numbers, place_stands}
 use Rattle.ec_base.specs.declared.list.NoMemory.{NoMemory}
 use Rattle.ec_volume.specs.Update.{member}
@@ -123,13 +124,19 @@ module _ (d : Durable) (formed : WellFormed d) (plan : Plan) (is : IsPlan d.max_
       subst (λ ss. AreSlots ss plan.kept d.volume) (all_new d.volume fresh_free ∙ sym is.pieces_are)
       (subst (λ ps. AreSlots (slots_of (placed [] d.volume fresh_free) d.volume) ps d.volume) (sym is.places) (new_slots [] [] d.volume fresh_free nothing_kept is.each))
 
+  fresh_checkpoint : IsCheckpoint fresh d plan.kept
+  fresh_checkpoint = record { front_is = refl; back_is = refl; table_is = spelled; table_fits = fits; slots_are = slots_are; formed = formed }
+
+  pub fresh_stands : (image : List ℕ) → Lies image fresh → StandsFor image d
+  fresh_stands image lies = lies_stands image fresh d d plan.kept lies fresh_checkpoint refl
+
   pub fresh_holds : (new : View) (selected : Selected) → IsOn new selected fresh → Holds new selected plan.named.items plan.kept d
   fresh_holds new selected on = record {
     layout = fresh;
     base = d;
     places = plan.kept;
     on = on;
-    checkpoint = record { front_is = refl; back_is = refl; table_is = spelled; table_fits = fits; slots_are = slots_are; formed = formed };
+    checkpoint = fresh_checkpoint;
     steps = refl;
     formed = formed;
     keeps = record {

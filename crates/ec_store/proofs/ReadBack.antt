@@ -1,12 +1,9 @@
 -- What is read of an image, and what a store holds then.
-use Rattle.std.proofs.Common.{◌≡◌, ◌⊎◌, ℕ, ◌+◌, ◌<◌, ◌≤◌, Bool, true, false, cond, List, [], ◌∷◌, ◌++◌, length, Option, None, Some, Err, refl, sym, ap, subst, ◌∙◌, arith, inl, inr, ⊎_elim, append_assoc, length-append}
+use Rattle.std.proofs.Common.{◌≡◌, ℕ, ◌+◌, ◌<◌, ◌≤◌, Bool, true, false, List, [], ◌∷◌, ◌++◌, length, Option, None, Some, Err, refl, sym, ap, subst, ◌∙◌, arith, inl, inr, append_assoc, length-append}
 use Rattle.std.specs.Prelude.{unwrap_or}
 use Rattle.std.specs.Int.{w32, to_be_bytes}
-use Rattle.std.specs.List.{All}
-use Rattle.std.proofs.lemmas.List.Elements.{All-head, All-tail, All-cons}
 use Rattle.ec_base.specs.Tables.{at}
 use Rattle.ec_disk.specs.Disk.{View, part, IsSynced}
-use Rattle.ec_volume.specs.Image.{is_gone}
 use Rattle.ec_volume.specs.Update.{member}
 use Rattle.ec_volume.specs.Volume.{images}
 use Rattle.ec_volume.specs.declared.image.Image.{Image}
@@ -16,8 +13,8 @@ use Rattle.ec_codes.specs.Formats.{StandsAt}
 use Rattle.ec_codes.specs.declared.fault.CodeFault.{CodeFault}
 use Rattle.ec_durable.specs.declared.state.Durable.{Durable}
 use Rattle.ec_durable.specs.WellFormed.{WellFormed}
-use Rattle.ec_journal.specs.Records.{IsShort, records, Front, HasBodies, RunsPast}
-use Rattle.ec_journal.specs.Laws.{records-append, part-split}
+use Rattle.ec_journal.specs.Records.{records, Front, HasBodies, RunsPast}
+use Rattle.ec_journal.specs.Laws.{records-append}
 use Rattle.ec_journal.specs.Journal.{IsFound}
 use Rattle.ec_journal.specs.declared.read.Found.{Found}
 use Rattle.ec_table.specs.Codes.{table_code, described, numbers_in}
@@ -30,9 +27,10 @@ use Rattle.ec_layout.specs.Layout.{Lies, IsFree, IsAmong}
 use Rattle.ec_layout.specs.Selected.{IsSelected, IsOn}
 use Rattle.ec_layout.specs.declared.side.Side.{Side}
 use Rattle.ec_layout.specs.declared.selected.Selected.{Selected}
-use Rattle.ec_stands.specs.Stands.{side_in, journal_in, most_in, table_part, slot_code, HasGoodHead, HasTable, HasImages, HasBadImage, state_of, HasCheckpoint, StepsTo, StandsFor, IsRefused, HasBadRecord, IsBadAt, AreSlotsIn, AreSpelled, IsReadBack, layout_in, fault_at}
+use Rattle.ec_stands.specs.Stands.{side_in, journal_in, most_in, table_part, slot_code, HasGoodHead, HasTable, HasImages, HasBadImage, state_of, HasCheckpoint, StepsTo, StandsFor, IsBadAt, AreSlotsIn, AreSpelled, IsReadBack, layout_in, fault_at}
 use Rattle.ec_stands.specs.Stands.{bad_table, bad_slot, ill_formed, bad_record}
 use Rattle.ec_stands.specs.Laws.{read_back_lies, behind_journal, lies_stands_in}
+use Rattle.ec_stands.specs.FirstPlace.{front_of}
 use Rattle.ec_store.specs.Replay.{Spares, HasRefused}
 use Rattle.ec_store.specs.Opening.{IsRead, IsOpened}
 use Rattle.ec_store.specs.Store.{HoldsIn, Holds}
@@ -79,19 +77,6 @@ module _ (image : List ℕ) (most : ℕ) (good : HasGoodHead image most) where
         (subst (λ x. IsRead image v t.places x) (sym state_is) (record { head = good; most_stands = most_stands; table_fits = fits; table_stands = stands; images = are })))
 
 -- The journal.
-
-short_front : (xs ys : List (List ℕ)) → All IsShort (xs ++ ys) → All IsShort xs
-short_front [] ys all = λ i d lt. absurd (omega (arith, lt))
-short_front (x ∷ xs) ys all = All-cons IsShort x xs (All-head IsShort x (xs ++ ys) all) (short_front xs ys (All-tail IsShort x (xs ++ ys) all))
-
-front_of : (image : List ℕ) (place : ℕ) (xs ys : List (List ℕ)) → Front image place (xs ++ ys) → Front image place xs
-front_of image place xs ys front = record {
-  short = short_front xs ys front.short;
-  stands = (part-split image place (length (records xs)) (length (records ys)) (records xs) (records ys) refl (ap (λ (n : ℕ). part image place n) (sym (both xs ys)) ∙ front.stands ∙ records-append xs ys)).0;
-}
-  where
-    both : (xs ys : List (List ℕ)) → length (records (xs ++ ys)) ≡ length (records xs) + length (records ys)
-    both xs ys = ap (λ (l : List ℕ). length l) (records-append xs ys) ∙ length-append (records xs) (records ys)
 
 module _ (image : List ℕ) (s : Side) (side : s ≡ side_in image) (found : Found) (is : IsFound image (journal_at s) 2097152 found) where
   found_front : Front image (journal_in image) found.bodies

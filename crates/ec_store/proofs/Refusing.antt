@@ -1,5 +1,5 @@
 -- What a fault of a record's code, or of its step, shows.
-use Rattle.std.proofs.Common.{◌≡◌, ℕ, List, Result, Ok, Err, refl, sym, ap, ◌∙◌}
+use Rattle.std.proofs.Common.{◌≡◌, ℕ, List, Result, Ok, Err, refl}
 use Rattle.ec_codes.specs.declared.fault.CodeFault.{CodeFault}
 use Rattle.ec_codes.specs.declared.fault.CodeFault.TheVariants as code
 use Rattle.ec_durable.specs.declared.state.Durable.{Durable}

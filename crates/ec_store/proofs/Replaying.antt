@@ -1,15 +1,11 @@
 -- Records that are carried out again, one more.
-use Rattle.std.proofs.Common.{◌≡◌, ℕ, ◌+◌, ◌<◌, ◌≤◌, true, false, Bool, List, [], ◌∷◌, ◌++◌, length, get_or, take, drop, Ok, Err, refl, sym, ap, subst, ◌∙◌, arith, length-append, append_assoc, take-append-drop}
+use Rattle.std.proofs.Common.{◌≡◌, ℕ, ◌+◌, ◌<◌, ◌≤◌, true, false, Bool, List, [], ◌∷◌, ◌++◌, length, get_or, take, drop, refl, sym, ap, subst, ◌∙◌, arith, length-append, take-append-drop}
 use Rattle.std.specs.Prelude.{◌==◌, ◌||◌}
 use Rattle.std.proofs.lemmas.List.{take_more, drop_more}
 use Rattle.std.proofs.lemmas.List.Folds.{list_any-append}
 use Rattle.ec_volume.specs.Update.{member}
 use Rattle.ec_volume.specs.Volume.{images}
 use Rattle.ec_durable.specs.declared.state.Durable.{Durable}
-use Rattle.ec_durable.specs.declared.record.Record.{Record}
-use Rattle.ec_durable.specs.Durable.{step}
-use Rattle.ec_durable.specs.Steps.{AreSound}
-use Rattle.ec_durable.specs.Codes.{said}
 use Rattle.ec_journal.specs.Records.{records}
 use Rattle.ec_journal.specs.Laws.{records-append, length-records}
 use Rattle.ec_stands.specs.Stands.{StepsTo, IsRefused}

@@ -1,8 +1,6 @@
 -- What a table that has a code holds: rising places, and the slots of sixteen clerks.
-use Rattle.std.proofs.Common.{◌≡◌, ℕ, zero, suc, ◌+◌, ◌<◌, ◌≤◌, Bool, true, false, cond, List, [], ◌∷◌, ◌++◌, length, Option, None, Some, T, refl, sym, ap, subst, ◌∙◌, arith}
+use Rattle.std.proofs.Common.{◌≡◌, ℕ, zero, suc, ◌<◌, ◌≤◌, Bool, true, false, cond, List, [], ◌∷◌, ◌++◌, length, Option, None, Some, T, refl, sym, ap, subst, ◌∙◌, arith}
 use Rattle.std.specs.Prelude.{◌==◌, ◌&&◌, nat_lt, nat_le}
-use Rattle.std.specs.List.{list_all}
-use Rattle.std.specs.List.Sorted.{IsStrictlyIncreasing}
 use Rattle.std.specs.Ordering.{nat_cmp, is_lt}
 use Rattle.std.specs.Cmp.{nat_cmp_is}
 use Rattle.std.specs.FinMap.{is_sorted}
@@ -12,7 +10,7 @@ use Rattle.std.proofs.lemmas.Bool.{and_parts, ltb-true, eqb-true}
 use Rattle.ec_base.specs.SortedLaws.{first, second, both}
 use Rattle.ec_base.specs.Tables.{keys}
 use Rattle.ec_base.specs.Limits.{clerk_count}
-use Rattle.ec_codes.specs.Formats.{rows_fit, list, is_given, byte}
+use Rattle.ec_codes.specs.Formats.{rows_fit, is_given, byte}
 use Rattle.ec_codes.specs.Fields.{word, long, id}
 use Rattle.ec_codes.specs.Clerks.{age_field}
 use Rattle.ec_sessions.specs.Windows.{times}
@@ -20,8 +18,7 @@ use Rattle.ec_sessions.specs.IdLaws.{times-append}
 use Rattle.ec_sessions.specs.Slots.{Slots, slot_at, unspent_of, all_unspent, AreSlots}
 use Rattle.ec_sessions.specs.declared.slot.Slot.{Slot}
 use Rattle.ec_sessions.proofs.Rising.{Above, Rises, increasing_from}
-use Rattle.ec_durable.proofs.Counts.{once_apart}
-use Rattle.ec_table.specs.Codes.{last_of, is_behind, is_above, id_above, ids_field, last_first_field, slot_fields, fields_of, held, slot_tag, slot_form, slot_code, slots_field, ids_in, place_after, places_field, state_fields, state_code, parts_of, old_table, new_table, table_code}
+use Rattle.ec_table.specs.Codes.{last_of, is_behind, is_above, id_above, ids_field, last_first_field, slot_fields, fields_of, slot_tag, slot_form, slot_code, slots_field, ids_in, place_after, places_field, state_fields, state_code, parts_of, old_table, new_table, table_code}
 use Rattle.ec_table.specs.declared.table.Table.{Table}
 use Rattle.ec_table.specs.declared.table.Version.{Version}
 use Rattle.ec_table.specs.declared.table.Version.TheVariants.{One, Two}

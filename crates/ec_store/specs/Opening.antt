@@ -7,7 +7,7 @@ use Rattle.ec_durable.specs.declared.state.Durable.{Durable}
 use Rattle.ec_journal.specs.Records.{records}
 use Rattle.ec_table.specs.Codes.{table_code, described}
 use Rattle.ec_table.specs.declared.table.Version.{Version}
-use Rattle.ec_stands.specs.Stands.{side_in, table_part, HasGoodHead, AreSpelled, StepsTo, StandsFor, IsReadBack}
+use Rattle.ec_stands.specs.Stands.{side_in, table_part, HasGoodHead, AreSpelled, StepsTo, StandsFor, IsBadAt, IsReadBack}
 use Rattle.ec_store.specs.Replay.{Spares}
 use Rattle.ec_store.specs.declared.opening.Checkpoint.{Checkpoint}
 use Rattle.ec_store.specs.declared.opening.Opened.{Opened}
@@ -36,6 +36,14 @@ pub record IsOpened (image : List ℕ) (opened : Opened) : Type 0 where
 -- a crash might have left this image, or it stands for the state that a read gave
 abbrev pub WasLeftOrStands : View → List ℕ → Type 0
 WasLeftOrStands now image = now.may_leave image ⊎ ((state : Durable) × StandsFor now.gives state × StandsFor image state)
+
+-- an image is this one, or stands for the state that this one stands for
+abbrev pub IsSameOrStands : List ℕ → List ℕ → Type 0
+IsSameOrStands before image = (image ≡ before) ⊎ ((state : Durable) × StandsFor before state × StandsFor image state)
+
+-- an image stands for no state, or for this one
+abbrev pub IsBadOrStands : Durable → List ℕ → Type 0
+IsBadOrStands state image = ((place : ℕ) × IsBadAt image place) ⊎ StandsFor image state
 
 -- an image stands for one of these states
 abbrev pub StandsForOne : (Durable → Type 0) → List ℕ → Type 0

@@ -1,5 +1,5 @@
 // Why a call on a store wasn't carried out.
-ghost use Rattle.std.specs.Prelude.{◌≡◌, OnOk, IsErrOf};
+ghost use Rattle.std.specs.Prelude.{◌≡◌, OnOk, OnErr, IsErrOf};
 ghost use Rattle.ec_disk.specs.declared.disk.DiskAnswer.TheVariants as said;
 ghost use Rattle.ec_journal.specs.declared.fault.JournalFault.TheVariants as journal;
 ghost use Rattle.ec_store.specs.Faults.{IsOfDisk, IsDiskFault, fault_of, refusal_of};
@@ -78,6 +78,7 @@ pub(crate) fn of_disk(fault: JournalFault) -> StoreFault
 
 pub(crate) fn done(answer: DiskAnswer) -> Result<(), StoreFault>
     ensures ok { OnOk result (answer ≡ said.Done) }
+    ensures not_done { OnErr result (answer ≡ said.Done → ⊥) }
     ensures failed { IsErrOf result fault.DiskFailed → answer ≡ said.Failed }
     ensures stopped { IsErrOf result fault.DiskStopped → answer ≡ said.Stopped }
     ensures disk { IsDiskFault result }

@@ -7,8 +7,6 @@ mod plan;
 mod reading;
 mod replay;
 mod store;
-#[cfg(test)]
-mod tests;
 
 pub use fault::StoreFault;
 pub use store::Store;

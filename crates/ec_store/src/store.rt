@@ -62,9 +62,10 @@ impl Store {
     ghost use Rattle.ec_table.specs.Codes.{numbers_in};
     ghost use Rattle.ec_layout.specs.Places.{journal_bytes};
     ghost use Rattle.ec_layout.specs.Selected.{IsSelected};
+    ghost use Rattle.ec_layout.specs.Traces.{LeavesSinceSync, SyncsFirst};
     ghost use Rattle.ec_stands.specs.Stands.{StandsFor, IsBadAt};
     ghost use Rattle.ec_store.specs.declared.fault.StoreFault.{StoreFault};
-    ghost use Rattle.ec_store.specs.Opening.{IsOpened, WasLeftOrStands};
+    ghost use Rattle.ec_store.specs.Opening.{IsOpened, WasLeftOrStands, IsSameOrStands, IsBadOrStands};
     ghost use Rattle.ec_store.specs.declared.fault.StoreFault.TheVariants as fault;
     ghost use Rattle.ec_store.specs.Places.{touched};
     ghost use Rattle.ec_store.specs.Plan.{PlansFor};
@@ -96,6 +97,8 @@ impl Store {
         ensures ok { IfOk result (λ store. D.tells → IsHeld (D.view disk.new) store) }
         ensures stands { OnOk result (D.tells → (image : List ℕ) → (D.view disk.new).may_leave image → StandsFor image (formatted max_objects)) }
         ensures synced { OnOk result (D.tells → IsSynced (D.view disk.new)) }
+        // Since the first sync a crash leaves a bad disk, or one that stands for the formatted state. Before it, it may leave any bytes.
+        ensures since_sync { D.tells → LeavesSinceSync D.does D.view (IsBadOrStands (formatted max_objects)) disk.old disk.new }
         ensures no_bad { (place : ℕ) → IsErrOf result (fault.BadDisk place) → ⊥ }
         ensures no_refusal { (f : RecordFault) → IsErrOf result (fault.Refused f) → ⊥ }
         ensures counts { Counted (D.counts disk.old) (D.counts disk.new) (IsErrOf result fault.DiskFailed) (IsErrOf result fault.DiskStopped) }
@@ -121,7 +124,7 @@ impl Store {
 
     /// Opens a disk. It syncs before it reads, so that what was read stays, and reads each byte that counts once.
     ///
-    /// `BadDisk` shows the first bad place. A disk of version 1 isn't opened yet: it answers want of memory.
+    /// `BadDisk` shows the first bad place. A disk of version 1 is brought to version 2, by a checkpoint on the other side.
     pub fn open<D: Disk>(alloc: Global, disk: &mut D) -> Result<Store, StoreFault>
         // The store shows the state that the disk stood for, and the disk stands for it, whatever a crash leaves.
         ensures stands { IfOk result (λ store. D.tells → StandsFor (D.view disk.old).gives (view_of store)) }
@@ -131,19 +134,72 @@ impl Store {
         ensures unchanged { (place : ℕ) → IsErrOf result (fault.BadDisk place) → D.tells → (D.view disk.new).gives ≡ (D.view disk.old).gives }
         // Each image that a crash since might leave is one that it might have left before, or stands for the state that the disk stood for.
         ensures any_moment { D.tells → LeavesOnly (D.view disk.old) (D.view disk.new) (WasLeftOrStands (D.view disk.old)) }
+        // The first call is a sync. Each image that a crash since then might leave is the one that was there, or stands for the same state.
+        ensures sync_first { D.tells → SyncsFirst D.does D.view (IsSameOrStands (D.view disk.old).gives) disk.old disk.new }
         ensures no_refusal { (f : RecordFault) → IsErrOf result (fault.Refused f) → ⊥ }
         ensures counts { Counted (D.counts disk.old) (D.counts disk.new) (IsErrOf result fault.DiskFailed) (IsErrOf result fault.DiskStopped) }
     {
         done(disk.sync())?;
+        Store::open_synced(alloc, disk)
+    }
+
+    // Opens a disk that nothing was written to since its last sync.
+    fn open_synced<D: Disk>(alloc: Global, disk: &mut D) -> Result<Store, StoreFault>
+        requires synced { D.tells → IsSynced (D.view disk.old) }
+        ensures stands { IfOk result (λ store. D.tells → StandsFor (D.view disk.old).gives (view_of store)) }
+        ensures ok { IfOk result (λ store. D.tells → IsHeld (D.view disk.new) store) }
+        ensures synced { OnOk result (D.tells → IsSynced (D.view disk.new)) }
+        ensures bad { (place : ℕ) → IsErrOf result (fault.BadDisk place) → D.tells → IsBadAt (D.view disk.old).gives place }
+        ensures unchanged { (place : ℕ) → IsErrOf result (fault.BadDisk place) → D.tells → (D.view disk.new).gives ≡ (D.view disk.old).gives }
+        ensures any_moment { D.tells → LeavesOnly (D.view disk.old) (D.view disk.new) (IsSameOrStands (D.view disk.old).gives) }
+        ensures no_refusal { (f : RecordFault) → IsErrOf result (fault.Refused f) → ⊥ }
+        ensures counts { Counted (D.counts disk.old) (D.counts disk.new) (IsErrOf result fault.DiskFailed) (IsErrOf result fault.DiskStopped) }
+    {
         let opened = read_back(alloc, disk)?;
         match opened.version {
-            // A stage: a disk of version 1 isn't brought to version 2 yet.
-            Version::One => Err(StoreFault::NoMemory),
+            Version::One => {
+                let store = Store::renewed(alloc, disk, opened)?;
+                Ok(store)
+            }
             Version::Two => {
                 let store = Store::holding(alloc, opened)?;
                 Ok(store)
             }
         }
+    }
+
+    // The store of a disk of version 1: a checkpoint writes each image in version 2 to a slot that isn't named.
+    fn renewed<D: Disk>(alloc: Global, disk: &mut D, opened: Opened) -> Result<Store, StoreFault>
+        requires synced { D.tells → IsSynced (D.view disk.old) }
+        requires is { D.tells → IsOpened (D.view disk.old).gives opened }
+        requires formed { states.WellFormed opened.state }
+        requires places { ArePlaces opened.state.max_objects (numbers_in opened.places.items) opened.places.items }
+        requires end { opened.end < journal_bytes }
+        ensures view { IfOk result (λ store. view_of store ≡ opened.state) }
+        ensures ok { IfOk result (λ store. D.tells → IsHeld (D.view disk.new) store) }
+        ensures synced { OnOk result (D.tells → IsSynced (D.view disk.new)) }
+        ensures any_moment { D.tells → LeavesOnly (D.view disk.old) (D.view disk.new) (λ image. StandsFor image opened.state) }
+        ensures no_bad { (place : ℕ) → IsErrOf result (fault.BadDisk place) → ⊥ }
+        ensures no_refusal { (f : RecordFault) → IsErrOf result (fault.Refused f) → ⊥ }
+        ensures counts { Counted (D.counts disk.old) (D.counts disk.new) (IsErrOf result fault.DiskFailed) (IsErrOf result fault.DiskStopped) }
+    {
+        let Opened {
+            side,
+            end,
+            state,
+            places,
+            ..
+        } = opened;
+        let named = numbers(alloc, places.as_slice())?;
+        let plan = lay_out(alloc, &state, named.as_slice(), &SortedMap::new(alloc))?;
+        let mut selected = Selected::new(side, end);
+        done(selected.checkpoint(disk, plan.pieces.as_slice(), plan.table.as_slice()))?;
+        Ok(Store {
+            state,
+            selected,
+            named: plan.named,
+            kept: plan.kept,
+        })
     }
 
     // The store of a disk of version 2 that was read back.

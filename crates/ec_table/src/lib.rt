@@ -5,8 +5,6 @@ mod laws;
 mod limits;
 mod reading;
 mod table;
-#[cfg(test)]
-mod tests;
 mod writing;
 
 pub use laws::tables_are_short;

@@ -93,6 +93,14 @@ impl Volume {
         count(self.map.items())
     }
 
+    /// The live objects' images, by rising ids.
+    pub fn items(&self) -> &[(ObjId, Image)]
+        ensures value { result.now ≡ self.now }
+        ensures volume { IsVolume self.now }
+    {
+        self.map.items()
+    }
+
     /// The live object at a place from 0, by rising ids.
     pub fn at(&self, place: usize) -> Option<(ObjId, &Image)>
         ensures { MatchOption result (length self.now ≤ place) (λ pair. slice_get self.now place ≡ Some (pair.0, pair.1.now)) }

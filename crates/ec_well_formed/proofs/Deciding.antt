@@ -93,3 +93,9 @@ denied false A m is = m
 pub ok_is : {E : Type 0} (r : Result Bool E) (t : Bool) (P : Bool → Type 0) → IfOk r (λ b. b ≡ t) → P t → IfOk r P
 ok_is (Ok b) t P h p = subst P (sym h) p
 ok_is (Err e) t P h p = tt
+
+-- what decides one fact decides another one that holds exactly with it
+pub decides_too : {E : Type 0} (r : Result Bool E) (A B : Type 0) → (A → B) → (B → A) → IfOk r (λ b. MatchBool b A (A → ⊥)) → IfOk r (λ b. MatchBool b B (B → ⊥))
+decides_too (Ok true) A B to from h = to h
+decides_too (Ok false) A B to from h = λ b. h (from b)
+decides_too (Err e) A B to from h = tt

@@ -9,7 +9,7 @@ use Rattle.std.specs.FinMap.Entries.{below_all}
 use Rattle.std.specs.declared.cmp.Ordering.{Ordering}
 use Rattle.std.specs.declared.cmp.Ordering.TheVariants.{Less, Equal, Greater}
 use Rattle.std.proofs.lemmas.Bool.{and_parts, cases_Bool, cases_eq, cases_lt, eqb-true, eqb-false, eq-eqb, ne_eqb}
-use Rattle.ec_base.specs.SortedLaws.{first, second, both, found_at}
+use Rattle.ec_base.specs.SortedLaws.{first, second, both, found_at, none_below}
 use Rattle.ec_base.specs.Tables.{keys}
 use Rattle.ec_volume.specs.Entries.{Entries, by_bytes, entry}
 use Rattle.ec_volume.specs.Held.{IsVolume, is_held}
@@ -23,9 +23,9 @@ use Rattle.ec_volume.proofs.Held.{image_held}
 use Rattle.ec_codes.specs.Images.{ids_under, is_sound_image}
 use Rattle.ec_sessions.specs.Windows.{times}
 use Rattle.ec_sessions.specs.IdLaws.{times-append}
-use Rattle.ec_durable.proofs.Counts.{as_one, told, is_true, here, there, more, once_apart}
+use Rattle.ec_durable.proofs.Counts.{as_one, told, is_true, here, there, more, once_apart, apart_once}
 use Rattle.ec_durable.proofs.Live.{live_count}
-use Rattle.ec_well_formed.specs.WellFormed.{named_ids, IsTree}
+use Rattle.ec_well_formed.specs.WellFormed.{named_ids, AreNamedOnce, IsTree}
 
 opposite : (b : Bool) → b ≡ true → b ≡ false → ⊥
 opposite true t f = absurd cc
@@ -78,6 +78,26 @@ entry_at (e ∷ es) o h = elim (cases_eq e.1 o) [
 
 entry_find : (es : Entries) (o : ℕ) → T (is_sorted by_bytes es) → 1 ≤ times o (ids_under es) → (n : List ℕ) × (entry es n ≡ Some o)
 entry_find es o sorted h = let it = entry_at es o h in (it.1, found_at by_bytes nat_list_cmp_total es it.0 (it.1, o) sorted it.2)
+
+-- an id that stands in one entry alone is counted once
+counted_once : (es : Entries) (o : ℕ) → T (is_sorted by_bytes es) → ((i j : ℕ) (m n : List ℕ) → slice_get es i ≡ Some (m, o) → slice_get es j ≡ Some (n, o) → m ≡ n) → times o (ids_under es) ≤ 1
+counted_once [] o s once = omega arith
+counted_once (e ∷ es) o s once = elim (cases_eq e.1 o) [
+  | inr d ↦ let rest = counted_once es o (second _ _ s) (λ i j m n p q. once (suc i) (suc j) m n p q) in omega (arith, rest, there o e.1 (ids_under es) d)
+  | inl is ↦ elim (cases_lt 0 (times o (ids_under es))) [
+    | inr none ↦ omega (arith, none, here o e.1 (ids_under es) is)
+    | inl some ↦
+        let it = entry_at es o (omega (arith, some)) in
+        let same : e.0 ≡ it.1 = once 0 (suc it.0) e.0 it.1 (ap (λ (x : ℕ). Some (e.0, x)) is) it.2 in
+        let found : entry es it.1 ≡ Some o = found_at by_bytes nat_list_cmp_total es it.0 (it.1, o) (second _ _ s) it.2 in
+        let there : entry es e.0 ≡ Some o = subst (λ n. entry es n ≡ Some o) (sym same) found in
+        let missing : entry es e.0 ≡ None = none_below by_bytes e.0 es (first _ _ s) in
+        absurd (some_none (sym there ∙ missing))
+  ]
+]
+  where
+    some_none : ◌≡◌ {A = Option ℕ} (Some o) None → ⊥
+    some_none h = cc
 
 -- Images.
 
@@ -160,6 +180,33 @@ once_named (e ∷ es) o d f m n once p q = go (d == e.0) refl p (f == e.0) refl 
     go false a h true b k rec = absurd (omega (arith, sum, entry_times (entries_of e.1) n o k, named_times es d m o h))
     go false a h false b k rec = rec (omega (arith, sum)) h k
 
+-- where each id of an image stands in one entry alone, no id stands twice
+held_sound : (i : Image) → is_held i ≡ true → ((o : ℕ) (m n : List ℕ) → entry (entries_of i) m ≡ Some o → entry (entries_of i) n ≡ Some o → m ≡ n) → is_sound_image i ≡ true
+held_sound Gone h once = refl
+held_sound (File m s w bs) h once = h
+held_sound (Dir m s w es) h once =
+    let parts = and_parts (nat_le m 4095 && nat_le (length es) 128) (is_sorted by_bytes es) h in
+    let sorted = told (is_sorted by_bytes es) parts.1 in
+    let found : (i o : ℕ) (n : List ℕ) → slice_get es i ≡ Some (n, o) → entry es n ≡ Some o = λ i o n is. found_at by_bytes nat_list_cmp_total es i (n, o) sorted is in
+    let apart = apart_once (ids_under es) (λ o. counted_once es o sorted (λ i j m n p q. once o m n (found i o m p) (found j o n q))) in
+    both_true (nat_le m 4095 && nat_le (length es) 128) (distinct (ids_under es)) parts.0 (is_true (distinct (ids_under es)) apart)
+  where
+    both_true : (a b : Bool) → a ≡ true → b ≡ true → (a && b) ≡ true
+    both_true true b p q = q
+    both_true false b p q = absurd cc
+
+all_sound : (es : List (ℕ × Image)) → IsVolume es → ((o d : ℕ) (m n : List ℕ) → Names (images es) d m o → Names (images es) d n o → m ≡ n) → list_all (λ e. is_sound_image e.1) es ≡ true
+all_sound [] v once = refl
+all_sound (e ∷ es) v once =
+    let here : (n : List ℕ) (o : ℕ) → entry (entries_of e.1) n ≡ Some o → Names (images (e ∷ es)) e.0 n o = λ n o p. subst (λ i. entry (entries_of i) n ≡ Some o) (sym (right_here e es)) p in
+    let one = held_sound e.1 (is_true (is_held e.1) (first (is_held e.1) (list_all (λ x. is_held x.1) es) v.held)) (λ o m n p q. once o e.0 m n (here m o p) (here n o q)) in
+    let rest = all_sound es (rest_of e es v) (λ o d m n p q. once o d m n (names_later e es d m o v p).1 (names_later e es d n o v q).1) in
+    both_true (is_sound_image e.1) (list_all (λ x. is_sound_image x.1) es) one rest
+  where
+    both_true : (a b : Bool) → a ≡ true → b ≡ true → (a && b) ≡ true
+    both_true true b p q = q
+    both_true false b p q = absurd cc
+
 -- where no id stands in two directories
 named_once : (es : List (ℕ × Image)) (o : ℕ) → IsVolume es → list_all (λ e. is_sound_image e.1) es ≡ true → ((d f : ℕ) (m n : List ℕ) → Names (images es) d m o → Names (images es) f n o → d ≡ f) → times o (named_ids es) ≤ 1
 named_once [] o v sound once = omega arith
@@ -222,13 +269,16 @@ tree_formed es sorted tree = (formed, v)
       live = λ o d n names. lives (is_gone (images es o)) (live_named o (named_times es d n o names));
     }
 
-pub formed_tree : (es : List (ℕ × Image)) → list_all (λ e. is_sound_image e.1) es ≡ true → volume.WellFormed (images es) → IsVolume es → IsTree es
-formed_tree es sound w v = record {
+pub formed_tree : (es : List (ℕ × Image)) → volume.WellFormed (images es) → IsVolume es → IsTree es
+formed_tree es w v = record {
   root_is_dir = is_true (is_dir (images es root)) w.root_is_dir;
   held = is_true (list_all (λ e. is_held e.1) es) v.held;
   named = λ n. elim (cases_eq root n) [ inl s ↦ at_root n s | inr d ↦ other n d ];
 }
   where
+    sound : list_all (λ e. is_sound_image e.1) es ≡ true
+    sound = all_sound es v (λ o d m n p q. (w.once o d d m n p q).1)
+
     at_root : (n : ℕ) → root ≡ n → times n (named_ids es ++ root ∷ []) ≡ times n (keys es)
     at_root n s =
         let none : times n (named_ids es) ≤ 0 = elim (cases_lt 0 (times n (named_ids es))) [
@@ -249,3 +299,11 @@ formed_tree es sound w v = record {
           let names = w.named n (lives (is_gone (images es n)) live) (λ s. d (sym s)) in
           omega (arith, named_times es names.0 names.1 n names.2, named_once es n v sound (λ e f m k p q. (w.once n e f m k p q).0), with_root n es, there n root [] d, key_live es n v live)
     ]
+
+-- Of a volume.
+
+pub volume_formed : (es : List (ℕ × Image)) → IsVolume es → is_dir (images es root) ≡ true → AreNamedOnce es → volume.WellFormed (images es)
+volume_formed es v is named = (tree_formed es v.sorted (record { root_is_dir = is; held = is_true (list_all (λ e. is_held e.1) es) v.held; named = named })).0
+
+pub formed_named : (es : List (ℕ × Image)) → IsVolume es → volume.WellFormed (images es) → AreNamedOnce es
+formed_named es v w = (formed_tree es w v).named

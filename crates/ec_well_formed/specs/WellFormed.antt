@@ -54,8 +54,12 @@ Ascends (x ∷ xs) = AllFrom x xs × Ascends xs
 
 -- Volumes.
 
+-- the root and the ids in all entries are the live ones, each once
+abbrev pub AreNamedOnce : List (ℕ × Image) → Type 0
+AreNamedOnce es = (n : ℕ) → times n (named_ids es ++ root ∷ []) ≡ times n (keys es)
+
 -- The root is a directory, each object lives, and the root and the ids in all entries are the live ones, each once.
 pub record IsTree (es : List (ℕ × Image)) : Type 0 where
   pub root_is_dir : is_dir (images es root) ≡ true
   pub held : list_all (λ e. is_held e.1) es ≡ true
-  pub named : (n : ℕ) → times n (named_ids es ++ root ∷ []) ≡ times n (keys es)
+  pub named : AreNamedOnce es

@@ -1,4 +1,4 @@
-//! Which tables and images are those of a well-formed state.
+//! Which volumes are well formed, and which tables and images are those of a well-formed state.
 #![tactic(auto)]
 
 mod fits;
@@ -6,4 +6,4 @@ mod lists;
 mod numbers;
 mod well_formed;
 
-pub use well_formed::is_well_formed;
+pub use well_formed::{is_well_formed, is_well_formed_volume};

@@ -1,18 +1,20 @@
 // Whether sessions' slots and images are those of a well-formed state.
 ghost use Rattle.std.specs.Prelude.{◌≡◌, ◌≤◌, ℕ, T, true, IfOk, MatchBool};
-ghost use Rattle.std.specs.List.{list_all};
 ghost use Rattle.std.specs.Ordering.{nat_cmp};
 ghost use Rattle.std.specs.FinMap.{is_sorted};
+ghost use Rattle.std.specs.List.{list_all};
 ghost use Rattle.ec_codes.specs.Images.{is_sound_image};
+ghost use Rattle.ec_volume.specs.Volume as formed;
+ghost use Rattle.ec_volume.specs.Volume.{images};
 ghost use Rattle.ec_durable.specs.WellFormed.{WellFormed, least_max_objects, most_max_objects};
-ghost use Rattle.ec_well_formed.specs.WellFormed.{state_with, is_in_order, IsTree};
+ghost use Rattle.ec_well_formed.specs.WellFormed.{state_with, is_in_order, AreNamedOnce, IsTree};
 
 use crate::fits::{are_below, are_from_one, are_held, has_root, slots_fit};
 use crate::lists::{ids_of, named_ids, push_unspent, sessions_of};
 use crate::numbers::{are_distinct, are_these};
 use ec_base::{NoMemory, ObjId};
 use ec_sessions::Slot;
-use ec_volume::Image;
+use ec_volume::{Image, Volume};
 use std::alloc::Global;
 
 /// Whether the state of these slots and of these images, whose ids rise, is well formed.
@@ -36,6 +38,18 @@ pub fn is_well_formed(
     is_in_order(alloc, max_objects, next_id, next_session, slots, images)
 }
 
+/// Whether the volume is well formed: the root is a directory that no entry names, each other object stands in exactly
+/// one entry of one directory, and each entry's object lives.
+pub fn is_well_formed_volume(alloc: Global, volume: &Volume) -> Result<bool, NoMemory>
+    ensures { IfOk result (λ is. MatchBool is (formed.WellFormed (images volume.now)) (formed.WellFormed (images volume.now) → ⊥)) }
+{
+    let images = volume.items();
+    if !has_root(images) {
+        return Ok(false);
+    }
+    are_named_once(alloc, images)
+}
+
 // Whether each object lives, and each but the root, which is a directory, stands in one entry.
 fn is_tree(alloc: Global, images: &[(ObjId, Image)]) -> Result<bool, NoMemory>
     requires ids { T (is_sorted nat_cmp images.now) }
@@ -45,6 +59,14 @@ fn is_tree(alloc: Global, images: &[(ObjId, Image)]) -> Result<bool, NoMemory>
     if !has_root(images) || !are_held(images) {
         return Ok(false);
     }
+    are_named_once(alloc, images)
+}
+
+// Whether the root and the ids in all entries are these ids, each once.
+fn are_named_once(alloc: Global, images: &[(ObjId, Image)]) -> Result<bool, NoMemory>
+    requires { T (is_sorted nat_cmp images.now) }
+    ensures { IfOk result (λ is. MatchBool is (AreNamedOnce images.now) (AreNamedOnce images.now → ⊥)) }
+{
     let mut named = named_ids(alloc, images)?;
     named.push(1)?;
     let ids = ids_of(alloc, images)?;

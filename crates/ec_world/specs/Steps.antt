@@ -5,6 +5,7 @@ use Rattle.ec_disk.specs.Disk.{View, Counts, Counted}
 use Rattle.ec_durable.specs.declared.state.Durable.{Durable}
 use Rattle.ec_durable.specs.declared.record.Record.{Record}
 use Rattle.ec_durable.specs.Durable.{formatted, step as record_step}
+use Rattle.ec_durable.specs.WellFormed.{WellFormed}
 use Rattle.ec_stands.specs.Stands.{StandsFor, IsBadAt}
 use Rattle.ec_protocol.specs.World.{Fate, runs, stops_without, stops_with, Moving, open_world}
 use Rattle.ec_protocol.specs.declared.world.World.{World as State}
@@ -19,8 +20,9 @@ use Rattle.ec_protocol.specs.declared.world.WorldFault.TheVariants.{BadDisk, Dis
 
 -- Opening.
 
--- What is opened: an empty disk is formatted, and any other one stands for the state.
+-- What is opened: an empty disk is formatted, and any other one stands for the state. It's well formed in any case.
 pub record Opens (tells : Type 0) (gives : List ℕ) (most : ℕ) (d : Durable) : Type 0 where
+  pub formed : ∥ WellFormed d ∥₁
   pub empty : tells → length gives ≡ 0 → d ≡ formatted most
   pub stands : tells → (length gives ≡ 0 → ⊥) → StandsFor gives d
 

@@ -5,7 +5,7 @@ ghost use Rattle.ec_disk.specs.Disk.{Counted};
 ghost use Rattle.ec_durable.specs.Durable.{slot, formatted as formatted_state};
 ghost use Rattle.ec_sessions.specs.Slots as slots;
 ghost use Rattle.ec_stands.specs.Stands.{StandsFor};
-ghost use Rattle.ec_durable.specs.WellFormed.{least_max_objects, most_max_objects};
+ghost use Rattle.ec_durable.specs.WellFormed.{WellFormed, least_max_objects, most_max_objects};
 ghost use Rattle.ec_protocol.specs.Server as machine_server;
 ghost use Rattle.ec_protocol.specs.World as machine;
 ghost use Rattle.ec_protocol.specs.declared.world.WorldFault.TheVariants as fault;
@@ -62,12 +62,13 @@ fn laid_out<D: CrashDisk>(
     requires limit { max_objects ≤ most_max_objects }
     requires empty { D.tells → length (D.view disk.old).gives ≡ 0 }
     ensures state { IfOk result (λ store. state_of store ≡ formatted_state max_objects) }
+    ensures formed { IfOk result (λ store. ∥ WellFormed (state_of store) ∥₁) }
     ensures held { IfOk result (λ store. D.tells → IsHeld (D.view disk.new) store) }
     ensures err { IfErr result (λ fault. Unread fault D.tells (D.view disk.old).gives (D.view disk.new).gives) }
     ensures counts { Counted (D.counts disk.old) (D.counts disk.new) (IsErrOf result fault.DiskFailed) ⊥ }
 {
     match Store::format(alloc, disk, max_objects) {
-        Ok(store) => Ok(store),
+        Ok(store) => Ok(shown(store)),
         Err(fault) => Err(fault_of(fault)),
     }
 }
@@ -75,14 +76,24 @@ fn laid_out<D: CrashDisk>(
 fn read_back<D: CrashDisk>(alloc: Global, disk: &mut D) -> Result<Store, WorldFault>
     requires full { D.tells → length (D.view disk.old).gives ≡ 0 → ⊥ }
     ensures state { IfOk result (λ store. D.tells → StandsFor (D.view disk.old).gives (state_of store)) }
+    ensures formed { IfOk result (λ store. ∥ WellFormed (state_of store) ∥₁) }
     ensures held { IfOk result (λ store. D.tells → IsHeld (D.view disk.new) store) }
     ensures err { IfErr result (λ fault. Unread fault D.tells (D.view disk.old).gives (D.view disk.new).gives) }
     ensures counts { Counted (D.counts disk.old) (D.counts disk.new) (IsErrOf result fault.DiskFailed) ⊥ }
 {
     match Store::open(alloc, disk) {
-        Ok(store) => Ok(store),
+        Ok(store) => Ok(shown(store)),
         Err(fault) => Err(fault_of(fault)),
     }
+}
+
+// What a store shows is well formed.
+fn shown(store: Store) -> Store
+    ensures same { result ≡ store }
+    ensures formed { ∥ WellFormed (state_of result) ∥₁ }
+{
+    let _state = store.view();
+    store
 }
 
 // Why a disk isn't opened. One that isn't armed doesn't stop, and a disk that is read refuses no record.

@@ -1,6 +1,10 @@
 use super::*;
 use ec_base::{MemSink, MemSource};
+use ec_disk::{Disk, DiskAnswer};
 use std::test::Fail;
+
+// The place of the next id on a new disk: behind the first journal, the length of the table and its version.
+const NEXT_ID_AT: u64 = 4_096 + 2_097_152 + 5;
 
 // The status and the output of these words over a script and a new disk, where the source, the sink
 // and the disk fail at these calls.
@@ -60,6 +64,72 @@ fn tells_faults(rt: HostRuntime) -> Result<(), Fail> {
     let (status, text) = echoed(&rt, &["drill"], script, &[], &[], &[1])?;
     assert_eq!(rt; status, 6);
     assert!(rt; text.is_empty());
+    Ok(())
+}
+
+const CALLS: &[u8] = b"A create /f\nA write /f 0 hi\nA read /f 0 9\n";
+
+const ANSWERS: [&[u8]; 5] = [
+    b"",
+    b"1 A create /f -> waits\n",
+    b"1 A create /f -> waits\n1 A create /f -> ok op 1\n",
+    b"1 A create /f -> waits\n1 A create /f -> ok op 1\n2 A write /f 0 hi -> ok op 2\n",
+    b"1 A create /f -> waits\n1 A create /f -> ok op 1\n2 A write /f 0 hi -> ok op 2\n3 A read /f 0 9 -> data 2 hi\n",
+];
+
+// Each call of the sink fails once: the lines before it stand.
+#[test]
+fn each_write_fails_once(rt: HostRuntime) -> Result<(), Fail> {
+    let mut call: u64 = 1;
+    for front in &ANSWERS[..4] {
+        let (status, text) = echoed(&rt, &["drill"], CALLS, &[], &[call], &[])?;
+        assert_eq!(rt; status, 5);
+        assert!(rt; text.as_slice() == *front);
+        call = call.saturating_add(1);
+    }
+    let (status, text) = echoed(&rt, &["drill"], CALLS, &[], &[], &[])?;
+    assert_eq!(rt; status, 0);
+    assert!(rt; text.as_slice() == ANSWERS[4]);
+    Ok(())
+}
+
+// Each call of the disk fails once: whole lines stand, and the disk's fault is told.
+#[test]
+fn each_call_of_the_disk_fails_once(rt: HostRuntime) -> Result<(), Fail> {
+    let mut calls: u64 = 0;
+    for call in 1..200u64 {
+        let (status, text) = echoed(&rt, &["drill", "32"], CALLS, &[], &[], &[call])?;
+        assert!(rt; ANSWERS.iter().any(|front| text.as_slice() == *front));
+        if status == 0 {
+            calls = call;
+            break;
+        }
+        assert_eq!(rt; status, 6);
+    }
+    assert!(rt; calls > 10);
+    Ok(())
+}
+
+// The ids of this disk are spent: its next one is the last number.
+#[test]
+fn tells_a_spent_counter(rt: HostRuntime) -> Result<(), Fail> {
+    let mut own = Vec::new(rt.alloc());
+    own.push(String::from_str(rt.alloc(), "drill")?)?;
+    let mut disk = MemDisk::new(rt.alloc(), Vec::new(rt.alloc()))?;
+    let mut sink = MemSink::new(rt.alloc(), Vec::new(rt.alloc()));
+    let mut nothing = MemSource::new(Vec::new(rt.alloc()), Vec::new(rt.alloc()));
+    assert_eq!(rt;
+        echo_main(&rt, &own, &mut nothing, &mut sink, &mut disk, 1),
+        0
+    );
+    assert!(rt; disk.write_at(NEXT_ID_AT, &[255, 255, 255, 255]) == DiskAnswer::Done);
+    let script = Vec::from_slice(rt.alloc(), b"A create /f\n")?;
+    let mut source = MemSource::new(script, Vec::new(rt.alloc()));
+    assert_eq!(rt;
+        echo_main(&rt, &own, &mut source, &mut sink, &mut disk, 1),
+        15
+    );
+    assert!(rt; sink.bytes() == b"1 A create /f -> waits\nspent Id\n".as_slice());
     Ok(())
 }
 
@@ -130,6 +200,7 @@ fn knows_its_words(rt: HostRuntime) -> Result<(), Fail> {
     assert!(rt; text.is_empty());
     let (status, text) = echoed(&rt, &["make", "1"], b"", &[], &[], &[])?;
     assert_eq!(rt; status, 0);
+    assert!(rt; text.starts_with(b"C mkdir /d"));
     let lines = text.iter().filter(|byte| **byte == b'\n').count();
     assert_eq!(rt; lines as u64, 2_000);
     for words in [
@@ -144,5 +215,8 @@ fn knows_its_words(rt: HostRuntime) -> Result<(), Fail> {
         assert_eq!(rt; status, 2);
         assert!(rt; text.is_empty());
     }
+    let (status, text) = echoed(&rt, &[], b"", &[], &[], &[])?;
+    assert_eq!(rt; status, 2);
+    assert!(rt; text.is_empty());
     Ok(())
 }

@@ -2,6 +2,8 @@ use Rattle.std.proofs.Common.{rules, arith, ◌≡◌, ◌+◌, ℕ, [], ◌∷�
 use Rattle.ec_disk.specs.declared.disk.DiskAnswer.TheVariants as said
 use Rattle.ec_disk.specs.Disk.{InRange, Wrote, written}
 use Rattle.ec_layout.specs.Pieces.{pieces_of}
+use Rattle.ec_disk.specs.Calls.{Write}
+use Rattle.ec_layout.specs.Traces.{no_sync_more}
 use Rattle.ec_layout.proofs.Calls.{one_call}
 use Rattle.ec_layout.proofs.Sides.{side_stands, slots_stand, front_stays, side_ran}
 use Rattle.ec_layout.proofs.checkpoint.write_side.Goals as goal
@@ -57,3 +59,12 @@ returns-clause-ran g c told =
     side_ran c.args.side c.args.table.now (pieces_of c.args.pieces.now) (g.D.Disk.view c.args.disk.now) slots mid new c.requires.small (c.write_slots-answer.ensures.ran told)
     (subst (λ (k : ℕ). Wrote (InRange k (length c.args.table.now)) slots mid) c.table_at.ensures (c.write_at-answer.ensures.wrote told))
     (subst (λ (k : ℕ). Wrote (InRange k 1) mid new) c.journal_at.ensures (c.write_at.ensures.wrote told))
+
+pub returns-then-ne-2-clause-unsynced : goal.returns-then-ne-2-clause-unsynced
+returns-then-ne-2-clause-unsynced g c =
+    no_sync_more g.D.Disk.does (Write c.table_at.result c.args.table.now c.write_at-answer.result) c.args.disk.now c.write_slots-answer.new.disk c.write_at-answer.new.self c.write_slots-answer.ensures.unsynced c.write_at-answer.ensures.does tt
+
+pub returns-clause-unsynced : goal.returns-clause-unsynced
+returns-clause-unsynced g c =
+    let table = no_sync_more g.D.Disk.does (Write c.table_at.result c.args.table.now c.write_at-answer.result) c.args.disk.now c.write_slots-answer.new.disk c.write_at-answer.new.self c.write_slots-answer.ensures.unsynced c.write_at-answer.ensures.does tt in
+    no_sync_more g.D.Disk.does (Write c.journal_at.result (0 ∷ []) c.write_at.result) c.args.disk.now c.write_at-answer.new.self c.write_at.new.self table c.write_at.ensures.does tt

@@ -3,6 +3,8 @@ use Rattle.ec_disk.specs.Disk.{InRange, Wrote, Called, written, byte}
 use Rattle.ec_disk.specs.Images.{byte-written_out}
 use Rattle.ec_disk.specs.declared.disk.DiskAnswer.TheVariants as said
 use Rattle.ec_layout.specs.PieceLaws.{ran-more, has-more}
+use Rattle.ec_disk.specs.Calls.{Write}
+use Rattle.ec_layout.specs.Traces.{no_sync_yet, no_sync_more}
 use Rattle.ec_layout.proofs.Calls.{no_call, one_call}
 use Rattle.ec_layout.proofs.slots.write_slots.Goals as goal
 
@@ -34,6 +36,7 @@ slots-preserved g c =
           ∙ byte-written_out (4329472 + x.0 * 65600) x.1.items mid.gives i (λ r. absurd (omega (arith, lt, r.0)))
           ∙ c.slots.invariant.below told i lt;
       calls = one_call c.slots.piece-index (c.slots.piece-index + 1) (g.D.Disk.counts c.args.disk.now) (g.D.Disk.counts c.slots.disk) (g.D.Disk.counts c.write_at-answer.new.self) refl c.slots.invariant.calls c.write_at-answer.ensures.call c.write_at-answer.ensures.armed.next;
+      unsynced = no_sync_more g.D.Disk.does (Write c.slot_at.result c.as_slice.result.now c.write_at-answer.result) c.args.disk.now c.slots.disk c.write_at-answer.new.self c.slots.invariant.unsynced c.write_at-answer.ensures.does tt;
       counts = record {
         faults_later = omega (arith, c.slots.invariant.counts.faults_later, c.write_at-answer.ensures.counts.faults_later);
         stops_later = omega (arith, c.slots.invariant.counts.stops_later, c.write_at-answer.ensures.counts.stops_later);
@@ -50,6 +53,7 @@ slots-init g c = record {
   written = search rules;
   below = search rules;
   calls = no_call (g.D.Disk.counts c.args.disk.now);
+  unsynced = no_sync_yet g.D.Disk.does c.args.disk.now;
   counts = search rules;
 }
 
@@ -57,3 +61,7 @@ pub returns-clause-calls : goal.returns-clause-calls
 returns-clause-calls g c is =
     let all : c.slots.piece-index ≡ length c.args.pieces.now = omega arith in
     subst (λ (n : ℕ). Called n (g.D.Disk.counts c.args.disk.now) (g.D.Disk.counts c.slots.disk)) all c.slots.invariant.calls
+
+pub returns-then-ne-clause-unsynced : goal.returns-then-ne-clause-unsynced
+returns-then-ne-clause-unsynced g c =
+    no_sync_more g.D.Disk.does (Write c.slot_at.result c.as_slice.result.now c.write_at-answer.result) c.args.disk.now c.slots.disk c.write_at-answer.new.self c.slots.invariant.unsynced c.write_at-answer.ensures.does tt

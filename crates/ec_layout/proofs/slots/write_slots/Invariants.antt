@@ -4,6 +4,7 @@ use Rattle.ec_disk.specs.Runs.{Ran}
 use Rattle.ec_layout.specs.Places.{slot_at}
 use Rattle.ec_layout.specs.Layout.{HasSlots}
 use Rattle.ec_layout.specs.Pieces.{pieces_of, InSlots}
+use Rattle.ec_layout.specs.Traces.{NoSync}
 use Rattle.ec_layout.proofs.slots.write_slots.Given as goal
 
 abbrev pub invariant-slots : goal.invariant-slots
@@ -12,5 +13,6 @@ invariant-slots g l = record {
   written : g.D.Disk.tells → HasSlots (g.D.Disk.view l.disk).gives (pieces_of (take l.piece-index l.pieces));
   below : g.D.Disk.tells → (i : ℕ) → i < slot_at 0 → byte (g.D.Disk.view l.disk).gives i ≡ byte (g.D.Disk.view l.fn.disk).gives i;
   calls : Called l.piece-index (g.D.Disk.counts l.fn.disk) (g.D.Disk.counts l.disk);
+  unsynced : NoSync g.D.Disk.does l.fn.disk l.disk;
   counts : Counted (g.D.Disk.counts l.fn.disk) (g.D.Disk.counts l.disk) ⊥ ⊥;
 }

@@ -16,8 +16,8 @@ pub of-requires : goal.of-requires
 of-requires c =
     (formed_state c.args.max_objects c.args.table c.args.images.items c.as_slice-2.result.now c.as_slice.result.now c.in_ok-is_formed.is_formed c.as_slice.ensures c.as_slice-2.ensures.value c.in_ok-is_formed.ensures (search rules)).order.images
 
-pub of-2-requires : goal.of-2-requires
-of-2-requires c =
+pub of-requires-2 : goal.of-requires-2
+of-requires-2 c =
     let formed = formed_state c.args.max_objects c.args.table c.args.images.items c.as_slice-2.result.now c.as_slice.result.now c.in_ok-is_formed.is_formed c.as_slice.ensures c.as_slice-2.ensures.value c.in_ok-is_formed.ensures (search rules) in
     subst AreSlots (sym c.into_vec.ensures) (slots_are c.args.max_objects c.args.version c.args.table c.args.images.items c.requires.fits c.requires.ids formed)
 

@@ -1,4 +1,4 @@
-use Rattle.std.proofs.Common.{rules, ◌≡◌, ◌+◌, ◌<◌, ℕ, List, length, ap, sym, subst, ◌∙◌}
+use Rattle.std.proofs.Common.{rules, ◌+◌, ◌<◌, ℕ, List, length, ap, sym, subst, ◌∙◌}
 use Rattle.ec_journal.specs.Records.{records}
 use Rattle.ec_table.specs.Codes.{numbers_in}
 use Rattle.ec_stands.specs.Stands.{IsBadAt, StepsTo}

@@ -1,8 +1,7 @@
-use Rattle.std.proofs.Common.{rules, ◌≡◌, ℕ, List, length, ap, sym, subst, ◌∙◌}
+use Rattle.std.proofs.Common.{rules, ℕ, List, length, ap, sym, subst, ◌∙◌}
 use Rattle.std.specs.Prelude.{IsErrOf}
 use Rattle.ec_disk.specs.Disk.{part}
 use Rattle.ec_codes.specs.Formats.{StandsAt}
-use Rattle.ec_volume.specs.declared.image.Image.{Image}
 use Rattle.ec_table.specs.Codes.{table_code, ids_in}
 use Rattle.ec_layout.specs.Places.{table_at}
 use Rattle.ec_layout.specs.declared.side.Side.{Side}

@@ -3,7 +3,6 @@ use Rattle.std.specs.Prelude.{IsErrOf}
 use Rattle.std.specs.Int.{w32, to_be_bytes}
 use Rattle.ec_disk.specs.Disk.{part}
 use Rattle.ec_stands.specs.Stands.{IsBadAt, HasGoodHead, side_in}
-use Rattle.ec_layout.specs.declared.side.Side.{Side}
 use Rattle.ec_store.specs.declared.fault.StoreFault.TheVariants.{BadDisk}
 use Rattle.ec_store.specs.Opening.{IsReadIn}
 use Rattle.ec_store.proofs.Resting.{rests_then}

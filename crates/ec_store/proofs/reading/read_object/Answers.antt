@@ -1,7 +1,6 @@
-use Rattle.std.proofs.Common.{rules, ◌≡◌, ℕ, List, ap, sym, subst, ◌∙◌}
+use Rattle.std.proofs.Common.{rules, ◌≡◌, ℕ, ap, sym, ◌∙◌}
 use Rattle.std.proofs.lemmas.Bool.{eqb-false}
 use Rattle.ec_disk.specs.Disk.{part}
-use Rattle.ec_layout.specs.Places.{slot_at}
 use Rattle.ec_stands.specs.Stands.{slot_part}
 use Rattle.ec_store.specs.Reading.{place_of}
 use Rattle.ec_store.specs.declared.fault.StoreFault.TheVariants.{BadDisk}

@@ -1,8 +1,8 @@
-use Rattle.std.proofs.Common.{rules, ◌≡◌, ℕ, List, ap, sym, subst, ◌∙◌}
+use Rattle.std.proofs.Common.{rules, ℕ, List, subst}
 use Rattle.std.specs.Prelude.{IsErrOf}
 use Rattle.ec_store.specs.declared.fault.StoreFault.TheVariants.{BadDisk}
 use Rattle.ec_stands.specs.Stands.{IsSpelled, IsBadImage}
-use Rattle.ec_store.proofs.Resting.{rests_same, rests_then}
+use Rattle.ec_store.proofs.Resting.{rests_then}
 use Rattle.ec_store.proofs.Parts.{spelled_more, ids_more, sound_more, bad_at}
 use Rattle.ec_store.proofs.reading.read_objects.Goals as goal
 

@@ -1,4 +1,4 @@
-use Rattle.std.proofs.Common.{rules, arith, ◌≡◌, ◌+◌, ℕ, List, length, ap, sym, subst, ◌∙◌}
+use Rattle.std.proofs.Common.{rules, arith, ℕ, List, length, ap, subst}
 use Rattle.ec_stands.specs.Stands.{IsRefused}
 use Rattle.std.specs.Prelude.{IsErrOf}
 use Rattle.ec_store.specs.declared.fault.StoreFault.TheVariants.{BadDisk}

@@ -12,7 +12,7 @@ use Rattle.ec_well_formed.proofs.well_formed.is_well_formed.Goals as goal
 pub returns-then-not-branch : goal.returns-then-not-branch
 returns-then-not-branch c epoch w =
     let no : c.in_ok-is_tree.field-0 ≡ false = search rules in
-    denied c.in_ok-is_tree.field-0 (IsTree c.args.images.now) c.in_ok-is_tree.ensures no (formed_tree c.args.images.now c.requires.sound w.volume w.order.images)
+    denied c.in_ok-is_tree.field-0 (IsTree c.args.images.now) c.in_ok-is_tree.ensures no (formed_tree c.args.images.now w.volume w.order.images)
 
 pub returns : goal.returns
 returns c =

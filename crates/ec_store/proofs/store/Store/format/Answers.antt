@@ -1,17 +1,20 @@
-use Rattle.std.proofs.Common.{◌++◌, ℕ, [], ap, sym, subst, refl}
+use Rattle.std.proofs.Common.{◌++◌, ℕ, [], ap, sym, subst, refl, inl, inr}
 use Rattle.std.specs.Int.{w32, to_be_bytes}
 use Rattle.ec_volume.specs.Volume as volume
 use Rattle.ec_durable.specs.declared.state.Durable.{Durable}
 use Rattle.ec_durable.specs.WellFormed.{WellFormed, IsInOrder}
 use Rattle.ec_kept.proofs.Volumes.{formatted_well}
+use Rattle.ec_durable.specs.Durable.{formatted}
 use Rattle.ec_layout.specs.Head.{first_word, empty_awaits}
+use Rattle.ec_layout.specs.Traces.{no_sync_yet}
 use Rattle.ec_layout.specs.Layout.{HasSide, HasSlots}
 use Rattle.ec_layout.specs.Pieces.{AreApart, pieces_of}
 use Rattle.ec_layout.specs.declared.side.Side.TheVariants as side
 use Rattle.ec_stands.specs.Stands.{StandsFor}
 use Rattle.ec_store.specs.Plan.{IsPlan}
 use Rattle.ec_store.proofs.Holding.{held_stands}
-use Rattle.ec_store.proofs.Planning.{no_places, pieces_stand_apart, new_places_are, fresh, fresh_holds}
+use Rattle.ec_store.proofs.Planning.{no_places, pieces_stand_apart, new_places_are, fresh, fresh_stands, fresh_holds}
+use Rattle.ec_store.proofs.Formatting.{format_leaves}
 use Rattle.ec_store.proofs.store.Store.format.Goals as goal
 
 pub lay_out-requires-clause-formed : goal.lay_out-requires-clause-formed
@@ -61,3 +64,57 @@ pub returns-clause-stands : goal.returns-clause-stands
 returns-clause-stands g c told image left =
     subst (λ e. StandsFor image e) c.in_ok-state.ensures
     (held_stands (g.D.Disk.view c.write_head.new.disk) c.new-2.result c.in_ok-plan.plan.named.items c.in_ok-plan.plan.kept c.in_ok-state.state (returns-clause-ok g c told) image left)
+
+pub returns-in_err-state-clause-since_sync : goal.returns-in_err-state-clause-since_sync
+returns-in_err-state-clause-since_sync g c told =
+    inl (no_sync_yet g.D.Disk.does c.args.disk.now)
+
+pub returns-in_err-plan-clause-since_sync : goal.returns-in_err-plan-clause-since_sync
+returns-in_err-plan-clause-since_sync g c told =
+    inl (no_sync_yet g.D.Disk.does c.args.disk.now)
+
+pub returns-in_err-done-clause-since_sync : goal.returns-in_err-done-clause-since_sync
+returns-in_err-done-clause-since_sync g c told =
+    inl (c.prepare.ensures.unsynced c.in_err-done.ensures.not_done)
+
+pub returns-in-Err-clause-since_sync : goal.returns-in-Err-clause-since_sync
+returns-in-Err-clause-since_sync g c told =
+    let d = c.in_ok-state.state in
+    let plan = c.in_ok-plan.plan in
+    let well = subst WellFormed (sym c.in_ok-state.ensures) (formatted_well c.args.max_objects c.requires.least c.requires.limit) in
+    let is = subst (λ k. IsPlan d.max_objects [] k d.volume plan) c.new.ensures c.in_ok-plan.ensures.plan in
+    let l = fresh d well plan is c.in_ok-plan.ensures.table c.in_ok-plan.ensures.fits in
+    let old = g.D.Disk.view c.args.disk.now in
+    let mid = g.D.Disk.view c.prepare.new.disk in
+    let done = c.in_ok-done.ensures.ok in
+    let awaits = empty_awaits old mid l (c.requires.empty told) (c.prepare.ensures.front told done) (c.prepare.ensures.synced told done)
+    (subst (λ t. HasSide mid.gives side.Even t []) c.as_slice-2.ensures.value (c.prepare.ensures.side told done)) (subst (λ ps. HasSlots mid.gives (pieces_of ps)) c.as_slice.ensures.value (c.prepare.ensures.slots told done)) in
+    inr (
+      c.prepare.new.disk,
+      c.prepare.ensures.first done,
+      format_leaves l d (formatted c.args.max_objects) mid (g.D.Disk.view c.write_head.new.disk) c.in_ok-state.ensures (fresh_stands d well plan is c.in_ok-plan.ensures.table c.in_ok-plan.ensures.fits)
+          (c.write_head.ensures.any_moment told l
+          (record { front_is = ap (λ (m : ℕ). first_word ++ to_be_bytes w32 m) (ap (λ (x : Durable). x.max_objects) c.in_ok-state.ensures); back_is = refl; even = refl })
+          awaits),
+    )
+
+pub returns-clause-since_sync : goal.returns-clause-since_sync
+returns-clause-since_sync g c told =
+    let d = c.in_ok-state.state in
+    let plan = c.in_ok-plan.plan in
+    let well = subst WellFormed (sym c.in_ok-state.ensures) (formatted_well c.args.max_objects c.requires.least c.requires.limit) in
+    let is = subst (λ k. IsPlan d.max_objects [] k d.volume plan) c.new.ensures c.in_ok-plan.ensures.plan in
+    let l = fresh d well plan is c.in_ok-plan.ensures.table c.in_ok-plan.ensures.fits in
+    let old = g.D.Disk.view c.args.disk.now in
+    let mid = g.D.Disk.view c.prepare.new.disk in
+    let done = c.in_ok-done.ensures.ok in
+    let awaits = empty_awaits old mid l (c.requires.empty told) (c.prepare.ensures.front told done) (c.prepare.ensures.synced told done)
+    (subst (λ t. HasSide mid.gives side.Even t []) c.as_slice-2.ensures.value (c.prepare.ensures.side told done)) (subst (λ ps. HasSlots mid.gives (pieces_of ps)) c.as_slice.ensures.value (c.prepare.ensures.slots told done)) in
+    inr (
+      c.prepare.new.disk,
+      c.prepare.ensures.first done,
+      format_leaves l d (formatted c.args.max_objects) mid (g.D.Disk.view c.write_head.new.disk) c.in_ok-state.ensures (fresh_stands d well plan is c.in_ok-plan.ensures.table c.in_ok-plan.ensures.fits)
+          (c.write_head.ensures.any_moment told l
+          (record { front_is = ap (λ (m : ℕ). first_word ++ to_be_bytes w32 m) (ap (λ (x : Durable). x.max_objects) c.in_ok-state.ensures); back_is = refl; even = refl })
+          awaits),
+    )

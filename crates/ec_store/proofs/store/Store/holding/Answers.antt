@@ -1,4 +1,4 @@
-use Rattle.std.proofs.Common.{◌≡◌, None, cond, ℕ, List, ap, sym, subst, ◌∙◌}
+use Rattle.std.proofs.Common.{None, cond, ℕ, List, ap, sym, subst, ◌∙◌}
 use Rattle.ec_base.specs.Tables.{at}
 use Rattle.ec_volume.specs.Update.{member}
 use Rattle.ec_table.specs.Codes.{numbers_in}

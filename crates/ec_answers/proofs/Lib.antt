@@ -1,0 +1,11 @@
+pub mod Unmade
+pub mod Free
+pub mod Live
+pub mod Unseen
+pub mod Framed
+pub mod Watched
+pub mod Refusing
+pub mod Turned
+pub mod Changing
+pub mod Zeroless
+pub mod One

@@ -1,0 +1,15 @@
+pub mod Known
+pub mod Issued
+pub mod Rests
+pub mod Frames
+pub mod Opening
+pub mod Quiet
+pub mod Begin
+pub mod Lined
+pub mod Leave
+pub mod Left
+pub mod Told
+pub mod Sessionless
+pub mod Follows
+pub mod Covered
+pub mod Settled

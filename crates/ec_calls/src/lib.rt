@@ -1,0 +1,49 @@
+//! Calls under way: what the lines show of them, and what their answers need. Each function has an
+//! empty body, and its contract is a law.
+#![tactic(auto)]
+
+ghost use Rattle.ec_calls.specs.Laws.{AnswersKeepCalls, AnswersMayFollow, CallsBegin, CallsBeginSteps, CrashesKeepCalls, LateSettledStands, LinesKeepCalls, OpeningCalls, OutsideShowsNone, QuietKeepsCalls, ServersKeepCalls, SettledStands, StartsKeepCalls, TellsKeepCalls, WaitsKeepCalls};
+
+/// Where nobody runs no call is under way, and behind what a server does with its lines each waits as it did.
+pub fn servers_keep_calls()
+    ensures opening { OpeningCalls }
+    ensures lines { LinesKeepCalls }
+    ensures steps { ServersKeepCalls }
+{}
+
+/// A clerk's step begins with the calls under way, and behind a change that answers nothing they go on.
+pub fn steps_keep_calls()
+    ensures begin { CallsBeginSteps }
+    ensures quiet { QuietKeepsCalls }
+{}
+
+/// A call begins on a line of its own, and a line says that it waits.
+pub fn calls_begin()
+    ensures begin { CallsBegin }
+    ensures waits { WaitsKeepCalls }
+{}
+
+/// An answer takes its call away, with a line.
+pub fn answers_keep_calls()
+    ensures { AnswersKeepCalls }
+{}
+
+/// A start that is told its loss goes on with its calls, one that crashes takes them along, and the next one
+/// comes up without any.
+pub fn starts_keep_calls()
+    ensures told { TellsKeepCalls }
+    ensures crash { CrashesKeepCalls }
+    ensures start { StartsKeepCalls }
+{}
+
+/// The line of a waiting call's answer may follow the lines before it: its clerk is in a session, or shows none.
+pub fn answers_may_follow()
+    ensures line { AnswersMayFollow }
+    ensures outside { OutsideShowsNone }
+{}
+
+/// What the answer of a call covers that its try answers is durable; a late one covers nothing that its start lost.
+pub fn answers_cover_what_is_durable()
+    ensures settled { SettledStands }
+    ensures late { LateSettledStands }
+{}

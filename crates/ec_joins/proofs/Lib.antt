@@ -1,0 +1,15 @@
+pub mod Outs
+pub mod Said
+pub mod Hellos
+pub mod Slots
+pub mod Kept
+pub mod Joined
+pub mod SameIn
+pub mod Outside
+pub mod Counted
+pub mod Start
+pub mod Begins
+pub mod Owing
+pub mod Left
+pub mod Leaving
+pub mod Wholes

@@ -1,0 +1,28 @@
+//! All facts behind a clerk that starts, greets, takes a session and leaves it when it has ended. Each
+//! function has an empty body, and its contract is a law.
+#![tactic(auto)]
+
+ghost use Rattle.ec_joins.specs.Laws.{EndedStands, FreshStartsStand, GoesAtFirst, HellosStand, OpenedStands, OutsideStands, StartsStand, TakesOthers, TakesOutside};
+
+/// A clerk that doesn't run starts, and greets: all facts stand behind its first line, and before it
+/// all but that the lines show it.
+pub fn clerks_may_start()
+    ensures fresh { FreshStartsStand }
+    ensures shown { StartsStand }
+{}
+
+/// A clerk greets, goes on without a session, takes one that was opened for it, or learns that its session
+/// has ended.
+pub fn clerks_join_and_leave()
+    ensures hello { HellosStand }
+    ensures outside { OutsideStands }
+    ensures opened { OpenedStands }
+    ensures ended { EndedStands }
+{}
+
+/// A clerk takes whole messages: any without a session, and in one any that isn't of it.
+pub fn clerks_take_what_others_sent()
+    ensures begin { GoesAtFirst }
+    ensures outside { TakesOutside }
+    ensures others { TakesOthers }
+{}
