@@ -1,21 +1,18 @@
 -- A clerk greets, and a step that says or shows something stands with all facts.
-use Rattle.std.proofs.Common.{◌≡◌, refl, sym, ap, subst, ◌∙◌, ◌<◌, ◌≤◌, arith, ℕ, T, List, [], ◌∷◌, ◌++◌, Some, append-nil}
+use Rattle.std.proofs.Common.{◌≡◌, sym, ap, subst, ◌∙◌, ◌<◌, ◌≤◌, arith, ℕ, T, [], ◌∷◌, ◌++◌, Some, append-nil}
 use Rattle.ec_base.specs.declared.ids.Age.{Age}
-use Rattle.ec_history.specs.declared.shown.Shown.{Shown}
 use Rattle.ec_wire.specs.Messages.{is_sound}
 use Rattle.ec_wire.specs.declared.msg.Msg.{Msg}
 use Rattle.ec_wire.specs.declared.msg.Msg.TheVariants.{Hello}
 use Rattle.ec_protocol.specs.Clerk.{Doing, emit, hello, send}
-use Rattle.ec_protocol.specs.declared.clerk.Clerk.{Clerk}
-use Rattle.ec_protocol.specs.declared.clerk.Out.{Out}
 use Rattle.ec_protocol.specs.declared.clerk.Out.TheVariants as out
-use Rattle.ec_coherence.specs.System.{System, Ghost, with_start}
+use Rattle.ec_coherence.specs.System.{System, Ghost}
 use Rattle.ec_coherence.specs.Sessions as sessions
 use Rattle.ec_coherence.specs.Sessions.{IsReached}
 use Rattle.ec_coherence.specs.Tokens as tokens
 use Rattle.ec_coherence.specs.Tokens.{view}
 use Rattle.ec_coherence.specs.Log as log
-use Rattle.ec_coherence.specs.Steps.{calls_after, doing_in, out_lines, sends}
+use Rattle.ec_coherence.specs.Steps.{doing_in, out_lines}
 use Rattle.ec_coherence.proofs.ClerkIn.{start-same}
 use Rattle.ec_coherence.proofs.Tables.{same_some}
 use Rattle.ec_commits.specs.Laws.{AllAgree}

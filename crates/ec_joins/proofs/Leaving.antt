@@ -4,7 +4,6 @@ use Rattle.std.specs.Prelude.{is_some, nat_le}
 use Rattle.ec_base.specs.Tables.{keys}
 use Rattle.ec_base.specs.declared.counter.Counter.{Counter}
 use Rattle.ec_base.specs.declared.counter.Counter.TheVariants as counter
-use Rattle.ec_history.specs.declared.shown.Shown.{Shown}
 use Rattle.ec_history.specs.declared.shown.Shown.TheVariants as show
 use Rattle.ec_order.specs.Order.{Issued}
 use Rattle.ec_sessions.specs.Limits.{last_round}

@@ -13,3 +13,10 @@ pub mod Owing
 pub mod Left
 pub mod Leaving
 pub mod Wholes
+pub mod Steps
+pub mod Keeping
+pub mod Recorded
+pub mod Records
+pub mod Frames
+pub mod Calm
+pub mod Going

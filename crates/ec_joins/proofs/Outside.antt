@@ -1,5 +1,5 @@
 -- A clerk without a session changes in what no fact reads of it.
-use Rattle.std.proofs.Common.{◌≡◌, refl, sym, ap, subst, ◌∙◌, ◌⊎◌, ◌<◌, ◌≤◌, ℕ, Bool, true, false, not, ◌==◌, ◌&&◌, T, List, ◌++◌, Option, Some, None}
+use Rattle.std.proofs.Common.{◌≡◌, refl, sym, ap, subst, ◌∙◌, ◌⊎◌, ◌<◌, ◌≤◌, ℕ, Bool, true, false, not, ◌==◌, ◌&&◌, T, List, Option, Some, None}
 use Rattle.std.proofs.lemmas.Bool.{and_parts}
 use Rattle.ec_base.specs.Ages.{is_older}
 use Rattle.ec_base.specs.declared.ids.Age.{Age}
@@ -17,7 +17,7 @@ use Rattle.ec_coherence.specs.Log as log
 use Rattle.ec_coherence.specs.Log.{next_of}
 use Rattle.ec_coherence.specs.ChangeLaws.{Calls, with_clerk}
 use Rattle.ec_coherence.proofs.Lists.{each-more, each-turn}
-use Rattle.ec_coherence.proofs.Tables.{equal, none_some}
+use Rattle.ec_coherence.proofs.Tables.{equal}
 use Rattle.ec_commits.specs.Laws.{AllAgree}
 use Rattle.ec_commits.specs.Starts.{Greets}
 use Rattle.ec_changes.specs.Laws.{AreSent, GoesOn}

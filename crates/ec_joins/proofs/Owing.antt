@@ -1,5 +1,5 @@
 -- What a cut-off start lost, as its log, the lines and the history have it: the same operations.
-use Rattle.std.proofs.Common.{◌≡◌, refl, sym, ap, subst, ◌∙◌, ◌<◌, ◌+◌, ℕ, Bool, true, false, not, ◌==◌, ◌&&◌, cond, map, T, List, [], ◌∷◌, ◌++◌, Some, append_assoc}
+use Rattle.std.proofs.Common.{◌≡◌, refl, sym, ap, subst, ◌∙◌, ◌<◌, ℕ, Bool, true, false, not, ◌==◌, ◌&&◌, cond, map, T, List, [], ◌∷◌, ◌++◌, Some, append_assoc}
 use Rattle.std.specs.Prelude.{⊤}
 use Rattle.std.specs.List.{filter, list_any}
 use Rattle.ec_base.specs.Tables.{keys}
@@ -9,7 +9,6 @@ use Rattle.ec_history.specs.History.{Base, Each, History, Op, is_entry_of, is_on
 use Rattle.ec_history.specs.declared.entry.Entry.TheVariants as entry
 use Rattle.ec_laws.proofs.More.{owed-others, owed-step}
 use Rattle.ec_picks.proofs.Losing.{lost-issued}
-use Rattle.ec_sessions.specs.declared.slot.Slot.{Slot}
 use Rattle.ec_sessions.specs.declared.window.Window.{Window}
 use Rattle.ec_log.specs.Log.{lost}
 use Rattle.ec_log.specs.declared.state.LogState.{LogState}
@@ -17,11 +16,11 @@ use Rattle.ec_report.specs.Report as report
 use Rattle.ec_report.specs.Report.{owe}
 use Rattle.ec_protocol.specs.Clerk.{with_operands}
 use Rattle.ec_protocol.specs.declared.clerk.Clerk.{Clerk}
-use Rattle.ec_coherence.specs.System.{System, Ghost, base_of, is_of}
+use Rattle.ec_coherence.specs.System.{System, base_of, is_of}
 use Rattle.ec_coherence.specs.Events.{CutAgrees, EventsAgree, shown_boot, shown_op}
 use Rattle.ec_coherence.specs.Log.{Knows, numbered}
 use Rattle.ec_coherence.proofs.Lists.{and_both, and_first, and_next, each-always, each-turn, filter-alike, filter-map, filter-two, map-two, same_tests}
-use Rattle.ec_coherence.proofs.Tables.{same, same_some}
+use Rattle.ec_coherence.proofs.Tables.{same}
 use Rattle.ec_commits.specs.Starts.{AreAlike}
 use Rattle.ec_ends.proofs.Lost as losses
 use Rattle.ec_ends.proofs.Lost.{in-part, of-part}

@@ -1,5 +1,5 @@
 -- All facts where messages are sent of which each family holds.
-use Rattle.std.proofs.Common.{◌≡◌, ℕ, T, not, List, ◌++◌}
+use Rattle.std.proofs.Common.{ℕ, T, not, List, ◌++◌}
 use Rattle.ec_history.specs.History.{Each, Op}
 use Rattle.ec_wire.specs.Messages.{is_sound}
 use Rattle.ec_wire.specs.declared.msg.Msg.{Msg}

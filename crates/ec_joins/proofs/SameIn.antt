@@ -1,6 +1,5 @@
 -- The starts change, but in each session is the clerk that was: the facts on tokens, logs and images stay.
-use Rattle.std.proofs.Common.{◌≡◌, refl, sym, ap, subst, ◌∙◌, ℕ, T, not, List, ◌++◌, Option, Some, None}
-use Rattle.ec_base.specs.declared.ids.Age.{Age}
+use Rattle.std.proofs.Common.{◌≡◌, sym, subst, ◌∙◌, ℕ, T, not, List, ◌++◌, Option, Some}
 use Rattle.ec_history.specs.History.{Each}
 use Rattle.ec_wire.specs.declared.msg.Msg.{Msg}
 use Rattle.ec_wire.specs.declared.msg.Msg.TheVariants.{Flush, Room}

@@ -1,5 +1,5 @@
 -- The slot of a running start: it stands for the session that was opened with the start's age.
-use Rattle.std.proofs.Common.{◌≡◌, refl, sym, ap, subst, ◌∙◌, inl, inr, ◌⊎◌, arith, ◌<◌, ◌≤◌, ℕ, Bool, true, false, ◌==◌, ◌&&◌, ◌||◌, T, Some}
+use Rattle.std.proofs.Common.{◌≡◌, refl, sym, ap, subst, ◌∙◌, inl, inr, ◌⊎◌, arith, ◌<◌, ℕ, Bool, true, false, ◌==◌, ◌&&◌, ◌||◌, T, Some}
 use Rattle.std.specs.Prelude.{nat_lt}
 use Rattle.ec_base.specs.Ages.{is_older}
 use Rattle.ec_base.specs.declared.ids.Age.{Age}
@@ -7,7 +7,7 @@ use Rattle.ec_sessions.specs.declared.slot.Slot.{Slot}
 use Rattle.ec_durable.specs.Durable.{slot}
 use Rattle.ec_protocol.specs.declared.clerk.Clerk.{Clerk}
 use Rattle.ec_coherence.specs.System.{System}
-use Rattle.ec_coherence.proofs.Tables.{equal, is-true}
+use Rattle.ec_coherence.proofs.Tables.{equal}
 use Rattle.ec_commits.specs.Laws.{AllAgree}
 
 -- an older age has a lesser boot, or the same boot and a lesser round

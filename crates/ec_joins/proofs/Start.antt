@@ -1,5 +1,5 @@
 -- A clerk that doesn't run starts: all facts stand, and the lines still count it out.
-use Rattle.std.proofs.Common.{◌≡◌, refl, sym, ap, subst, ◌∙◌, inl, inr, ◌⊎◌, arith, ◌<◌, ◌≤◌, ◌+◌, ◌-◌, ℕ, suc, zero, Bool, true, false, not, ◌==◌, ◌&&◌, cond, T, List, [], ◌∷◌, ◌++◌, length, Option, Some, None}
+use Rattle.std.proofs.Common.{◌≡◌, refl, sym, ap, subst, ◌∙◌, ◌⊎◌, arith, ◌<◌, ◌≤◌, ◌+◌, ◌-◌, ℕ, Bool, true, false, not, ◌==◌, ◌&&◌, cond, T, List, [], ◌∷◌, length, Option, Some, None}
 use Rattle.std.specs.Prelude.{is_some}
 use Rattle.std.specs.List.{filter}
 use Rattle.std.proofs.lemmas.Bool.{and_parts, true≢false}
@@ -19,7 +19,7 @@ use Rattle.ec_wire.specs.declared.msg.Msg.TheVariants.{Hello}
 use Rattle.ec_durable.specs.Durable.{slot}
 use Rattle.ec_protocol.specs.Clerk.{new_clerk}
 use Rattle.ec_protocol.specs.declared.clerk.Clerk.{Clerk}
-use Rattle.ec_coherence.specs.System.{System, at_session, base_of, clerk_of, if_in, is_session, with_start}
+use Rattle.ec_coherence.specs.System.{System, base_of, clerk_of, if_in}
 use Rattle.ec_coherence.specs.Sessions as sessions
 use Rattle.ec_coherence.specs.Sessions.{HasNone, SessionsAgree}
 use Rattle.ec_coherence.specs.Log.{next_of}
@@ -33,7 +33,7 @@ use Rattle.ec_coherence.proofs.Lists.{each-more, each-turn}
 use Rattle.ec_coherence.proofs.Tables.{by-session, equal, none_some, same, same_some}
 use Rattle.ec_commits.specs.Laws.{AllAgree}
 use Rattle.ec_commits.specs.Starts.{Greets, StartsAgree}
-use Rattle.ec_commits.specs.Watches.{FirstsAgree, WatchAgrees}
+use Rattle.ec_commits.specs.Watches.{WatchAgrees}
 use Rattle.ec_commits.proofs.Shown.{lines-agree}
 use Rattle.ec_joins.specs.Counts.{CountsAgree}
 use Rattle.ec_joins.specs.Cuts.{CutKnows, CutsAgree}

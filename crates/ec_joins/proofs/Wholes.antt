@@ -1,11 +1,10 @@
 -- A clerk takes whole messages: any without a session, and in one any that isn't of it.
-use Rattle.std.proofs.Common.{◌≡◌, refl, sym, ap, subst, ◌∙◌, inl, inr, ◌⊎◌, ℕ, Bool, true, false, not, ◌==◌, ◌&&◌, T, List, [], ◌∷◌, ◌++◌, Option, Some, None, append-nil}
+use Rattle.std.proofs.Common.{◌≡◌, refl, sym, ap, subst, ◌∙◌, inl, inr, ◌⊎◌, ℕ, Bool, true, false, not, ◌==◌, ◌&&◌, T, [], Option, Some, None, append-nil}
 use Rattle.std.specs.Prelude.{Contains, is_some, nat_le}
 use Rattle.std.proofs.lemmas.Bool.{and_parts}
 use Rattle.ec_base.specs.Tables.{keys}
 use Rattle.ec_base.specs.declared.counter.Counter.TheVariants as counter
 use Rattle.ec_base.specs.declared.ids.Age.{Age}
-use Rattle.ec_history.specs.History.{Op}
 use Rattle.ec_sessions.specs.Limits.{last_round}
 use Rattle.ec_sessions.specs.declared.window.Window.{Window}
 use Rattle.ec_wire.specs.declared.msg.Msg.{Msg}
@@ -14,7 +13,7 @@ use Rattle.ec_cache.specs.Cache as cache
 use Rattle.ec_log.specs.Log as log
 use Rattle.ec_protocol.specs.declared.clerk.Out.TheVariants as out
 use Rattle.ec_protocol.specs.declared.clerk.Clerk.{Clerk}
-use Rattle.ec_protocol.specs.Clerk.{Doing, doing, emit, epoch, has_session, hello, in_session, is_session, lose, or_hello, refuse_makes, same_age, send, spend, take_ended, take_ids, take_no_room, take_old_boot, take_opened, take_recall, take_restarted, taken, with_cache, with_clerk, with_log}
+use Rattle.ec_protocol.specs.Clerk.{Doing, doing, emit, epoch, has_session, hello, in_session, is_session, lose, or_hello, refuse_makes, same_age, send, spend, take_ended, take_ids, take_recall, take_restarted, with_cache, with_clerk, with_log}
 use Rattle.ec_coherence.specs.System.{System, Ghost, if_in, with_start}
 use Rattle.ec_coherence.specs.Clerks.{take_session}
 use Rattle.ec_coherence.specs.Sessions as sessions
@@ -22,12 +21,12 @@ use Rattle.ec_coherence.specs.Sessions.{HasNone}
 use Rattle.ec_coherence.specs.Tokens.{Fits, view}
 use Rattle.ec_coherence.specs.Steps.{calls_after, doing_in}
 use Rattle.ec_coherence.proofs.Needs.{each-of}
-use Rattle.ec_coherence.proofs.Tables.{differ, equal, same_some}
+use Rattle.ec_coherence.proofs.Tables.{differ, equal}
 use Rattle.ec_commits.specs.Laws.{AllAgree}
 use Rattle.ec_changes.specs.Laws.{ClerkStands, IsUnderWay}
 use Rattle.ec_changes.proofs.Doings.{begins-stand}
 use Rattle.ec_joins.specs.Cuts.{CutKnows, CutsAgree}
-use Rattle.ec_joins.specs.Laws.{Goes, IsGoing, IsOfSession, SameCalls, joined, tell_loss}
+use Rattle.ec_joins.specs.Laws.{Goes, IsGoing, IsOfSession, SameCalls, tell_loss}
 use Rattle.ec_joins.proofs.Hellos.{hello-cuts, hello-stands, old-boot-cuts, old-boot-stands}
 use Rattle.ec_joins.proofs.Joined.{joins-cuts, joins-go}
 use Rattle.ec_joins.proofs.Leaving.{ended-stands}

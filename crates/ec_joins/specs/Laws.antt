@@ -1,5 +1,5 @@
 -- What is proved of a clerk that starts, greets, takes a session and leaves it, as contracts name it: all facts stand behind it.
-use Rattle.std.specs.Prelude.{◌≡◌, ◌≢◌, ◌==◌, ◌<◌, ◌⊎◌, ◌+◌, ℕ, T, true, false, not, ◌&&◌, map, List, [], ◌∷◌, ◌++◌, Contains, None, Some, is_some}
+use Rattle.std.specs.Prelude.{◌≡◌, ◌==◌, ◌<◌, ◌⊎◌, ◌+◌, ℕ, T, true, false, not, ◌&&◌, List, [], ◌∷◌, ◌++◌, Contains, None, Some, is_some}
 use Rattle.ec_base.specs.declared.ids.Age.{Age}
 use Rattle.ec_plain.specs.declared.call.Call.{Call}
 use Rattle.ec_history.specs.History.{Each}
@@ -22,7 +22,7 @@ use Rattle.ec_coherence.specs.Steps.{doing_in}
 use Rattle.ec_coherence.specs.ChangeLaws.{Calls, with_clerk}
 use Rattle.ec_commits.specs.Laws.{AllAgree}
 use Rattle.ec_commits.specs.Starts.{StartsAgree}
-use Rattle.ec_commits.specs.Watches.{FirstsAgree, WatchAgrees, WatchesAgree}
+use Rattle.ec_commits.specs.Watches.{FirstsAgree, WatchAgrees}
 use Rattle.ec_changes.specs.Laws.{AreSent, ClerkStands, GoesOn, IsUnderWay, lined}
 use Rattle.ec_joins.specs.Counts.{CountsAgree}
 use Rattle.ec_joins.specs.Cuts.{CutsAgree}

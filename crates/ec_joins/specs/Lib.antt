@@ -1,3 +1,4 @@
 pub mod Cuts
 pub mod Counts
+pub mod Frames
 pub mod Laws

@@ -2,6 +2,7 @@
 //! function has an empty body, and its contract is a law.
 #![tactic(auto)]
 
+ghost use Rattle.ec_joins.specs.Frames.{AreCalm, CalmStepsKeep, CrashesKeep, KeptBatchesKeep, LateAnswersKeep, LinesKeepCounts, OpeningKeeps, PlainAnswersKeep, RecordsKeep, SameCutsKeep, StepsKeepCounts};
 ghost use Rattle.ec_joins.specs.Laws.{EndedStands, FreshStartsStand, GoesAtFirst, HellosStand, OpenedStands, OutsideStands, StartsStand, TakesOthers, TakesOutside};
 
 /// A clerk that doesn't run starts, and greets: all facts stand behind its first line, and before it
@@ -25,4 +26,24 @@ pub fn clerks_take_what_others_sent()
     ensures begin { GoesAtFirst }
     ensures outside { TakesOutside }
     ensures others { TakesOthers }
+{}
+
+/// Cut-off starts, and the lines' counts of starts, stand where nothing runs, and behind each record that
+/// the server commits, where all facts do; behind whatever leaves what they read; and behind a crash.
+pub fn cut_off_starts_stay_known()
+    ensures opening { OpeningKeeps }
+    ensures records { RecordsKeep }
+    ensures same { SameCutsKeep }
+    ensures crash { CrashesKeep }
+    ensures lines { LinesKeepCounts }
+{}
+
+/// So they do behind the functions of a clerk's step that answer nothing, and behind answers.
+pub fn cut_off_starts_know_what_they_do()
+    ensures calm { CalmStepsKeep }
+    ensures functions { AreCalm }
+    ensures batches { KeptBatchesKeep }
+    ensures plain { PlainAnswersKeep }
+    ensures late { LateAnswersKeep }
+    ensures counts { StepsKeepCounts }
 {}

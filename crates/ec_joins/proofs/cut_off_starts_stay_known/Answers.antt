@@ -1,0 +1,18 @@
+use Rattle.ec_joins.proofs.Frames.{crash-counts, crash-cuts, lines-keep-counts, opening-keeps, same-cuts}
+use Rattle.ec_joins.proofs.Records.{records-counts, records-cuts}
+use Rattle.ec_joins.proofs.cut_off_starts_stay_known.Goals as goal
+
+pub returns-clause-opening : goal.returns-clause-opening
+returns-clause-opening z = opening-keeps
+
+pub returns-clause-records : goal.returns-clause-records
+returns-clause-records z g all r d v p γ steps makes now = ((λ cuts. records-cuts g all d v p cuts r γ steps makes now), λ counts. records-counts g all d v p r γ makes counts)
+
+pub returns-clause-same : goal.returns-clause-same
+returns-clause-same z = same-cuts
+
+pub returns-clause-crash : goal.returns-clause-crash
+returns-clause-crash z g all c = (crash-cuts g all c, crash-counts g all c)
+
+pub returns-clause-lines : goal.returns-clause-lines
+returns-clause-lines z = lines-keep-counts
