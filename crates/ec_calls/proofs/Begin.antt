@@ -226,7 +226,7 @@ module _ (g : System) (events : EventsAgree g) (c b l : ℕ) (cl : Call) (k : Cl
   begun-calls = record { starts = any-start; calls = calls-now; lines = lines-now }
 
   pub begun-turn : AreAtRest g → AreInTurn h c (add_call cl k)
-  begun-turn rest = inr (k.waiting, v, refl, still k.waiting its.numbers (rest c b k run there))
+  begun-turn rest = inr (k.waiting, v, refl, still k.waiting its.numbers (rest c b k run there).calls)
     where
       still : (ws : List Waiting) → Each (λ w. w.no ≤ k.calls) ws → Each (λ w. T (does_wait w k) × HasLine g c w) ws → Each (λ w. T (does_wait w (add_call cl k)) × HasLine h c w) ws
       still [] le r = tt

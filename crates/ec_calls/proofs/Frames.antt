@@ -121,7 +121,10 @@ module _ (g : System) (d : Durable) (v : Option Server) (r : Option Record) (p :
   }
 
   pub rest-kept : AreAtRest g → AreAtRest h
-  rest-kept q c b k run there = each-map (λ w. T (does_wait w k) × HasLine g c w) (λ w. T (does_wait w k) × HasLine h c w) (λ w x. (x.0, ((x.1).0, (x.1).1, shown-still (x.1).0 ∙ (x.1).2))) k.waiting (q c b k run there)
+  rest-kept q c b k run there = record {
+    calls = each-map (λ w. T (does_wait w k) × HasLine g c w) (λ w. T (does_wait w k) × HasLine h c w) (λ w x. (x.0, ((x.1).0, (x.1).1, shown-still (x.1).0 ∙ (x.1).2))) k.waiting (q c b k run there).calls;
+    recalls = (q c b k run there).recalls;
+  }
 
 -- The lines of a record.
 

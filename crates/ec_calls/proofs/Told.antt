@@ -17,6 +17,7 @@ use Rattle.ec_laws.proofs.More.{watch-step}
 use Rattle.ec_laws.proofs.Numbers.{count, each-map}
 use Rattle.ec_log.specs.Log.{is_from}
 use Rattle.ec_wire.specs.declared.msg.Msg.{Msg}
+use Rattle.ec_protocol.specs.Clerk.{is_ready}
 use Rattle.ec_protocol.specs.declared.clerk.Clerk.{Clerk}
 use Rattle.ec_protocol.specs.declared.clerk.Waiting.{Waiting}
 use Rattle.ec_coherence.specs.System.{System, Ghost, at_session, base_of, with_start}
@@ -28,7 +29,7 @@ use Rattle.ec_coherence.proofs.Tables.{at-without, by-session, equal, same_some}
 use Rattle.ec_events.specs.Comes.{begun_at}
 use Rattle.ec_changes.specs.Laws.{crashed}
 use Rattle.ec_calls.specs.Calls.{AreApart, Began, CallsAgree, IsBefore, IsOpenCall, LosesBelow, StartCalls, before_last, has_number, is_shown, told_to}
-use Rattle.ec_calls.specs.Waits.{AreAtRest, HasLine, does_wait}
+use Rattle.ec_calls.specs.Waits.{AreAtRest, HasLine, IsAtRest, does_wait}
 use Rattle.ec_calls.specs.Laws.{with_change}
 use Rattle.ec_calls.proofs.Frames.{lines-append}
 use Rattle.ec_calls.proofs.Issued.{loses-all}
@@ -228,7 +229,10 @@ module _ (g : System) (c : ℕ) where
   pub crashed-rest : AreAtRest g → AreAtRest down
   crashed-rest q f a m r s =
       let t = runs-before f a r in
-      each-map (λ w. T (does_wait w m) × HasLine g f w) (λ w. T (does_wait w m) × HasLine down f w) (λ w y. (y.0, ((y.1).0, still f w.no t.1 ∙ (y.1).1, shown-still g (show.Crashed c) (λ j. refl) down refl (y.1).0 ∙ (y.1).2))) m.waiting (q f a m t.0 s)
+      record {
+        calls = each-map (λ w. T (does_wait w m) × HasLine g f w) (λ w. T (does_wait w m) × HasLine down f w) (λ w y. (y.0, ((y.1).0, still f w.no t.1 ∙ (y.1).1, shown-still g (show.Crashed c) (λ j. refl) down refl (y.1).0 ∙ (y.1).2))) m.waiting (q f a m t.0 s).calls;
+        recalls = (q f a m t.0 s).recalls;
+      }
 
 -- A start comes up, with no call yet.
 module _ (g : System) (c b : ℕ) (k : Clerk) (bs : ℕ → ℕ) (p : List (ℕ × Msg)) where
@@ -294,5 +298,8 @@ module _ (g : System) (c b : ℕ) (k : Clerk) (bs : ℕ → ℕ) (p : List (ℕ 
                 go false e = refl
                 go true e = absurd (none_some (sym still-down ∙ ap g.running (sym (equal f c e)) ∙ o.running))
 
-    pub up-rest : AreAtRest g → AreAtRest up
-    up-rest q f a m r s = by-clerk f a m (λ x y z. Each (λ w. T (does_wait w z) × HasLine up x w) z.waiting) r s (subst (Each (λ w. T (does_wait w k) × HasLine up c w)) (sym none) tt) (λ d i j. q f a m i j)
+    pub up-rest : k.recalls ≡ [] → AreAtRest g → AreAtRest up
+    up-rest recalls q f a m r s = by-clerk f a m (λ x y z. IsAtRest up x z) r s (record {
+        calls = subst (Each (λ w. T (does_wait w k) × HasLine up c w)) (sym none) tt;
+        recalls = subst (Each (λ r. T (not (is_ready r k)))) (sym recalls) tt;
+      }) (λ d i j. record { calls = (q f a m i j).calls; recalls = (q f a m i j).recalls })

@@ -1,5 +1,5 @@
 -- What is proved of calls under way, as contracts name it.
-use Rattle.std.specs.Prelude.{◌≡◌, ◌≤◌, ◌≢◌, ◌⊎◌, ◌==◌, ◌+◌, ℕ, T, Bool, true, false, not, is_some, if◌then◌else◌, List, [], ◌∷◌, ◌++◌, ◌&&◌, Option, None, Some}
+use Rattle.std.specs.Prelude.{◌≡◌, ◌≤◌, ◌≢◌, ◌⊎◌, ◌==◌, ◌+◌, ℕ, T, Bool, true, false, not, is_some, if◌then◌else◌, List, [], ◌∷◌, ◌++◌, ◌&&◌, Option, None, Some, ⊤}
 use Rattle.std.specs.List.{filter, list_all}
 use Rattle.ec_base.specs.Tables.{at_or, put}
 use Rattle.ec_plain.specs.Bounds.{is_bounded}
@@ -7,6 +7,8 @@ use Rattle.ec_plain.specs.declared.call.Call.{Call}
 use Rattle.ec_history.specs.History.{Each, Op, Covers, numbers, updates}
 use Rattle.ec_history.specs.Placing.{MayFollow, shows}
 use Rattle.ec_volume.specs.Volume.{after}
+use Rattle.ec_volume.specs.declared.image.Image.TheVariants.{Gone}
+use Rattle.ec_cache.specs.Cache.{images_held}
 use Rattle.ec_plain.specs.declared.call.Outcome.{Outcome}
 use Rattle.ec_sessions.specs.declared.window.Window.{Window}
 use Rattle.ec_report.specs.Report.{Owed}
@@ -23,7 +25,7 @@ use Rattle.ec_log.specs.Log.{is_from}
 use Rattle.ec_wire.specs.declared.msg.Msg.{Msg}
 use Rattle.ec_durable.specs.declared.state.Durable.{Durable}
 use Rattle.ec_durable.specs.declared.record.Record.{Record}
-use Rattle.ec_protocol.specs.Clerk.{Doing, add_call, doing, first_id, verdict}
+use Rattle.ec_protocol.specs.Clerk.{Answered, Doing, Tried, Waits, add_call, answer_recalls, ask_pushes, doing, evict, first_id, has_session, try, try_all, verdict}
 use Rattle.ec_protocol.specs.Server.{Serving}
 use Rattle.ec_protocol.specs.declared.clerk.Clerk.{Clerk}
 use Rattle.ec_protocol.specs.declared.clerk.Out.TheVariants as out
@@ -36,7 +38,7 @@ use Rattle.ec_coherence.specs.Steps.{call_of, calls_after, doing_in, less_call, 
 use Rattle.ec_commits.specs.Laws.{AllAgree, Stands}
 use Rattle.ec_changes.specs.Laws.{crashed, lined}
 use Rattle.ec_calls.specs.Calls.{CallsAgree, is_shown}
-use Rattle.ec_calls.specs.Waits.{AreAtRest, AreInTurn, HasLine, does_wait}
+use Rattle.ec_calls.specs.Waits.{AreAtRest, AreInTurn, HasLine, NoneReady, does_wait}
 
 -- Where nobody runs and no call is under way.
 abbrev pub OpeningCalls : Type 0
@@ -130,7 +132,7 @@ AnswersKeepCalls = (g : System) → EventsAgree g → (c b : ℕ) (k now : Clerk
 -- A clerk's next start, without a call, comes up.
 abbrev pub StartsKeepCalls : Type 0
 StartsKeepCalls = (g : System) (c b : ℕ) (k : Clerk) (bs : ℕ → ℕ) (p : List (ℕ × Msg)) → let h = record g { clerks = with_start c b k g.clerks; running = at_session c (Some b) g.running; boots = bs; pool = p } in
-    g.running c ≡ None → EventsAgree h → k.waiting ≡ [] → k.log.first ≡ k.log.next → k.log.undurable ≡ [] → (CallsAgree g → CallsAgree h) × (AreAtRest g → AreAtRest h)
+    g.running c ≡ None → EventsAgree h → k.waiting ≡ [] → k.log.first ≡ k.log.next → k.log.undurable ≡ [] → k.recalls ≡ [] → (CallsAgree g → CallsAgree h) × (AreAtRest g → AreAtRest h)
 
 -- What answers need.
 
@@ -168,3 +170,47 @@ LateSettledStands = (g : System) → AllAgree g → CallsAgree g → (c b s : �
     → (z : CutAgrees g c b s k ks) → z.lost ≡ numbers (filter (λ o. is_of (g.ghost.owner s) o && not (g.ghost.is_durable o)) ks) → Passes k w
     → (most : ℕ) (a : Answer) (op : Option ℕ) (rest : Owed) → Gives most k (verdict w.call k) a op rest
     → Each (λ n. ¬ (Covers (based g (fresh_of k)) z.before (entry_next g c b l w.call a op) c (shown_boot g c b) n)) z.lost
+
+-- Of a clerk's functions alone.
+
+-- a try answers
+abbrev pub is_answer : Tried → Bool
+is_answer (Waits e) = false
+is_answer (Answered e) = true
+
+-- Behind a change of what it asks for calls wait as they did.
+pub record IsStill (d e : Doing) : Type 0 where
+  pub quiet : IsQuiet d e
+  pub cache : e.clerk.cache ≡ d.clerk.cache
+  pub owed : e.clerk.owed ≡ d.clerk.owed
+  pub ids : e.clerk.ids ≡ d.clerk.ids
+  pub undurable : e.clerk.log.undurable ≡ d.clerk.log.undurable
+
+abbrev pub IsStillIf : Doing → Tried → Type 0
+IsStillIf d (Waits e) = IsStill d e × (e.clerk.recalls ≡ d.clerk.recalls)
+IsStillIf d (Answered e) = ⊤
+
+-- a try answers exactly a call that doesn't wait; of one that does it changes only what it asks for
+abbrev pub TriesAnswer : Type 0
+TriesAnswer = (w : Waiting) (d : Doing) → (is_answer (try w d) ≡ not (does_wait w d.clerk)) × IsStillIf d (try w d)
+
+abbrev pub StillWaits : Type 0
+StillWaits = (d e : Doing) → IsStill d e → (w : Waiting) → does_wait w e.clerk ≡ does_wait w d.clerk
+
+-- so is the beginning of a step where no recall is ready
+abbrev pub prepared : Doing → Doing
+prepared d = elim (has_session d.clerk) [ true ↦ ask_pushes (answer_recalls d) | false ↦ d ]
+
+abbrev pub BeginsAreStill : Type 0
+BeginsAreStill = (d : Doing) → NoneReady d.clerk → IsStill d (prepared d) × NoneReady (prepared d).clerk
+
+-- Behind it no recall is ready; behind the tries all calls wait; and behind evictions, where the first free id is of no object.
+abbrev pub SettlesRest : Type 0
+SettlesRest = (d : Doing) → (d.clerk.session ≡ None → d.clerk.recalls ≡ []) → NoneReady (prepared d).clerk
+
+abbrev pub TriesRest : Type 0
+TriesRest = (d : Doing) → NoneReady d.clerk → T (is_some (try_all d).spent) ⊎ (Each (λ w. T (does_wait w (try_all d).clerk)) (try_all d).clerk.waiting × NoneReady (try_all d).clerk)
+
+abbrev pub EvictsRest : Type 0
+EvictsRest = (d : Doing) → ((x : ℕ) → first_id d.clerk.ids ≡ Some x → images_held d.clerk.cache x ≡ Gone) → Each (λ w. T (does_wait w d.clerk)) d.clerk.waiting → NoneReady d.clerk
+    → Each (λ w. T (does_wait w (evict d).clerk)) (evict d).clerk.waiting × NoneReady (evict d).clerk

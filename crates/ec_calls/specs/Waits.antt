@@ -6,7 +6,7 @@ use Rattle.ec_history.specs.History.{Each}
 use Rattle.ec_log.specs.Log.{first, is_full, ops_are_spent}
 use Rattle.ec_resolve.specs.declared.verdict.Verdict.{Verdict}
 use Rattle.ec_resolve.specs.declared.verdict.Verdict.TheVariants.{Need, Lost, NeedIds, Done}
-use Rattle.ec_protocol.specs.Clerk.{awaited, is_owing, suits, verdict}
+use Rattle.ec_protocol.specs.Clerk.{awaited, is_owing, is_ready, suits, verdict}
 use Rattle.ec_protocol.specs.declared.clerk.Clerk.{Clerk}
 use Rattle.ec_protocol.specs.declared.clerk.Waiting.{Waiting}
 use Rattle.ec_coherence.specs.System.{System}
@@ -33,9 +33,17 @@ does_wait w k = waits_by w k (verdict w.call k)
 abbrev pub HasLine : System → ℕ → Waiting → Type 0
 HasLine g c w = (l : ℕ) × (call_of c w.no g.calls ≡ Some (l, w.call)) × (is_shown g l ≡ true)
 
--- Between two steps each call of a running start waits, and has its line.
+-- no kept recall is ready
+abbrev pub NoneReady : Clerk → Type 0
+NoneReady k = Each (λ r. T (not (is_ready r k))) k.recalls
+
+-- Between two steps each call of a running start waits, and has its line; and no kept recall is ready.
+pub record IsAtRest (g : System) (c : ℕ) (k : Clerk) : Type 0 where
+  pub calls : Each (λ w. T (does_wait w k) × HasLine g c w) k.waiting
+  pub recalls : NoneReady k
+
 abbrev pub AreAtRest : System → Type 0
-AreAtRest g = (c b : ℕ) (k : Clerk) → g.running c ≡ Some b → g.clerks c b ≡ Some k → Each (λ w. T (does_wait w k) × HasLine g c w) k.waiting
+AreAtRest g = (c b : ℕ) (k : Clerk) → g.running c ≡ Some b → g.clerks c b ≡ Some k → IsAtRest g c k
 
 -- In a step under way each has its line, but perhaps the last one, which began in this step; then the others wait.
 abbrev pub AreInTurn : System → ℕ → Clerk → Type 0

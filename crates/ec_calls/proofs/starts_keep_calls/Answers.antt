@@ -8,4 +8,4 @@ pub returns-clause-crash : goal.returns-clause-crash
 returns-clause-crash z g c = (crashed-calls g c, crashed-rest g c)
 
 pub returns-clause-start : goal.returns-clause-start
-returns-clause-start z g c b k bs p down events none first durable = (up-calls g c b k bs p down events none first durable, up-rest g c b k bs p down events none first durable)
+returns-clause-start z g c b k bs p down events none first durable recalls = (up-calls g c b k bs p down events none first durable, up-rest g c b k bs p down events none first durable recalls)
