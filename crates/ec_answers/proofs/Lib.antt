@@ -9,3 +9,11 @@ pub mod Turned
 pub mod Changing
 pub mod Zeroless
 pub mod One
+pub mod Outside
+pub mod Rootless
+pub mod Alone
+pub mod Without
+pub mod Split
+pub mod Earlier
+pub mod Late
+pub mod LateSeen

@@ -1,3 +1,5 @@
 pub mod Zeros
 pub mod Answering
+pub mod Frees
+pub mod Trying
 pub mod Laws

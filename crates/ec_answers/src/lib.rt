@@ -2,9 +2,11 @@
 //! body, and its contract is a law.
 #![tactic(auto)]
 
-ghost use Rattle.ec_answers.specs.Laws.{LiveAnswersStand};
+ghost use Rattle.ec_answers.specs.Laws.{LiveAnswersStand, OutsideAnswersStand};
 
-/// The answer of a clerk in its open session leaves all facts standing.
+/// The answer of a clerk in its open session leaves all facts standing, and so does that of one without a session
+/// that isn't cut off.
 pub fn answers_stand()
     ensures live { LiveAnswersStand }
+    ensures outside { OutsideAnswersStand }
 {}

@@ -13,3 +13,9 @@ pub mod Sessionless
 pub mod Follows
 pub mod Covered
 pub mod Settled
+pub mod Still
+pub mod Less
+pub mod Resting
+pub mod Quiets
+pub mod Shown
+pub mod Once

@@ -300,6 +300,6 @@ module _ (g : System) (c b : ℕ) (k : Clerk) (bs : ℕ → ℕ) (p : List (ℕ 
 
     pub up-rest : k.recalls ≡ [] → AreAtRest g → AreAtRest up
     up-rest recalls q f a m r s = by-clerk f a m (λ x y z. IsAtRest up x z) r s (record {
-        calls = subst (Each (λ w. T (does_wait w k) × HasLine up c w)) (sym none) tt;
-        recalls = subst (Each (λ r. T (not (is_ready r k)))) (sym recalls) tt;
-      }) (λ d i j. record { calls = (q f a m i j).calls; recalls = (q f a m i j).recalls })
+      calls = subst (Each (λ w. T (does_wait w k) × HasLine up c w)) (sym none) tt;
+      recalls = subst (Each (λ r. T (not (is_ready r k)))) (sym recalls) tt;
+    }) (λ d i j. record { calls = (q f a m i j).calls; recalls = (q f a m i j).recalls })

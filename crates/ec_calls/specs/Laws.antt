@@ -5,7 +5,7 @@ use Rattle.ec_base.specs.Tables.{at_or, put}
 use Rattle.ec_plain.specs.Bounds.{is_bounded}
 use Rattle.ec_plain.specs.declared.call.Call.{Call}
 use Rattle.ec_history.specs.History.{Each, Op, Covers, numbers, updates}
-use Rattle.ec_history.specs.Placing.{MayFollow, shows}
+use Rattle.ec_history.specs.Placing.{Agrees, ArePlaceable, EachLine, MayFollow, Unanswered, shows}
 use Rattle.ec_volume.specs.Volume.{after}
 use Rattle.ec_volume.specs.declared.image.Image.TheVariants.{Gone}
 use Rattle.ec_cache.specs.Cache.{images_held}
@@ -23,9 +23,10 @@ use Rattle.ec_history.specs.declared.shown.Shown.{Shown}
 use Rattle.ec_history.specs.declared.shown.Shown.TheVariants as show
 use Rattle.ec_log.specs.Log.{is_from}
 use Rattle.ec_wire.specs.declared.msg.Msg.{Msg}
+use Rattle.ec_wire.specs.declared.msg.Msg.TheVariants.{Ended, NoRoom}
 use Rattle.ec_durable.specs.declared.state.Durable.{Durable}
 use Rattle.ec_durable.specs.declared.record.Record.{Record}
-use Rattle.ec_protocol.specs.Clerk.{Answered, Doing, Tried, Waits, add_call, answer_recalls, ask_pushes, doing, evict, first_id, has_session, try, try_all, verdict}
+use Rattle.ec_protocol.specs.Clerk.{Answered, Doing, Tried, Waits, add_call, answer_recalls, ask_pushes, doing, evict, first_id, has_session, hello, is_session, keep_push, resend, taken, try, try_all, verdict}
 use Rattle.ec_protocol.specs.Server.{Serving}
 use Rattle.ec_protocol.specs.declared.clerk.Clerk.{Clerk}
 use Rattle.ec_protocol.specs.declared.clerk.Out.TheVariants as out
@@ -209,8 +210,42 @@ abbrev pub SettlesRest : Type 0
 SettlesRest = (d : Doing) → (d.clerk.session ≡ None → d.clerk.recalls ≡ []) → NoneReady (prepared d).clerk
 
 abbrev pub TriesRest : Type 0
-TriesRest = (d : Doing) → NoneReady d.clerk → T (is_some (try_all d).spent) ⊎ (Each (λ w. T (does_wait w (try_all d).clerk)) (try_all d).clerk.waiting × NoneReady (try_all d).clerk)
+TriesRest = (d : Doing) → NoneReady d.clerk → Each (λ w. T (does_wait w (try_all d).clerk)) (try_all d).clerk.waiting × NoneReady (try_all d).clerk
 
 abbrev pub EvictsRest : Type 0
 EvictsRest = (d : Doing) → ((x : ℕ) → first_id d.clerk.ids ≡ Some x → images_held d.clerk.cache x ≡ Gone) → Each (λ w. T (does_wait w d.clerk)) d.clerk.waiting → NoneReady d.clerk
     → Each (λ w. T (does_wait w (evict d).clerk)) (evict d).clerk.waiting × NoneReady (evict d).clerk
+
+-- Whole functions that answer nothing.
+
+-- a message that doesn't end the clerk's session, and answers no asking for ids
+abbrev pub is_calm : Msg → Doing → Bool
+is_calm (Ended s low mask) d = not (is_session s d.clerk.session)
+is_calm (NoRoom s e ask live reserved) d = not (is_session ask d.clerk.asking)
+is_calm _ d = true
+
+pub record AreQuiet : Type 0 where
+  pub prepared : (d : Doing) → IsQuiet d (prepared d)
+  pub evict : (d : Doing) → IsQuiet d (evict d)
+  pub push : (n : ℕ) (d : Doing) → IsQuiet d (keep_push n d)
+  pub hello : (d : Doing) → IsQuiet d (hello d)
+  pub resend : (k : Clerk) → IsQuiet (doing k) (resend k)
+  pub taken : (m : Msg) (d : Doing) → T (is_calm m d) → IsQuiet d (taken m d)
+  pub still : (d : Doing) → IsQuiet d d
+  pub on : (d e f : Doing) → IsQuiet d e → IsQuiet e f → IsQuiet d f
+
+-- sending again changes nothing that calls read, or recalls
+abbrev pub ResendsAreStill : Type 0
+ResendsAreStill = (k : Clerk) → IsStill (doing k) (resend k) × ((resend k).clerk.recalls ≡ k.recalls)
+
+-- All facts behind the line of a waiting call, of a clerk that runs.
+abbrev pub WaitsStand : Type 0
+WaitsStand = (g : System) → AllAgree g → (c b l : ℕ) (cl : Call) → g.running c ≡ Some b → EachLine (Agrees l c cl) g.ghost.shown → AllAgree (lined g (show.Waits l c cl))
+
+-- Of all lines: each number is answered at most once, and all lines of it are of the clerk and the call of that answer.
+pub record IsAnsweredOnce (l c : ℕ) (cl : Call) (others : List Shown) : Type 0 where
+  pub own : EachLine (Agrees l c cl) others
+  pub once : EachLine (Unanswered l) others
+
+abbrev pub AnsweredOnce : Type 0
+AnsweredOnce = (ss : List Shown) → ArePlaceable [] ss → (before after : List Shown) (l c : ℕ) (cl : Call) (a : Answer) (op : Option ℕ) → before ++ show.Answered l c cl a op ∷ after ≡ ss → IsAnsweredOnce l c cl (before ++ after)

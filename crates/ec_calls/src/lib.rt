@@ -2,7 +2,7 @@
 //! empty body, and its contract is a law.
 #![tactic(auto)]
 
-ghost use Rattle.ec_calls.specs.Laws.{AnswersKeepCalls, AnswersMayFollow, CallsBegin, CallsBeginSteps, CrashesKeepCalls, LateSettledStands, LinesKeepCalls, OpeningCalls, OutsideShowsNone, QuietKeepsCalls, ServersKeepCalls, SettledStands, StartsKeepCalls, TellsKeepCalls, WaitsKeepCalls};
+ghost use Rattle.ec_calls.specs.Laws.{AnsweredOnce, AnswersKeepCalls, AnswersMayFollow, AreQuiet, BeginsAreStill, CallsBegin, CallsBeginSteps, CrashesKeepCalls, EvictsRest, LateSettledStands, LinesKeepCalls, OpeningCalls, OutsideShowsNone, QuietKeepsCalls, ResendsAreStill, ServersKeepCalls, SettledStands, SettlesRest, StartsKeepCalls, StillWaits, TellsKeepCalls, TriesAnswer, TriesRest, WaitsKeepCalls, WaitsStand};
 
 /// Where nobody runs no call is under way, and behind what a server does with its lines each waits as it did.
 pub fn servers_keep_calls()
@@ -21,6 +21,7 @@ pub fn steps_keep_calls()
 pub fn calls_begin()
     ensures begin { CallsBegin }
     ensures waits { WaitsKeepCalls }
+    ensures stands { WaitsStand }
 {}
 
 /// An answer takes its call away, with a line.
@@ -46,4 +47,30 @@ pub fn answers_may_follow()
 pub fn answers_cover_what_is_durable()
     ensures settled { SettledStands }
     ensures late { LateSettledStands }
+{}
+
+/// A try answers exactly a call that doesn't wait, and each goes on waiting where little changes, as at the
+/// beginning of a step.
+pub fn tries_answer_what_does_not_wait()
+    ensures tries { TriesAnswer }
+    ensures still { StillWaits }
+    ensures begin { BeginsAreStill }
+{}
+
+/// Behind a step all calls wait, and no recall is ready.
+pub fn steps_end_at_rest()
+    ensures settle { SettlesRest }
+    ensures tries { TriesRest }
+    ensures evict { EvictsRest }
+{}
+
+/// Which functions of a clerk answer nothing.
+pub fn messages_are_quiet()
+    ensures quiet { AreQuiet }
+    ensures again { ResendsAreStill }
+{}
+
+/// Each line number is answered at most once, by the clerk and with the call of all its lines.
+pub fn lines_are_answered_once()
+    ensures { AnsweredOnce }
 {}

@@ -14,7 +14,7 @@ use Rattle.ec_coherence.specs.Images.{ImagesAgree}
 use Rattle.ec_coherence.specs.Stops.{MayStep, RunsOn, StopsAgree}
 use Rattle.ec_coherence.specs.Steps.{serving_in}
 use Rattle.ec_coherence.proofs.Lists.{each-front, each-turn, no_both}
-use Rattle.ec_found.proofs.Ups.{bare}
+use Rattle.ec_found.specs.Founds.{bare}
 
 -- Of the ghosts the owners and what was taken are read.
 module _ (g : System) (v : Option Server) (p : List (ℕ × Msg)) (e : g.pool ≡ p) (γ : Ghost) where

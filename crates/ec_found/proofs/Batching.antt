@@ -40,7 +40,7 @@ use Rattle.ec_commits.specs.Watches.{WatchesAgree, still_in}
 use Rattle.ec_commits.proofs.Durables as durables
 use Rattle.ec_commits.proofs.Durables.{durable-events, member-less, numbers-left}
 use Rattle.ec_found.proofs.Bares.{fewer-images, fewer-logs, idle, idle-sessions, owned-sessions, stops-of}
-use Rattle.ec_found.proofs.Ups.{bare}
+use Rattle.ec_found.specs.Founds.{bare}
 
 -- lists of slots that show the same
 same-slots : (xs ys : Slots) → length xs ≡ length ys → ((i : ℕ) → slot_at xs i ≡ slot_at ys i) → xs ≡ ys

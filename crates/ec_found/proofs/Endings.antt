@@ -14,7 +14,7 @@ use Rattle.ec_ends.proofs.Finishes as finishes
 use Rattle.ec_found.proofs.Downs.{moved-agrees}
 use Rattle.ec_found.proofs.Dressed.{dressed-all}
 use Rattle.ec_found.proofs.Ups as ups
-use Rattle.ec_found.proofs.Ups.{bare}
+use Rattle.ec_found.specs.Founds.{bare}
 
 module _ (g : System) (all : AllAgree (bare g)) (c : ℕ) (sl : Slot) (in_slot : slot g.durable c ≡ Some sl) (opened : T sl.is_open) where
   abbrev e : ℕ

@@ -21,7 +21,7 @@ use Rattle.ec_commits.proofs.Opened.{open-stands, open-starts, open-watches}
 use Rattle.ec_found.proofs.Downs.{moved-agrees}
 use Rattle.ec_found.proofs.Dressed.{dressed-all}
 use Rattle.ec_found.proofs.Ups as ups
-use Rattle.ec_found.proofs.Ups.{bare}
+use Rattle.ec_found.specs.Founds.{bare}
 
 module _ (g : System) (all : AllAgree (bare g)) (c : ℕ) (age : Age) (within : c < 16) (idle : (sl : Slot) → slot g.durable c ≡ Some sl → T (not sl.is_open))
     (greater : (sl : Slot) → slot g.durable c ≡ Some sl → T (is_older sl.age age)) (reached : IsReached (bare g) c age) (above : g.first_boot c < age.boot) (small : nat_le last_counter g.durable.next_session ≡ false) where

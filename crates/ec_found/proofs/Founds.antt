@@ -1,5 +1,5 @@
 -- What a restart makes of the record in doubt that it finds, by its kind.
-use Rattle.std.proofs.Common.{◌≡◌, refl, sym, ap, subst, ◌∙◌, arith, ℕ, zero, suc, Bool, true, false, not, ◌==◌, ◌&&◌, ◌+◌, ◌<◌, ◌≤◌, cond, T, List, [], ◌∷◌, ◌++◌, Option, Some, None, append-nil}
+use Rattle.std.proofs.Common.{inl, inr, ◌≡◌, refl, sym, ap, subst, ◌∙◌, arith, ℕ, zero, suc, Bool, true, false, not, ◌==◌, ◌&&◌, ◌+◌, ◌<◌, ◌≤◌, cond, T, List, [], ◌∷◌, ◌++◌, Option, Some, None, append-nil}
 use Rattle.std.specs.Prelude.{Contains, is_some, nat_le, nat_lt, Result, Ok, Err}
 use Rattle.ec_base.specs.Ages.{is_older}
 use Rattle.ec_base.specs.Limits.{last_counter}
@@ -38,12 +38,12 @@ use Rattle.ec_commits.specs.Laws.{AllAgree, show_batch}
 use Rattle.ec_commits.specs.Starts.{Greets}
 use Rattle.ec_ends.specs.Ends.{show_end}
 use Rattle.ec_found.specs.Doubts.{ComesFrom, ComesFromAny, DoubtAgrees}
-use Rattle.ec_found.specs.Founds.{end_slot, found_ghost, with_found}
+use Rattle.ec_found.specs.Founds.{Makes, bare, end_slot, found_ghost, with_found}
 use Rattle.ec_found.proofs.Batching as batching
 use Rattle.ec_found.proofs.Endings as ending
 use Rattle.ec_found.proofs.Entering as entering
 use Rattle.ec_found.proofs.Giving as giving
-use Rattle.ec_found.proofs.Ups.{bare, bare-all}
+use Rattle.ec_found.proofs.Ups.{bare-all}
 
 -- Results.
 
@@ -292,6 +292,28 @@ module _ (g : System) (all : AllAgree g) (from : DoubtAgrees g) (down : g.server
 
   pub stepped-is : stepped r g.durable ≡ may.0
   stepped-is = ap (λ z. elim z as (λ y. Durable) [ Ok e ↦ e | Err f ↦ g.durable ]) may.1
+
+  pub steps-so : step r g.durable ≡ Ok (stepped r g.durable)
+  steps-so = may.1 ∙ ap Ok (sym stepped-is)
+
+  -- it makes of the ghosts what it would, where the server is None
+  pub founds-make : Makes (bare g) r (found_ghost g r)
+  founds-make = subst (λ z. Makes (bare g) r (found_ghost (record g { server = z }) r)) (sym down) (by r (subst (ComesFromAny g) doubt from) may.0 may.1)
+    where
+      by-slot : (c s : ℕ) (age : Age) (o : Option Slot) → slot g.durable c ≡ o → Makes (bare g) (record_of.Open c age s) (open_session c age s (end_slot (bare g) c o))
+      by-slot c s age None p = inl ((λ sl q. absurd (none_some (sym p ∙ q))), refl)
+      by-slot c s age (Some sl) p = go sl.is_open refl
+        where
+          go : (b : Bool) → sl.is_open ≡ b → Makes (bare g) (record_of.Open c age s) (open_session c age s (elim b as (λ z. Ghost) [ true ↦ show_end (bare g) c sl | false ↦ g.ghost ]))
+          go true q = inr (sl, p, holds sl.is_open q, refl)
+          go false q = inl ((λ so t. subst (λ z. T (not z.is_open)) (same_some (sym p ∙ t)) (fails sl.is_open q)), refl)
+
+      by : (q : Record) → ComesFrom g q → (now : Durable) → step q g.durable ≡ Ok now → Makes (bare g) q (found_ghost (bare g) q)
+      by (record_of.Batch c s b ops) p now e = let z = its-slot s (slot g.durable c) (batches-of g.durable now c s b ops e).0 in (z.0, z.1, z.2, z.3, ap (λ o. show_batch c (session_boot o) (keys ops) g.ghost) z.1)
+      by (record_of.Open c age s) p now e = by-slot c s age (slot g.durable c) refl
+      by (record_of.End c s) p now e = let z = its-slot s (slot g.durable c) (ends-of g.durable now c s e).0 in (z.0, z.1, z.2, z.3, end-ghost g (bare-all g all down) c z.0 z.1 z.2)
+      by (record_of.Ids c s got first) p now e = refl
+      by (record_of.Epoch n) p now e = absurd p
 
   pub founds-stand : AllAgree (with_found g r)
   founds-stand = subst (λ z. AllAgree (with_found (record g { server = z }) r)) (sym down)

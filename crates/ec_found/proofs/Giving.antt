@@ -35,7 +35,7 @@ use Rattle.ec_commits.proofs.Given.{give-firsts}
 use Rattle.ec_commits.proofs.Watched.{reslotted-watches}
 use Rattle.ec_found.proofs.Bares.{idle, idle-sessions, owned-sessions, stops-of}
 use Rattle.ec_found.proofs.NewIds as ids
-use Rattle.ec_found.proofs.Ups.{bare}
+use Rattle.ec_found.specs.Founds.{bare}
 
 some-side : (o : Option Clerk) (k : Side) → side_in o ≡ Some k → (m : Clerk) × (o ≡ Some m) × (side m ≡ k)
 some-side None k p = absurd (Rattle.ec_coherence.proofs.Tables.none_some p)

@@ -16,3 +16,4 @@ pub mod Batching
 pub mod Founds
 pub mod Restarts
 pub mod Fates
+pub mod Keeps

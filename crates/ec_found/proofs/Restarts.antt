@@ -27,12 +27,12 @@ use Rattle.ec_commits.proofs.Watched.{watches-read}
 use Rattle.ec_changes.specs.Laws.{lined}
 use Rattle.ec_changes.proofs.Lines.{started-stands}
 use Rattle.ec_found.specs.Doubts.{ComesFrom, ComesFromAny, DoubtAgrees}
-use Rattle.ec_found.specs.Founds.{found_state, shown_in, started_in, with_found}
+use Rattle.ec_found.specs.Founds.{bare, found_state, shown_in, started_in, with_found}
 use Rattle.ec_found.proofs.Dressed.{dressed}
 use Rattle.ec_found.proofs.Founds.{ends-of, founds-stand, gives-of, may, opens-of, stepped-is}
 use Rattle.ec_found.proofs.Opens.{all-same, start-is, start-spent}
 use Rattle.ec_found.proofs.Ups as ups
-use Rattle.ec_found.proofs.Ups.{bare, bare-all}
+use Rattle.ec_found.proofs.Ups.{bare-all}
 
 -- What a start says is no greeting.
 module _ (g : System) where

@@ -12,12 +12,9 @@ use Rattle.ec_coherence.proofs.Restart.{down, started-agrees}
 use Rattle.ec_coherence.proofs.Tables.{equal, none_some, same, same_some}
 use Rattle.ec_commits.specs.Laws.{AllAgree, Stands}
 use Rattle.ec_commits.proofs.Taking.{begins}
+use Rattle.ec_found.specs.Founds.{bare}
 use Rattle.ec_found.proofs.Downs.{InEpoch, in-epoch, moved-agrees}
 use Rattle.ec_found.proofs.Dressed.{dressed, dressed-all}
-
--- the server is None, whatever the system says so by
-abbrev pub bare : System → System
-bare g = record g { server = None; unshown = None }
 
 module _ (g : System) (all : AllAgree g) (stop : g.server ≡ None) where
   pub down-tokens : TokensAgree (down (view g))

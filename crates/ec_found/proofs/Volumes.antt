@@ -1,5 +1,5 @@
 -- The volume of a well-formed state: its live objects, the ids of their entries, and new ids.
-use Rattle.std.proofs.Common.{◌≡◌, refl, sym, ap, subst, ◌∙◌, arith, inl, inr, ℕ, Bool, true, false, not, ◌||◌, ◌+◌, ◌<◌, cond, T, List, [], ◌∷◌, ◌++◌, Some}
+use Rattle.std.proofs.Common.{◌≡◌, ◌≢◌, refl, sym, ap, subst, ◌∙◌, arith, inl, inr, ℕ, Bool, true, false, not, ◌||◌, ◌+◌, ◌≤◌, ◌<◌, zero, suc, cond, T, List, [], ◌∷◌, ◌++◌, Some}
 use Rattle.std.specs.Prelude.{◌==◌, nat_lt}
 use Rattle.std.specs.Cmp.{IsTotalOrder, eq_by_cmp_equiv}
 use Rattle.std.specs.Cmp.Lexicographic.{nat_list_cmp_total}
@@ -11,10 +11,12 @@ use Rattle.std.specs.List.{list_all}
 use Rattle.ec_base.specs.Tables.{keys}
 use Rattle.ec_volume.specs.Held.{is_held}
 use Rattle.ec_volume.specs.Entries.{by_bytes, entry}
-use Rattle.ec_volume.specs.Image.{entries_of, is_gone}
-use Rattle.ec_volume.specs.Update.{member}
-use Rattle.ec_volume.specs.Volume.{images}
+use Rattle.ec_volume.specs.Image.{entries_of, is_dir, is_gone}
+use Rattle.ec_volume.specs.Update.{member, root}
+use Rattle.ec_volume.specs.Volume as volume
+use Rattle.ec_volume.specs.Volume.{Images, images}
 use Rattle.ec_volume.specs.declared.image.Image.{Image}
+use Rattle.ec_volume.specs.declared.image.Image.TheVariants.{Gone, File, Dir}
 use Rattle.ec_history.specs.History.{Each}
 use Rattle.ec_formed.specs.Bases.{IsBase}
 use Rattle.ec_sessions.specs.Slots.{all_unspent}
@@ -23,7 +25,7 @@ use Rattle.ec_durable.specs.declared.state.Durable.{Durable}
 use Rattle.ec_coherence.proofs.Ids.{in-front}
 use Rattle.ec_coherence.proofs.Lists.{and_first, and_next, each-turn, either_way, or_first, or_next}
 use Rattle.ec_coherence.proofs.Tables.{equal, holds}
-use Rattle.ec_found.specs.Olds.{base_over}
+use Rattle.ec_found.specs.Olds.{AreAtMost, base_above}
 
 -- An object that is live is one of the list's, and each is within its limits.
 
@@ -83,10 +85,33 @@ pub entries-known : (d : Durable) → WellFormed d → (x : ℕ) → Each (λ e.
 entries-known d wf x = each-turn (λ e. entry (entries_of (images d.volume x)) e.0 ≡ Some e.1) (λ e. e.1 < d.next_id) (entries_of (images d.volume x))
     (λ e p. known-id d wf e.1 (wf.volume.live e.1 x e.0 p)) (each-found by_bytes nat_list_cmp_total (entries_of (images d.volume x)) (wf.volume.maps x))
 
--- New ids are above all that were given out.
-pub volumes-are-bases : (d : Durable) → WellFormed d → IsBase (base_over d)
-volumes-are-bases d wf = record {
-  formed = wf.volume;
-  gone = λ p l. elim (either_way (is_gone (images d.volume (d.next_id + p)))) [ inl t ↦ t | inr n ↦ absurd (let k = known-id d wf (d.next_id + p) n in omega (arith, k, l)) ];
+-- New ids are above all that are live.
+pub volumes-are-bases : (v : Images) → volume.WellFormed v → (n : ℕ) → AreAtMost v n → IsBase (base_above v n)
+volumes-are-bases v wf n most = record {
+  formed = wf;
+  gone = λ p l. elim (either_way (is_gone (v (n + p)))) [ inl t ↦ t | inr a ↦ absurd (let k = most (n + p) a in omega (arith, k, l)) ];
   apart = λ p q e. omega (arith, e);
 }
+
+-- Of numbers below a bound the greatest that passes a test.
+greatest : (P : ℕ → Bool) (b x : ℕ) → ((y : ℕ) → T (P y) → y < b) → T (P x) → (n : ℕ) × T (P n) × ((y : ℕ) → T (P y) → y ≤ n)
+greatest P zero x f t = absurd (let l = f x t in omega (arith, l))
+greatest P (suc b) x f t = go (P b) refl (λ g. greatest P b x g t)
+  where
+    last : (y : ℕ) → y < suc b → y ≤ b
+    last y l = omega (arith, l)
+
+    lower : (y : ℕ) → y < suc b → y ≢ b → y < b
+    lower y l n = grind arith
+
+    go : (z : Bool) → P b ≡ z → (((y : ℕ) → T (P y) → y < b) → (n : ℕ) × T (P n) × ((y : ℕ) → T (P y) → y ≤ n)) → (n : ℕ) × T (P n) × ((y : ℕ) → T (P y) → y ≤ n)
+    go true e h = (b, holds (P b) e, λ y u. last y (f y u))
+    go false e h = h (λ y u. lower y (f y u) (λ q. absurd (subst T (ap P q ∙ e) u)))
+
+root-lives : (i : Image) → T (is_dir i) → T (not (is_gone i))
+root-lives Gone t = absurd t
+root-lives (File m s w bs) t = absurd t
+root-lives (Dir m s w es) t = tt
+
+pub volumes-have-greatest : (d : Durable) → WellFormed d → (n : ℕ) × T (not (is_gone (images d.volume n))) × AreAtMost (images d.volume) n
+volumes-have-greatest d wf = greatest (λ x. not (is_gone (images d.volume x))) d.next_id root (known-id d wf) (root-lives (images d.volume root) wf.volume.root_is_dir)

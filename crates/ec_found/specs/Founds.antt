@@ -1,9 +1,9 @@
 -- A restart: what it makes of the record that it finds, and the start of the server on the state behind it.
-use Rattle.std.specs.Prelude.{◌≡◌, ◌≤◌, ◌⊎◌, ℕ, T, true, false, ◌++◌, Option, None, Some, is_some}
+use Rattle.std.specs.Prelude.{◌≡◌, ◌≤◌, ◌⊎◌, ℕ, T, true, false, not, ◌++◌, Option, None, Some, Ok, is_some}
 use Rattle.ec_base.specs.Tables.{keys}
 use Rattle.ec_history.specs.declared.shown.Shown.TheVariants.{Started}
 use Rattle.ec_sessions.specs.declared.slot.Slot.{Slot}
-use Rattle.ec_durable.specs.Durable.{slot}
+use Rattle.ec_durable.specs.Durable.{slot, step}
 use Rattle.ec_durable.specs.declared.state.Durable.{Durable}
 use Rattle.ec_durable.specs.declared.record.Record.{Record}
 use Rattle.ec_durable.specs.declared.record.Record.TheVariants.{Batch, Open, End, Ids, Epoch}
@@ -36,6 +36,27 @@ with_found g r = record g { durable = stepped r g.durable; unshown = None; ghost
 abbrev pub shown_in : System → Option Record → System
 shown_in g None = g
 shown_in g (Some r) = with_found g r
+
+-- stopped, with nothing in doubt
+abbrev pub bare : System → System
+bare g = record g { server = None; unshown = None }
+
+abbrev pub BaresStand : Type 0
+BaresStand = (g : System) → AllAgree g → g.server ≡ None → AllAgree (bare g)
+
+-- What a record makes of the ghosts: a batch is shown, a session ends or opens, perhaps in the place of an open one, or is given ids.
+abbrev pub Makes : System → Record → Ghost → Type 0
+Makes g (Batch c s b ops) γ = (sl : Slot) × (slot g.durable c ≡ Some sl) × T sl.is_open × (sl.session ≡ s) × (γ ≡ show_batch c (sl.age).boot (keys ops) g.ghost)
+Makes g (Open c age s) γ =
+    (((sl : Slot) → slot g.durable c ≡ Some sl → T (not sl.is_open)) × (γ ≡ open_session c age s g.ghost))
+    ⊎ ((sl : Slot) × (slot g.durable c ≡ Some sl) × T sl.is_open × (γ ≡ open_session c age s (show_end g c sl)))
+Makes g (End c s) γ = (sl : Slot) × (slot g.durable c ≡ Some sl) × T sl.is_open × (sl.session ≡ s) × (γ ≡ show_end g c sl)
+Makes g (Ids c s got first) γ = γ ≡ give_ids s first g.ghost
+Makes g (Epoch e) γ = γ ≡ g.ghost
+
+-- so does one that was found, and it steps
+abbrev pub FoundsMake : Type 0
+FoundsMake = (g : System) → AllAgree g → DoubtAgrees g → g.server ≡ None → (r : Record) → g.unshown ≡ Some r → Makes (bare g) r (found_ghost g r) × (step r g.durable ≡ Ok (stepped r g.durable))
 
 abbrev pub FoundsStand : Type 0
 FoundsStand = (g : System) → AllAgree g → DoubtAgrees g → g.server ≡ None → (r : Record) → g.unshown ≡ Some r → AllAgree (with_found g r) × ((with_found g r).ghost.shown ≡ g.ghost.shown ++ record_lines g (Some r))

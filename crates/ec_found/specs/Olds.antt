@@ -1,8 +1,9 @@
 -- The opening over any durable state: sessions of earlier runs that are still open end, and nothing happened in this run yet.
-use Rattle.std.specs.Prelude.{◌≡◌, ◌==◌, ◌+◌, ◌<◌, ℕ, T, true, false, not, List, [], ◌∷◌, length, map, Option, None, Some, Ok}
+use Rattle.std.specs.Prelude.{◌≡◌, ◌==◌, ◌+◌, ◌≤◌, ◌<◌, ℕ, T, true, false, not, List, [], ◌∷◌, length, map, Option, None, Some, Ok}
 use Rattle.ec_base.specs.declared.ids.Age.{Age}
 use Rattle.ec_volume.specs.Image.{entries_of, is_gone}
-use Rattle.ec_volume.specs.Volume.{images}
+use Rattle.ec_volume.specs.Volume as volume
+use Rattle.ec_volume.specs.Volume.{Images, images}
 use Rattle.ec_history.specs.History.{Base, Each, Op}
 use Rattle.ec_formed.specs.Bases.{IsBase}
 use Rattle.ec_sessions.specs.Slots.{Slots, ended}
@@ -60,12 +61,19 @@ opened_in d =
 abbrev pub OpensStand : Type 0
 OpensStand = (d : Durable) → WellFormed d → length d.sessions ≡ 16 → (w : World) → open_world d ≡ Ok w → AllAgree (opened_in d) × Stands w (opened_in d)
 
--- The volume of a well-formed state, as a base of histories: new ids are those that weren't given out.
-abbrev pub base_over : Durable → Base
-base_over d = record { volume = images d.volume; fresh = λ place. d.next_id + place }
+-- A volume as a base of histories: the fresh id of a place is so much above a bound of the live ids.
+abbrev pub base_above : Images → ℕ → Base
+base_above v n = record { volume = v; fresh = λ place. n + place }
 
+abbrev pub AreAtMost : Images → ℕ → Type 0
+AreAtMost v n = (x : ℕ) → T (not (is_gone (v x))) → x ≤ n
+
+-- a well-formed volume of finitely many ids has a greatest one, and is a base above any such bound
 abbrev pub VolumesAreBases : Type 0
-VolumesAreBases = (d : Durable) → WellFormed d → IsBase (base_over d)
+VolumesAreBases = (v : Images) → volume.WellFormed v → (n : ℕ) → AreAtMost v n → IsBase (base_above v n)
+
+abbrev pub VolumesHaveGreatest : Type 0
+VolumesHaveGreatest = (d : Durable) → WellFormed d → (n : ℕ) × T (not (is_gone (images d.volume n))) × AreAtMost (images d.volume) n
 
 -- its live ids, and the ids that its entries name, were given out
 abbrev pub VolumesNameIds : Type 0

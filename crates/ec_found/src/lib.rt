@@ -4,14 +4,15 @@
 
 ghost use Rattle.ec_found.specs.Doubts.{DoubtsStand, DoubtsStay, RecordsComeFromEnds, RecordsComeFromMessages};
 ghost use Rattle.ec_found.specs.Fates.{RestartsAreSuch, StoppedRestartsAreSuch, StopsInStepsAreSuch};
-ghost use Rattle.ec_found.specs.Founds.{FoundsStand, RestartsStand};
-ghost use Rattle.ec_found.specs.Olds.{OpensStand, VolumesAreBases, VolumesNameIds};
+ghost use Rattle.ec_found.specs.Founds.{BaresStand, FoundsMake, FoundsStand, RestartsStand};
+ghost use Rattle.ec_found.specs.Olds.{OpensStand, VolumesAreBases, VolumesHaveGreatest, VolumesNameIds};
 
 /// Over any well-formed state of a disk all facts hold behind the opening, and its world stands in the
 /// system; its volume is a base of histories, with new ids above all that it names.
 pub fn disks_open()
     ensures opens { OpensStand }
     ensures bases { VolumesAreBases }
+    ensures greatest { VolumesHaveGreatest }
     ensures ids { VolumesNameIds }
 {}
 
@@ -27,6 +28,8 @@ pub fn records_are_in_doubt()
 /// A restart shows the record that it finds, and starts the server on the state behind it, in an epoch
 /// above all that restarts which stopped have raised it to: all facts stand.
 pub fn restarts_stand()
+    ensures bare { BaresStand }
+    ensures makes { FoundsMake }
     ensures found { FoundsStand }
     ensures restart { RestartsStand }
 {}

@@ -1,0 +1,11 @@
+use Rattle.ec_calls.proofs.Resting.{evicts-rest, settles-rest, tries-rest}
+use Rattle.ec_calls.proofs.steps_end_at_rest.Goals as goal
+
+pub returns-clause-settle : goal.returns-clause-settle
+returns-clause-settle z = settles-rest
+
+pub returns-clause-tries : goal.returns-clause-tries
+returns-clause-tries z = tries-rest
+
+pub returns-clause-evict : goal.returns-clause-evict
+returns-clause-evict z = evicts-rest
