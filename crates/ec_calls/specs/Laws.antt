@@ -1,5 +1,5 @@
 -- What is proved of calls under way, as contracts name it.
-use Rattle.std.specs.Prelude.{◌≡◌, ◌≤◌, ◌≢◌, ◌⊎◌, ◌==◌, ◌+◌, ℕ, T, Bool, true, false, not, is_some, if◌then◌else◌, List, [], ◌∷◌, ◌++◌, ◌&&◌, Option, None, Some, ⊤}
+use Rattle.std.specs.Prelude.{◌≡◌, ◌≤◌, ◌⊎◌, ◌==◌, ◌+◌, ℕ, T, Bool, true, false, not, List, [], ◌∷◌, ◌++◌, ◌&&◌, Option, None, Some, ⊤}
 use Rattle.std.specs.List.{filter, list_all}
 use Rattle.ec_base.specs.Tables.{at_or, put}
 use Rattle.ec_plain.specs.Bounds.{is_bounded}
@@ -29,7 +29,6 @@ use Rattle.ec_durable.specs.declared.record.Record.{Record}
 use Rattle.ec_protocol.specs.Clerk.{Answered, Doing, Tried, Waits, add_call, answer_recalls, ask_pushes, doing, evict, first_id, has_session, hello, is_session, keep_push, resend, taken, try, try_all, verdict}
 use Rattle.ec_protocol.specs.Server.{Serving}
 use Rattle.ec_protocol.specs.declared.clerk.Clerk.{Clerk}
-use Rattle.ec_protocol.specs.declared.clerk.Out.TheVariants as out
 use Rattle.ec_protocol.specs.declared.clerk.Waiting.{Waiting}
 use Rattle.ec_protocol.specs.declared.server.Server.{Server}
 use Rattle.ec_coherence.specs.System.{System, Ghost, at_session, is_of, with_start}
