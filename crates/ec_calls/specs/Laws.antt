@@ -197,6 +197,13 @@ TriesAnswer = (w : Waiting) (d : Doing) → (is_answer (try w d) ≡ not (does_w
 abbrev pub StillWaits : Type 0
 StillWaits = (d e : Doing) → IsStill d e → (w : Waiting) → does_wait w e.clerk ≡ does_wait w d.clerk
 
+-- they stay in turn, and where one doesn't wait all the others have their lines
+abbrev pub StillKeepsTurn : Type 0
+StillKeepsTurn = (g : System) (c b : ℕ) (d e : Doing) (γ : Ghost) → IsStill d e → AreInTurn (doing_in c b d γ g) c d.clerk → AreInTurn (doing_in c b e γ g) c e.clerk
+
+abbrev pub TurnsAllow : Type 0
+TurnsAllow = (g : System) (c : ℕ) (k : Clerk) → AreInTurn g c k → (before rest : List Waiting) (w : Waiting) → k.waiting ≡ before ++ w ∷ rest → does_wait w k ≡ false → Each (HasLine g c) (before ++ rest)
+
 -- so is the beginning of a step where no recall is ready
 abbrev pub prepared : Doing → Doing
 prepared d = elim (has_session d.clerk) [ true ↦ ask_pushes (answer_recalls d) | false ↦ d ]
