@@ -17,3 +17,4 @@ pub mod Split
 pub mod Earlier
 pub mod Late
 pub mod LateSeen
+pub mod Target
