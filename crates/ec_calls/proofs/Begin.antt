@@ -1,29 +1,28 @@
 -- A call begins, and its line is shown.
-use Rattle.std.proofs.Common.{◌≡◌, refl, sym, ap, subst, ◌∙◌, inl, inr, ◌⊎◌, arith, ◌≤◌, ◌+◌, ◌-◌, ℕ, T, Bool, true, false, ◌==◌, ◌&&◌, ◌||◌, cond, List, [], ◌∷◌, ◌++◌, length, Option, Some, None}
-use Rattle.std.specs.Prelude.{⊤}
-use Rattle.std.specs.List.{filter, list_any}
+use Rattle.std.proofs.Common.{◌≡◌, refl, sym, ap, subst, ◌∙◌, inr, arith, ◌≤◌, ◌+◌, ◌-◌, ℕ, T, Bool, true, false, ◌==◌, ◌&&◌, ◌||◌, cond, List, [], ◌∷◌, ◌++◌, Some}
+use Rattle.std.specs.List.{list_any}
 use Rattle.std.specs.Bool.{OnTrue}
 use Rattle.std.proofs.lemmas.Bool.{and_parts, or_parts}
 use Rattle.std.proofs.lemmas.List.Folds.{list_any-append}
-use Rattle.ec_base.specs.Tables.{Table, at, at_or, or_else, put}
+use Rattle.ec_base.specs.Tables.{at, at_or, or_else, put}
 use Rattle.ec_plain.specs.Bounds.{is_bounded}
 use Rattle.ec_plain.specs.declared.call.Call.{Call}
 use Rattle.ec_history.specs.History.{Each}
-use Rattle.ec_history.specs.Placing.{Agrees, EachLine, Unanswered, is_numbered, watch}
+use Rattle.ec_history.specs.Placing.{Agrees, EachLine, Unanswered, is_numbered}
 use Rattle.ec_history.specs.declared.shown.Shown.{Shown}
 use Rattle.ec_history.specs.declared.shown.Shown.TheVariants as show
 use Rattle.ec_laws.proofs.Numbers.{each-append, each-map}
 use Rattle.ec_protocol.specs.Clerk.{add_call}
 use Rattle.ec_protocol.specs.declared.clerk.Clerk.{Clerk}
 use Rattle.ec_protocol.specs.declared.clerk.Waiting.{Waiting}
-use Rattle.ec_coherence.specs.System.{System, with_start}
-use Rattle.ec_coherence.specs.Events.{EventsAgree, shown_boot}
+use Rattle.ec_coherence.specs.System.{System}
+use Rattle.ec_coherence.specs.Events.{EventsAgree}
 use Rattle.ec_coherence.specs.ChangeLaws.{Calls}
 use Rattle.ec_coherence.specs.Steps.{call_of}
 use Rattle.ec_coherence.proofs.ClerkIn.{start-same}
 use Rattle.ec_coherence.proofs.Lists.{or_first, or_next}
 use Rattle.ec_coherence.proofs.Tables.{at-put, equal, holds, same, same_some}
-use Rattle.ec_calls.specs.Calls.{AreApart, Began, CallsAgree, IsOpenCall, StartCalls, has_number, is_shown}
+use Rattle.ec_calls.specs.Calls.{AreApart, Began, CallsAgree, IsOpenCall, StartCalls, has_number}
 use Rattle.ec_calls.specs.Waits.{AreAtRest, AreInTurn, HasLine, does_wait}
 use Rattle.ec_calls.specs.Laws.{IsNewLine, called}
 use Rattle.ec_calls.proofs.Quiet.{other-start, split-start}

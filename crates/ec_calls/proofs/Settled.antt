@@ -1,27 +1,22 @@
 -- What an answer covers is durable; and a late one covers nothing of what its start lost.
-use Rattle.std.proofs.Common.{◌≡◌, refl, sym, ap, subst, ◌∙◌, inl, inr, ◌⊎◌, arith, ◌≤◌, ◌<◌, ◌+◌, ◌-◌, ℕ, T, Bool, true, false, not, ◌==◌, ◌&&◌, ◌||◌, cond, map, List, [], ◌∷◌, ◌++◌, length, Option, Some, None, is_some}
-use Rattle.std.specs.List.{filter, list_any}
+use Rattle.std.proofs.Common.{◌≡◌, refl, sym, ap, subst, ◌∙◌, inl, inr, ◌⊎◌, arith, ◌<◌, ◌+◌, ◌-◌, ℕ, T, Bool, true, false, not, ◌==◌, ◌&&◌, ◌||◌, cond, map, List, [], ◌∷◌, ◌++◌, length, Option, Some, None, is_some}
+use Rattle.std.specs.List.{filter}
 use Rattle.std.proofs.lemmas.Bool.{and_parts, true≢false}
 use Rattle.ec_base.specs.declared.ids.Age.{Age}
-use Rattle.ec_volume.specs.Update.{member}
-use Rattle.ec_volume.specs.Volume.{Images, after}
+use Rattle.ec_volume.specs.Volume.{after}
 use Rattle.ec_volume.specs.declared.update.Update.{Update}
 use Rattle.ec_order.specs.Order.{InClosure, Issued, Holds, ask, need}
-use Rattle.ec_plain.specs.declared.call.Outcome.{Outcome}
-use Rattle.ec_history.specs.History.{Base, History, Op, Each, Covers, asks, is_lost, issued, kept, numbers, of_issue, of_start, same_start, updates}
+use Rattle.ec_history.specs.History.{Base, Op, Each, Covers, is_lost, issued, kept, numbers, of_issue, of_start, same_start, updates}
 use Rattle.ec_history.specs.Legal.{IsLegal}
-use Rattle.ec_history.specs.Placing.{watch}
 use Rattle.ec_history.specs.declared.entry.Answer.{Answer}
 use Rattle.ec_history.specs.declared.entry.Entry.{Entry}
 use Rattle.ec_history.specs.declared.entry.Entry.TheVariants as entry
 use Rattle.ec_laws.proofs.Cuts.{legal-split}
 use Rattle.ec_laws.proofs.Numbers.{each-front, each-map}
-use Rattle.ec_log.specs.declared.state.LogState.{LogState}
 use Rattle.ec_picks.specs.Picks.{IsRest}
 use Rattle.ec_picks.proofs.Holding.{holds-kept}
 use Rattle.ec_report.specs.Report.{Owed}
 use Rattle.ec_resolve.specs.Agreement.{Shows}
-use Rattle.ec_resolve.specs.declared.verdict.Verdict.TheVariants.{Done}
 use Rattle.ec_sessions.specs.declared.slot.Slot.{Slot}
 use Rattle.ec_sessions.specs.declared.window.Window.{Window}
 use Rattle.ec_durable.specs.Durable.{slot}

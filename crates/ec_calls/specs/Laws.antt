@@ -1,5 +1,5 @@
 -- What is proved of calls under way, as contracts name it.
-use Rattle.std.specs.Prelude.{◌≡◌, ◌≤◌, ◌≢◌, ◌⊎◌, ◌==◌, ◌+◌, ℕ, T, Bool, true, false, not, is_some, if◌then◌else◌, List, [], ◌∷◌, ◌++◌, ◌&&◌, Option, None, Some, ⊤}
+use Rattle.std.specs.Prelude.{◌≡◌, ◌≤◌, ◌⊎◌, ◌==◌, ◌+◌, ℕ, T, Bool, true, false, not, List, [], ◌∷◌, ◌++◌, ◌&&◌, Option, None, Some, ⊤}
 use Rattle.std.specs.List.{filter, list_all}
 use Rattle.ec_base.specs.Tables.{at_or, put}
 use Rattle.ec_plain.specs.Bounds.{is_bounded}
@@ -29,7 +29,6 @@ use Rattle.ec_durable.specs.declared.record.Record.{Record}
 use Rattle.ec_protocol.specs.Clerk.{Answered, Doing, Tried, Waits, add_call, answer_recalls, ask_pushes, doing, evict, first_id, has_session, hello, is_session, keep_push, resend, taken, try, try_all, verdict}
 use Rattle.ec_protocol.specs.Server.{Serving}
 use Rattle.ec_protocol.specs.declared.clerk.Clerk.{Clerk}
-use Rattle.ec_protocol.specs.declared.clerk.Out.TheVariants as out
 use Rattle.ec_protocol.specs.declared.clerk.Waiting.{Waiting}
 use Rattle.ec_protocol.specs.declared.server.Server.{Server}
 use Rattle.ec_coherence.specs.System.{System, Ghost, at_session, is_of, with_start}
@@ -197,6 +196,13 @@ TriesAnswer = (w : Waiting) (d : Doing) → (is_answer (try w d) ≡ not (does_w
 
 abbrev pub StillWaits : Type 0
 StillWaits = (d e : Doing) → IsStill d e → (w : Waiting) → does_wait w e.clerk ≡ does_wait w d.clerk
+
+-- they stay in turn, and where one doesn't wait all the others have their lines
+abbrev pub StillKeepsTurn : Type 0
+StillKeepsTurn = (g : System) (c b : ℕ) (d e : Doing) (γ : Ghost) → IsStill d e → AreInTurn (doing_in c b d γ g) c d.clerk → AreInTurn (doing_in c b e γ g) c e.clerk
+
+abbrev pub TurnsAllow : Type 0
+TurnsAllow = (g : System) (c : ℕ) (k : Clerk) → AreInTurn g c k → (before rest : List Waiting) (w : Waiting) → k.waiting ≡ before ++ w ∷ rest → does_wait w k ≡ false → Each (HasLine g c) (before ++ rest)
 
 -- so is the beginning of a step where no recall is ready
 abbrev pub prepared : Doing → Doing

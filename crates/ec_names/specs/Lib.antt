@@ -1,2 +1,4 @@
 pub mod Follows
 pub mod Laws
+pub mod Frees
+pub mod FreeLaws
