@@ -38,6 +38,7 @@ use Rattle.ec_answers.proofs.Stays.{StaysOn, stays-on}
 -- The step, behind an answer that leaves the clerk so.
 abbrev pub Comes : (g : System) (c b : ℕ) (d : Doing) (γ : Ghost) → ℕ → Waiting → Answer → Option ℕ → Clerk → Type 0
 Comes g c b d γ l w a op now = (δ : Ghost) × Answers g c b d γ l w.call a op δ × IsTrying g c b (record d { clerk = now; outs = d.outs ++ out.Answer w.no a op ∷ [] }) δ
+    × Each (HasLine (doing_in c b (record d { clerk = now; outs = d.outs ++ out.Answer w.no a op ∷ [] }) δ g) c) now.waiting
 
 -- Behind each answer that its verdict gives it stands.
 abbrev pub SinglesStand : Type 0
@@ -78,7 +79,7 @@ module _ (singles : SinglesStand) where
           (comes (Done o) q (answer.Reply o.reply) op (refl, r ∙ ap (λ z. elim z as (λ v. Option ℕ) [ None ↦ None | Some y ↦ Some d.clerk.log.next ]) (sym p), ap (λ z. (done_clerk o z left).owed) p ∙ kept) (λ y e. suit y (sym p ∙ e)))
 
       answered : (a : Answer) (op : Option ℕ) (k : Clerk) → Comes g c b d γ l w a op (record k { waiting = before ++ rest }) → Leaves (Answered (record d { clerk = k; outs = d.outs ++ out.Answer w.no a op ∷ [] }))
-      answered a op k come = (l, a, op, come.0, single.line g c b d γ t before rest w split, come.1, come.2)
+      answered a op k come = (l, a, op, come.0, single.line g c b d γ t before rest w split, come.1, come.2, come.3)
 
     known : (x : Bool) → true ≡ not x → x ≡ false
     known false e = refl
@@ -170,7 +171,7 @@ spent-outcome p o (Some u) e h = go (suits u e.clerk.cache) (is_full e.clerk.log
     go true false true = spend-spent counter.Op e
     go true false false = h
 
-spent-verdict : (p : Waiting) (v : Verdict) (e : Doing) → IsSpent e → OnTried IsSpent (try_verdict p v e)
+pub spent-verdict : (p : Waiting) (v : Verdict) (e : Doing) → IsSpent e → OnTried IsSpent (try_verdict p v e)
 spent-verdict p (Need x m) e h = spent-stays.want x m e h
 spent-verdict p (NeedIds xs) e h = spent-stays.ask_room e h
 spent-verdict p (Lost ns xs) e h = h

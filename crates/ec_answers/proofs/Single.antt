@@ -1,6 +1,6 @@
 -- A step under way stands with all that its tries read, once an answer came out.
 use Rattle.std.proofs.Common.{◌≡◌, refl, sym, ap, subst, ◌∙◌, inl, inr, ◌⊎◌, ℕ, false, T, List, [], ◌∷◌, ◌++◌, Option, Some, None, append_assoc, append-nil}
-use Rattle.std.specs.Prelude.{is_some}
+use Rattle.std.specs.Prelude.{◌+◌, if◌then◌else◌, is_some}
 use Rattle.ec_volume.specs.declared.update.Update.{Update}
 use Rattle.ec_plain.specs.declared.call.Outcome.{Outcome}
 use Rattle.ec_history.specs.History.{Each, Op}
@@ -13,6 +13,7 @@ use Rattle.ec_protocol.specs.Clerk.{Doing, less_id, suits, verdict}
 use Rattle.ec_protocol.specs.declared.clerk.Clerk.{Clerk}
 use Rattle.ec_protocol.specs.declared.clerk.Waiting.{Waiting}
 use Rattle.ec_coherence.specs.System.{System, Ghost}
+use Rattle.ec_coherence.specs.Events.{EventsAgree}
 use Rattle.ec_coherence.specs.Steps.{call_of, doing_in}
 use Rattle.ec_coherence.proofs.ClerkIn.{start-same}
 use Rattle.ec_commits.specs.Laws.{AllAgree}
@@ -59,7 +60,7 @@ last-or (w ∷ xs) ys (v ∷ zs) x z e =
       | inr r ↦ inr (r.0, ap (λ u. u ∷ zs) (sym p.0) ∙ ap (λ u. w ∷ u) r.1)
     ]
 
-each-mid : {A : Type 0} (P : A → Type 0) (xs ys : List A) (y : A) → Each P (xs ++ y ∷ ys) → P y × Each P (xs ++ ys)
+pub each-mid : {A : Type 0} (P : A → Type 0) (xs ys : List A) (y : A) → Each P (xs ++ y ∷ ys) → P y × Each P (xs ++ ys)
 each-mid P [] ys y h = (h.0, h.1)
 each-mid P (x ∷ xs) ys y h = let r = each-mid P xs ys y h.1 in (r.0, (h.0, r.1))
 
@@ -160,25 +161,30 @@ module _ (g : System) (c b : ℕ) (d : Doing) (γ : Ghost) (t : IsTrying g c b d
     pub kept : IsKept left now
     kept = answered-kept left v suit
 
-    -- All of it.
-    module _ (shown : δ.shown ≡ γ.shown ++ Answered l c w.call a op ∷ []) (owner : δ.owner ≡ γ.owner) (all2 : AllAgree behind) (zeros : ZerosAgree behind) (frees : FreesAgree behind) (names : NamesAgree behind) (cuts : CutsAgree behind) where
+    path : behind ≡ doing_in c b next δ g
+    path = target.target-is g c b d γ w.no l w.call a op now δ line
+
+    -- Calls and their lines.
+    module _ (shown : δ.shown ≡ γ.shown ++ Answered l c w.call a op ∷ []) (ev2 : EventsAgree behind) where
       left-is : now.waiting ≡ before ++ rest
       left-is = kept.waiting
 
       same-next : op ≡ None → now.log.next ≡ d.clerk.log.next
-      same-next n = next-is here.durable.max_objects left a op now.owed v gives ∙ ap (λ z. Rattle.std.specs.Prelude.if◌then◌else◌ (is_some z) (Rattle.std.specs.Prelude.◌+◌ d.clerk.log.next 1) d.clerk.log.next) n
+      same-next n = next-is here.durable.max_objects left a op now.owed v gives ∙ ap (λ z. if is_some z then d.clerk.log.next + 1 else d.clerk.log.next) n
 
       calls-now : CallsAgree behind
-      calls-now = left-calls here (all.0).events c b d.clerk now running at-start before rest w l split line here.pool δ a op shown (all2.0).events left-is kept.calls kept.first same-next (kept.from calls-of.own calls-of.begun)
-          (kept.begun calls-of.begun) (inr lines) t.calls
+      calls-now = left-calls here (all.0).events c b d.clerk now running at-start before rest w l split line here.pool δ a op shown ev2 left-is kept.calls kept.first same-next (kept.from calls-of.own calls-of.begun) (kept.begun calls-of.begun) (inr lines) t.calls
 
       lines-now : Each (HasLine behind c) now.waiting
-      lines-now = subst (Each (HasLine behind c)) (sym left-is) (left-lines here (all.0).events c b d.clerk now running at-start before rest w l split line here.pool δ a op shown (all2.0).events left-is kept.calls kept.first same-next
+      lines-now = subst (Each (HasLine behind c)) (sym left-is) (left-lines here (all.0).events c b d.clerk now running at-start before rest w l split line here.pool δ a op shown ev2 left-is kept.calls kept.first same-next
           (kept.from calls-of.own calls-of.begun) (kept.begun calls-of.begun) (inr lines) t.calls lines)
 
-      path : behind ≡ doing_in c b next δ g
-      path = target.target-is g c b d γ w.no l w.call a op now δ line
+    -- the others have theirs still
+    pub lines-on : δ.shown ≡ γ.shown ++ Answered l c w.call a op ∷ [] → IsTrying g c b next δ → Each (HasLine (doing_in c b next δ g) c) now.waiting
+    lines-on shown t2 = subst (λ h. Each (HasLine h c) now.waiting) path (lines-now shown (subst EventsAgree (sym path) (((t2.stands).0).invariant).events))
 
+    -- All of it.
+    module _ (shown : δ.shown ≡ γ.shown ++ Answered l c w.call a op ∷ []) (owner : δ.owner ≡ γ.owner) (all2 : AllAgree behind) (zeros : ZerosAgree behind) (frees : FreesAgree behind) (names : NamesAgree behind) (cuts : CutsAgree behind) where
       stands-now : ClerkStands g c b next δ
       stands-now =
           let z = subst AllAgree path all2 in (
@@ -200,8 +206,8 @@ module _ (g : System) (c b : ℕ) (d : Doing) (γ : Ghost) (t : IsTrying g c b d
           | inl n ↦ inl (same-session left v ∙ n)
           | inr u ↦ inr (u.0, record { stands = stands-now; age = (u.1).age; owns = ap (λ f. f u.0) owner ∙ (u.1).owns; boot = (u.1).boot; session = same-session left v ∙ (u.1).session; before = (u.1).before })
         ];
-        calls = subst CallsAgree path calls-now;
-        turn = inl (subst (λ h. Each (HasLine h c) now.waiting) path lines-now);
+        calls = subst CallsAgree path (calls-now shown (all2.0).events);
+        turn = inl (subst (λ h. Each (HasLine h c) now.waiting) path (lines-now shown (all2.0).events));
         orderly = kept.orderly (record { keyed = (t.orderly).keyed; recalls = (t.orderly).recalls; asking = (t.orderly).asking; log = (t.orderly).log; sound = (t.orderly).sound; batches = (t.orderly).batches });
         names = subst NamesAgree path names;
         zeros = subst ZerosAgree path zeros;
