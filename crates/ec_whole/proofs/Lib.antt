@@ -1,2 +1,5 @@
 pub mod Follows
 pub mod Stores
+pub mod Server
+pub mod Halts
+pub mod Fates
