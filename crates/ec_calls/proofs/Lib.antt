@@ -20,3 +20,4 @@ pub mod Quiets
 pub mod Shown
 pub mod Once
 pub mod Turns
+pub mod Behind

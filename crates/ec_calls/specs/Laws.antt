@@ -38,7 +38,7 @@ use Rattle.ec_coherence.specs.Steps.{call_of, calls_after, doing_in, less_call, 
 use Rattle.ec_commits.specs.Laws.{AllAgree, Stands}
 use Rattle.ec_changes.specs.Laws.{crashed, lined}
 use Rattle.ec_calls.specs.Calls.{CallsAgree, is_shown}
-use Rattle.ec_calls.specs.Waits.{AreAtRest, AreInTurn, HasLine, NoneReady, does_wait}
+use Rattle.ec_calls.specs.Waits.{AreAtRest, AreInTurn, HasLine, IsAtRest, NoneReady, does_wait}
 
 -- Where nobody runs and no call is under way.
 abbrev pub OpeningCalls : Type 0
@@ -221,6 +221,11 @@ TriesRest = (d : Doing) → NoneReady d.clerk → Each (λ w. T (does_wait w (tr
 abbrev pub EvictsRest : Type 0
 EvictsRest = (d : Doing) → ((x : ℕ) → first_id d.clerk.ids ≡ Some x → images_held d.clerk.cache x ≡ Gone) → Each (λ w. T (does_wait w d.clerk)) d.clerk.waiting → NoneReady d.clerk
     → Each (λ w. T (does_wait w (evict d).clerk)) (evict d).clerk.waiting × NoneReady (evict d).clerk
+
+-- All starts are at rest behind a clerk's step, where its own is, and the others were.
+abbrev pub RestsBehind : Type 0
+RestsBehind = (g : System) (c b : ℕ) (e : Doing) (γ : Ghost) (ls : List Shown) → g.running c ≡ Some b → γ.shown ≡ g.ghost.shown ++ ls
+    → ((f a : ℕ) (k : Clerk) → (f == c) ≡ false → g.running f ≡ Some a → g.clerks f a ≡ Some k → IsAtRest g f k) → IsAtRest (doing_in c b e γ g) c e.clerk → AreAtRest (doing_in c b e γ g)
 
 -- Whole functions that answer nothing.
 

@@ -1,0 +1,12 @@
+use Rattle.std.specs.List.{list_any}
+use Rattle.std.specs.Prelude.{◌+◌}
+use Rattle.ec_protocol.specs.Clerk.{begin}
+use Rattle.ec_protocol.specs.World.{is_answer_to}
+use Rattle.ec_begins.proofs.Called.{begun-cuts, has-begun}
+use Rattle.ec_begins.proofs.calls_have_begun.Goals as goal
+
+pub returns : goal.returns
+returns z g all q rest c b k run there l cl new bounded = (
+  has-begun g all q rest c b k run there l cl new bounded (list_any (is_answer_to (k.calls + 1)) (begin cl k).outs),
+  begun-cuts g all q rest c b k run there l cl new bounded (list_any (is_answer_to (k.calls + 1)) (begin cl k).outs),
+)

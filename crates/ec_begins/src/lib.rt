@@ -1,0 +1,10 @@
+//! All facts before the calls of a clerk are tried in the step in which one begins. Each function has an
+//! empty body, and its contract is a law.
+#![tactic(auto)]
+
+ghost use Rattle.ec_begins.specs.Laws.{CallsHaveBegun};
+
+/// A call of a running clerk has begun, with its line or none.
+pub fn calls_have_begun()
+    ensures { CallsHaveBegun }
+{}
