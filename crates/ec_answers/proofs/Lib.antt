@@ -18,3 +18,6 @@ pub mod Earlier
 pub mod Late
 pub mod LateSeen
 pub mod Target
+pub mod Stored
+pub mod Issue
+pub mod Clerked
