@@ -21,3 +21,4 @@ pub mod Target
 pub mod Stored
 pub mod Issue
 pub mod Clerked
+pub mod Single
