@@ -22,3 +22,5 @@ pub mod Stored
 pub mod Issue
 pub mod Clerked
 pub mod Single
+pub mod Living
+pub mod Outer
