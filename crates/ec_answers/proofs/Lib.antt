@@ -18,9 +18,3 @@ pub mod Earlier
 pub mod Late
 pub mod LateSeen
 pub mod Target
-pub mod Stored
-pub mod Issue
-pub mod Clerked
-pub mod Single
-pub mod Living
-pub mod Outer

@@ -135,7 +135,7 @@ module _ (g : System) (inv : Invariant g) (c b : ℕ) (k now : Clerk) (at-start 
   in-none : (t : ℕ) (m : Clerk) → m.session ≡ None → if_in t (Some m) ≡ None
   in-none t m e = ap (λ z. elim (is_session t z) as (λ z. Option Clerk) [ true ↦ Some m | false ↦ None ]) e
 
-  pub same-in : (t : ℕ) → clerk_of t (g.ghost.owner t) (with_start c b now g.clerks) ≡ clerk_of t (g.ghost.owner t) g.clerks
+  same-in : (t : ℕ) → clerk_of t (g.ghost.owner t) (with_start c b now g.clerks) ≡ clerk_of t (g.ghost.owner t) g.clerks
   same-in t = go (g.ghost.owner t)
     where
       go : (o : Option (ℕ × Age)) → clerk_of t o (with_start c b now g.clerks) ≡ clerk_of t o g.clerks
