@@ -3,3 +3,4 @@ pub mod Stores
 pub mod Server
 pub mod Halts
 pub mod Fates
+pub mod Telling
