@@ -4,3 +4,4 @@ pub mod Server
 pub mod Halts
 pub mod Fates
 pub mod Telling
+pub mod Runs
