@@ -1,2 +1,4 @@
 pub mod Called
 pub mod First
+pub mod Alone
+pub mod Nothing

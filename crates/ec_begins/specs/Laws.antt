@@ -39,3 +39,7 @@ abbrev pub StartsHaveBegun : Type 0
 StartsHaveBegun = (g : System) → AllAgree g → CallsAgree g → CountsAgree g → (c : ℕ) → c < 16 → g.running c ≡ None → (l : ℕ) (cl : Call) → IsNew g l → T (is_bounded cl)
     → let b = g.boots c + 1 in let h = lined (started g c (first_call c l cl g)) (Waits l c cl) in let d = doing (add_call cl (new_clerk c b)) in
     HasBegun h c b d h.ghost × CountsAgree h × (CutsAgree g → CutsAgree (doing_in c b d h.ghost h))
+
+-- Where its own step answers the first call of a clerk's next start: the clerk behind it.
+abbrev pub answered_start : ℕ → ℕ → Clerk
+answered_start c b = record (new_clerk c b) { calls = 1 }
