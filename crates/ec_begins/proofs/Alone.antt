@@ -1,11 +1,9 @@
 -- What a new start makes of its first call alone: it waits, or it's answered without a session.
-use Rattle.std.proofs.Common.{◌≡◌, refl, sym, ap, subst, ◌∙◌, inl, inr, ◌⊎◌, ◌+◌, ℕ, zero, suc, T, Bool, true, false, ◌==◌, ◌||◌, List, [], ◌∷◌, ◌++◌, Option, Some, None}
+use Rattle.std.proofs.Common.{◌≡◌, refl, sym, ap, subst, ◌∙◌, ℕ, zero, suc, T, true, false, List, [], ◌∷◌, Option, Some, None}
 use Rattle.std.specs.List.{list_any}
-use Rattle.std.specs.Prelude.{nat_le, length}
 use Rattle.ec_plain.specs.Bounds.{is_bounded}
 use Rattle.ec_plain.specs.declared.call.Call.{Call}
 use Rattle.ec_plain.specs.declared.call.Outcome.{Outcome}
-use Rattle.ec_volume.specs.declared.update.Update.{Update}
 use Rattle.ec_history.specs.Placing.{shows}
 use Rattle.ec_history.specs.declared.entry.Answer.{Answer}
 use Rattle.ec_history.specs.declared.entry.Answer.TheVariants as answer
@@ -13,21 +11,19 @@ use Rattle.ec_base.specs.Tables.{at, renewed}
 use Rattle.ec_cache.specs.Cache.{all_used, used}
 use Rattle.ec_cache.specs.declared.state.CacheState.{CacheState}
 use Rattle.ec_cache.specs.declared.state.Held.{Held}
-use Rattle.ec_report.specs.Report.{clear}
 use Rattle.ec_log.specs.declared.state.Asked.{Asked}
 use Rattle.ec_resolve.specs.declared.verdict.Verdict.{Verdict}
 use Rattle.ec_resolve.specs.declared.verdict.Verdict.TheVariants.{Need, Lost, NeedIds, Done}
-use Rattle.ec_protocol.specs.Clerk.{Answered, Doing, Tried, Waits, add_call, answer_with, await, awaited, begin, doing, evict, new_clerk, settle_outcome, try, try_rounds, try_verdict, verdict, want, with_clerk}
+use Rattle.ec_protocol.specs.Clerk.{Answered, Doing, Tried, Waits, add_call, await, awaited, begin, doing, evict, new_clerk, settle_outcome, try, try_rounds, try_verdict, verdict, with_clerk}
 use Rattle.ec_protocol.specs.World.{is_answer_to}
 use Rattle.ec_protocol.specs.declared.clerk.Clerk.{Clerk}
-use Rattle.ec_protocol.specs.declared.clerk.Out.{Out}
 use Rattle.ec_protocol.specs.declared.clerk.Out.TheVariants as out
 use Rattle.ec_protocol.specs.declared.clerk.Waiting.{Waiting}
 use Rattle.ec_events.specs.Answers.{Gives}
 use Rattle.ec_calls.proofs.Sessionless.{ShowsNothing, sessionless}
 
 -- nothing held is used
-used-none : (xs : List ℕ) (k : CacheState) → k.held ≡ [] → all_used xs k ≡ k
+pub used-none : (xs : List ℕ) (k : CacheState) → k.held ≡ [] → all_used xs k ≡ k
 used-none [] k e = refl
 used-none (x ∷ xs) k e = ap (all_used xs) one ∙ used-none xs k e
   where

@@ -1,7 +1,5 @@
 -- The first call of a clerk's next start has begun, and its line shows that it waits.
-use Rattle.std.proofs.Common.{◌≡◌, refl, sym, ap, subst, ◌∙◌, inl, inr, ◌⊎◌, ◌<◌, ◌+◌, ◌-◌, ℕ, T, Bool, true, false, ◌==◌, ◌&&◌, List, [], ◌∷◌, ◌++◌, Option, Some, None, append-nil}
-use Rattle.ec_base.specs.Tables.{at_or, put}
-use Rattle.ec_base.specs.declared.ids.Age.{Age}
+use Rattle.std.proofs.Common.{◌≡◌, refl, sym, ap, subst, ◌∙◌, inl, ◌<◌, ◌+◌, ◌-◌, ℕ, T, true, false, List, [], ◌∷◌, ◌++◌, Option, Some, None, append-nil}
 use Rattle.ec_plain.specs.Bounds.{is_bounded}
 use Rattle.ec_plain.specs.declared.call.Call.{Call}
 use Rattle.std.specs.Prelude.{length}
@@ -12,10 +10,10 @@ use Rattle.ec_history.specs.Placing.{watch}
 use Rattle.ec_history.specs.declared.shown.Shown.TheVariants as show
 use Rattle.ec_wire.specs.declared.msg.Msg.{Msg}
 use Rattle.ec_wire.specs.declared.msg.Msg.TheVariants.{Hello}
-use Rattle.ec_protocol.specs.Clerk.{Doing, add_call, doing, new_clerk}
+use Rattle.ec_protocol.specs.Clerk.{add_call, doing, new_clerk}
 use Rattle.ec_protocol.specs.declared.clerk.Clerk.{Clerk}
 use Rattle.ec_protocol.specs.declared.clerk.Waiting.{Waiting}
-use Rattle.ec_coherence.specs.System.{System, Ghost, at_session, base_of, with_start}
+use Rattle.ec_coherence.specs.System.{System, at_session, base_of, with_start}
 use Rattle.ec_coherence.specs.Events.{CutAgrees, EventsAgree, shown_boot}
 use Rattle.ec_coherence.specs.ChangeLaws.{Calls, with_clerk}
 use Rattle.ec_coherence.specs.Steps.{call_of, doing_in}
@@ -25,7 +23,7 @@ use Rattle.ec_commits.specs.Laws.{AllAgree}
 use Rattle.ec_changes.specs.Laws.{ClerkStands, GoesOn, lined}
 use Rattle.ec_joins.specs.Counts.{CountsAgree}
 use Rattle.ec_joins.specs.Cuts.{CutsAgree}
-use Rattle.ec_joins.specs.Laws.{IsFresh, started}
+use Rattle.ec_joins.specs.Laws.{started}
 use Rattle.ec_joins.proofs.Begins.{fresh-stands, start-stands}
 use Rattle.ec_joins.proofs.Outside.{outside-all, outside-cuts}
 use Rattle.ec_steps.specs.Steps.{IsNew}

@@ -2,3 +2,4 @@ pub mod Called
 pub mod First
 pub mod Alone
 pub mod Nothing
+pub mod Answered

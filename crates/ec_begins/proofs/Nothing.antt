@@ -1,13 +1,12 @@
 -- A start that issued nothing covers nothing.
-use Rattle.std.proofs.Common.{◌≡◌, refl, sym, ap, subst, ◌∙◌, arith, ◌≤◌, ◌<◌, ◌+◌, ℕ, zero, suc, T, Bool, true, false, ◌==◌, ◌&&◌, cond, map, List, [], ◌∷◌, ◌++◌, length, Option, Some, None, append-nil, append_assoc}
+use Rattle.std.proofs.Common.{◌≡◌, refl, sym, subst, arith, ◌≤◌, ℕ, Bool, true, false, cond, map, List, [], ◌∷◌, ◌++◌, Option, Some, None, append-nil, append_assoc}
 use Rattle.std.specs.List.{filter}
 use Rattle.ec_volume.specs.declared.update.Update.{Update}
 use Rattle.ec_order.specs.Order.{Holds, InClosure, Issued, ask, need}
 use Rattle.ec_history.specs.History.{Base, History, Op, Throughout, Each, Covers, issued, issued_by, kept, of_issue, of_start, outcome}
-use Rattle.ec_history.specs.Legal.{IsLegal, IsLegalNext, is_op_of}
+use Rattle.ec_history.specs.Legal.{IsLegal, IsLegalNext}
 use Rattle.ec_history.specs.declared.entry.Entry.{Entry}
 use Rattle.ec_history.specs.declared.entry.Entry.TheVariants as entry
-use Rattle.ec_laws.proofs.Cuts.{legal-step}
 use Rattle.ec_laws.proofs.More.{issued-step}
 use Rattle.ec_laws.proofs.Numbers.{IsUpTo, count, each-append, issued-up_to}
 
