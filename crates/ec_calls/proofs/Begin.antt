@@ -1,29 +1,28 @@
 -- A call begins, and its line is shown.
-use Rattle.std.proofs.Common.{◌≡◌, refl, sym, ap, subst, ◌∙◌, inl, inr, ◌⊎◌, arith, ◌≤◌, ◌+◌, ◌-◌, ℕ, T, Bool, true, false, ◌==◌, ◌&&◌, ◌||◌, cond, List, [], ◌∷◌, ◌++◌, length, Option, Some, None}
-use Rattle.std.specs.Prelude.{⊤}
-use Rattle.std.specs.List.{filter, list_any}
+use Rattle.std.proofs.Common.{◌≡◌, refl, sym, ap, subst, ◌∙◌, inr, arith, ◌≤◌, ◌+◌, ◌-◌, ℕ, T, Bool, true, false, ◌==◌, ◌&&◌, ◌||◌, cond, List, [], ◌∷◌, ◌++◌, Some}
+use Rattle.std.specs.List.{list_any}
 use Rattle.std.specs.Bool.{OnTrue}
 use Rattle.std.proofs.lemmas.Bool.{and_parts, or_parts}
 use Rattle.std.proofs.lemmas.List.Folds.{list_any-append}
-use Rattle.ec_base.specs.Tables.{Table, at, at_or, or_else, put}
+use Rattle.ec_base.specs.Tables.{at, at_or, or_else, put}
 use Rattle.ec_plain.specs.Bounds.{is_bounded}
 use Rattle.ec_plain.specs.declared.call.Call.{Call}
 use Rattle.ec_history.specs.History.{Each}
-use Rattle.ec_history.specs.Placing.{Agrees, EachLine, Unanswered, is_numbered, watch}
+use Rattle.ec_history.specs.Placing.{Agrees, EachLine, Unanswered, is_numbered}
 use Rattle.ec_history.specs.declared.shown.Shown.{Shown}
 use Rattle.ec_history.specs.declared.shown.Shown.TheVariants as show
 use Rattle.ec_laws.proofs.Numbers.{each-append, each-map}
 use Rattle.ec_protocol.specs.Clerk.{add_call}
 use Rattle.ec_protocol.specs.declared.clerk.Clerk.{Clerk}
 use Rattle.ec_protocol.specs.declared.clerk.Waiting.{Waiting}
-use Rattle.ec_coherence.specs.System.{System, with_start}
-use Rattle.ec_coherence.specs.Events.{EventsAgree, shown_boot}
+use Rattle.ec_coherence.specs.System.{System}
+use Rattle.ec_coherence.specs.Events.{EventsAgree}
 use Rattle.ec_coherence.specs.ChangeLaws.{Calls}
 use Rattle.ec_coherence.specs.Steps.{call_of}
 use Rattle.ec_coherence.proofs.ClerkIn.{start-same}
 use Rattle.ec_coherence.proofs.Lists.{or_first, or_next}
 use Rattle.ec_coherence.proofs.Tables.{at-put, equal, holds, same, same_some}
-use Rattle.ec_calls.specs.Calls.{AreApart, Began, CallsAgree, IsOpenCall, StartCalls, has_number, is_shown}
+use Rattle.ec_calls.specs.Calls.{AreApart, Began, CallsAgree, IsOpenCall, StartCalls, has_number}
 use Rattle.ec_calls.specs.Waits.{AreAtRest, AreInTurn, HasLine, does_wait}
 use Rattle.ec_calls.specs.Laws.{IsNewLine, called}
 use Rattle.ec_calls.proofs.Quiet.{other-start, split-start}
@@ -50,7 +49,7 @@ apart-more [] v n a = (tt, tt)
 apart-more (w ∷ ws) v n a = (each-append (λ x. (x.no == w.no) ≡ false) ws (v ∷ []) a.0 (n.0, tt), apart-more ws v n.1 a.1)
 
 -- no line is of a new call
-fresh-lines : (l c : ℕ) (cl : Call) (ss : List Shown) → list_any (is_numbered l) ss ≡ false → EachLine (Agrees l c cl) ss × EachLine (Unanswered l) ss
+pub fresh-lines : (l c : ℕ) (cl : Call) (ss : List Shown) → list_any (is_numbered l) ss ≡ false → EachLine (Agrees l c cl) ss × EachLine (Unanswered l) ss
 fresh-lines l c cl [] e = (tt, tt)
 fresh-lines l c cl (s ∷ ss) e =
     let t = or_parts (is_numbered l s) (list_any (is_numbered l) ss) e in
@@ -224,6 +223,17 @@ module _ (g : System) (events : EventsAgree g) (c b l : ℕ) (cl : Call) (k : Cl
 
   pub begun-calls : CallsAgree h
   begun-calls = record { starts = any-start; calls = calls-now; lines = lines-now }
+
+  -- the earlier ones keep their lines
+  pub begun-lines : AreAtRest g → Each (HasLine h c) k.waiting
+  begun-lines rest = still k.waiting its.numbers (rest c b k run there).calls
+    where
+      still : (ws : List Waiting) → Each (λ w. w.no ≤ k.calls) ws → Each (λ w. T (does_wait w k) × HasLine g c w) ws → Each (HasLine h c) ws
+      still [] le r = tt
+      still (w ∷ ws) le r = ((((r.0).1).0, other-call c w.no (less w.no le.0) ∙ ((r.0).1).1, ((r.0).1).2), still ws le.1 r.1)
+
+  pub begun-call : call_of c n h.calls ≡ Some (l, cl)
+  begun-call = own-call
 
   pub begun-turn : AreAtRest g → AreInTurn h c (add_call cl k)
   begun-turn rest = inr (k.waiting, v, refl, still k.waiting its.numbers (rest c b k run there).calls)

@@ -1,24 +1,19 @@
 -- What an answered fsync or sync covers is known durable, or lost.
-use Rattle.std.proofs.Common.{◌≡◌, refl, sym, ap, subst, ◌∙◌, arith, ◌≤◌, ◌<◌, ◌+◌, ◌-◌, ℕ, suc, T, Bool, true, false, not, ◌==◌, ◌&&◌, ◌||◌, cond, List, [], ◌∷◌, ◌++◌, length, Option, Some, None}
+use Rattle.std.proofs.Common.{◌≡◌, refl, sym, ap, subst, ◌∙◌, arith, ◌≤◌, ◌<◌, ◌-◌, ℕ, suc, T, Bool, true, false, not, ◌&&◌, ◌||◌, List, [], ◌∷◌, ◌++◌, length, Option, Some, None}
 use Rattle.std.specs.Prelude.{nat_le, slice_get}
 use Rattle.std.specs.List.{filter, list_all}
 use Rattle.std.proofs.lemmas.Bool.Decides.{nat_tests}
 use Rattle.ec_base.specs.Tables.{or_else}
-use Rattle.ec_volume.specs.Image.{is_gone}
 use Rattle.ec_volume.specs.Update.{has_operand, member, root}
 use Rattle.ec_volume.specs.Volume.{Images, after}
-use Rattle.ec_volume.specs.declared.image.Image.{Image}
-use Rattle.ec_volume.specs.declared.image.Image.TheVariants.{Gone, File, Dir}
 use Rattle.ec_volume.specs.declared.update.Update.{Update}
-use Rattle.ec_volume.specs.Entries.{entry}
-use Rattle.ec_plain.specs.Walk.{Path, Reached, At, Not, Walk, walk, walk_from}
+use Rattle.ec_plain.specs.Walk.{Path, Reached, At, Not, walk}
 use Rattle.ec_plain.specs.Plain.{plain, answers, on_reached, refuses}
 use Rattle.ec_plain.specs.declared.call.Call.{Call}
 use Rattle.ec_plain.specs.declared.call.Call.TheVariants as call
 use Rattle.ec_plain.specs.declared.call.Outcome.{Outcome}
 use Rattle.ec_plain.specs.declared.call.Reply.{Reply}
 use Rattle.ec_plain.specs.declared.call.Reply.TheVariants as reply
-use Rattle.ec_plain.specs.declared.call.Refusal.TheVariants as no
 use Rattle.ec_order.specs.Order.{InClosure, Issued, ask, need}
 use Rattle.ec_history.specs.History as history
 use Rattle.ec_history.specs.History.{Base, History, Op, Each, asks, is_lost, issued, issued_by, issued_from, kept, kept_next, of_issue, of_start, same_start, updates, Covers}

@@ -1,7 +1,6 @@
 -- The line of an answer may follow.
-use Rattle.std.proofs.Common.{◌≡◌, refl, sym, ap, subst, ◌∙◌, inl, inr, ◌⊎◌, ◌+◌, ℕ, T, Bool, true, false, not, ◌==◌, ◌&&◌, ◌||◌, cond, List, [], ◌∷◌, ◌++◌, Option, Some, None, is_some, is_none}
+use Rattle.std.proofs.Common.{◌≡◌, refl, sym, ap, subst, ◌∙◌, inl, inr, ◌⊎◌, ◌+◌, ℕ, T, Bool, true, false, not, ◌==◌, ◌||◌, List, Option, Some, None, is_some, is_none}
 use Rattle.std.proofs.lemmas.Bool.{cond_both}
-use Rattle.ec_base.specs.declared.ids.Age.{Age}
 use Rattle.ec_volume.specs.Image.{is_id}
 use Rattle.ec_plain.specs.declared.call.Call.{Call}
 use Rattle.ec_history.specs.History.{Op}
@@ -9,11 +8,9 @@ use Rattle.ec_history.specs.Placing.{MayFollow, begun, may_show, shows, watch}
 use Rattle.ec_history.specs.declared.entry.Answer.{Answer}
 use Rattle.ec_history.specs.declared.shown.Shown.TheVariants as show
 use Rattle.ec_history.specs.declared.watch.Watch.{Watch}
-use Rattle.ec_sessions.specs.declared.slot.Slot.{Slot}
-use Rattle.ec_durable.specs.Durable.{slot}
 use Rattle.ec_protocol.specs.declared.clerk.Clerk.{Clerk}
 use Rattle.ec_coherence.specs.System.{System, is_open}
-use Rattle.ec_coherence.specs.Events.{CutAgrees, shown_boot}
+use Rattle.ec_coherence.specs.Events.{shown_boot}
 use Rattle.ec_coherence.specs.Steps.{call_of}
 use Rattle.ec_coherence.proofs.Tables.{same, same_some, some-of}
 use Rattle.ec_commits.specs.Laws.{AllAgree}

@@ -1,11 +1,10 @@
 -- Calls under way behind lines that are no calls, and behind the steps of a server.
 use Rattle.std.proofs.Common.{◌≡◌, refl, sym, ap, subst, ◌∙◌, ℕ, T, Bool, true, false, ◌||◌, List, [], ◌∷◌, ◌++◌, Option, Some, None, is_some}
-use Rattle.std.specs.Prelude.{⊤}
 use Rattle.std.specs.List.{list_any, list_all}
 use Rattle.std.proofs.lemmas.List.Folds.{list_any-append}
 use Rattle.ec_plain.specs.declared.call.Call.{Call}
 use Rattle.ec_history.specs.History.{Each}
-use Rattle.ec_history.specs.Placing.{Agrees, ArePlaceable, EachLine, Unanswered, before_line, begun, is_numbered, last_place, place, unwatched, watch}
+use Rattle.ec_history.specs.Placing.{Agrees, ArePlaceable, EachLine, Unanswered, before_line, is_numbered, last_place, place, unwatched, watch}
 use Rattle.ec_history.specs.declared.shown.Shown.{Shown}
 use Rattle.ec_history.specs.declared.shown.Shown.TheVariants as show
 use Rattle.ec_laws.proofs.Cuts.{placeable-split}

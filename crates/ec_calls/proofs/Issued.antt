@@ -1,13 +1,12 @@
 -- What the numbers of a legal history say of a start's entries, losses and operations.
-use Rattle.std.proofs.Common.{◌≡◌, refl, sym, ap, subst, ◌∙◌, arith, ◌≤◌, ◌<◌, ◌+◌, ℕ, T, Bool, true, false, not, ◌==◌, ◌&&◌, ◌||◌, cond, map, List, [], ◌∷◌, ◌++◌, length, Option, Some, None, append-nil, append_assoc}
-use Rattle.std.specs.Prelude.{⊤}
+use Rattle.std.proofs.Common.{◌≡◌, refl, sym, ap, subst, ◌∙◌, arith, ◌≤◌, ◌<◌, ◌+◌, ℕ, T, Bool, true, false, not, ◌==◌, ◌&&◌, ◌||◌, cond, map, List, [], ◌∷◌, ◌++◌, length, Some, None, append-nil, append_assoc}
 use Rattle.std.specs.List.{filter, list_any, list_all}
-use Rattle.std.proofs.lemmas.Bool.{and_parts, eqb-true, true≢false}
+use Rattle.std.proofs.lemmas.Bool.{and_parts, eqb-true}
 use Rattle.std.proofs.lemmas.Bool.Decides.{nat_tests}
 use Rattle.ec_volume.specs.Update.{member}
 use Rattle.ec_volume.specs.declared.update.Update.{Update}
-use Rattle.ec_history.specs.History.{Base, History, Op, Throughout, Each, same_start, of_start, is_one_of, of_issue, kept, kept_next, issued, issued_by, is_lost, names, without}
-use Rattle.ec_history.specs.Legal.{IsLegal, IsLegalNext, is_op_of}
+use Rattle.ec_history.specs.History.{Base, History, Op, Throughout, Each, same_start, of_start, is_one_of, of_issue, kept, issued, issued_by, is_lost, names}
+use Rattle.ec_history.specs.Legal.{IsLegal, IsLegalNext}
 use Rattle.ec_history.specs.declared.entry.Entry.{Entry}
 use Rattle.ec_history.specs.declared.entry.Entry.TheVariants as entry
 use Rattle.ec_laws.proofs.Cuts.{legal-step}

@@ -1,24 +1,22 @@
 -- What one more line leaves of the entries that a start knows, and of those up to a place.
-use Rattle.std.proofs.Common.{◌≡◌, refl, sym, ap, subst, ◌∙◌, arith, ◌≤◌, ◌<◌, ◌+◌, ℕ, T, Bool, true, false, not, ◌==◌, ◌&&◌, ◌||◌, cond, List, [], ◌∷◌, ◌++◌, length, Option, Some, None, is_some, is_none, append-nil, append_assoc, length-append}
-use Rattle.std.specs.Prelude.{⊤}
+use Rattle.std.proofs.Common.{◌≡◌, refl, sym, ap, subst, ◌∙◌, arith, ◌≤◌, ◌+◌, ℕ, T, Bool, true, false, not, ◌==◌, ◌&&◌, ◌||◌, cond, List, [], ◌∷◌, ◌++◌, length, Option, Some, None, is_some, is_none, append-nil, append_assoc}
 use Rattle.std.specs.List.{filter, list_any, list_all}
 use Rattle.ec_volume.specs.Update.{member}
-use Rattle.std.proofs.lemmas.Bool.{cond_both, cond-true, cond-false, and_parts, or_parts, eqb-true, true≢false}
+use Rattle.std.proofs.lemmas.Bool.{cond_both, cond-true, cond-false, and_parts, eqb-true, true≢false}
 use Rattle.std.proofs.lemmas.List.Folds.{list_any-append}
 use Rattle.ec_volume.specs.Image.{is_id}
 use Rattle.ec_history.specs.History.{History, Each, same_start, is_entry_of}
-use Rattle.ec_history.specs.Placing.{MayFollow, ArePlaceable, watch, watch_next, begun, ended, owner, is_running, or_zero, unwatched, last_place, gives_entry, before_line, is_numbered, place, line_entries}
+use Rattle.ec_history.specs.Placing.{MayFollow, ArePlaceable, watch, watch_next, begun, ended, owner, is_running, or_zero, before_line, is_numbered, place}
 use Rattle.ec_history.specs.declared.watch.Watch.{Watch}
 use Rattle.ec_history.specs.declared.entry.Entry.{Entry}
 use Rattle.ec_history.specs.declared.entry.Entry.TheVariants as entry
 use Rattle.ec_history.specs.declared.shown.Shown.{Shown}
 use Rattle.ec_history.specs.declared.shown.Shown.TheVariants as show
-use Rattle.ec_laws.proofs.Cuts.{placeable-step}
 use Rattle.ec_laws.proofs.Late.{place-ended, place-no_call}
 use Rattle.ec_laws.proofs.More.{before_line-append, watch-step}
 use Rattle.ec_laws.proofs.Numbers.{each-append}
 use Rattle.ec_laws.proofs.Watching.{running-owner, running-told, sound}
-use Rattle.ec_calls.specs.Calls.{IsBefore, LosesBelow, before_last, told_to}
+use Rattle.ec_calls.specs.Calls.{LosesBelow, before_last, told_to}
 use Rattle.ec_calls.specs.Laws.{is_quiet}
 
 pub same : (k : ℕ) → (k == k) ≡ true

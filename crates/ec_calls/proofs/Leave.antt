@@ -1,29 +1,26 @@
 -- A call is answered and leaves.
-use Rattle.std.proofs.Common.{◌≡◌, refl, sym, ap, subst, ◌∙◌, inl, inr, ◌⊎◌, arith, ◌≤◌, ◌<◌, ◌+◌, ℕ, suc, T, Bool, true, false, not, ◌==◌, ◌&&◌, ◌||◌, cond, List, [], ◌∷◌, ◌++◌, length, Option, Some, None, append_assoc, length-append}
-use Rattle.std.specs.Prelude.{⊤}
-use Rattle.std.specs.Bool.{OnTrue}
-use Rattle.std.specs.List.{filter, list_any}
+use Rattle.std.proofs.Common.{◌≡◌, refl, sym, ap, subst, ◌∙◌, arith, ◌≤◌, ◌+◌, ℕ, suc, Bool, true, false, not, ◌==◌, ◌&&◌, ◌||◌, cond, List, [], ◌∷◌, ◌++◌, length, Option, Some, None}
+use Rattle.std.specs.List.{list_any}
 use Rattle.std.proofs.lemmas.Bool.{cond_both, cond-false, cond-true}
 use Rattle.std.proofs.lemmas.List.Folds.{list_any-append}
-use Rattle.ec_base.specs.Tables.{Table, at, at_or, or_else, put, without}
 use Rattle.ec_volume.specs.Update.{listed}
 use Rattle.ec_plain.specs.declared.call.Call.{Call}
 use Rattle.ec_history.specs.declared.entry.Answer.{Answer}
 use Rattle.ec_history.specs.declared.entry.Entry.{Entry}
 use Rattle.ec_history.specs.declared.entry.Entry.TheVariants as entry
 use Rattle.ec_history.specs.History.{History, Each, is_entry_of, same_start}
-use Rattle.ec_history.specs.Placing.{Agrees, EachLine, Unanswered, answered, before_line, begun, call_entry, is_numbered, last_place, gives_entry, place, shows, unwatched, watch, watch_next}
+use Rattle.ec_history.specs.Placing.{answered, before_line, begun, is_numbered, last_place, gives_entry, place, shows, unwatched, watch, watch_next}
 use Rattle.ec_history.specs.declared.watch.Watch.{Watch}
 use Rattle.ec_history.specs.declared.shown.Shown.{Shown}
 use Rattle.ec_history.specs.declared.shown.Shown.TheVariants as show
 use Rattle.ec_laws.proofs.Held.{place-late}
 use Rattle.ec_laws.proofs.Late.{place-answer}
 use Rattle.ec_laws.proofs.More.{watch-step}
-use Rattle.ec_laws.proofs.Numbers.{each-append, each-back, each-front, each-map}
+use Rattle.ec_laws.proofs.Numbers.{each-append, each-back, each-front}
 use Rattle.ec_laws.proofs.Watching.{answered_as, before_session, in_session, showing, untold-runs}
 use Rattle.ec_volume.specs.Image.{is_id}
-use Rattle.ec_calls.specs.Calls.{IsBefore, LosesBelow, before_last, told_to}
-use Rattle.ec_calls.proofs.Known.{Knows, last-is, loses-other, none_some, other-last, same}
+use Rattle.ec_calls.specs.Calls.{LosesBelow, before_last, told_to}
+use Rattle.ec_calls.proofs.Known.{Knows, last-is, loses-other, other-last, same}
 
 -- The place of a start's last entry among these lines is one of them.
 last-within : (c b : ℕ) (w : Watch) (p found m : ℕ) (ss : List Shown) → found ≤ m → p + length ss ≤ m + 1 → last_place c b w p found ss ≤ m

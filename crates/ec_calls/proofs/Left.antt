@@ -1,6 +1,5 @@
 -- Calls under way behind an answer.
-use Rattle.std.proofs.Common.{◌≡◌, refl, sym, ap, subst, ◌∙◌, inl, inr, ◌⊎◌, arith, ◌≤◌, ◌<◌, ◌+◌, ℕ, T, Bool, true, false, not, ◌==◌, ◌&&◌, ◌||◌, cond, List, [], ◌∷◌, ◌++◌, length, Option, Some, None}
-use Rattle.std.specs.Prelude.{⊤}
+use Rattle.std.proofs.Common.{◌≡◌, refl, sym, ap, subst, ◌∙◌, inl, inr, ◌⊎◌, arith, ◌≤◌, ◌+◌, ℕ, T, Bool, true, false, ◌==◌, ◌&&◌, ◌||◌, cond, List, [], ◌∷◌, ◌++◌, length, Option, Some, None}
 use Rattle.std.specs.Bool.{OnTrue}
 use Rattle.std.specs.List.{list_any}
 use Rattle.std.proofs.lemmas.Bool.{and_parts, or_parts}
@@ -12,7 +11,7 @@ use Rattle.ec_history.specs.History.{Each}
 use Rattle.ec_history.specs.Placing.{Agrees, EachLine, Unanswered, before_line, begun, is_numbered, last_place, place, unwatched, watch}
 use Rattle.ec_history.specs.declared.shown.Shown.{Shown}
 use Rattle.ec_history.specs.declared.shown.Shown.TheVariants as show
-use Rattle.ec_laws.proofs.Numbers.{each-append, each-back, each-front, each-map}
+use Rattle.ec_laws.proofs.Numbers.{each-map}
 use Rattle.ec_log.specs.Log.{is_from}
 use Rattle.ec_wire.specs.declared.msg.Msg.{Msg}
 use Rattle.ec_protocol.specs.declared.clerk.Clerk.{Clerk}
@@ -22,14 +21,13 @@ use Rattle.ec_coherence.specs.Events.{EventsAgree, shown_boot}
 use Rattle.ec_coherence.specs.ChangeLaws.{Calls}
 use Rattle.ec_coherence.specs.Steps.{call_of, less_call}
 use Rattle.ec_coherence.proofs.ClerkIn.{start-same}
-use Rattle.ec_coherence.proofs.Lists.{or_first, or_next}
 use Rattle.ec_coherence.proofs.Tables.{at-put, at-without, equal, same_some}
 use Rattle.ec_events.specs.Comes.{begun_at}
 use Rattle.ec_calls.specs.Calls.{AreApart, Began, CallsAgree, IsBefore, IsOpenCall, LosesBelow, StartCalls, has_number, is_shown, told_to}
 use Rattle.ec_calls.specs.Waits.{HasLine}
 use Rattle.ec_calls.specs.Laws.{with_change}
 use Rattle.ec_calls.proofs.Frames.{lines-append}
-use Rattle.ec_calls.proofs.Known.{Knows, differ, first-line, none_some, same}
+use Rattle.ec_calls.proofs.Known.{Knows, first-line, none_some, same}
 use Rattle.ec_calls.proofs.Leave.{answer-entries, answer-knows, answer-knows-other, begun-within, new_entry}
 use Rattle.ec_calls.proofs.Quiet.{other-start, split-start}
 
@@ -215,14 +213,14 @@ module _ (g : System) (old : EventsAgree g) (c b : ℕ) (k now : Clerk) (run : g
   open-call : (f m j : ℕ) (dl : Call) → ((f == c) && (m == w.no)) ≡ false → (l == j) ≡ false → IsOpenCall g f m j dl → IsOpenCall h f m j dl
   open-call f m j dl d e o = go ((f == c) && (o.boot == b)) refl
     where
-      abbrev-own : EachLine (Agrees j f dl) γ.shown
-      abbrev-own = subst (EachLine (Agrees j f dl)) (sym shown) (lines-append (Agrees j f dl) ss (line ∷ []) o.own (subst (λ z. OnTrue z ((c ≡ f) × (w.call ≡ dl))) (sym e) tt, tt))
+      own-lines : EachLine (Agrees j f dl) γ.shown
+      own-lines = subst (EachLine (Agrees j f dl)) (sym shown) (lines-append (Agrees j f dl) ss (line ∷ []) o.own (subst (λ z. OnTrue z ((c ≡ f) × (w.call ≡ dl))) (sym e) tt, tt))
 
-      abbrev-open : EachLine (Unanswered j) γ.shown
-      abbrev-open = subst (EachLine (Unanswered j)) (sym shown) (lines-append (Unanswered j) ss (line ∷ []) o.unanswered (e, tt))
+      open-lines : EachLine (Unanswered j) γ.shown
+      open-lines = subst (EachLine (Unanswered j)) (sym shown) (lines-append (Unanswered j) ss (line ∷ []) o.unanswered (e, tt))
 
       go : (z : Bool) → ((f == c) && (o.boot == b)) ≡ z → IsOpenCall h f m j dl
-      go false i = record { boot = o.boot; clerk = o.clerk; running = o.running; stands = other-start c b f o.boot now g.clerks i ∙ o.stands; waits = o.waits; bounded = o.bounded; own = abbrev-own; unanswered = abbrev-open }
+      go false i = record { boot = o.boot; clerk = o.clerk; running = o.running; stands = other-start c b f o.boot now g.clerks i ∙ o.stands; waits = o.waits; bounded = o.bounded; own = own-lines; unanswered = open-lines }
       go true i =
           let two = and_parts (f == c) (o.boot == b) i in
           let one : o.clerk ≡ k = same_some (sym o.stands ∙ ap (λ z. g.clerks z o.boot) (equal f c two.0) ∙ ap (g.clerks c) (equal o.boot b two.1) ∙ there) in
@@ -234,8 +232,8 @@ module _ (g : System) (old : EventsAgree g) (c b : ℕ) (k now : Clerk) (run : g
             stands = ap (λ z. h.clerks z b) (equal f c two.0) ∙ start-same c b now g.clerks;
             waits = subst (λ vs. T (has_number m vs)) (sym left) (number-left m m before w after number (subst (λ vs. T (has_number m vs)) is (subst (λ z. T (has_number m z.waiting)) one o.waits)));
             bounded = o.bounded;
-            own = abbrev-own;
-            unanswered = abbrev-open;
+            own = own-lines;
+            unanswered = open-lines;
           }
 
   was-call : (f m j : ℕ) (dl : Call) → call_of f m h.calls ≡ Some (j, dl) → (((f == c) && (m == w.no)) ≡ false) × (call_of f m g.calls ≡ Some (j, dl))

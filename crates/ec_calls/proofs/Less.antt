@@ -1,26 +1,24 @@
 -- Calls wait on where their clerk holds less.
-use Rattle.std.proofs.Common.{◌≡◌, ◌≢◌, refl, sym, ap, subst, ◌∙◌, inl, inr, ◌⊎◌, arith, ◌-◌, ℕ, T, Bool, true, false, not, ◌==◌, ◌&&◌, ◌||◌, cond, List, [], ◌∷◌, ◌++◌, length, Option, Some, None}
+use Rattle.std.proofs.Common.{◌≡◌, ◌≢◌, refl, sym, ap, subst, ◌∙◌, inl, inr, ◌⊎◌, arith, ◌-◌, ℕ, T, Bool, true, false, not, ◌==◌, ◌&&◌, ◌||◌, List, [], ◌∷◌, length, Option, Some, None}
 use Rattle.std.specs.Prelude.{is_none, take}
-use Rattle.std.specs.List.{list_all, list_any}
+use Rattle.std.specs.List.{list_all}
 use Rattle.ec_base.specs.Tables.{first, or_else}
 use Rattle.ec_base.specs.declared.ids.Hold.TheVariants.{Read, Write}
 use Rattle.ec_volume.specs.Image.{is_id}
 use Rattle.ec_volume.specs.Update.{fits, is_make, is_sound, member, operands}
 use Rattle.ec_volume.specs.Volume.{Images}
-use Rattle.ec_volume.specs.declared.image.Image.{Image}
 use Rattle.ec_volume.specs.declared.update.Update.{Update}
 use Rattle.ec_volume.specs.declared.update.Update.TheVariants as update
 use Rattle.ec_plain.specs.Plain.{plain}
 use Rattle.ec_plain.specs.declared.call.Call.{Call}
 use Rattle.ec_plain.specs.declared.call.Outcome.{Outcome}
 use Rattle.ec_cache.specs.Cache.{holds, images_held}
-use Rattle.ec_cache.specs.declared.state.CacheState.{CacheState}
 use Rattle.ec_log.specs.Log as log
 use Rattle.ec_log.specs.Log.{is_full, ops_are_spent}
 use Rattle.ec_log.specs.declared.state.Asked.{Asked}
-use Rattle.ec_report.specs.Report.{Owed, due}
+use Rattle.ec_report.specs.Report.{due}
 use Rattle.ec_resolve.specs.Agreement.{AreTouchedBy, IsFor, IsOwed, IsReady, Shows, is_unread}
-use Rattle.ec_resolve.specs.Resolve.{asked, evaluate, first_unread, first_unwritten, in_order, judged, lacking, lacks_id, met, reported, seen}
+use Rattle.ec_resolve.specs.Resolve.{evaluate, first_unwritten, in_order, judged, lacking, lacks_id, met, reported, seen}
 use Rattle.ec_resolve.specs.declared.verdict.Verdict.{Verdict}
 use Rattle.ec_resolve.specs.declared.verdict.Verdict.TheVariants.{Need, Lost, NeedIds, Done}
 use Rattle.ec_resolve.proofs.Making.{front-of}

@@ -19,3 +19,5 @@ pub mod Resting
 pub mod Quiets
 pub mod Shown
 pub mod Once
+pub mod Turns
+pub mod Behind

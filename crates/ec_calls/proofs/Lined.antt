@@ -1,13 +1,11 @@
 -- The line of a call that waits is shown.
-use Rattle.std.proofs.Common.{◌≡◌, refl, sym, ap, subst, ◌∙◌, arith, ◌≤◌, ◌+◌, ℕ, T, Bool, true, false, ◌==◌, ◌||◌, cond, List, [], ◌∷◌, ◌++◌, length, Option, Some, None}
+use Rattle.std.proofs.Common.{◌≡◌, refl, sym, ap, subst, ◌∙◌, arith, ◌+◌, ℕ, Bool, true, false, ◌==◌, ◌||◌, List, [], ◌∷◌, ◌++◌, Some}
 use Rattle.std.specs.Bool.{OnTrue}
-use Rattle.std.specs.List.{filter, list_any}
 use Rattle.std.proofs.lemmas.Bool.{cond_both, or_parts}
 use Rattle.std.proofs.lemmas.List.Folds.{list_any-append}
 use Rattle.ec_plain.specs.declared.call.Call.{Call}
 use Rattle.ec_history.specs.History.{Each}
-use Rattle.ec_history.specs.Legal.{is_op_of}
-use Rattle.ec_history.specs.Placing.{Agrees, EachLine, Unanswered, before_line, begun, is_numbered, last_place, unwatched, watch}
+use Rattle.ec_history.specs.Placing.{Agrees, Unanswered, begun, is_numbered, last_place, unwatched, watch}
 use Rattle.ec_history.specs.declared.watch.Watch.{Watch}
 use Rattle.ec_history.specs.declared.shown.Shown.{Shown}
 use Rattle.ec_history.specs.declared.shown.Shown.TheVariants as show
@@ -54,7 +52,7 @@ module _ (g : System) (events : EventsAgree g) (c n l : ℕ) (cl : Call) (x : ca
   still-shown : (j : ℕ) → is_shown g j ≡ true → is_shown h j ≡ true
   still-shown j e = shown-is j ∙ ap (λ z. z || ((l == j) || false)) e
 
-  untold-still : (f : ℕ) → (watch f h.ghost.shown).untold ≡ (watch f g.ghost.shown).untold
+  pub untold-still : (f : ℕ) → (watch f h.ghost.shown).untold ≡ (watch f g.ghost.shown).untold
   untold-still f = ap (λ z. z.untold) (watch-step f g.ghost.shown line) ∙ cond_both (f == c) (begun (watch f g.ghost.shown)) (watch f g.ghost.shown) (λ z. z.untold ≡ (watch f g.ghost.shown).untold) (λ e. begun-untold (watch f g.ghost.shown)) (λ e. refl)
 
   began : (f a : ℕ) (k : Clerk) → g.running f ≡ Some a → g.clerks f a ≡ Some k → (w : Waiting) (j : ℕ) → Began g f a k w j → Began h f a k w j

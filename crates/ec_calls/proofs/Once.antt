@@ -1,6 +1,5 @@
 -- Each line number is answered at most once, by the clerk and with the call of its lines.
-use Rattle.std.proofs.Common.{◌≡◌, refl, sym, ap, subst, ◌∙◌, arith, ℕ, Bool, true, false, ◌==◌, List, [], ◌∷◌, ◌++◌, Option, append_assoc}
-use Rattle.std.specs.Prelude.{⊤}
+use Rattle.std.proofs.Common.{◌≡◌, sym, subst, ◌∙◌, arith, ℕ, Bool, true, false, ◌==◌, List, [], ◌∷◌, ◌++◌, Option, append_assoc}
 use Rattle.std.specs.Bool.{OnTrue}
 use Rattle.ec_plain.specs.declared.call.Call.{Call}
 use Rattle.ec_history.specs.Placing.{Agrees, ArePlaceable, EachLine, MayFollow, Unanswered}

@@ -1,5 +1,5 @@
 -- Calls under way behind a change of a clerk that answers nothing.
-use Rattle.std.proofs.Common.{◌≡◌, refl, sym, ap, subst, ◌∙◌, ◌≤◌, ℕ, T, Bool, true, false, ◌==◌, ◌&&◌, List, [], ◌∷◌, ◌++◌, Option, Some, None, append-nil}
+use Rattle.std.proofs.Common.{◌≡◌, refl, sym, ap, subst, ◌∙◌, ◌≤◌, ℕ, T, Bool, true, false, ◌==◌, ◌&&◌, [], ◌++◌, Option, Some, append-nil}
 use Rattle.std.proofs.lemmas.Bool.{and_parts}
 use Rattle.ec_plain.specs.declared.call.Call.{Call}
 use Rattle.ec_history.specs.History.{Each}
@@ -8,11 +8,9 @@ use Rattle.ec_laws.proofs.Numbers.{each-map}
 use Rattle.ec_log.specs.Log.{is_from}
 use Rattle.ec_protocol.specs.Clerk.{Doing, doing}
 use Rattle.ec_protocol.specs.declared.clerk.Clerk.{Clerk}
-use Rattle.ec_protocol.specs.declared.clerk.Waiting.{Waiting}
 use Rattle.ec_coherence.specs.System.{System, Ghost, with_start}
 use Rattle.ec_coherence.specs.Events.{shown_boot}
-use Rattle.ec_coherence.specs.ChangeLaws.{Calls}
-use Rattle.ec_coherence.specs.Steps.{call_of, calls_after, doing_in}
+use Rattle.ec_coherence.specs.Steps.{call_of, doing_in}
 use Rattle.ec_coherence.proofs.ClerkIn.{start-same}
 use Rattle.ec_coherence.proofs.Tables.{equal, same_some}
 use Rattle.ec_calls.specs.Calls.{AreApart, Began, CallsAgree, IsOpenCall, LosesBelow, StartCalls, has_number, told_to}

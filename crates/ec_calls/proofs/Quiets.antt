@@ -1,18 +1,15 @@
 -- The functions of a clerk that answer nothing.
-use Rattle.std.proofs.Common.{◌≡◌, refl, sym, ap, subst, ◌∙◌, ◌+◌, ℕ, T, Bool, true, false, not, ◌==◌, ◌&&◌, ◌||◌, List, [], ◌∷◌, ◌++◌, Option, Some, None, is_some}
+use Rattle.std.proofs.Common.{◌≡◌, refl, sym, ap, subst, ◌∙◌, ℕ, T, Bool, true, false, not, ◌==◌, ◌&&◌, List, [], ◌∷◌, ◌++◌, Option, Some, None}
 use Rattle.std.specs.Prelude.{filter, length, nat_le, nat_lt}
 use Rattle.std.specs.List.{list_any}
-use Rattle.ec_base.specs.Limits.{last_counter}
 use Rattle.ec_base.specs.Tables.{keys}
 use Rattle.ec_base.specs.declared.counter.Counter.{Counter}
 use Rattle.ec_base.specs.declared.counter.Counter.TheVariants as counter
 use Rattle.ec_base.specs.declared.ids.Age.{Age}
 use Rattle.ec_base.specs.declared.ids.Hold.{Hold}
-use Rattle.ec_order.specs.Order.{Issued}
 use Rattle.ec_volume.specs.Update.{member}
 use Rattle.ec_cache.specs.Cache as cache
 use Rattle.ec_cache.specs.Cache.{last}
-use Rattle.ec_cache.specs.declared.state.CacheState.{CacheState}
 use Rattle.ec_cache.specs.declared.state.Held.{Held}
 use Rattle.ec_log.specs.Log.{is_from, kept, ops_in}
 use Rattle.ec_log.specs.declared.state.Asked.TheVariants.{Object}
@@ -20,7 +17,7 @@ use Rattle.ec_log.proofs.Logs.{from_part}
 use Rattle.ec_sessions.specs.Limits.{last_grants}
 use Rattle.ec_wire.specs.declared.msg.Msg.{Msg}
 use Rattle.ec_wire.specs.declared.msg.Msg.TheVariants as msg
-use Rattle.ec_protocol.specs.Clerk.{Doing, add_ids, answer_recalls, ask_for, ask_pushes, claim, doing, emit, enter_epoch, epoch, evict, evict_unpinned, give_back, has_session, hello, in_session, is_need, is_ready, is_session, keep_push, keep_recall, mark_recall, may_want, needs, on_objects, or_hello, refuse_makes, resend, resend_batches, resend_needs, resend_room, resend_want, same_age, send, send_backs, send_batch, send_outstanding, send_room, send_want, spend, take_ended, take_ids, take_no_room, take_old_boot, take_opened, take_recall, take_restarted, taken, try_recalls, with_cache}
+use Rattle.ec_protocol.specs.Clerk.{Doing, add_ids, answer_recalls, ask_for, ask_pushes, claim, doing, enter_epoch, epoch, evict, evict_unpinned, give_back, has_session, hello, in_session, is_need, is_ready, is_session, keep_push, keep_recall, may_want, needs, on_objects, or_hello, refuse_makes, resend, resend_batches, resend_needs, resend_room, resend_want, same_age, send, send_backs, send_batch, send_outstanding, send_want, spend, take_ended, take_ids, take_old_boot, take_opened, take_recall, take_restarted, taken, try_recalls, with_cache}
 use Rattle.ec_protocol.specs.declared.clerk.Clerk.{Clerk}
 use Rattle.ec_protocol.specs.declared.clerk.Out.{Out}
 use Rattle.ec_protocol.specs.declared.clerk.Out.TheVariants as out

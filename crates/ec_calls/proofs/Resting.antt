@@ -1,10 +1,9 @@
 -- Behind a step all calls wait, and no recall is ready.
-use Rattle.std.proofs.Common.{◌≡◌, refl, sym, ap, subst, ◌∙◌, inl, inr, ◌⊎◌, arith, ◌≤◌, ◌<◌, ◌+◌, ◌-◌, ℕ, zero, suc, T, Bool, true, false, not, ◌==◌, ◌&&◌, ◌||◌, cond, List, [], ◌∷◌, ◌++◌, length, Option, Some, None, is_some, append_assoc}
+use Rattle.std.proofs.Common.{◌≡◌, refl, sym, ap, subst, ◌∙◌, inl, inr, ◌⊎◌, arith, ◌≤◌, ◌+◌, ◌-◌, ℕ, zero, suc, T, Bool, true, false, not, ◌==◌, ◌||◌, cond, List, [], ◌∷◌, ◌++◌, length, Option, Some, None, is_some, append_assoc}
 use Rattle.std.specs.Prelude.{⊤, filter, is_none, nat_le, take as front}
-use Rattle.std.specs.List.{list_any}
 use Rattle.ec_base.specs.declared.counter.Counter.TheVariants as counter
 use Rattle.ec_base.specs.Holds.{is_below, is_free, is_write, weaker}
-use Rattle.ec_base.specs.Tables.{Table, at, at_or, keys, or_else, renewed, without}
+use Rattle.ec_base.specs.Tables.{Table, at, keys, or_else, renewed, without}
 use Rattle.ec_base.specs.declared.ids.Hold.{Hold}
 use Rattle.ec_base.specs.declared.ids.Hold.TheVariants.{Free, Read, Write}
 use Rattle.ec_volume.specs.Update.{effect, has_operand, member, operands}
@@ -21,26 +20,23 @@ use Rattle.ec_cache.specs.declared.state.CacheState.{CacheState}
 use Rattle.ec_cache.specs.declared.state.Held.{Held}
 use Rattle.ec_laws.proofs.Numbers.{each-append, each-map}
 use Rattle.ec_log.specs.Log.{first, first_number, is_asked, is_full, ops_are_spent}
-use Rattle.ec_log.specs.Log as logs
 use Rattle.ec_log.specs.declared.state.Asked.{Asked}
 use Rattle.ec_log.specs.declared.state.Asked.TheVariants.{Object, All}
-use Rattle.ec_log.specs.declared.state.LogState.{LogState}
 use Rattle.ec_resolve.specs.declared.verdict.Verdict.{Verdict}
 use Rattle.ec_resolve.specs.declared.verdict.Verdict.TheVariants.{Need, Lost, NeedIds, Done}
 use Rattle.ec_report.specs.Report.{clear}
-use Rattle.ec_protocol.specs.Clerk.{Answered, Doing, Tried, Waits, answer_recalls, answer_with, ask_for, ask_pushes, await, awaited, evict, evict_unpinned, first_id, give_back, has_session, is_owing, is_ready, is_settled, issue_if_room, keep_recall, left_of, lower_held, on_objects, send_backs, settle_outcome, spend, suits, try, try_all, try_each, try_recalls, try_rounds, try_verdict, verdict, with_clerk, with_update}
+use Rattle.ec_protocol.specs.Clerk.{Answered, Doing, Tried, Waits, answer_recalls, answer_with, ask_for, ask_pushes, await, awaited, evict, evict_unpinned, first_id, give_back, is_owing, is_ready, issue_if_room, keep_recall, left_of, lower_held, on_objects, send_backs, settle_outcome, spend, suits, try, try_all, try_each, try_recalls, try_rounds, try_verdict, verdict, with_clerk, with_update}
 use Rattle.ec_protocol.specs.declared.clerk.Clerk.{Clerk}
 use Rattle.ec_protocol.specs.declared.clerk.Recalled.{Recalled}
 use Rattle.ec_protocol.specs.declared.clerk.Waiting.{Waiting}
 use Rattle.ec_coherence.proofs.CacheChange.{at-used}
 use Rattle.ec_coherence.proofs.Caches.{at-kept, at-lowered, at-renewed, at_most}
-use Rattle.ec_coherence.proofs.Lists.{filter-more, or_first, or_next}
-use Rattle.ec_coherence.proofs.Tables.{at-without, equal, same}
+use Rattle.ec_coherence.proofs.Lists.{filter-more}
+use Rattle.ec_coherence.proofs.Tables.{at-without, equal}
 use Rattle.ec_calls.specs.Waits.{NoneReady, does_wait}
 use Rattle.ec_calls.specs.Laws.{IsStill, IsStillIf, is_answer, prepared}
-use Rattle.ec_calls.proofs.Known.{none_some}
 use Rattle.ec_calls.proofs.Less.{HoldsLess, less-waits}
-use Rattle.ec_calls.proofs.Still.{asks-still, still-ask, still-kept, still-ready, still-same, still-then, still-waits, tries-answer, none-still}
+use Rattle.ec_calls.proofs.Still.{asks-still, still-ask, still-kept, still-same, still-then, still-waits, tries-answer, none-still}
 
 -- Changes that make no recall ready.
 

@@ -1,16 +1,13 @@
 -- A clerk without a session answers nothing that shows one.
-use Rattle.std.proofs.Common.{◌≡◌, refl, sym, ap, subst, ◌∙◌, arith, ℕ, T, Bool, true, false, not, ◌==◌, ◌&&◌, cond, map, List, [], ◌∷◌, ◌++◌, Option, Some, None}
+use Rattle.std.proofs.Common.{◌≡◌, refl, sym, ap, subst, ◌∙◌, ℕ, T, true, false, map, List, [], ◌∷◌, ◌++◌, Option, Some, None}
 use Rattle.std.specs.Prelude.{filter, length, ◌-◌, ⊤}
-use Rattle.ec_base.specs.Tables.{at, once, or_else}
-use Rattle.ec_base.specs.declared.ids.Hold.TheVariants.{Read}
-use Rattle.ec_volume.specs.Update.{root, member}
+use Rattle.ec_base.specs.Tables.{once, or_else}
+use Rattle.ec_volume.specs.Update.{root}
 use Rattle.ec_volume.specs.Volume.{Images}
 use Rattle.ec_volume.specs.declared.image.Image.TheVariants.{Gone}
 use Rattle.ec_volume.specs.declared.update.Update.TheVariants as update
-use Rattle.ec_volume.specs.declared.image.Kind.{Kind}
-use Rattle.ec_volume.specs.declared.image.Kind.TheVariants as kind
-use Rattle.ec_plain.specs.Walk.{Path, Walk, At, Not, walk, parent_of, last_of}
-use Rattle.ec_plain.specs.Plain.{plain, refuses, answers, on_reached, on_parent, on_entry, plain_make, make_in, plain_drop, drop_in, plain_rename, rename_in, write_in, len_in, read_in, list_in, stat_of, issues, is_sync, once_more, plain_forder}
+use Rattle.ec_plain.specs.Walk.{Path, Walk, At, Not, walk, parent_of}
+use Rattle.ec_plain.specs.Plain.{plain, refuses, answers, on_reached, write_in, len_in, read_in, list_in, stat_of, issues, is_sync, once_more, plain_forder}
 use Rattle.ec_plain.specs.Bounds.{is_bounded}
 use Rattle.ec_plain.specs.declared.call.Call.{Call}
 use Rattle.ec_plain.specs.declared.call.Call.TheVariants as call
@@ -24,10 +21,9 @@ use Rattle.ec_protocol.specs.Clerk.{first_id, verdict}
 use Rattle.ec_protocol.specs.declared.clerk.Clerk.{Clerk}
 use Rattle.ec_coherence.specs.Sessions.{HasNone}
 use Rattle.ec_events.specs.Answers.{Gives}
-use Rattle.ec_cache.specs.Cache.{images_held, held_image, holds}
 use Rattle.ec_cache.specs.declared.state.CacheState.{CacheState}
 use Rattle.ec_report.specs.Report.{Owed, due, objects}
-use Rattle.ec_resolve.specs.Resolve.{evaluate, judged, met, reported, lacking}
+use Rattle.ec_resolve.specs.Resolve.{evaluate, judged, reported}
 use Rattle.ec_resolve.specs.declared.verdict.Verdict.{Verdict}
 use Rattle.ec_resolve.specs.declared.verdict.Verdict.TheVariants.{Need, Lost, NeedIds, Done}
 

@@ -1,11 +1,10 @@
 -- All facts behind the line of a waiting call of a running clerk.
-use Rattle.std.proofs.Common.{◌≡◌, refl, sym, ap, ◌∙◌, ◌+◌, ℕ, Bool, true, false, ◌==◌, cond, List, [], ◌∷◌, ◌++◌, Option, Some, append-nil}
+use Rattle.std.proofs.Common.{◌≡◌, refl, sym, ap, ◌∙◌, ◌+◌, ℕ, true, ◌==◌, List, [], ◌∷◌, ◌++◌, Some, append-nil}
 use Rattle.std.specs.Prelude.{is_some}
 use Rattle.std.proofs.lemmas.Bool.{cond_both, cond-true}
 use Rattle.ec_plain.specs.declared.call.Call.{Call}
 use Rattle.ec_history.specs.History.{Op}
 use Rattle.ec_history.specs.Placing.{Agrees, EachLine, begun, place, watch}
-use Rattle.ec_history.specs.declared.watch.Watch.{Watch}
 use Rattle.ec_history.specs.declared.shown.Shown.{Shown}
 use Rattle.ec_history.specs.declared.shown.Shown.TheVariants.{Waits}
 use Rattle.ec_laws.proofs.Cuts.{placeable-step}

@@ -1,6 +1,6 @@
 -- What a clerk asks for leaves its calls as they were; and a try answers exactly a call that doesn't wait.
-use Rattle.std.proofs.Common.{◌≡◌, refl, sym, ap, subst, ◌∙◌, ◌≤◌, ◌+◌, ℕ, T, Bool, true, false, not, ◌==◌, ◌&&◌, ◌||◌, List, [], ◌∷◌, ◌++◌, Option, Some, None}
-use Rattle.std.specs.Prelude.{⊤, is_none, length, nat_le, nat_lt}
+use Rattle.std.proofs.Common.{◌≡◌, refl, sym, ap, subst, ◌∙◌, ◌+◌, ℕ, T, Bool, true, false, not, ◌&&◌, ◌||◌, List, [], ◌∷◌, ◌++◌, Option, Some, None}
+use Rattle.std.specs.Prelude.{is_none, length, nat_le, nat_lt}
 use Rattle.ec_base.specs.Limits.{last_counter}
 use Rattle.ec_history.specs.declared.entry.Answer.TheVariants as answer
 use Rattle.std.specs.List.{filter, list_any}
@@ -8,25 +8,21 @@ use Rattle.ec_base.specs.declared.counter.Counter.{Counter}
 use Rattle.ec_base.specs.declared.counter.Counter.TheVariants as counter
 use Rattle.ec_base.specs.declared.ids.Hold.{Hold}
 use Rattle.ec_volume.specs.declared.update.Update.{Update}
-use Rattle.ec_plain.specs.declared.call.Call.{Call}
 use Rattle.ec_plain.specs.declared.call.Outcome.{Outcome}
-use Rattle.ec_order.specs.Order.{Issued}
 use Rattle.ec_history.specs.History.{Each}
 use Rattle.ec_base.specs.Holds.{is_write}
 use Rattle.ec_cache.specs.Cache.{mode}
-use Rattle.ec_cache.specs.declared.state.CacheState.{CacheState}
-use Rattle.ec_log.specs.Log.{after_pick, batches_are_spent, first, first_number, is_asked, is_from, is_full, max_undurable, ops_are_spent, pick}
+use Rattle.ec_log.specs.Log.{after_pick, batches_are_spent, first, first_number, is_asked, is_full, max_undurable, ops_are_spent, pick}
 use Rattle.ec_log.specs.declared.state.Asked.{Asked}
 use Rattle.ec_log.specs.declared.state.Asked.TheVariants.{Object, Op, All}
 use Rattle.ec_log.specs.declared.state.Pick.{Pick}
 use Rattle.ec_log.specs.declared.state.Pick.TheVariants as pick_of
 use Rattle.ec_log.specs.declared.state.LogState.{LogState}
-use Rattle.ec_report.specs.Report.{Owed}
 use Rattle.ec_resolve.specs.Resolve.{evaluate}
 use Rattle.ec_resolve.specs.declared.verdict.Verdict.{Verdict}
 use Rattle.ec_resolve.specs.declared.verdict.Verdict.TheVariants.{Need, Lost, NeedIds, Done}
 use Rattle.ec_wire.specs.declared.msg.Msg.{Msg}
-use Rattle.ec_protocol.specs.Clerk.{Answered, Doing, Tried, Waits, answer_recalls, answer_with, is_wanted, wanted, with_clerk, with_update, ask_anew, ask_for, ask_pushes, ask_room, await, awaited, emit, first_id, give_back, has_session, hello, is_owing, is_ready, is_settled, issue, issue_if_room, keep_push, keep_recall, may_want, send, send_batch, send_picked, send_room, send_want, settle_outcome, spend, suits, try, try_pushes, try_recalls, try_verdict, verdict, want}
+use Rattle.ec_protocol.specs.Clerk.{Doing, Tried, Waits, answer_recalls, answer_with, is_wanted, wanted, with_clerk, with_update, ask_for, ask_pushes, ask_room, await, awaited, first_id, give_back, has_session, is_owing, is_ready, is_settled, issue_if_room, keep_push, keep_recall, may_want, send, send_batch, send_picked, send_room, send_want, settle_outcome, spend, suits, try, try_pushes, try_recalls, try_verdict, verdict, want}
 use Rattle.ec_protocol.specs.declared.clerk.Clerk.{Clerk}
 use Rattle.ec_protocol.specs.declared.clerk.Out.{Out}
 use Rattle.ec_protocol.specs.declared.clerk.Out.TheVariants as out

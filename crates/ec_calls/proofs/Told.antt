@@ -1,20 +1,18 @@
 -- Calls under way behind the lines that tell a loss, and behind a crash and a start.
-use Rattle.std.proofs.Common.{◌≡◌, refl, sym, ap, subst, ◌∙◌, inl, inr, ◌⊎◌, arith, ◌≤◌, ◌<◌, ◌+◌, ℕ, T, Bool, true, false, not, ◌==◌, ◌&&◌, ◌||◌, cond, List, [], ◌∷◌, ◌++◌, length, Option, Some, None, append-nil}
-use Rattle.std.specs.Prelude.{⊤}
-use Rattle.std.specs.List.{filter, list_any}
-use Rattle.std.proofs.lemmas.Bool.{and_parts, cond_both, cond-false, cond-true}
+use Rattle.std.proofs.Common.{◌≡◌, refl, sym, ap, subst, ◌∙◌, arith, ◌≤◌, ℕ, T, Bool, true, false, not, ◌==◌, ◌&&◌, ◌||◌, cond, List, [], ◌∷◌, ◌++◌, Option, Some, None, append-nil}
+use Rattle.std.specs.List.{list_any}
+use Rattle.std.proofs.lemmas.Bool.{and_parts, cond-false}
 use Rattle.std.proofs.lemmas.List.Folds.{list_any-append}
-use Rattle.ec_base.specs.Tables.{at, at_or, or_else, without}
+use Rattle.ec_base.specs.Tables.{at, or_else}
 use Rattle.ec_plain.specs.declared.call.Call.{Call}
 use Rattle.ec_history.specs.History.{History, Each, is_entry_of}
 use Rattle.ec_history.specs.declared.entry.Entry.{Entry}
-use Rattle.ec_history.specs.Placing.{Agrees, EachLine, Unanswered, before_line, is_numbered, last_place, place, unwatched, watch, watch_next}
+use Rattle.ec_history.specs.Placing.{Agrees, EachLine, Unanswered, before_line, is_numbered, last_place, place, unwatched, watch}
 use Rattle.ec_history.specs.declared.shown.Shown.{Shown}
 use Rattle.ec_history.specs.declared.shown.Shown.TheVariants as show
-use Rattle.ec_history.specs.declared.watch.Watch.{Watch}
 use Rattle.ec_laws.proofs.Late.{place-no_call}
 use Rattle.ec_laws.proofs.More.{watch-step}
-use Rattle.ec_laws.proofs.Numbers.{count, each-map}
+use Rattle.ec_laws.proofs.Numbers.{each-map}
 use Rattle.ec_log.specs.Log.{is_from}
 use Rattle.ec_wire.specs.declared.msg.Msg.{Msg}
 use Rattle.ec_protocol.specs.Clerk.{is_ready}
@@ -22,10 +20,9 @@ use Rattle.ec_protocol.specs.declared.clerk.Clerk.{Clerk}
 use Rattle.ec_protocol.specs.declared.clerk.Waiting.{Waiting}
 use Rattle.ec_coherence.specs.System.{System, Ghost, at_session, base_of, with_start}
 use Rattle.ec_coherence.specs.Events.{EventsAgree, shown_boot}
-use Rattle.ec_coherence.specs.ChangeLaws.{Calls}
 use Rattle.ec_coherence.specs.Steps.{call_of}
 use Rattle.ec_coherence.proofs.ClerkIn.{start-same}
-use Rattle.ec_coherence.proofs.Tables.{at-without, by-session, equal, same_some}
+use Rattle.ec_coherence.proofs.Tables.{at-without, equal, same_some}
 use Rattle.ec_events.specs.Comes.{begun_at}
 use Rattle.ec_changes.specs.Laws.{crashed}
 use Rattle.ec_calls.specs.Calls.{AreApart, Began, CallsAgree, IsBefore, IsOpenCall, LosesBelow, StartCalls, before_last, has_number, is_shown, told_to}

@@ -1,5 +1,5 @@
 -- What is proved of calls under way, as contracts name it.
-use Rattle.std.specs.Prelude.{◌≡◌, ◌≤◌, ◌≢◌, ◌⊎◌, ◌==◌, ◌+◌, ℕ, T, Bool, true, false, not, is_some, if◌then◌else◌, List, [], ◌∷◌, ◌++◌, ◌&&◌, Option, None, Some, ⊤}
+use Rattle.std.specs.Prelude.{◌≡◌, ◌≤◌, ◌⊎◌, ◌==◌, ◌+◌, ℕ, T, Bool, true, false, not, List, [], ◌∷◌, ◌++◌, ◌&&◌, Option, None, Some, ⊤}
 use Rattle.std.specs.List.{filter, list_all}
 use Rattle.ec_base.specs.Tables.{at_or, put}
 use Rattle.ec_plain.specs.Bounds.{is_bounded}
@@ -29,7 +29,6 @@ use Rattle.ec_durable.specs.declared.record.Record.{Record}
 use Rattle.ec_protocol.specs.Clerk.{Answered, Doing, Tried, Waits, add_call, answer_recalls, ask_pushes, doing, evict, first_id, has_session, hello, is_session, keep_push, resend, taken, try, try_all, verdict}
 use Rattle.ec_protocol.specs.Server.{Serving}
 use Rattle.ec_protocol.specs.declared.clerk.Clerk.{Clerk}
-use Rattle.ec_protocol.specs.declared.clerk.Out.TheVariants as out
 use Rattle.ec_protocol.specs.declared.clerk.Waiting.{Waiting}
 use Rattle.ec_protocol.specs.declared.server.Server.{Server}
 use Rattle.ec_coherence.specs.System.{System, Ghost, at_session, is_of, with_start}
@@ -39,7 +38,7 @@ use Rattle.ec_coherence.specs.Steps.{call_of, calls_after, doing_in, less_call, 
 use Rattle.ec_commits.specs.Laws.{AllAgree, Stands}
 use Rattle.ec_changes.specs.Laws.{crashed, lined}
 use Rattle.ec_calls.specs.Calls.{CallsAgree, is_shown}
-use Rattle.ec_calls.specs.Waits.{AreAtRest, AreInTurn, HasLine, NoneReady, does_wait}
+use Rattle.ec_calls.specs.Waits.{AreAtRest, AreInTurn, HasLine, IsAtRest, NoneReady, does_wait}
 
 -- Where nobody runs and no call is under way.
 abbrev pub OpeningCalls : Type 0
@@ -198,6 +197,13 @@ TriesAnswer = (w : Waiting) (d : Doing) → (is_answer (try w d) ≡ not (does_w
 abbrev pub StillWaits : Type 0
 StillWaits = (d e : Doing) → IsStill d e → (w : Waiting) → does_wait w e.clerk ≡ does_wait w d.clerk
 
+-- they stay in turn, and where one doesn't wait all the others have their lines
+abbrev pub StillKeepsTurn : Type 0
+StillKeepsTurn = (g : System) (c b : ℕ) (d e : Doing) (γ : Ghost) → IsStill d e → AreInTurn (doing_in c b d γ g) c d.clerk → AreInTurn (doing_in c b e γ g) c e.clerk
+
+abbrev pub TurnsAllow : Type 0
+TurnsAllow = (g : System) (c : ℕ) (k : Clerk) → AreInTurn g c k → (before rest : List Waiting) (w : Waiting) → k.waiting ≡ before ++ w ∷ rest → does_wait w k ≡ false → Each (HasLine g c) (before ++ rest)
+
 -- so is the beginning of a step where no recall is ready
 abbrev pub prepared : Doing → Doing
 prepared d = elim (has_session d.clerk) [ true ↦ ask_pushes (answer_recalls d) | false ↦ d ]
@@ -215,6 +221,11 @@ TriesRest = (d : Doing) → NoneReady d.clerk → Each (λ w. T (does_wait w (tr
 abbrev pub EvictsRest : Type 0
 EvictsRest = (d : Doing) → ((x : ℕ) → first_id d.clerk.ids ≡ Some x → images_held d.clerk.cache x ≡ Gone) → Each (λ w. T (does_wait w d.clerk)) d.clerk.waiting → NoneReady d.clerk
     → Each (λ w. T (does_wait w (evict d).clerk)) (evict d).clerk.waiting × NoneReady (evict d).clerk
+
+-- All starts are at rest behind a clerk's step, where its own is, and the others were.
+abbrev pub RestsBehind : Type 0
+RestsBehind = (g : System) (c b : ℕ) (e : Doing) (γ : Ghost) (ls : List Shown) → g.running c ≡ Some b → γ.shown ≡ g.ghost.shown ++ ls
+    → ((f a : ℕ) (k : Clerk) → (f == c) ≡ false → g.running f ≡ Some a → g.clerks f a ≡ Some k → IsAtRest g f k) → IsAtRest (doing_in c b e γ g) c e.clerk → AreAtRest (doing_in c b e γ g)
 
 -- Whole functions that answer nothing.
 

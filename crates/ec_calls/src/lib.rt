@@ -2,7 +2,7 @@
 //! empty body, and its contract is a law.
 #![tactic(auto)]
 
-ghost use Rattle.ec_calls.specs.Laws.{AnsweredOnce, AnswersKeepCalls, AnswersMayFollow, AreQuiet, BeginsAreStill, CallsBegin, CallsBeginSteps, CrashesKeepCalls, EvictsRest, LateSettledStands, LinesKeepCalls, OpeningCalls, OutsideShowsNone, QuietKeepsCalls, ResendsAreStill, ServersKeepCalls, SettledStands, SettlesRest, StartsKeepCalls, StillWaits, TellsKeepCalls, TriesAnswer, TriesRest, WaitsKeepCalls, WaitsStand};
+ghost use Rattle.ec_calls.specs.Laws.{AnsweredOnce, AnswersKeepCalls, AnswersMayFollow, AreQuiet, BeginsAreStill, CallsBegin, CallsBeginSteps, CrashesKeepCalls, EvictsRest, LateSettledStands, LinesKeepCalls, OpeningCalls, OutsideShowsNone, QuietKeepsCalls, ResendsAreStill, RestsBehind, ServersKeepCalls, SettledStands, SettlesRest, StartsKeepCalls, StillKeepsTurn, StillWaits, TellsKeepCalls, TriesAnswer, TriesRest, TurnsAllow, WaitsKeepCalls, WaitsStand};
 
 /// Where nobody runs no call is under way, and behind what a server does with its lines each waits as it did.
 pub fn servers_keep_calls()
@@ -55,6 +55,8 @@ pub fn tries_answer_what_does_not_wait()
     ensures tries { TriesAnswer }
     ensures still { StillWaits }
     ensures begin { BeginsAreStill }
+    ensures turn { StillKeepsTurn }
+    ensures others { TurnsAllow }
 {}
 
 /// Behind a step all calls wait, and no recall is ready.
@@ -62,6 +64,7 @@ pub fn steps_end_at_rest()
     ensures settle { SettlesRest }
     ensures tries { TriesRest }
     ensures evict { EvictsRest }
+    ensures behind { RestsBehind }
 {}
 
 /// Which functions of a clerk answer nothing.

@@ -15,7 +15,7 @@ use Rattle.ec_cache.specs.declared.state.Held.{Held}
 use Rattle.ec_resolve.specs.Agreement.{IsFirst}
 use Rattle.ec_resolve.specs.declared.verdict.Verdict.{Verdict}
 use Rattle.ec_resolve.specs.declared.verdict.Verdict.TheVariants.{Need, Lost, NeedIds, Done}
-use Rattle.ec_resolve.proofs.Verdicts.{need-says}
+use Rattle.ec_resolve.proofs.Verdicts.{done-says, need-says}
 use Rattle.ec_wire.specs.Messages.{is_held_mode}
 use Rattle.ec_protocol.specs.Clerk.{Doing, first_id, need_of, verdict}
 use Rattle.ec_protocol.specs.declared.clerk.Clerk.{Clerk}
@@ -73,6 +73,11 @@ module _ (P : ℕ → Type 0) (is-root : P root) (cl : Call) (k : Clerk) (names 
       go (NeedIds xs) e = tt
       go (Done o) e = tt
 
+  -- the operands of what is issued are named
+  pub done-named : (o : Outcome) → verdict cl k ≡ Done o → (u : Update) → o.update ≡ Some u → Each P (operands u)
+  done-named o e u q =
+      written u (ap (λ z. z.update) (done-says k.cache k.owed cl (first_id k.ids) o e (images_held k.cache) (record { images = λ x t. refl; unmade = λ x t. refl }) id (λ y p. ap (or_else root) p)) ∙ q)
+
 -- What is seen has such entries.
 
 module _ (g : System) (na : NamesAgree g) where
@@ -84,7 +89,7 @@ module _ (g : System) (na : NamesAgree g) where
       go (Some ks) e = after-in (Names (view g)) ks x (g.origin x) (na.frozen s ks e) (na.origin x)
 
   module _ (im : ImagesAgree g) (s : ℕ) (k : Clerk) (there : clerk_in g s ≡ Some k) where
-    held-named : (x : ℕ) → Of (Names (view g)) (images_held k.cache x)
+    pub held-named : (x : ℕ) → Of (Names (view g)) (images_held k.cache x)
     held-named x = go (at x k.cache.held) refl
       where
         go : (o : Option Held) → at x k.cache.held ≡ o → Of (Names (view g)) (held_image o)

@@ -1,5 +1,5 @@
 -- Behind one more line the lines still tell what became of operations, where all facts hold.
-use Rattle.std.proofs.Common.{◌≡◌, refl, sym, ap, subst, ◌∙◌, ◌≤◌, ℕ, T, Bool, true, false, not, ◌==◌, ◌&&◌, ◌||◌, cond, map, length, List, [], ◌∷◌, ◌++◌, Option, Some, None, append-nil}
+use Rattle.std.proofs.Common.{◌≡◌, refl, sym, ap, subst, ◌∙◌, inl, inr, ◌⊎◌, ◌≤◌, ℕ, T, Bool, true, false, not, ◌==◌, ◌&&◌, ◌||◌, cond, map, length, List, [], ◌∷◌, ◌++◌, Option, Some, None, append-nil}
 use Rattle.std.specs.Prelude.{is_some}
 use Rattle.std.specs.List.{filter}
 use Rattle.std.proofs.lemmas.Bool.{and_parts, eqb-true}
@@ -22,9 +22,10 @@ use Rattle.ec_commits.specs.Watches.{WatchAgrees, still_in}
 use Rattle.ec_accounts.specs.Accounts.{IsUndurable, LinesTell}
 use Rattle.ec_accounts.specs.Laws.{OneMore}
 use Rattle.ec_accounts.proofs.Members.{off}
-use Rattle.ec_accounts.proofs.Telling.{one-more}
+use Rattle.ec_accounts.proofs.Telling.{nothing-tells, one-more}
+use Rattle.ec_headline.specs.Headline.{AreLawful, FrontsAreLawful}
 use Rattle.ec_headline.specs.Laws.{GoesBy, TellsAll}
-use Rattle.ec_headline.proofs.Rebase.{SameIds, legal-by, tells-by}
+use Rattle.ec_headline.proofs.Rebase.{SameIds, fronts-by, legal-by, tells-by}
 
 -- one of the operations has this number
 pub numbered-in : (n : ℕ) (P : Op → Type 0) (ks : List Op) → Each P ks → T (member n (numbers ks)) → (k : Op) × P k × (k.number ≡ n)
@@ -87,10 +88,55 @@ ids-by g h ss go p le = sym (go.fresh p le)
 -- what the lines so far tell they tell over the base behind the step
 rebased : (g h : System) (ss : List Shown) → GoesBy g h ss → TellsAll g → LinesTell (base_of h) g.ghost.shown
 rebased g h ss go t = subst (λ v. LinesTell (record { volume = v; fresh = (base_of h).fresh }) g.ghost.shown) (sym go.origin)
-    (tells-by g.origin (base_of g).fresh (base_of h).fresh g.ghost.shown (ids-by g h ss go) t)
+    (tells-by g.origin (base_of g).fresh (base_of h).fresh g.ghost.shown (ids-by g h ss go) t.told)
+
+-- so are their fronts
+rebased-fronts : (g h : System) (ss : List Shown) → GoesBy g h ss → TellsAll g → FrontsAreLawful (base_of h) h.durable.max_objects g.ghost.shown
+rebased-fronts g h ss go t = subst (λ m. FrontsAreLawful (base_of h) m g.ghost.shown) (sym go.most) (subst (λ v. FrontsAreLawful (record { volume = v; fresh = (base_of h).fresh }) g.durable.max_objects g.ghost.shown) (sym go.origin)
+    (fronts-by g.origin (base_of g).fresh (base_of h).fresh g.durable.max_objects g.ghost.shown (ids-by g h ss go) t.fronts))
+
+pub nothing-tells-all : (g : System) → g.ghost.shown ≡ [] → TellsAll g
+nothing-tells-all g q = record {
+  told = subst (LinesTell (base_of g)) (sym q) (nothing-tells (base_of g));
+  fronts = λ front rest e. subst (AreLawful (base_of g) g.durable.max_objects) (sym (none front rest (e ∙ q))) record { placed = tt; history = tt; fsync = tt };
+}
+  where
+    none : (xs ys : List Shown) → xs ++ ys ≡ [] → xs ≡ []
+    none [] ys e = refl
+    none (x ∷ xs) ys e = absurd cc
 
 pub quiet-tells : (g h : System) → GoesBy g h [] → TellsAll g → TellsAll h
-quiet-tells g h go t = subst (LinesTell (base_of h)) (sym (go.shown ∙ append-nil g.ghost.shown)) (rebased g h [] go t)
+quiet-tells g h go t =
+    let same : h.ghost.shown ≡ g.ghost.shown = go.shown ∙ append-nil g.ghost.shown in
+    record {
+      told = subst (LinesTell (base_of h)) (sym same) (rebased g h [] go t);
+      fronts = subst (FrontsAreLawful (base_of h) h.durable.max_objects) (sym same) (rebased-fronts g h [] go t);
+    }
+
+-- a front of one more line is a front of the lines before it, or all
+front-or : (front rest ss : List Shown) (s : Shown) → front ++ rest ≡ ss ++ s ∷ [] → ((more : List Shown) × (front ++ more ≡ ss)) ⊎ (front ≡ ss ++ s ∷ [])
+front-or [] rest ss s q = inl (ss, refl)
+front-or (x ∷ front) rest [] s q = inr (ap (λ z. x ∷ z) (none front rest (tail q)) ∙ ap (λ z. z ∷ []) (head q))
+  where
+    none : (xs ys : List Shown) → xs ++ ys ≡ [] → xs ≡ []
+    none [] ys e = refl
+    none (y ∷ xs) ys e = absurd cc
+
+    tail : {A : Type 0} {x y : A} {xs ys : List A} → x ∷ xs ≡ y ∷ ys → xs ≡ ys
+    tail e = cc
+
+    head : {A : Type 0} {x y : A} {xs ys : List A} → x ∷ xs ≡ y ∷ ys → x ≡ y
+    head e = cc
+front-or (x ∷ front) rest (y ∷ ss) s q = elim (front-or front rest ss s (tail q)) [
+  | inl r ↦ inl (r.0, ap (λ z. x ∷ z) r.1 ∙ ap (λ z. z ∷ ss) (head q))
+  | inr r ↦ inr (ap (λ z. x ∷ z) r ∙ ap (λ z. z ∷ ss ++ s ∷ []) (head q))
+]
+  where
+    tail : {A : Type 0} {x y : A} {xs ys : List A} → x ∷ xs ≡ y ∷ ys → xs ≡ ys
+    tail e = cc
+
+    head : {A : Type 0} {x y : A} {xs ys : List A} → x ∷ xs ≡ y ∷ ys → x ≡ y
+    head e = cc
 
 module _ (g h : System) (before : AllAgree g) (behind : AllAgree h) where
   module _ (s : Shown) (go : GoesBy g h (s ∷ [])) where
@@ -128,4 +174,16 @@ module _ (g h : System) (before : AllAgree g) (behind : AllAgree h) where
     }
 
     pub line-tells : TellsAll g → TellsAll h
-    line-tells t = subst (LinesTell (base_of h)) (sym go.shown) (one-more (base_of h) h.durable.max_objects ss s more (rebased g h (s ∷ []) go t))
+    line-tells t = record { told = now; fronts = fronts }
+      where
+        now : LinesTell (base_of h) h.ghost.shown
+        now = subst (LinesTell (base_of h)) (sym go.shown) (one-more (base_of h) h.durable.max_objects ss s more (rebased g h (s ∷ []) go t))
+
+        whole : AreLawful (base_of h) h.durable.max_objects h.ghost.shown
+        whole = record { placed = (behind.0).events.placeable; history = subst (IsLegal (base_of h) h.durable.max_objects) (sym (behind.0).events.placed) (behind.0).events.legal; fsync = now.covered }
+
+        fronts : FrontsAreLawful (base_of h) h.durable.max_objects h.ghost.shown
+        fronts front rest q = elim (front-or front rest ss s (q ∙ go.shown)) [
+          | inl r ↦ rebased-fronts g h (s ∷ []) go t front r.0 r.1
+          | inr r ↦ subst (AreLawful (base_of h) h.durable.max_objects) (go.shown ∙ sym r) whole
+        ]

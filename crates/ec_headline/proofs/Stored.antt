@@ -100,7 +100,7 @@ module _ (g : System) (all : AllAgree g) (tells : TellsAll g) where
   told : Each (λ o. T (named o) ⊎ IsUndurable o.clerk (shown_boot g o.clerk o.boot) o.number ss) g.ghost.kept
   told = each-back (shown_op g) (λ k. T (member k.number (durable k.clerk k.boot ss)) ⊎ IsUndurable k.clerk k.boot k.number ss) g.ghost.kept
       (subst (Each (λ k. T (member k.number (durable k.clerk k.boot ss)) ⊎ IsUndurable k.clerk k.boot k.number ss)) keeps
-      (kept-told (base_of g) g.durable.max_objects ss (subst (IsLegal (base_of g) g.durable.max_objects) (sym (all.0).events.placed) (all.0).events.legal) tells))
+      (kept-told (base_of g) g.durable.max_objects ss (subst (IsLegal (base_of g) g.durable.max_objects) (sym (all.0).events.placed) (all.0).events.legal) tells.told))
 
   -- one that isn't durable is of an open session, and lines show it so
   undurable-shown : (o : Op) → (T (not (g.ghost.is_durable o)) → HasWrites g o) → ((s : ℕ) → T (is_of (g.ghost.owner s) o && not (g.ghost.is_durable o)) → T (member o.number (numbers (undurable g.ghost s))))
@@ -150,7 +150,7 @@ module _ (g : System) (all : AllAgree g) (tells : TellsAll g) where
         where
           yes : (b : Bool) → g.ghost.is_durable o ≡ b → T (named o) → T b
           yes true e n = tt
-          yes false e n = absurd (off (named o) (tells.apart o.clerk (shown_boot g o.clerk o.boot) o.number (undurable-shown o has among (subst (λ b. T (not b)) (sym e) tt))) n)
+          yes false e n = absurd (off (named o) (tells.told.apart o.clerk (shown_boot g o.clerk o.boot) o.number (undurable-shown o has among (subst (λ b. T (not b)) (sym e) tt))) n)
 
       go : (ks : List Op) → Each (λ o. T (named o) ⊎ IsUndurable o.clerk (shown_boot g o.clerk o.boot) o.number ss) ks → Each (λ o. T (not (g.ghost.is_durable o)) → HasWrites g o) ks → Each (λ o. g.first_boot o.clerk < o.boot) ks
           → ((s : ℕ) → Each (λ k. T (is_of (g.ghost.owner s) k && not (g.ghost.is_durable k)) → T (member k.number (numbers (undurable g.ghost s)))) ks) → Each (λ o. named o ≡ g.ghost.is_durable o) ks
@@ -174,10 +174,4 @@ module _ (g : System) (all : AllAgree g) (tells : TellsAll g) where
       (pulled-fit_alone (λ k. k.update) g.origin g.ghost.is_durable g.ghost.kept (all.0).logs.closed (all.0).images.fits))
 
   pub show-lawfully : ShowLawfully (base_of g) g.durable.max_objects ss (images g.durable.volume)
-  show-lawfully = record {
-    placed = (all.0).events.placeable;
-    history = subst (IsLegal (base_of g) g.durable.max_objects) (sym (all.0).events.placed) (all.0).events.legal;
-    fsync = tells.covered;
-    formed = formed;
-    stored = stored;
-  }
+  show-lawfully = record { fronts = tells.fronts; formed = formed; stored = stored }

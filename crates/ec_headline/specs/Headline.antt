@@ -24,14 +24,22 @@ pub record IsGreatest (v : Images) (n : ℕ) : Type 0 where
 abbrev pub placed_on : Images → ℕ → Base
 placed_on v n = record { volume = v; fresh = λ place. n + place }
 
--- The lines show a lawful run on the base, with at most so many objects, and the disk has this volume then.
-pub record ShowLawfully (base : Base) (most : ℕ) (ss : List Shown) (disk : Images) : Type 0 where
+-- Lines are lawful on the base, with at most so many objects.
+pub record AreLawful (base : Base) (most : ℕ) (ss : List Shown) : Type 0 where
   -- they have a history: each line number has one answer, one clerk and one call; ends and durable lines name what they may
   pub placed : ArePlaceable [] ss
   -- it is legal on one uncached volume: each reply and each report is exact, operations are numbered in order, and each loss is lawful
   pub history : IsLegal base most (place ss)
   -- a durable line above an answered fsync or sync names each operation that it covers
   pub fsync : AreCovered base ss
+
+-- and so is each front of them, as a run that is cut off shows it
+abbrev pub FrontsAreLawful : Base → ℕ → List Shown → Type 0
+FrontsAreLawful base most ss = (front rest : List Shown) → front ++ rest ≡ ss → AreLawful base most front
+
+-- The lines show a lawful run, and the disk has this volume then.
+pub record ShowLawfully (base : Base) (most : ℕ) (ss : List Shown) (disk : Images) : Type 0 where
+  pub fronts : FrontsAreLawful base most ss
   -- the disk's volume is well formed, and has the shape that the operations leave which durable lines name, in the history's order
   pub formed : WellFormed disk
   pub stored : IsStored base ss disk

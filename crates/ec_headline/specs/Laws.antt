@@ -6,11 +6,16 @@ use Rattle.ec_history.specs.declared.shown.Shown.{Shown}
 use Rattle.ec_coherence.specs.System.{System, base_of}
 use Rattle.ec_commits.specs.Laws.{AllAgree}
 use Rattle.ec_accounts.specs.Accounts.{LinesTell}
-use Rattle.ec_headline.specs.Headline.{ShowLawfully}
+use Rattle.ec_headline.specs.Headline.{FrontsAreLawful, ShowLawfully}
 
--- the lines tell what became of each operation
-abbrev pub TellsAll : System → Type 0
-TellsAll g = LinesTell (base_of g) g.ghost.shown
+-- The lines tell what became of each operation, and each front of them is lawful.
+pub record TellsAll (g : System) : Type 0 where
+  pub told : LinesTell (base_of g) g.ghost.shown
+  pub fronts : FrontsAreLawful (base_of g) g.durable.max_objects g.ghost.shown
+
+-- nothing was shown yet
+abbrev pub NothingTells : Type 0
+NothingTells = (g : System) → g.ghost.shown ≡ [] → TellsAll g
 
 -- Behind a step with these lines the run is the same: its origin, its greatest number of objects, and the ids at the places so far.
 pub record GoesBy (g h : System) (ss : List Shown) : Type 0 where

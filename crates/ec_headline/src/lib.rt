@@ -2,7 +2,7 @@
 //! it. Each function has an empty body, and its contract is a law.
 #![tactic(auto)]
 
-ghost use Rattle.ec_headline.specs.Laws.{FactsShow, LineTells, QuietTells};
+ghost use Rattle.ec_headline.specs.Laws.{FactsShow, LineTells, NothingTells, QuietTells};
 
 /// Where all facts hold and the lines tell what became of each operation, they show a lawful run on the
 /// volume at the beginning, with the ids that new objects were given.
@@ -10,8 +10,10 @@ pub fn facts_show_lawful_runs()
     ensures { FactsShow }
 {}
 
-/// The lines go on to tell so behind a step that shows nothing, and behind one that shows a line.
+/// The lines tell so before any of them, and go on to tell so behind a step that shows nothing, and behind
+/// one that shows a line.
 pub fn lines_go_on_to_tell()
+    ensures nothing { NothingTells }
     ensures quiet { QuietTells }
     ensures line { LineTells }
 {}

@@ -1,15 +1,16 @@
 -- Cut-off starts, and counted ones, behind whatever leaves what they read, behind a crash and behind a line.
 use Rattle.std.proofs.Common.{◌≡◌, refl, sym, ap, ◌∙◌, arith, ◌≤◌, ◌-◌, ◌+◌, ℕ, Bool, true, false, ◌==◌, cond, [], ◌∷◌, ◌++◌, Option, Some, None}
-use Rattle.ec_history.specs.Placing.{watch}
+use Rattle.ec_plain.specs.declared.call.Call.{Call}
+use Rattle.ec_history.specs.Placing.{begun, watch, watch_next}
 use Rattle.ec_history.specs.declared.watch.Watch.{Watch}
 use Rattle.ec_history.specs.declared.shown.Shown.{Shown}
 use Rattle.ec_history.specs.declared.shown.Shown.TheVariants as show
 use Rattle.ec_laws.proofs.More.{watch-step}
 use Rattle.ec_coherence.specs.System.{System}
 use Rattle.ec_coherence.specs.Events.{shown_boot}
-use Rattle.ec_coherence.proofs.Tables.{by-session, none_some, same}
+use Rattle.ec_coherence.proofs.Tables.{by-session, equal, none_some, same}
 use Rattle.ec_commits.specs.Laws.{AllAgree}
-use Rattle.ec_changes.specs.Laws.{crashed, lined}
+use Rattle.ec_changes.specs.Laws.{crashed, lined, stopped}
 use Rattle.ec_joins.specs.Counts.{CountsAgree}
 use Rattle.ec_joins.specs.Cuts.{CutsAgree}
 use Rattle.ec_joins.specs.Frames.{SameCuts}
@@ -83,3 +84,41 @@ opening-keeps g idle silent boots = (
 
     same-le : (m n : ℕ) → m ≡ n → n ≤ m
     same-le m n e = omega (arith, e)
+
+-- Lines that leave what is untold, and begin no start.
+module _ (g : System) (l : Shown) (untold : (c : ℕ) → (watch c (g.ghost.shown ++ l ∷ [])).untold ≡ (watch c g.ghost.shown).untold) (starts : (c : ℕ) → g.running c ≡ None → (watch c (g.ghost.shown ++ l ∷ [])).starts ≡ (watch c g.ghost.shown).starts) where
+  pub lined-keeps : CutsAgree g → CountsAgree g → CutsAgree (lined g l) × CountsAgree (lined g l)
+  lined-keeps f a = (
+    same-cuts g (lined g l) (record { slots = λ c. refl; running = refl; clerks = refl; owner = refl; frozen = refl; is_durable = refl; untold = untold }) f,
+    lines-keep-counts g a l starts,
+  )
+
+pub silent-keeps : (g : System) → CutsAgree g → CountsAgree g → (l : Shown) → ((c : ℕ) (w : Watch) → watch_next c w l ≡ w) → CutsAgree (lined g l) × CountsAgree (lined g l)
+silent-keeps g f a l e = lined-keeps g l (λ c. ap (λ w. w.untold) (watch-step c g.ghost.shown l ∙ e c (watch c g.ghost.shown))) (λ c n. ap (λ w. w.starts) (watch-step c g.ghost.shown l ∙ e c (watch c g.ghost.shown))) f a
+
+pub stop-keeps : (g : System) → CutsAgree g → CountsAgree g → CutsAgree (stopped g) × CountsAgree (stopped g)
+stop-keeps g f a = let q = silent-keeps g f a show.Stopped (λ c w. refl) in (
+  same-cuts (lined g show.Stopped) (stopped g) (record { slots = λ c. refl; running = refl; clerks = refl; owner = refl; frozen = refl; is_durable = refl; untold = λ c. refl }) q.0,
+  record { counted = q.1.counted; above = q.1.above },
+)
+
+-- a clerk that runs waits
+module _ (g : System) (c b l : ℕ) (cl : Call) (r : g.running c ≡ Some b) where
+  begins-untold : (z : Bool) (w : Watch) → (cond z (begun w) w).untold ≡ w.untold
+  begins-untold false w = refl
+  begins-untold true w = go w.running
+    where
+      go : (y : Bool) → (cond y w (record w { starts = w.starts + 1; running = true })).untold ≡ w.untold
+      go true = refl
+      go false = refl
+
+  other : (d : ℕ) → g.running d ≡ None → (d == c) ≡ false
+  other d n = go (d == c) refl
+    where
+      go : (z : Bool) → (d == c) ≡ z → z ≡ false
+      go false e = refl
+      go true e = absurd (none_some (sym n ∙ ap g.running (equal d c e) ∙ r))
+
+  pub waits-keeps : CutsAgree g → CountsAgree g → CutsAgree (lined g (show.Waits l c cl)) × CountsAgree (lined g (show.Waits l c cl))
+  waits-keeps = lined-keeps g (show.Waits l c cl) (λ d. ap (λ w. w.untold) (watch-step d g.ghost.shown (show.Waits l c cl)) ∙ begins-untold (d == c) (watch d g.ghost.shown))
+      (λ d n. ap (λ w. w.starts) (watch-step d g.ghost.shown (show.Waits l c cl) ∙ ap (λ z. cond z (begun (watch d g.ghost.shown)) (watch d g.ghost.shown)) (other d n)))

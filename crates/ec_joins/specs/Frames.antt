@@ -6,12 +6,13 @@ use Rattle.ec_volume.specs.declared.image.Image.{Image}
 use Rattle.ec_plain.specs.declared.call.Call.{Call}
 use Rattle.ec_history.specs.declared.entry.Answer.{Answer}
 use Rattle.ec_history.specs.declared.shown.Shown.{Shown}
-use Rattle.ec_history.specs.declared.shown.Shown.TheVariants.{Answered}
+use Rattle.ec_history.specs.declared.shown.Shown.TheVariants.{Answered, Waits}
+use Rattle.ec_history.specs.declared.watch.Watch.{Watch}
 use Rattle.ec_cache.specs.Cache as cache
 use Rattle.ec_log.specs.declared.state.Asked.{Asked}
 use Rattle.ec_volume.specs.declared.update.Update.{Update}
 use Rattle.ec_history.specs.History.{Op}
-use Rattle.ec_history.specs.Placing.{watch}
+use Rattle.ec_history.specs.Placing.{watch, watch_next}
 use Rattle.ec_sessions.specs.declared.slot.Slot.{Slot}
 use Rattle.ec_sessions.specs.declared.window.Window.{Window}
 use Rattle.ec_wire.specs.declared.msg.Msg.{Msg}
@@ -32,7 +33,7 @@ use Rattle.ec_coherence.specs.Log.{Knows}
 use Rattle.ec_coherence.specs.Steps.{Committed, UnderClerk, doing_in, give_ids, open_session}
 use Rattle.ec_coherence.specs.ChangeLaws.{next_op}
 use Rattle.ec_commits.specs.Laws.{AllAgree, show_batch}
-use Rattle.ec_changes.specs.Laws.{IsUnderWay, crashed, lined}
+use Rattle.ec_changes.specs.Laws.{IsUnderWay, crashed, lined, stopped}
 use Rattle.ec_ends.specs.Ends.{show_end}
 use Rattle.ec_joins.specs.Counts.{CountsAgree}
 use Rattle.ec_joins.specs.Cuts.{CutsAgree}
@@ -144,6 +145,12 @@ StepsKeepCounts = (g : System) (c b : ℕ) (d : Doing) (γ : Ghost) → UnderCle
 -- and behind one more line of a clerk that runs, or that begins no start
 abbrev pub LinesKeepCounts : Type 0
 LinesKeepCounts = (g : System) → CountsAgree g → (l : Shown) → ((c : ℕ) → g.running c ≡ None → (watch c (g.ghost.shown ++ l ∷ [])).starts ≡ (watch c g.ghost.shown).starts) → CountsAgree (lined g l)
+
+-- a line of a call that waits, of a clerk that runs, and lines that say nothing of clerks; and a stop with its line
+abbrev pub LinesKeepBoth : Type 0
+LinesKeepBoth = (g : System) → (CutsAgree g → CountsAgree g → (c b l : ℕ) (cl : Call) → g.running c ≡ Some b → CutsAgree (lined g (Waits l c cl)) × CountsAgree (lined g (Waits l c cl)))
+    × (CutsAgree g → CountsAgree g → (l : Shown) → ((c : ℕ) (w : Watch) → watch_next c w l ≡ w) → CutsAgree (lined g l) × CountsAgree (lined g l))
+    × (CutsAgree g → CountsAgree g → CutsAgree (stopped g) × CountsAgree (stopped g))
 
 -- where nothing runs yet
 abbrev pub OpeningKeeps : Type 0

@@ -2,7 +2,7 @@
 //! function has an empty body, and its contract is a law.
 #![tactic(auto)]
 
-ghost use Rattle.ec_joins.specs.Frames.{AreCalm, CalmStepsKeep, CrashesKeep, KeptBatchesKeep, LateAnswersKeep, LinesKeepCounts, OpeningKeeps, PlainAnswersKeep, RecordsKeep, SameCutsKeep, StepsKeepCounts};
+ghost use Rattle.ec_joins.specs.Frames.{AreCalm, CalmStepsKeep, CrashesKeep, KeptBatchesKeep, LateAnswersKeep, LinesKeepBoth, LinesKeepCounts, OpeningKeeps, PlainAnswersKeep, RecordsKeep, SameCutsKeep, StepsKeepCounts};
 ghost use Rattle.ec_joins.specs.Laws.{EndedStands, FreshStartsStand, GoesAtFirst, HellosStand, OpenedStands, OutsideStands, StartsStand, TakesOthers, TakesOutside};
 
 /// A clerk that doesn't run starts, and greets: all facts stand behind its first line, and before it
@@ -36,6 +36,7 @@ pub fn cut_off_starts_stay_known()
     ensures same { SameCutsKeep }
     ensures crash { CrashesKeep }
     ensures lines { LinesKeepCounts }
+    ensures both { LinesKeepBoth }
 {}
 
 /// So they do behind the functions of a clerk's step that answer nothing, and behind answers.

@@ -117,7 +117,7 @@ module _ (w : World) (g : System) (st : Stands w g) where
     epoch = st.epoch;
     up = st.up;
     unshown = st.unshown;
-    clerks = λ e. at-without e c w.clerks ∙ gone-in e (e == c) ;
+    clerks = λ e. at-without e c w.clerks ∙ gone-in e (e == c);
     boots = st.boots;
     calls = ap (without c) st.calls;
     pool = st.pool;

@@ -106,7 +106,7 @@ module _ (w : World) (g : System) (st : Stands w g) (all : AllAgree g) where
         let m : Moving = moving (record w { records = w.records ++ r ∷ [] }) in
         let e = subst (λ d. Shows (noted d r) (record_lines g (Some r))) (sym on.0) (shows-record r) m refl refl refl in
         subst (λ x. Stands (go_on t x) h) (sym e.0) (goes (record (m.world) { shown = m.world.shown ++ record_lines g (Some r) }) refl refl refl refl refl
-            (ap (λ x. x ++ record_lines g (Some r)) st.shown ∙ sym (u.shown ∙ ap (λ x. g.ghost.shown ++ record_lines g x) q)))
+        (ap (λ x. x ++ record_lines g (Some r)) st.shown ∙ sym (u.shown ∙ ap (λ x. g.ghost.shown ++ record_lines g x) q)))
 
     pub served-stands : Stands (served runs t w).world h
     served-stands = subst (λ x. Stands x.world h) (sym (ap (λ o. elim o as (λ z. Moving) [ Some n ↦ fails (fault.Spent n) w | None ↦ served_record runs t.rec t w ]) unspent)) (by-record t.rec refl)

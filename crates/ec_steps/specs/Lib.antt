@@ -1,1 +1,4 @@
 pub mod Ties
+pub mod Steps
+pub mod Calls
+pub mod Drills

@@ -13,8 +13,7 @@ use Rattle.ec_store.specs.declared.fault.StoreFault.{StoreFault}
 use Rattle.ec_store.specs.declared.fault.StoreFault.TheVariants as store
 use Rattle.ec_store.specs.declared.store.Store.{Store}
 use Rattle.ec_world.specs.Opening.{Unread, fault_of}
-use Rattle.ec_durable.specs.WellFormed.{WellFormed}
-use Rattle.ec_world.specs.Steps.{Opens}
+use Rattle.ec_world.specs.Steps.{IsWhole, Opens}
 
 pub unread : (f : StoreFault) (g : WorldFault) (tells : Type 0) (gives now : List ℕ) → g ≡ fault_of f → ((place : ℕ) → f ≡ store.BadDisk place → tells → (length gives ≡ 0 → ⊥) × IsBadAt gives place × (now ≡ gives)) → Unread g tells gives now
 unread f g tells gives now is bad = subst (λ (x : WorldFault). Unread x tells gives now) (sym is) (by f bad)
@@ -39,13 +38,13 @@ pub unread_in : (r : Result Store WorldFault) (tells : Type 0) (old mid now : Li
 unread_in (Ok s) tells old mid now same h = tt
 unread_in (Err g) tells old mid now same h = unread_from g tells old mid now same h
 
-pub opens_empty : (r : Result Store WorldFault) (tells : Type 0) (gives : List ℕ) (most : ℕ) → (tells → length gives ≡ 0) → IfOk r (λ s. view_of s ≡ formatted most) → IfOk r (λ s. ∥ WellFormed (view_of s) ∥₁) → IfOk r (λ s. Opens tells gives most (view_of s))
-opens_empty (Ok s) tells gives most empty h formed = record { formed = formed; empty = λ told none. h; stands = λ told full. absurd (full (empty told)) }
-opens_empty (Err g) tells gives most empty h formed = tt
+pub opens_empty : (r : Result Store WorldFault) (tells : Type 0) (gives : List ℕ) (most : ℕ) → (tells → length gives ≡ 0) → IfOk r (λ s. view_of s ≡ formatted most) → IfOk r (λ s. IsWhole (view_of s)) → IfOk r (λ s. Opens tells gives most (view_of s))
+opens_empty (Ok s) tells gives most empty h whole = record { whole = whole; empty = λ told none. h; stands = λ told full. absurd (full (empty told)) }
+opens_empty (Err g) tells gives most empty h whole = tt
 
-pub opens_full : (r : Result Store WorldFault) (tells : Type 0) (gives mid : List ℕ) (most : ℕ) → (tells → mid ≡ gives) → (tells → length gives ≡ 0 → ⊥) → IfOk r (λ s. tells → StandsFor mid (view_of s)) → IfOk r (λ s. ∥ WellFormed (view_of s) ∥₁) → IfOk r (λ s. Opens tells gives most (view_of s))
-opens_full (Ok s) tells gives mid most same full h formed = record { formed = formed; empty = λ told none. absurd (full told none); stands = λ told some. subst (λ (x : List ℕ). StandsFor x (view_of s)) (same told) (h told) }
-opens_full (Err g) tells gives mid most same full h formed = tt
+pub opens_full : (r : Result Store WorldFault) (tells : Type 0) (gives mid : List ℕ) (most : ℕ) → (tells → mid ≡ gives) → (tells → length gives ≡ 0 → ⊥) → IfOk r (λ s. tells → StandsFor mid (view_of s)) → IfOk r (λ s. IsWhole (view_of s)) → IfOk r (λ s. Opens tells gives most (view_of s))
+opens_full (Ok s) tells gives mid most same full h whole = record { whole = whole; empty = λ told none. absurd (full told none); stands = λ told some. subst (λ (x : List ℕ). StandsFor x (view_of s)) (same told) (h told) }
+opens_full (Err g) tells gives mid most same full h whole = tt
 
 -- Counts.
 

@@ -5,6 +5,7 @@ use Rattle.ec_disk.specs.Disk.{View, Counts, Counted}
 use Rattle.ec_durable.specs.declared.state.Durable.{Durable}
 use Rattle.ec_durable.specs.declared.record.Record.{Record}
 use Rattle.ec_durable.specs.Durable.{formatted, step as record_step}
+use Rattle.ec_base.specs.Limits.{clerk_count}
 use Rattle.ec_durable.specs.WellFormed.{WellFormed}
 use Rattle.ec_stands.specs.Stands.{StandsFor, IsBadAt}
 use Rattle.ec_protocol.specs.World.{Fate, runs, stops_without, stops_with, Moving, open_world}
@@ -20,9 +21,14 @@ use Rattle.ec_protocol.specs.declared.world.WorldFault.TheVariants.{BadDisk, Dis
 
 -- Opening.
 
+-- a well-formed state, with a slot for each clerk
+pub record IsWhole (d : Durable) : Type 0 where
+  pub formed : ∥ WellFormed d ∥₁
+  pub slots : length d.sessions ≡ clerk_count
+
 -- What is opened: an empty disk is formatted, and any other one stands for the state. It's well formed in any case.
 pub record Opens (tells : Type 0) (gives : List ℕ) (most : ℕ) (d : Durable) : Type 0 where
-  pub formed : ∥ WellFormed d ∥₁
+  pub whole : IsWhole d
   pub empty : tells → length gives ≡ 0 → d ≡ formatted most
   pub stands : tells → (length gives ≡ 0 → ⊥) → StandsFor gives d
 

@@ -5,7 +5,7 @@ ghost use Rattle.ec_disk.specs.Disk.{Counted};
 ghost use Rattle.ec_durable.specs.Durable.{slot, formatted as formatted_state};
 ghost use Rattle.ec_sessions.specs.Slots as slots;
 ghost use Rattle.ec_stands.specs.Stands.{StandsFor};
-ghost use Rattle.ec_durable.specs.WellFormed.{WellFormed, least_max_objects, most_max_objects};
+ghost use Rattle.ec_durable.specs.WellFormed.{least_max_objects, most_max_objects};
 ghost use Rattle.ec_protocol.specs.Server as machine_server;
 ghost use Rattle.ec_protocol.specs.World as machine;
 ghost use Rattle.ec_protocol.specs.declared.world.WorldFault.TheVariants as fault;
@@ -13,7 +13,7 @@ ghost use Rattle.ec_server.specs.Servers.{standing, StandsOn};
 ghost use Rattle.ec_store.specs.Store.{IsHeld, view_of as state_of};
 ghost use Rattle.ec_world.specs.Keeping.{IsMarked};
 ghost use Rattle.ec_world.specs.Opening.{Unread, Unstarted, Starts, Begins, EndsOne, EndsWith, IsOfDisk, fault_of};
-ghost use Rattle.ec_world.specs.Steps.{Opens};
+ghost use Rattle.ec_world.specs.Steps.{IsWhole, Opens};
 ghost use Rattle.ec_world.specs.Worlds.{view_of, IsInStep};
 
 use crate::keeping::{self, Came};
@@ -62,7 +62,7 @@ fn laid_out<D: CrashDisk>(
     requires limit { max_objects ≤ most_max_objects }
     requires empty { D.tells → length (D.view disk.old).gives ≡ 0 }
     ensures state { IfOk result (λ store. state_of store ≡ formatted_state max_objects) }
-    ensures formed { IfOk result (λ store. ∥ WellFormed (state_of store) ∥₁) }
+    ensures whole { IfOk result (λ store. IsWhole (state_of store)) }
     ensures held { IfOk result (λ store. D.tells → IsHeld (D.view disk.new) store) }
     ensures err { IfErr result (λ fault. Unread fault D.tells (D.view disk.old).gives (D.view disk.new).gives) }
     ensures counts { Counted (D.counts disk.old) (D.counts disk.new) (IsErrOf result fault.DiskFailed) ⊥ }
@@ -76,7 +76,7 @@ fn laid_out<D: CrashDisk>(
 fn read_back<D: CrashDisk>(alloc: Global, disk: &mut D) -> Result<Store, WorldFault>
     requires full { D.tells → length (D.view disk.old).gives ≡ 0 → ⊥ }
     ensures state { IfOk result (λ store. D.tells → StandsFor (D.view disk.old).gives (state_of store)) }
-    ensures formed { IfOk result (λ store. ∥ WellFormed (state_of store) ∥₁) }
+    ensures whole { IfOk result (λ store. IsWhole (state_of store)) }
     ensures held { IfOk result (λ store. D.tells → IsHeld (D.view disk.new) store) }
     ensures err { IfErr result (λ fault. Unread fault D.tells (D.view disk.old).gives (D.view disk.new).gives) }
     ensures counts { Counted (D.counts disk.old) (D.counts disk.new) (IsErrOf result fault.DiskFailed) ⊥ }
@@ -87,12 +87,15 @@ fn read_back<D: CrashDisk>(alloc: Global, disk: &mut D) -> Result<Store, WorldFa
     }
 }
 
-// What a store shows is well formed.
+// What a store shows is well formed, with a slot for each clerk.
 fn shown(store: Store) -> Store
     ensures same { result ≡ store }
-    ensures formed { ∥ WellFormed (state_of result) ∥₁ }
+    ensures whole { IsWhole (state_of result) }
 {
-    let _state = store.view();
+    let Some(clerk) = ClerkId::new(0) else {
+        unreachable!();
+    };
+    let _slot = store.view().sessions.slot(clerk);
     store
 }
 

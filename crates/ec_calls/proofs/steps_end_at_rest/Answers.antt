@@ -1,3 +1,4 @@
+use Rattle.ec_calls.proofs.Behind.{rests-behind}
 use Rattle.ec_calls.proofs.Resting.{evicts-rest, settles-rest, tries-rest}
 use Rattle.ec_calls.proofs.steps_end_at_rest.Goals as goal
 
@@ -9,3 +10,6 @@ returns-clause-tries z = tries-rest
 
 pub returns-clause-evict : goal.returns-clause-evict
 returns-clause-evict z = evicts-rest
+
+pub returns-clause-behind : goal.returns-clause-behind
+returns-clause-behind z g c b e γ ls run shown others own = rests-behind g c b e γ ls run shown others own

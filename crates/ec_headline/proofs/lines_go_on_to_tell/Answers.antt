@@ -1,5 +1,8 @@
-use Rattle.ec_headline.proofs.Lines.{line-tells, quiet-tells}
+use Rattle.ec_headline.proofs.Lines.{line-tells, nothing-tells-all, quiet-tells}
 use Rattle.ec_headline.proofs.lines_go_on_to_tell.Goals as goal
+
+pub returns-clause-nothing : goal.returns-clause-nothing
+returns-clause-nothing c = nothing-tells-all
 
 pub returns-clause-quiet : goal.returns-clause-quiet
 returns-clause-quiet c = quiet-tells

@@ -1,4 +1,4 @@
-use Rattle.ec_joins.proofs.Frames.{crash-counts, crash-cuts, lines-keep-counts, opening-keeps, same-cuts}
+use Rattle.ec_joins.proofs.Frames.{crash-counts, crash-cuts, lines-keep-counts, opening-keeps, same-cuts, silent-keeps, stop-keeps, waits-keeps}
 use Rattle.ec_joins.proofs.Records.{records-counts, records-cuts}
 use Rattle.ec_joins.proofs.cut_off_starts_stay_known.Goals as goal
 
@@ -16,3 +16,6 @@ returns-clause-crash z g all c = (crash-cuts g all c, crash-counts g all c)
 
 pub returns-clause-lines : goal.returns-clause-lines
 returns-clause-lines z = lines-keep-counts
+
+pub returns-clause-both : goal.returns-clause-both
+returns-clause-both z g = ((λ f a c b l cl r. waits-keeps g c b l cl r f a), silent-keeps g, stop-keeps g)

@@ -1,0 +1,4 @@
+pub mod Olds
+pub mod Doubts
+pub mod Founds
+pub mod Fates

@@ -1,0 +1,34 @@
+-- All facts of a system, taken together.
+use Rattle.ec_coherence.specs.System.{System}
+use Rattle.ec_commits.specs.Laws.{AllAgree}
+use Rattle.ec_calls.specs.Calls.{CallsAgree}
+use Rattle.ec_calls.specs.Waits.{AreAtRest}
+use Rattle.ec_doings.specs.Orderly.{OrderlyAgree}
+use Rattle.ec_doings.specs.Names.{NamesAgree}
+use Rattle.ec_joins.specs.Cuts.{CutsAgree}
+use Rattle.ec_joins.specs.Counts.{CountsAgree}
+use Rattle.ec_answers.specs.Zeros.{ZerosAgree}
+use Rattle.ec_answers.specs.Frees.{FreesAgree, FullsAgree}
+use Rattle.ec_found.specs.Doubts.{DoubtAgrees}
+use Rattle.ec_headline.specs.Laws.{TellsAll}
+
+pub record Whole (g : System) : Type 0 where
+  -- sessions, tokens, logs, images, the history and what lines show
+  pub all : AllAgree g
+  -- calls under way: each waits, and has its line
+  pub calls : CallsAgree g
+  pub rest : AreAtRest g
+  -- each start's clerk by itself
+  pub orderly : OrderlyAgree g
+  -- ids: what is kept or seen names ids that were given out, no id is 0, and those in store are of no object
+  pub names : NamesAgree g
+  pub zeros : ZerosAgree g
+  pub frees : FreesAgree g
+  -- starts that are cut off, or that don't run
+  pub cuts : CutsAgree g
+  pub counts : CountsAgree g
+  -- refusals for want of room, and a record in doubt
+  pub fulls : FullsAgree g
+  pub doubts : DoubtAgrees g
+  -- the lines tell what became of each operation, and each front of them is lawful
+  pub tells : TellsAll g

@@ -1,0 +1,4 @@
+pub mod Behind
+pub mod Parts
+pub mod Sent
+pub mod Served

@@ -1,0 +1,2 @@
+pub mod Fulls
+pub mod Laws
