@@ -4,3 +4,4 @@ pub mod Beginning
 pub mod Ending
 pub mod Resending
 pub mod Settling
+pub mod Plains

@@ -1,4 +1,5 @@
 use Rattle.ec_settles.proofs.Beginning.{begins, begins-pushed}
+use Rattle.ec_settles.proofs.Plains.{plains-keep}
 use Rattle.ec_settles.proofs.Readying.{evicts-lined, prepares, prepares-call}
 use Rattle.ec_settles.proofs.steps_come_to_tries.Goals as goal
 
@@ -10,3 +11,6 @@ returns-clause-ready z = (prepares, evicts-lined)
 
 pub returns-clause-calls : goal.returns-clause-calls
 returns-clause-calls z = prepares-call
+
+pub returns-clause-messages : goal.returns-clause-messages
+returns-clause-messages z g c b s d γ l session m p own sound f = plains-keep g c b s d γ l session m p own sound f
