@@ -5,3 +5,4 @@ pub mod Ending
 pub mod Resending
 pub mod Settling
 pub mod Plains
+pub mod Waiting

@@ -1,6 +1,7 @@
 use Rattle.ec_settles.proofs.Beginning.{begins, begins-pushed}
 use Rattle.ec_settles.proofs.Plains.{plains-keep}
 use Rattle.ec_settles.proofs.Readying.{evicts-lined, prepares, prepares-call}
+use Rattle.ec_settles.proofs.Waiting.{waits-stand}
 use Rattle.ec_settles.proofs.steps_come_to_tries.Goals as goal
 
 pub returns-clause-begin : goal.returns-clause-begin
@@ -14,3 +15,6 @@ returns-clause-calls z = prepares-call
 
 pub returns-clause-messages : goal.returns-clause-messages
 returns-clause-messages z g c b s d γ l session m p own sound f = plains-keep g c b s d γ l session m p own sound f
+
+pub returns-clause-waits : goal.returns-clause-waits
+returns-clause-waits z = waits-stand
