@@ -26,7 +26,7 @@ use Rattle.ec_answers.specs.Zeros.{LeaveOut}
 use Rattle.ec_names.proofs.Serving.{still-in}
 
 -- an object that no operation has stays as it was
-same-image : (x : ℕ) (i : Image) (os : List Op) → LeaveOut x os → image_after x i (updates os) ≡ i
+pub same-image : (x : ℕ) (i : Image) (os : List Op) → LeaveOut x os → image_after x i (updates os) ≡ i
 same-image x i [] l = refl
 same-image x i (o ∷ os) l = ap (λ z. image_after x z (updates os)) (go (has_operand x o.update) l.0) ∙ same-image x i os l.1
   where

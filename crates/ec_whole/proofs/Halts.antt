@@ -147,7 +147,7 @@ module _ (g : System) (w : Whole g) where
 -- A restart.
 
 -- a start leaves the durable state but for its epoch
-start-leaves : (d : Durable) → (start d).server.durable ≡ record d { epoch = (start d).server.durable.epoch }
+pub start-leaves : (d : Durable) → (start d).server.durable ≡ record d { epoch = (start d).server.durable.epoch }
 start-leaves d = go (nat_le last_counter d.epoch)
   where
     told : (c : ℕ) (xs : Slots) (t : Serving) → (tell_all c xs t).server ≡ t.server

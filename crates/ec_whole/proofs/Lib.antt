@@ -3,3 +3,5 @@ pub mod Stores
 pub mod Server
 pub mod Halts
 pub mod Fates
+pub mod Telling
+pub mod Runs

@@ -23,7 +23,8 @@ use Rattle.ec_joins.specs.Frames.{RecordMakes, behind}
 use Rattle.ec_joins.proofs.Records.{records-counts, records-cuts}
 use Rattle.ec_joins.proofs.Steps.{step-most}
 use Rattle.ec_names.proofs.Serving.{servers-keep}
-use Rattle.ec_zeros.specs.Fulls.{FullsAgree, IsFullAt, AreFullAt}
+use Rattle.ec_answers.specs.Frees.{FullsAgree}
+use Rattle.ec_zeros.specs.Fulls.{IsFullAt, AreFullAt}
 use Rattle.ec_zeros.proofs.Behind.{records-keep}
 use Rattle.ec_zeros.proofs.Served.{end-right, take-right}
 use Rattle.ec_coherence.proofs.Lists.{each-more}

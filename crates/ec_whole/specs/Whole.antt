@@ -8,8 +8,7 @@ use Rattle.ec_doings.specs.Names.{NamesAgree}
 use Rattle.ec_joins.specs.Cuts.{CutsAgree}
 use Rattle.ec_joins.specs.Counts.{CountsAgree}
 use Rattle.ec_answers.specs.Zeros.{ZerosAgree}
-use Rattle.ec_answers.specs.Frees.{FreesAgree}
-use Rattle.ec_zeros.specs.Fulls.{FullsAgree}
+use Rattle.ec_answers.specs.Frees.{FreesAgree, FullsAgree}
 use Rattle.ec_found.specs.Doubts.{DoubtAgrees}
 use Rattle.ec_headline.specs.Laws.{TellsAll}
 
