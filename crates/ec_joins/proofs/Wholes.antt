@@ -99,7 +99,7 @@ module _ (g : System) (all : AllAgree g) (cuts : CutsAgree g) (c b : ℕ) (k : C
   pub of-sessions : (m : Msg) → Contains g.pool (c, m) → sessions.Fits here c m
   of-sessions m p = each-of (λ z. sessions.Fits here z.0 z.1) here.pool (c, m) ((st.0).invariant.sessions.messages) (in-pool m p)
 
-  of-tokens : (m : Msg) → Contains g.pool (c, m) → Fits (view here) m
+  pub of-tokens : (m : Msg) → Contains g.pool (c, m) → Fits (view here) m
   of-tokens m p = each-of (λ z. Fits (view here) z.1) here.pool (c, m) ((st.0).invariant.tokens.messages) (in-pool m p)
 
   pub greeted : IsGoing g c b k (hello d) g.ghost

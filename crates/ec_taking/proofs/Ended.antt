@@ -32,10 +32,14 @@ use Rattle.ec_zeros.proofs.Parts.{have-no-zero}
 use Rattle.ec_frees.proofs.Stored.{ended-keeps-frees}
 use Rattle.ec_joins.specs.Laws.{IsGoing, tell_loss}
 use Rattle.ec_joins.proofs.Wholes as wholes
-use Rattle.ec_taking.specs.Laws.{IsBeginning, Stays}
-use Rattle.ec_taking.proofs.Same.{no-zero, stays}
+use Rattle.ec_commits.specs.Laws.{AllAgree}
+use Rattle.ec_changes.specs.Laws.{ClerkStands}
+use Rattle.ec_whole.specs.Whole.{Whole}
+use Rattle.ec_whole.proofs.Telling.{line-step-tells}
+use Rattle.ec_settles.specs.Laws.{IsLined}
+use Rattle.ec_taking.proofs.Same.{first, lined-so, no-zero}
 
-module _ (g : System) (c b : ℕ) (k : Clerk) (i : IsBeginning g c b k) (s : ℕ) (within : k.session ≡ Some s) (low mask : ℕ) (sent : Contains g.pool (c, Ended s low mask)) where
+module _ (g : System) (whole : Whole g) (c b : ℕ) (k : Clerk) (runs : g.running c ≡ Some b) (at-start : g.clerks c b ≡ Some k) (s : ℕ) (within : k.session ≡ Some s) (low mask : ℕ) (sent : Contains g.pool (c, Ended s low mask)) where
   abbrev w : Window
   w = record { low = low; mask = mask }
 
@@ -54,11 +58,17 @@ module _ (g : System) (c b : ℕ) (k : Clerk) (i : IsBeginning g c b k) (s : ℕ
   abbrev δ : Ghost
   δ = tell_loss c ns γ
 
+  was : IsLined g c b d γ
+  was = first g whole c b k runs at-start
+
   t : IsTrying g c b d γ
-  t = i.stays.0
+  t = was.trying
+
+  all-of : (d : Doing) (γ : Ghost) → ClerkStands g c b d γ → AllAgree (doing_in c b d γ g)
+  all-of d γ st = ((st.0).invariant, st.1, st.2, st.3)
 
   same-calls : calls_after c e.outs g.calls ≡ g.calls
-  same-calls = wholes.ended-out g i.all i.cuts c b k i.runs i.stands w
+  same-calls = wholes.ended-out g whole.all whole.cuts c b k runs at-start w
 
   module _ (z : IsGoing g c b k e δ) (goes : nat_le last_round k.age.round ≡ false) where
     abbrev leaves : Doing
@@ -74,15 +84,15 @@ module _ (g : System) (c b : ℕ) (k : Clerk) (i : IsBeginning g c b k) (s : ℕ
     events = subst (λ cs. EventsAgree (now cs)) same-calls ((z.stands.0).invariant).events
 
     calls : CallsAgree (doing_in c b e δ g)
-    calls = subst (λ cs. CallsAgree (now cs)) (sym same-calls) (told-calls g (i.all.0).events c b k e.clerk i.runs i.stands (now g.calls).pool δ ns refl events (z.calls).waiting (z.calls).calls (z.calls).next
-        (subst (λ x. x.clerk.log.first ≡ x.clerk.log.next) (sym is) refl) (subst (λ x. x.clerk.log.undurable ≡ []) (sym is) refl) i.calls)
+    calls = subst (λ cs. CallsAgree (now cs)) (sym same-calls) (told-calls g (whole.all.0).events c b k e.clerk runs at-start (now g.calls).pool δ ns refl events (z.calls).waiting (z.calls).calls (z.calls).next
+        (subst (λ x. x.clerk.log.first ≡ x.clerk.log.next) (sym is) refl) (subst (λ x. x.clerk.log.undurable ≡ []) (sym is) refl) whole.calls)
 
     shown-on : (l : ℕ) → list_any (is_numbered l) γ.shown ≡ true → list_any (is_numbered l) δ.shown ≡ true
     shown-on l p = list_any-append (is_numbered l) γ.shown (show.Told c ns ∷ []) ∙ ap (λ y. y || list_any (is_numbered l) (show.Told c ns ∷ [])) p
 
     lines : Each (HasLine (doing_in c b e δ g) c) e.clerk.waiting
     lines = subst (Each (HasLine (doing_in c b e δ g) c)) (sym (z.calls).waiting)
-        (each-map (HasLine (doing_in c b d γ g) c) (HasLine (doing_in c b e δ g) c) (λ v x. (x.0, ap (call_of c v.no) same-calls ∙ x.1, shown-on x.0 x.2)) k.waiting i.stays.1)
+        (each-map (HasLine (doing_in c b d γ g) c) (HasLine (doing_in c b e δ g) c) (λ v x. (x.0, ap (call_of c v.no) same-calls ∙ x.1, shown-on x.0 x.2)) k.waiting was.lines)
 
     orderly : IsOrderly e.clerk
     orderly = inside (order-stays.taken (Ended s low mask) tt d t.orderly)
@@ -94,16 +104,17 @@ module _ (g : System) (c b : ℕ) (k : Clerk) (i : IsBeginning g c b k) (s : ℕ
             own : (s == s) ≡ true → IsOrderly (elim (s == s) as (λ y. Doing) [ true ↦ e | false ↦ d ]).clerk → IsOrderly e.clerk
             own p = subst (λ y. IsOrderly (elim y as (λ y. Doing) [ true ↦ e | false ↦ d ]).clerk → IsOrderly e.clerk) (sym p) (λ q. q)
 
-    leaves-so : Stays g c b e δ
-    leaves-so = stays g c b k e δ z calls lines orderly (ended-keeps g c b d γ t.names w δ.shown)
-        (steps-keep g c b d e γ δ (record { origin = refl; kept = refl; frozen = refl; next_id = refl; grants = refl; first = refl }) (have-no-zero.ended w d (no-zero g c b k i)) t.zeros)
+    leaves-so : IsLined g c b e δ
+    leaves-so = lined-so g c b k e δ z calls lines orderly (ended-keeps g c b d γ t.names w δ.shown)
+        (steps-keep g c b d e γ δ (record { origin = refl; kept = refl; frozen = refl; next_id = refl; grants = refl; first = refl }) (have-no-zero.ended w d (no-zero g whole c b k runs at-start)) t.zeros)
         (ended-keeps-frees g c b d γ t.frees w δ.shown)
+        (line-step-tells g c b d e γ δ (show.Told c ns) (all-of d γ t.stands) (all-of e δ z.stands) refl (λ p le. refl) was.tells)
 
   abbrev pub Ends : Type 0
-  Ends = T (is_some e.spent) ⊎ Stays g c b e δ
+  Ends = T (is_some e.spent) ⊎ IsLined g c b e δ
 
   pub ends : Ends
-  ends = elim (wholes.own-end g i.all i.cuts c b k i.runs i.stands s within low mask sent) [ inl n ↦ inl n | inr z ↦ by-round (nat_le last_round k.age.round) refl z ]
+  ends = elim (wholes.own-end g whole.all whole.cuts c b k runs at-start s within low mask sent) [ inl n ↦ inl n | inr z ↦ by-round (nat_le last_round k.age.round) refl z ]
     where
       by-round : (y : Bool) → nat_le last_round k.age.round ≡ y → IsGoing g c b k e δ → Ends
       by-round true q z = inl (subst (λ y. T (is_some (elim y as (λ x. Doing) [ true ↦ spend counter.Round d | false ↦ hello (emit (out.Told ns) (with_clerk (lose (log.lost w k.log)) d)) ]).spent)) (sym q) tt)

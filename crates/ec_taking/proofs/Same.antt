@@ -30,16 +30,20 @@ use Rattle.ec_frees.proofs.Stored.{opened-keeps-frees, stills-keep}
 use Rattle.ec_joins.specs.Laws.{IsGoing}
 use Rattle.ec_joins.proofs.Joined as joins
 use Rattle.ec_joins.proofs.Wholes as wholes
-use Rattle.ec_taking.specs.Laws.{IsBeginning, Stays}
+use Rattle.ec_headline.specs.Laws.{TellsAll}
+use Rattle.ec_whole.specs.Whole.{Whole}
+use Rattle.ec_whole.proofs.Telling.{quiet-step-tells}
+use Rattle.ec_settles.specs.Laws.{IsLined}
+use Rattle.ec_settles.proofs.Beginning.{begins}
 
 same-ages : (a b : Age) → a ≡ b → same_age a b ≡ true
 same-ages a b e = ap (λ z. same_age z b) e ∙ ap (λ z. z && (b.round == b.round)) (same b.boot) ∙ same b.round
 
 -- All together.
-pub stays : (g : System) (c b : ℕ) (k : Clerk) (e : Doing) (δ : Ghost) → IsGoing g c b k e δ → CallsAgree (doing_in c b e δ g) → Each (HasLine (doing_in c b e δ g) c) e.clerk.waiting
-    → IsOrderly e.clerk → NamesAgree (doing_in c b e δ g) → ZerosAgree (doing_in c b e δ g) → FreesAgree (doing_in c b e δ g) → Stays g c b e δ
-stays g c b k e δ z calls lines orderly names zeros frees = (
-  record {
+pub lined-so : (g : System) (c b : ℕ) (k : Clerk) (e : Doing) (δ : Ghost) → IsGoing g c b k e δ → CallsAgree (doing_in c b e δ g) → Each (HasLine (doing_in c b e δ g) c) e.clerk.waiting
+    → IsOrderly e.clerk → NamesAgree (doing_in c b e δ g) → ZerosAgree (doing_in c b e δ g) → FreesAgree (doing_in c b e δ g) → TellsAll (doing_in c b e δ g) → IsLined g c b e δ
+lined-so g c b k e δ z calls lines orderly names zeros frees tells = record {
+  trying = record {
     stands = z.stands;
     place = z.place;
     calls = calls;
@@ -49,9 +53,10 @@ stays g c b k e δ z calls lines orderly names zeros frees = (
     zeros = zeros;
     frees = frees;
     cuts = z.cuts;
-  },
-  lines,
-)
+  };
+  lines = lines;
+  tells = tells;
+}
 
 -- Calls don't read which sessions were taken.
 module _ (g : System) (c b : ℕ) (e : Doing) (γ : Ghost) (s : ℕ) where
@@ -78,15 +83,18 @@ module _ (g : System) (c b : ℕ) (e : Doing) (γ : Ghost) (s : ℕ) where
   pub taken-calls : CallsAgree was → CallsAgree now
   taken-calls q = record { starts = λ f a k r p. start f a k (q.starts f a k r p); calls = λ f n l cl x. open-call f n l cl (q.calls f n l cl x); lines = q.lines }
 
-module _ (g : System) (c b : ℕ) (k : Clerk) (i : IsBeginning g c b k) where
+module _ (g : System) (whole : Whole g) (c b : ℕ) (k : Clerk) (runs : g.running c ≡ Some b) (at-start : g.clerks c b ≡ Some k) where
   abbrev d : Doing
   d = doing k
 
   abbrev γ : Ghost
   γ = g.ghost
 
+  pub first : IsLined g c b d γ
+  first = begins g whole c b k runs at-start
+
   t : IsTrying g c b d γ
-  t = i.stays.0
+  t = first.trying
 
   there : (doing_in c b d γ g).clerks c b ≡ Some k
   there = start-same c b k g.clerks
@@ -102,11 +110,11 @@ module _ (g : System) (c b : ℕ) (k : Clerk) (i : IsBeginning g c b k) where
   hello-quiet : IsQuiet d (hello d)
   hello-quiet = record { waiting = refl; calls = refl; next = refl; first = refl; own = λ n x. x; outs = λ c calls. refl }
 
-  pub greets : Stays g c b (hello d) γ
-  greets = stays g c b k (hello d) γ (wholes.greeted g i.all i.cuts c b k i.runs i.stands) (quiet-calls g c b d (hello d) γ hello-quiet t.calls) (quiet-lines g c b d (hello d) γ hello-quiet i.stays.1) t.orderly
+  pub greets : IsLined g c b (hello d) γ
+  greets = lined-so g c b k (hello d) γ (wholes.greeted g whole.all whole.cuts c b k runs at-start) (quiet-calls g c b d (hello d) γ hello-quiet t.calls) (quiet-lines g c b d (hello d) γ hello-quiet first.lines) t.orderly
       (names-read (doing_in c b d γ g) (doing_in c b (hello d) γ g) t.names refl refl (grind arith) refl refl refl refl refl)
       (steps-keep g c b d (hello d) γ γ (record { origin = refl; kept = refl; frozen = refl; next_id = refl; grants = refl; first = refl }) no-zero t.zeros)
-      (stills-keep g c b d γ t.frees (hello d) γ refl refl refl refl refl (inl (refl, refl, refl)))
+      (stills-keep g c b d γ t.frees (hello d) γ refl refl refl refl refl (inl (refl, refl, refl))) (quiet-step-tells g c b d (hello d) γ γ refl refl first.tells)
 
   -- It shows that its boot is old.
 
@@ -117,11 +125,11 @@ module _ (g : System) (c b : ℕ) (k : Clerk) (i : IsBeginning g c b k) where
     old-quiet : IsQuiet d old
     old-quiet = record { waiting = refl; calls = refl; next = refl; first = refl; own = λ n x. x; outs = λ c calls. refl }
 
-    pub shows-old : Stays g c b old γ
-    shows-old = stays g c b k old γ (wholes.shows-old g i.all i.cuts c b k i.runs i.stands a) (quiet-calls g c b d old γ old-quiet t.calls) (quiet-lines g c b d old γ old-quiet i.stays.1) t.orderly
+    pub shows-old : IsLined g c b old γ
+    shows-old = lined-so g c b k old γ (wholes.shows-old g whole.all whole.cuts c b k runs at-start a) (quiet-calls g c b d old γ old-quiet t.calls) (quiet-lines g c b d old γ old-quiet first.lines) t.orderly
         (names-read (doing_in c b d γ g) (doing_in c b old γ g) t.names refl refl (grind arith) refl refl refl refl refl)
         (steps-keep g c b d old γ γ (record { origin = refl; kept = refl; frozen = refl; next_id = refl; grants = refl; first = refl }) no-zero t.zeros)
-        (stills-keep g c b d γ t.frees old γ refl refl refl refl refl (inl (refl, refl, refl)))
+        (stills-keep g c b d γ t.frees old γ refl refl refl refl refl (inl (refl, refl, refl))) (quiet-step-tells g c b d old γ γ refl refl first.tells)
 
   -- It takes a session.
 
@@ -130,10 +138,10 @@ module _ (g : System) (c b : ℕ) (k : Clerk) (i : IsBeginning g c b k) where
     takes = send (Claim s e []) (with_clerk (λ k. record k { session = Some s; epoch = e }) d)
 
     owns : g.ghost.owner s ≡ Some (c, k.age)
-    owns = wholes.of-sessions g i.all i.cuts c b k i.runs i.stands (Opened age s e) sent ∙ ap (λ a. Some (c, a)) own
+    owns = wholes.of-sessions g whole.all whole.cuts c b k runs at-start (Opened age s e) sent ∙ ap (λ a. Some (c, a)) own
 
     untaken : T (not (g.ghost.taken s))
-    untaken = joins.untaken g i.all c b k i.runs i.stands without s e owns
+    untaken = joins.untaken g whole.all c b k runs at-start without s e owns
 
     test : (not (has_session k) && same_age age k.age) ≡ true
     test = ap (λ o. not (Rattle.std.specs.Prelude.is_some o) && same_age age k.age) without ∙ same-ages age k.age own
@@ -144,9 +152,10 @@ module _ (g : System) (c b : ℕ) (k : Clerk) (i : IsBeginning g c b k) where
     orderly : IsOrderly takes.clerk
     orderly = record { keyed = (t.orderly).keyed; recalls = (t.orderly).recalls; asking = (t.orderly).asking; log = (t.orderly).log; sound = (t.orderly).sound; batches = (t.orderly).batches }
 
-    pub opens : Stays g c b takes (take_session s γ)
-    opens = stays g c b k takes (take_session s γ) (wholes.opens g i.all i.cuts c b k i.runs i.stands without age s e sent own) (taken-calls g c b takes γ s (quiet-calls g c b d takes γ quiet t.calls))
-        (quiet-lines g c b d takes γ quiet i.stays.1) orderly
+    pub opens : IsLined g c b takes (take_session s γ)
+    opens = lined-so g c b k takes (take_session s γ) (wholes.opens g whole.all whole.cuts c b k runs at-start without age s e sent own) (taken-calls g c b takes γ s (quiet-calls g c b d takes γ quiet t.calls))
+        (quiet-lines g c b d takes γ quiet first.lines) orderly
         (subst (λ z. NamesAgree (doing_in c b (elim z as (λ y. Doing) [ true ↦ takes | false ↦ d ]) (take_session s γ) g)) test (opened-keeps g c b d γ t.names all-here without age s e untaken))
         (steps-keep g c b d takes γ (take_session s γ) (record { origin = refl; kept = refl; frozen = refl; next_id = refl; grants = refl; first = refl }) (record { ids = no-zero.ids; undurable = no-zero.undurable; owed = no-zero.owed }) t.zeros)
         (subst (λ z. FreesAgree (doing_in c b (elim z as (λ y. Doing) [ true ↦ takes | false ↦ d ]) (take_session s γ) g)) test (opened-keeps-frees g c b d γ t.frees all-here without age s e untaken))
+        (quiet-step-tells g c b d takes γ (take_session s γ) refl refl first.tells)

@@ -2,11 +2,11 @@
 //! contract is a law.
 #![tactic(auto)]
 
-ghost use Rattle.ec_taking.specs.Laws.{TakesBeside, TakesOutside};
+ghost use Rattle.ec_taking.specs.Laws.{MessagesAreDone, MessagesStand};
 
-/// A clerk without a session takes any message that was sent, and one in a session any that isn't of it, and its
-/// end.
+/// A clerk takes any message that was sent and answers no call, in a session and without one; it takes a session so,
+/// and leaves it.
 pub fn clerks_take_messages()
-    ensures outside { TakesOutside }
-    ensures beside { TakesBeside }
+    ensures stand { MessagesStand }
+    ensures done { MessagesAreDone }
 {}
