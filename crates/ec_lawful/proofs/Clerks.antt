@@ -9,47 +9,26 @@ use Rattle.ec_protocol.specs.declared.clerk.Clerk.{Clerk}
 use Rattle.ec_coherence.specs.System.{System, Ghost}
 use Rattle.ec_coherence.specs.Steps.{doing_in, sends}
 use Rattle.ec_coherence.proofs.Lists.{each-more}
-use Rattle.ec_changes.specs.Laws.{ClerkStands}
-use Rattle.ec_commits.specs.Laws.{AllAgree}
 use Rattle.ec_headline.specs.Laws.{TellsAll}
 use Rattle.ec_answers.specs.Frees.{IsFull}
-use Rattle.ec_answers.specs.Laws.{GoesOn}
-use Rattle.ec_answers.proofs.Singles.{one-carries, tries-on}
 use Rattle.ec_zeros.specs.Fulls.{IsFullAt}
 use Rattle.ec_zeros.proofs.Sent.{own-full, resend-own}
 use Rattle.ec_steps.specs.Steps.{IsDone}
 use Rattle.ec_whole.specs.Whole.{Whole}
 use Rattle.ec_whole.proofs.Runs.{ClerksKeep}
-use Rattle.ec_whole.proofs.Telling.{answer-step-tells, quiet-step-tells}
-use Rattle.ec_settles.specs.Laws.{IsLined, TriesAll}
+use Rattle.ec_settles.specs.Laws.{IsLined}
 use Rattle.ec_settles.proofs.Beginning.{begins}
 use Rattle.ec_settles.proofs.Resending.{resends-keep}
 use Rattle.ec_settles.proofs.Settling as settling
 use Rattle.ec_taking.proofs.Taken.{messages-done}
-use Rattle.ec_tries.proofs.Told.{tries-all}
-use Rattle.ec_norooms.specs.Laws.{IsCarried, OneAnswers}
+use Rattle.ec_tries.proofs.Tries.{answers-tell, tries-tell}
 use Rattle.ec_norooms.proofs.Refuses.{no-room}
 use Rattle.ec_goes.proofs.Calls.{calls-whole}
 use Rattle.ec_goes.proofs.Starts.{starts-whole}
 
--- all waiting calls are tried
-tried : (g : System) (c b : ℕ) → TriesAll g c b
-tried g c b = tries-all (λ h e a d γ t before rest w split. tries-on h e a d γ t before rest w split) g c b
-
+-- what goes on with them beside
 abbrev Q : System → ℕ → ℕ → Doing → Ghost → Type 0
 Q g c b d γ = TellsAll (doing_in c b d γ g)
-
-tells-on : (g : System) (c b : ℕ) → GoesOn g c b (Q g c b)
-tells-on g c b = record {
-  stays = λ d e γ t. quiet-step-tells g c b d e γ γ refl refl t;
-  answers = λ d e γ δ l cl a op before behind s t. answer-step-tells g c b d e γ δ l cl a op before behind s t;
-}
-
--- one is answered
-one : (g : System) (c b : ℕ) → OneAnswers g c b (Q g c b)
-one g c b d γ s before rest w split a op gives suit passes =
-    let r = one-carries g c b (Q g c b) (tells-on g c b) d γ s.trying s.lines s.also before rest w split a op gives suit passes in
-    (r.0, record { trying = r.1; lines = r.2; also = r.3 })
 
 -- a member's own fact
 each-in : (P : ℕ × Msg → Type 0) (xs : List (ℕ × Msg)) (x : ℕ × Msg) → Each P xs → Contains xs x → P x
@@ -69,26 +48,26 @@ module _ (g : System) (whole : Whole g) (c b : ℕ) (k : Clerk) (runs : g.runnin
           apart : false ≡ true → ⊥
           apart q = cc
       by (Some u) p =
-          let r = no-room g c b (Q g c b) (one g c b) live reserved (each-in (λ m. IsFull g m.1) g.pool (c, NoRoom s e ask live reserved) whole.fulls sent) (doing k) g.ghost
+          let r = no-room g c b (Q g c b) (answers-tell g c b) live reserved (each-in (λ m. IsFull g m.1) g.pool (c, NoRoom s e ask live reserved) whole.fulls sent) (doing k) g.ghost
           (record { trying = first.trying; lines = first.lines; also = first.tells }) u p (λ t. record { told = t.told; fronts = t.fronts }) ask in
-          settling.takes g whole c b k runs there (tried g c b) (NoRoom s e ask live reserved) r.0 (record { trying = (r.1).trying; lines = (r.1).lines; tells = (r.1).also })
+          settling.takes g whole c b k runs there (tries-tell g c b) (NoRoom s e ask live reserved) r.0 (record { trying = (r.1).trying; lines = (r.1).lines; tells = (r.1).also })
 
   messages : (m : Msg) → Contains g.pool (c, m) → IsDone Whole g c b (take m k)
   messages (NoRoom s e ask live reserved) p = go (is_session ask k.asking) refl
     where
       go : (z : Bool) → is_session ask k.asking ≡ z → IsDone Whole g c b (take (NoRoom s e ask live reserved) k)
       go true q = refused s e ask live reserved p q
-      go false q = messages-done g whole c b k runs there (tried g c b) (NoRoom s e ask live reserved) p q
-  messages (Hello a x) p = messages-done g whole c b k runs there (tried g c b) (Hello a x) p tt
-  messages (Opened a s e) p = messages-done g whole c b k runs there (tried g c b) (Opened a s e) p tt
-  messages (OldBoot a x) p = messages-done g whole c b k runs there (tried g c b) (OldBoot a x) p tt
-  messages (Grant s e x n h i) p = messages-done g whole c b k runs there (tried g c b) (Grant s e x n h i) p tt
-  messages (Recall s e x n h) p = messages-done g whole c b k runs there (tried g c b) (Recall s e x n h) p tt
-  messages (Kept s e n) p = messages-done g whole c b k runs there (tried g c b) (Kept s e n) p tt
-  messages (Ids s e got n x) p = messages-done g whole c b k runs there (tried g c b) (Ids s e got n x) p tt
-  messages (Ended s low mask) p = messages-done g whole c b k runs there (tried g c b) (Ended s low mask) p tt
-  messages (Restarted s e) p = messages-done g whole c b k runs there (tried g c b) (Restarted s e) p tt
-  messages m p = messages-done g whole c b k runs there (tried g c b) m p tt
+      go false q = messages-done g whole c b k runs there (tries-tell g c b) (NoRoom s e ask live reserved) p q
+  messages (Hello a x) p = messages-done g whole c b k runs there (tries-tell g c b) (Hello a x) p tt
+  messages (Opened a s e) p = messages-done g whole c b k runs there (tries-tell g c b) (Opened a s e) p tt
+  messages (OldBoot a x) p = messages-done g whole c b k runs there (tries-tell g c b) (OldBoot a x) p tt
+  messages (Grant s e x n h i) p = messages-done g whole c b k runs there (tries-tell g c b) (Grant s e x n h i) p tt
+  messages (Recall s e x n h) p = messages-done g whole c b k runs there (tries-tell g c b) (Recall s e x n h) p tt
+  messages (Kept s e n) p = messages-done g whole c b k runs there (tries-tell g c b) (Kept s e n) p tt
+  messages (Ids s e got n x) p = messages-done g whole c b k runs there (tries-tell g c b) (Ids s e got n x) p tt
+  messages (Ended s low mask) p = messages-done g whole c b k runs there (tries-tell g c b) (Ended s low mask) p tt
+  messages (Restarted s e) p = messages-done g whole c b k runs there (tries-tell g c b) (Restarted s e) p tt
+  messages m p = messages-done g whole c b k runs there (tries-tell g c b) m p tt
 
   resends : IsDone Whole g c b (resend k)
   resends = resends-keep g whole c b k runs there (each-more (λ m. IsFullAt g.durable.max_objects m.1) g.pool (sends c (resend k).outs) whole.fulls (own-full c g.durable.max_objects (resend k).outs (resend-own k)))
@@ -96,8 +75,8 @@ module _ (g : System) (whole : Whole g) (c b : ℕ) (k : Clerk) (runs : g.runnin
 pub clerks-keep-all : ClerksKeep Whole
 clerks-keep-all = record {
   messages = λ g c b k f run there m p. messages g f c b k run there m p;
-  pushes = λ g c b k f run there n. settling.pushes g f c b k run there (tried g c b) n;
+  pushes = λ g c b k f run there n. settling.pushes g f c b k run there (tries-tell g c b) n;
   resends = λ g c b k f run there. resends g f c b k run there;
-  calls = λ g c b k f run there l cl new bounded. calls-whole g f c b k run there (λ h. tried h c b) l cl new bounded;
-  starts = λ g c f idle within l cl new bounded spare. starts-whole g f c idle within l cl new bounded (λ h. tried h c (g.boots c + 1)) spare;
+  calls = λ g c b k f run there l cl new bounded. calls-whole g f c b k run there (λ h. tries-tell h c b) l cl new bounded;
+  starts = λ g c f idle within l cl new bounded spare. starts-whole g f c idle within l cl new bounded (λ h. tries-tell h c (g.boots c + 1)) spare;
 }
