@@ -67,7 +67,12 @@ module _ (g : System) (whole : Whole g) (c b : ℕ) (k : Clerk) (runs : g.runnin
   messages (Ids s e got n x) p = messages-done g whole c b k runs there (tries-tell g c b) (Ids s e got n x) p tt
   messages (Ended s low mask) p = messages-done g whole c b k runs there (tries-tell g c b) (Ended s low mask) p tt
   messages (Restarted s e) p = messages-done g whole c b k runs there (tries-tell g c b) (Restarted s e) p tt
-  messages m p = messages-done g whole c b k runs there (tries-tell g c b) m p tt
+  messages (Want s e x h n) p = messages-done g whole c b k runs there (tries-tell g c b) (Want s e x h n) p tt
+  messages (Back s e x n h) p = messages-done g whole c b k runs there (tries-tell g c b) (Back s e x n h) p tt
+  messages (Flush s e n ops) p = messages-done g whole c b k runs there (tries-tell g c b) (Flush s e n ops) p tt
+  messages (Room s e got ask) p = messages-done g whole c b k runs there (tries-tell g c b) (Room s e got ask) p tt
+  messages (Claim s e l) p = messages-done g whole c b k runs there (tries-tell g c b) (Claim s e l) p tt
+  messages (Bye s e) p = messages-done g whole c b k runs there (tries-tell g c b) (Bye s e) p tt
 
   resends : IsDone Whole g c b (resend k)
   resends = resends-keep g whole c b k runs there (each-more (λ m. IsFullAt g.durable.max_objects m.1) g.pool (sends c (resend k).outs) whole.fulls (own-full c g.durable.max_objects (resend k).outs (resend-own k)))
