@@ -39,6 +39,7 @@ use Rattle.ec_asked.proofs.Drills.{asked-drills}
 use Rattle.ec_joins.proofs.Steps.{step-most}
 use Rattle.ec_whole.specs.Runs.{OfRun, RunShows}
 use Rattle.ec_whole.specs.Whole.{Whole}
+use Rattle.ec_whole.proofs.Lined.{calls-lined}
 use Rattle.ec_whole.proofs.Halts.{crashed-whole, doubted-whole, found-whole, nothing-whole, start-leaves, stopped-line-whole, stopped-whole, unsettled-whole, up-whole}
 use Rattle.ec_whole.proofs.Server.{ends-whole, most-stays, takes-whole}
 
@@ -118,7 +119,7 @@ module _ (clerks : ClerksKeep Whole) (v : Images) (most : ℕ) where
     r = close (run_from (bound ls) 1 ls fs w).ending (run_from (bound ls) 1 ls fs w)
 
     q : RunAsks F ls r
-    q = asked-drills F keep rest ls fs w holds.0 holds.1 holds.2 fresh no-calls no-lines fit
+    q = asked-drills F keep rest (λ g f. calls-lined g (f.whole).calls (f.whole).rest) ls fs w holds.0 holds.1 holds.2 fresh no-calls no-lines fit
 
     abbrev c : Closed F [] [] ls r
     c = q.closed
@@ -158,6 +159,7 @@ module _ (clerks : ClerksKeep Whole) (v : Images) (most : ℕ) where
               counted = c.counted;
               own_calls = subst (EachLine (InScript c.more)) (c.sofar).shown (own r.world.shown ((c.sofar).of).shown);
               ends = q.asked;
+              numbered = q.numbered;
               fresh = (base_of g).fresh;
               fronts = shows.fronts;
               formed = λ u. subst (λ d. WellFormed (images d.volume)) (same u) shows.formed;
