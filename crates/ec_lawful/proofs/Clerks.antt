@@ -1,5 +1,5 @@
 -- Each step of a clerk keeps all facts.
-use Rattle.std.proofs.Common.{◌≡◌, refl, sym, ap, subst, ◌∙◌, inl, inr, ◌⊎◌, ◌<◌, ◌+◌, ℕ, Bool, true, false, T, List, ◌∷◌, ◌++◌, Option, Some, None}
+use Rattle.std.proofs.Common.{◌≡◌, refl, sym, ap, subst, ◌∙◌, inl, inr, ◌⊎◌, ◌<◌, ◌+◌, ℕ, Bool, true, false, T, List, [], ◌∷◌, ◌++◌, Option, Some, None}
 use Rattle.std.specs.Prelude.{Contains}
 use Rattle.ec_history.specs.History.{Each}
 use Rattle.ec_wire.specs.declared.msg.Msg.{Msg}
@@ -9,6 +9,7 @@ use Rattle.ec_protocol.specs.declared.clerk.Clerk.{Clerk}
 use Rattle.ec_coherence.specs.System.{System, Ghost}
 use Rattle.ec_coherence.specs.Steps.{doing_in, sends}
 use Rattle.ec_coherence.proofs.Lists.{each-more}
+use Rattle.ec_coherence.proofs.Needs.{each-of}
 use Rattle.ec_headline.specs.Laws.{TellsAll}
 use Rattle.ec_answers.specs.Frees.{IsFull}
 use Rattle.ec_zeros.specs.Fulls.{IsFullAt}
@@ -30,11 +31,6 @@ use Rattle.ec_goes.proofs.Starts.{starts-whole}
 abbrev Q : System → ℕ → ℕ → Doing → Ghost → Type 0
 Q g c b d γ = TellsAll (doing_in c b d γ g)
 
--- a member's own fact
-each-in : (P : ℕ × Msg → Type 0) (xs : List (ℕ × Msg)) (x : ℕ × Msg) → Each P xs → Contains xs x → P x
-each-in P (y ∷ ys) x h (inl e) = subst P e h.0
-each-in P (y ∷ ys) x h (inr m) = each-in P ys x h.1 m
-
 module _ (g : System) (whole : Whole g) (c b : ℕ) (k : Clerk) (runs : g.running c ≡ Some b) (there : g.clerks c b ≡ Some k) where
   refused : (s e ask live reserved : ℕ) → Contains g.pool (c, NoRoom s e ask live reserved) → is_session ask k.asking ≡ true → IsDone Whole g c b (take (NoRoom s e ask live reserved) k)
   refused s e ask live reserved sent asked = by k.session refl
@@ -48,7 +44,7 @@ module _ (g : System) (whole : Whole g) (c b : ℕ) (k : Clerk) (runs : g.runnin
           apart : false ≡ true → ⊥
           apart q = cc
       by (Some u) p =
-          let r = no-room g c b (Q g c b) (answers-tell g c b) live reserved (each-in (λ m. IsFull g m.1) g.pool (c, NoRoom s e ask live reserved) whole.fulls sent) (doing k) g.ghost
+          let r = no-room g c b (Q g c b) (answers-tell g c b) live reserved (each-of (λ m. IsFull g m.1) g.pool (c, NoRoom s e ask live reserved) whole.fulls sent) (doing k) g.ghost
           (record { trying = first.trying; lines = first.lines; also = first.tells }) u p (λ t. record { told = t.told; fronts = t.fronts }) ask in
           settling.takes g whole c b k runs there (tries-tell g c b) (NoRoom s e ask live reserved) r.0 (record { trying = (r.1).trying; lines = (r.1).lines; tells = (r.1).also })
 
