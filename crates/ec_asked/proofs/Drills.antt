@@ -1,5 +1,5 @@
 -- A run over the lines of a script shows no more ends of sessions than its lines ask for, behind each line.
-use Rattle.std.proofs.Common.{◌≡◌, refl, sym, ap, subst, ◌∙◌, arith, ◌<◌, ◌≤◌, ◌-◌, ◌+◌, ℕ, zero, suc, Bool, true, false, ◌==◌, length, List, [], ◌∷◌, ◌++◌, Option, Some, None, append-nil, append_assoc}
+use Rattle.std.proofs.Common.{◌≡◌, refl, sym, ap, subst, ◌∙◌, inl, inr, arith, ◌<◌, ◌≤◌, ◌-◌, ◌+◌, ℕ, zero, suc, Bool, true, false, ◌==◌, length, List, [], ◌∷◌, ◌++◌, Option, Some, None, append-nil, append_assoc}
 use Rattle.std.specs.Prelude.{nat_lt, slice_get, take}
 use Rattle.std.specs.List.{list_any}
 use Rattle.std.proofs.lemmas.List.{length-append}
@@ -22,7 +22,7 @@ use Rattle.ec_coherence.specs.System.{System}
 use Rattle.ec_coherence.specs.Steps.{Stands, call_of}
 use Rattle.ec_coherence.proofs.Tables.{none_some}
 use Rattle.ec_changes.specs.Laws.{lined}
-use Rattle.ec_headline.specs.Headline.{AreEndsAsked, Lines, Pieces, joined, may_end}
+use Rattle.ec_headline.specs.Headline.{AreEndsAsked, ArePieces, IsPiece, Lines, Pieces, joined, may_end}
 use Rattle.ec_steps.specs.Calls.{AreOf, IsOf, Tells}
 use Rattle.ec_steps.specs.Drills.{AreFit, IsCallIn, IsFit, Sofar, lines_in}
 use Rattle.ec_steps.specs.Steps.{Holds, IsNewIn, MayHappen, StepsKeep}
@@ -31,7 +31,8 @@ use Rattle.ec_steps.proofs.Drills.{drills-on}
 use Rattle.ec_steps.proofs.Events.{deliver-holds, event-holds, restart-holds}
 use Rattle.ec_steps.proofs.Frames.{forgotten-stands, lined-stands}
 use Rattle.ec_asked.specs.Asked.{AsksAgree, EndsAsked, allows, asked_by, ended_by, one_if, with_event}
-use Rattle.ec_asked.specs.Laws.{Asks, IsFresh, RestsKeep, RunAsks}
+use Rattle.ec_asked.specs.Laws.{Asks, CallsLined, IsFresh, RestsKeep, RunAsks}
+use Rattle.ec_asked.proofs.Numbers.{IsKnown, Two, behind-lines, known-piece, one-lines, other-lines, own-known, pieces-push, two-lines}
 use Rattle.ec_asked.proofs.Opened.{opened-agrees, opened-asks}
 use Rattle.ec_asked.proofs.Agreeing.{asks-keep}
 use Rattle.ec_asked.proofs.Events.{deliver-asks, event-asks}
@@ -99,7 +100,7 @@ new-line lines w a = record { unshown = not-numbered lines w.shown a.shown; unus
     below : (k n : ℕ) → k ≤ n → k < n + 1
     below k n p = omega (arith, p)
 
-module _ (first : ℕ → ℕ) (F : System → Type 0) (keep : StepsKeep F) (rest : RestsKeep F) where
+module _ (first : ℕ → ℕ) (F : System → Type 0) (keep : StepsKeep F) (rest : RestsKeep F) (has-line : CallsLined F) where
   abbrev pub Both : System → Type 0
   Both g = F g × AsksAgree first g
 
@@ -108,6 +109,14 @@ module _ (first : ℕ → ℕ) (F : System → Type 0) (keep : StepsKeep F) (res
 
   asks-hold : (w : World) → Holds Both w → Holds (Asks first) w
   asks-hold w (g, h, st) = (g, (keep.agrees g h.0, h.1), st)
+
+  -- each call under way has its line
+  holds-lined : (w : World) → Holds Both w → (c n l : ℕ) (cl : Call) → call_of c n w.calls ≡ Some (l, cl) → list_any (is_numbered l) w.shown ≡ true
+  holds-lined w (g, h, st) c n l cl q = ap (list_any (is_numbered l)) st.shown ∙ has-line g h.0 c n l cl (sym (ap (call_of c n) st.calls) ∙ q)
+
+  -- so it is known before a line of this number
+  all-known : (w : World) → Holds Both w → (k : ℕ) → AreOf (IsKnown w.shown k) w
+  all-known w h k = record { calls = λ c n l cl q. inr (holds-lined w h c n l cl q); shown = own-known w.shown k w.shown (λ l e. e) }
 
   -- Steps from a world.
   record Moves (P : ℕ → ℕ → Call → Type 0) (asked : ℕ → ℕ) (w : World) (m : Moving) : Type 0 where
@@ -176,7 +185,13 @@ module _ (first : ℕ → ℕ) (F : System → Type 0) (keep : StepsKeep F) (res
 
     -- behind it
     abbrev P : Line → ℕ → ℕ → Call → Type 0
-    P l = IsCallIn (lines ++ l ∷ [])
+    P l = Two (IsCallIn (lines ++ l ∷ [])) (IsKnown w.shown (length lines + 1))
+
+    of-two : (l : Line) → AreOf (P l) w
+    of-two l =
+        let a = of-more lines l w of in
+        let b = all-known w holds (length lines + 1) in
+        record { calls = λ c n k cl q. (a.calls c n k cl q, b.calls c n k cl q); shown = two-lines (IsCallIn (lines ++ l ∷ [])) (IsKnown w.shown (length lines + 1)) w.shown a.shown b.shown }
 
     abbrev Goes : Line → Moving → Type 0
     Goes l m = m.fault ≡ None → Moves (P l) (now l) w m
@@ -184,7 +199,7 @@ module _ (first : ℕ → ℕ) (F : System → Type 0) (keep : StepsKeep F) (res
     event-goes : (fate : Fate) (l : Line) (e : Event) → ((c : ℕ) → allows e c ≤ one_if (may_end c l)) → MayHappen w e → MayBe (P l) e → Goes l (happen fate e w)
     event-goes fate l e less may is f = record {
       holds = event-holds Both both fate e w holds may f;
-      tells = event-tells (P l) fate e w (of-more lines l w of) is f;
+      tells = event-tells (P l) fate e w (of-two l) is f;
       asks = weaken first (with_event e asked) (now l) (happen fate e w).world (λ c. more (asked c) (allows e c) (one_if (may_end c l)) (less c)) (event-asks first asked fate w (asks-hold w holds) asks e f);
     }
       where
@@ -204,7 +219,7 @@ module _ (first : ℕ → ℕ) (F : System → Type 0) (keep : StepsKeep F) (res
     begins : (l : Line) → Moves (P l) (now l) w (moving w)
     begins l = record {
       holds = holds;
-      tells = quiet-tells (P l) w (of-more lines l w of) w refl refl;
+      tells = quiet-tells (P l) w (of-two l) w refl refl;
       asks = weaken first asked (now l) w (λ c. less (asked c) (one_if (may_end c l))) asks;
     }
       where
@@ -213,7 +228,7 @@ module _ (first : ℕ → ℕ) (F : System → Type 0) (keep : StepsKeep F) (res
 
     line-goes : (fate : Fate) (l : Line) → IsFit (reads l column) → Goes l (line_happens fate (length lines + 1) l w)
     line-goes fate line.Comment p f = begins line.Comment
-    line-goes fate (line.Call c cl) p f = event-goes fate (line.Call c cl) (event.Call c (length lines + 1) cl) zero-less (new-line lines w of, p.0, p.1) (own-call lines c cl) f
+    line-goes fate (line.Call c cl) p f = event-goes fate (line.Call c cl) (event.Call c (length lines + 1) cl) zero-less (new-line lines w of, p.0, p.1) (own-call lines c cl, inl refl) f
     line-goes fate (line.Push c i) p f = event-goes fate (line.Push c i) (event.Push c i) zero-less tt tt f
     line-goes fate (line.Cut c) p f = event-goes fate (line.Cut c) (event.Cut c) zero-less tt tt f
     line-goes fate (line.Uncut c) p f = event-goes fate (line.Uncut c) (event.Uncut c) zero-less tt tt f
@@ -248,6 +263,7 @@ module _ (first : ℕ → ℕ) (F : System → Type 0) (keep : StepsKeep F) (res
     sofar : Sofar Both lines pieces w
     asks : EndsAsked first (asked_by lines) w
     fronts : AreEndsAsked lines pieces
+    numbered : ArePieces 1 [] pieces
     counted : length lines ≤ length pieces
 
   -- the rest of the script was carried out as far as it goes
@@ -258,15 +274,19 @@ module _ (first : ℕ → ℕ) (F : System → Type 0) (keep : StepsKeep F) (res
     counted : length r.pieces ≤ length more + n
 
   -- one piece more, behind a world whose lines are told
-  stood-more : (lines : Lines) (pieces : Pieces) (w v : World) (more : Lines) (p : List Shown) → Stood lines pieces w → length (lines ++ more) ≤ length pieces + 1 → Holds Both v → AreOf (IsCallIn (lines ++ more)) v
+  stood-more : (lines : Lines) (pieces : Pieces) (w v : World) (more : Lines) (p : List Shown) → Stood lines pieces w → IsPiece (length pieces + 1) w.shown p → length (lines ++ more) ≤ length pieces + 1 → Holds Both v → AreOf (IsCallIn (lines ++ more)) v
       → EndsAsked first (asked_by (lines ++ more)) v → v.shown ≡ w.shown ++ p → Stood (lines ++ more) (pieces ++ p ∷ []) v
-  stood-more lines pieces w v more p s few h o a q = record {
+  stood-more lines pieces w v more p s i few h o a q = record {
     sofar = record { holds = h; of = o; shown = now };
     asks = a;
     fronts = fronts-push (lines ++ more) pieces p (fronts-more lines more pieces s.fronts) few (λ c. subst (λ x. ended_by c x ≤ asked_by (lines ++ more) c) now (asked-show first (asked_by (lines ++ more)) v a c));
+    numbered = pieces-push 1 (length pieces + 1) [] pieces p (turn (length pieces)) s.numbered (subst (λ x. IsPiece (length pieces + 1) x p) (s.sofar).shown i);
     counted = subst (λ n. length (lines ++ more) ≤ n) (sym (length-append pieces (p ∷ []))) few;
   }
     where
+      turn : (n : ℕ) → n + 1 ≡ 1 + n
+      turn n = omega arith
+
       now : v.shown ≡ joined (pieces ++ p ∷ [])
       now = q ∙ ap (λ x. x ++ p) (s.sofar).shown ∙ sym (joined-push pieces p)
 
@@ -277,21 +297,32 @@ module _ (first : ℕ → ℕ) (F : System → Type 0) (keep : StepsKeep F) (res
       one n m p = omega (arith, p)
 
   -- behind the same lines
-  same-stood : (lines : Lines) (pieces : Pieces) (w v : World) (p : List Shown) → Stood lines pieces w → Holds Both v → AreOf (IsCallIn lines) v → EndsAsked first (asked_by lines) v → v.shown ≡ w.shown ++ p → Stood lines (pieces ++ p ∷ []) v
-  same-stood lines pieces w v p s h o a q = subst (λ x. Stood x (pieces ++ p ∷ []) v) (append-nil lines)
-      (stood-more lines pieces w v [] p s (subst (λ x. length x ≤ length pieces + 1) (sym (append-nil lines)) (few (length lines) (length pieces) s.counted)) h (subst (λ x. AreOf (IsCallIn x) v) (sym (append-nil lines)) o)
+  same-stood : (lines : Lines) (pieces : Pieces) (w v : World) (p : List Shown) → Stood lines pieces w → IsPiece (length pieces + 1) w.shown p → Holds Both v → AreOf (IsCallIn lines) v → EndsAsked first (asked_by lines) v → v.shown ≡ w.shown ++ p → Stood lines (pieces ++ p ∷ []) v
+  same-stood lines pieces w v p s i h o a q = subst (λ x. Stood x (pieces ++ p ∷ []) v) (append-nil lines)
+      (stood-more lines pieces w v [] p s i (subst (λ x. length x ≤ length pieces + 1) (sym (append-nil lines)) (few (length lines) (length pieces) s.counted)) h (subst (λ x. AreOf (IsCallIn x) v) (sym (append-nil lines)) o)
       (subst (λ x. EndsAsked first (asked_by x) v) (sym (append-nil lines)) a) q)
     where
       few : (n m : ℕ) → n ≤ m → n ≤ m + 1
       few n m p = omega (arith, p)
 
   -- and behind one more
-  line-stood : (lines : Lines) (pieces : Pieces) (w : World) → Stood lines pieces w → (l : Line) (m : Moving) → Moves (IsCallIn (lines ++ l ∷ [])) (λ c. asked_by lines c + one_if (may_end c l)) w m → Stood (lines ++ l ∷ []) (pieces ++ m.shown ∷ []) m.world
-  line-stood lines pieces w s l m a = stood-more lines pieces w m.world (l ∷ []) m.shown s (one-line-more lines pieces l s.counted) a.holds (a.tells).of
+  line-stood : (lines : Lines) (pieces : Pieces) (w : World) → Stood lines pieces w → length pieces ≡ length lines → (l : Line) (m : Moving)
+      → Moves (Two (IsCallIn (lines ++ l ∷ [])) (IsKnown w.shown (length lines + 1))) (λ c. asked_by lines c + one_if (may_end c l)) w m → Stood (lines ++ l ∷ []) (pieces ++ m.shown ∷ []) m.world
+  line-stood lines pieces w s even l m a = stood-more lines pieces w m.world (l ∷ []) m.shown s piece (one-line-more lines pieces l s.counted) a.holds of
       (weaken first (λ c. asked_by lines c + one_if (may_end c l)) (asked_by (lines ++ l ∷ [])) m.world (λ c. same (asked_by (lines ++ l ∷ []) c) (asked_by lines c + one_if (may_end c l)) (asked-line c lines l)) a.asks) (a.tells).lines
     where
       same : (a b : ℕ) → a ≡ b → b ≤ a
       same a b p = omega (arith, p)
+
+      of : AreOf (IsCallIn (lines ++ l ∷ [])) m.world
+      of = record { calls = λ c n k cl q. (((a.tells).of).calls c n k cl q).0; shown = one-lines (IsCallIn (lines ++ l ∷ [])) (IsKnown w.shown (length lines + 1)) m.world.shown ((a.tells).of).shown }
+
+      known : EachLine (IsOf (IsKnown w.shown (length lines + 1))) m.world.shown
+      known = other-lines (IsCallIn (lines ++ l ∷ [])) (IsKnown w.shown (length lines + 1)) m.world.shown ((a.tells).of).shown
+
+      piece : IsPiece (length pieces + 1) w.shown m.shown
+      piece = subst (λ n. IsPiece n w.shown m.shown) (sym (ap (λ n. n + 1) even)) (subst (λ x. IsPiece (length lines + 1) x m.shown) (append-nil w.shown)
+          (known-piece (length lines + 1) w.shown [] m.shown (behind-lines (IsOf (IsKnown w.shown (length lines + 1))) w.shown m.shown (subst (EachLine (IsOf (IsKnown w.shown (length lines + 1)))) (a.tells).lines known))))
 
   abbrev carry : ℕ → List Fates → Lines → Line → World → Moving
   carry k fs lines l w = carry_out k (first_fates fs) (length lines + 1) l w
@@ -309,32 +340,36 @@ module _ (first : ℕ → ℕ) (F : System → Type 0) (keep : StepsKeep F) (res
     counted = omega (arith, c.counted);
   }
 
-  run-on : (k : ℕ) (ls : List Read) (fs : List Fates) (lines : Lines) (pieces : Pieces) (w : World) → Stood lines pieces w → AreFit ls → Comes lines pieces ls (run_from k (length lines + 1) ls fs w) 1
-  run-on k [] fs lines pieces w s p = record {
+  run-on : (k : ℕ) (ls : List Read) (fs : List Fates) (lines : Lines) (pieces : Pieces) (w : World) → Stood lines pieces w → length pieces ≡ length lines → AreFit ls → Comes lines pieces ls (run_from k (length lines + 1) ls fs w) 1
+  run-on k [] fs lines pieces w s even p = record {
     more = [];
     front = refl;
     stood = subst (λ x. Stood x (pieces ++ []) w) (sym (append-nil lines)) (subst (λ x. Stood lines x w) (sym (append-nil pieces)) s);
     counted = omega arith;
   }
-  run-on k (unfit column ∷ ls) fs lines pieces w s p = record {
+  run-on k (unfit column ∷ ls) fs lines pieces w s even p = record {
     more = [];
     front = refl;
-    stood = subst (λ x. Stood x (pieces ++ [] ∷ []) w) (sym (append-nil lines)) (same-stood lines pieces w w [] s (s.sofar).holds (s.sofar).of s.asks (sym (append-nil w.shown)));
+    stood = subst (λ x. Stood x (pieces ++ [] ∷ []) w) (sym (append-nil lines)) (same-stood lines pieces w w [] s tt (s.sofar).holds (s.sofar).of s.asks (sym (append-nil w.shown)));
     counted = omega arith;
   }
-  run-on k (reads l column ∷ ls) fs lines pieces w s p = go (carry k fs lines l w).fault (λ t. run-on k ls (rest_fates fs) (lines ++ l ∷ []) (pieces ++ (carry k fs lines l w).shown ∷ []) (forget (carry k fs lines l w).world) t p.1)
+  run-on k (reads l column ∷ ls) fs lines pieces w s even p = go (carry k fs lines l w).fault (λ t. run-on k ls (rest_fates fs) (lines ++ l ∷ []) (pieces ++ (carry k fs lines l w).shown ∷ []) (forget (carry k fs lines l w).world) t evener p.1)
     where
+      evener : length (pieces ++ (carry k fs lines l w).shown ∷ []) ≡ length (lines ++ l ∷ [])
+      evener = length-append pieces ((carry k fs lines l w).shown ∷ []) ∙ ap (λ n. n + 1) even ∙ sym (length-append lines (l ∷ []))
+
       m : Moving
       m = carry k fs lines l w
 
       moved : Stood (lines ++ l ∷ []) (pieces ++ m.shown ∷ []) m.world
-      moved = line-stood lines pieces w s l m (carried lines (asked_by lines) w (s.sofar).holds (s.sofar).of s.asks column k (first_fates fs) l p.0)
+      moved = line-stood lines pieces w s even l m (carried lines (asked_by lines) w (s.sofar).holds (s.sofar).of s.asks column k (first_fates fs) l p.0)
 
       forgotten : Stood (lines ++ l ∷ []) (pieces ++ m.shown ∷ []) (forget m.world)
       forgotten = record {
         sofar = record { holds = less (moved.sofar).holds; of = record { calls = ((moved.sofar).of).calls; shown = ((moved.sofar).of).shown }; shown = (moved.sofar).shown };
         asks = record { within = (moved.asks).within };
         fronts = moved.fronts;
+        numbered = moved.numbered;
         counted = moved.counted;
       }
         where
@@ -383,11 +418,18 @@ module _ (first : ℕ → ℕ) (F : System → Type 0) (keep : StepsKeep F) (res
             more = c.more;
             front = c.front;
             stood = subst (λ x. Stood (lines ++ c.more) x (restart runs r.world).world) (append_assoc pieces r.pieces ((restart runs r.world).shown ∷ []))
-                (same-stood (lines ++ c.more) (pieces ++ r.pieces) r.world (restart runs r.world).world (restart runs r.world).shown c.stood (restart-holds Both both runs r.world ((c.stood).sofar).holds q f) t.of
+                (same-stood (lines ++ c.more) (pieces ++ r.pieces) r.world (restart runs r.world).world (restart runs r.world).shown c.stood (piece f) (restart-holds Both both runs r.world ((c.stood).sofar).holds q f) t.of
                 (restart-asks first (asked_by (lines ++ c.more)) r.world (c.stood).asks runs f) t.lines);
             counted = subst (λ n. n ≤ length c.more + 2) (sym (length-append r.pieces ((restart runs r.world).shown ∷ []))) (one-more (length r.pieces) (length c.more) c.counted);
           }
         where
+          piece : (restart runs r.world).fault ≡ None → IsPiece (length (pieces ++ r.pieces) + 1) r.world.shown (restart runs r.world).shown
+          piece f =
+              let u = restart-tells (IsKnown r.world.shown (length (pieces ++ r.pieces) + 1)) runs r.world (all-known r.world ((c.stood).sofar).holds (length (pieces ++ r.pieces) + 1)) f in
+              subst (λ x. IsPiece (length (pieces ++ r.pieces) + 1) x (restart runs r.world).shown) (append-nil r.world.shown)
+              (known-piece (length (pieces ++ r.pieces) + 1) r.world.shown [] (restart runs r.world).shown (behind-lines (IsOf (IsKnown r.world.shown (length (pieces ++ r.pieces) + 1))) r.world.shown (restart runs r.world).shown
+              (subst (EachLine (IsOf (IsKnown r.world.shown (length (pieces ++ r.pieces) + 1)))) u.lines (u.of).shown)))
+
           one-more : (a b : ℕ) → a ≤ b + 1 → a + 1 ≤ b + 2
           one-more a b p = omega (arith, p)
 
@@ -409,14 +451,14 @@ module _ (first : ℕ → ℕ) (F : System → Type 0) (keep : StepsKeep F) (res
       by (TooMany n) = stopped r.world.server refl
 
 -- A whole run, from a world in which nothing happened yet.
-module _ (F : System → Type 0) (keep : StepsKeep F) (rest : RestsKeep F) (ls : List Read) (fs : List Fates) (w : World) (g : System) (f : F g) (st : Stands w g) (fresh : IsFresh g) (no-calls : w.calls ≡ []) (no-lines : w.shown ≡ []) (fit : AreFit ls) where
+module _ (F : System → Type 0) (keep : StepsKeep F) (rest : RestsKeep F) (has-line : CallsLined F) (ls : List Read) (fs : List Fates) (w : World) (g : System) (f : F g) (st : Stands w g) (fresh : IsFresh g) (no-calls : w.calls ≡ []) (no-lines : w.shown ≡ []) (fit : AreFit ls) where
   abbrev ran : Ran
   ran = run_from (bound ls) 1 ls fs w
 
   abbrev first : ℕ → ℕ
   first = g.first_boot
 
-  at-first : Stood first F keep rest [] [] w
+  at-first : Stood first F keep rest has-line [] [] w
   at-first = record {
     sofar = record {
       holds = (g, (f, opened-agrees w g st fresh), st);
@@ -425,6 +467,7 @@ module _ (F : System → Type 0) (keep : StepsKeep F) (rest : RestsKeep F) (ls :
     };
     asks = opened-asks w g st fresh;
     fronts = λ d k x. none d k;
+    numbered = tt;
     counted = omega arith;
   }
     where
@@ -432,8 +475,8 @@ module _ (F : System → Type 0) (keep : StepsKeep F) (rest : RestsKeep F) (ls :
       none d zero = omega arith
       none d (suc k) = omega arith
 
-  comes : Comes first F keep rest [] [] ls (close ran.ending ran) 2
-  comes = closes first F keep rest [] [] ls ran (run-on first F keep rest (bound ls) ls fs [] [] w at-first fit)
+  comes : Comes first F keep rest has-line [] [] ls (close ran.ending ran) 2
+  comes = closes first F keep rest has-line [] [] ls ran (run-on first F keep rest has-line (bound ls) ls fs [] [] w at-first refl fit)
 
   less : (v : World) → Holds (λ h. F h × AsksAgree first h) v → Holds F v
   less v (h, x, s) = (h, x.0, s)
@@ -448,5 +491,6 @@ module _ (F : System → Type 0) (keep : StepsKeep F) (rest : RestsKeep F) (ls :
       up = (drills-on F keep ls fs w (g, f, st) no-calls no-lines fit).up;
     };
     asked = (comes.stood).fronts;
+    numbered = (comes.stood).numbered;
     least = (comes.stood).counted;
   }

@@ -11,4 +11,5 @@ pub mod Shown
 pub mod Opened
 pub mod Agreeing
 pub mod Fronts
+pub mod Numbers
 pub mod Drills

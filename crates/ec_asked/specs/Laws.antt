@@ -1,5 +1,7 @@
 -- What is proved of ends of sessions, as contracts name it: behind each event no more of them are shown than crashes and ends allow for.
-use Rattle.std.specs.Prelude.{◌≡◌, ◌≤◌, ◌+◌, ℕ, List, [], length, None, Some}
+use Rattle.std.specs.Prelude.{◌≡◌, ◌≤◌, ◌+◌, ℕ, true, List, [], length, None, Some}
+use Rattle.std.specs.List.{list_any}
+use Rattle.ec_history.specs.Placing.{is_numbered}
 use Rattle.ec_history.specs.declared.shown.Shown.TheVariants.{Stopped}
 use Rattle.ec_durable.specs.declared.record.Record.{Record}
 use Rattle.ec_durable.specs.declared.state.Durable.{Durable}
@@ -14,13 +16,13 @@ use Rattle.ec_protocol.specs.World.{Fate, happen, restart}
 use Rattle.ec_protocol.specs.declared.world.Event.{Event}
 use Rattle.ec_protocol.specs.declared.world.World.{World}
 use Rattle.ec_coherence.specs.System.{System, Ghost}
-use Rattle.ec_coherence.specs.Steps.{Stands, doing_in, serving_in}
+use Rattle.ec_coherence.specs.Steps.{Stands, call_of, doing_in, serving_in}
 use Rattle.ec_commits.specs.Laws.{AllAgree}
 use Rattle.ec_changes.specs.Laws.{lined}
 use Rattle.ec_found.specs.Doubts.{ComesFrom, DoubtAgrees, doubted}
 use Rattle.ec_found.specs.Founds.{Makes, bare, found_ghost, started_in, with_found}
 use Rattle.ec_found.specs.Olds.{opened_in}
-use Rattle.ec_headline.specs.Headline.{AreEndsAsked}
+use Rattle.ec_headline.specs.Headline.{AreEndsAsked, ArePieces}
 use Rattle.ec_steps.specs.Drills.{Closed}
 use Rattle.ec_steps.specs.Steps.{Holds, begun, calling, in_call}
 use Rattle.ec_asked.specs.Asked.{AsksAgree, EndsAsked, ended_by, with_event}
@@ -81,9 +83,15 @@ pub record StepsStay (first : ℕ → ℕ) (g : System) : Type 0 where
 abbrev pub AsksStay : Type 0
 AsksStay = (first : ℕ → ℕ) (g : System) → AsksAgree first g → StepsStay first g
 
+-- each call under way has its line
+abbrev pub CallsLined : (System → Type 0) → Type 0
+CallsLined F = (g : System) → F g → (c n l : ℕ) (cl : Call) → call_of c n g.calls ≡ Some (l, cl) → list_any (is_numbered l) g.ghost.shown ≡ true
+
 -- A whole run over the lines of a script: it is closed, with these facts, and in each front of its pieces no more sessions end than the lines carried out ask for.
 pub record RunAsks (F : System → Type 0) (ls : List Read) (r : Ran) : Type 0 where
   pub closed : Closed F [] [] ls r
   pub asked : AreEndsAsked closed.more r.pieces
+  -- the first line of each call stands in the piece of its number
+  pub numbered : ArePieces 1 [] r.pieces
   -- each line that was carried out gave a piece
   pub least : length closed.more ≤ length r.pieces

@@ -4,9 +4,11 @@ use Rattle.std.specs.Prelude.{is_some, Contains}
 use Rattle.std.specs.List.{list_any}
 use Rattle.ec_plain.specs.Bounds.{is_bounded}
 use Rattle.ec_plain.specs.declared.call.Call.{Call}
-use Rattle.ec_volume.specs.Volume.{Images, WellFormed, images}
+use Rattle.ec_volume.specs.Volume.{Fits, Images, WellFormed, images}
+use Rattle.ec_history.specs.History.{kept, updates}
+use Rattle.ec_events.proofs.Answering.{shown-updates}
 use Rattle.ec_history.specs.Lines.{IsStored}
-use Rattle.ec_history.specs.Placing.{EachLine}
+use Rattle.ec_history.specs.Placing.{EachLine, place}
 use Rattle.ec_history.specs.declared.shown.Shown.{Shown}
 use Rattle.ec_history.specs.declared.shown.Shown.TheVariants as show
 use Rattle.ec_wire.specs.declared.msg.Msg.{Msg}
@@ -39,8 +41,13 @@ use Rattle.ec_asked.proofs.Drills.{asked-drills}
 use Rattle.ec_joins.proofs.Steps.{step-most}
 use Rattle.ec_whole.specs.Runs.{OfRun, RunShows}
 use Rattle.ec_whole.specs.Whole.{Whole}
+use Rattle.ec_whole.proofs.Lined.{calls-lined}
 use Rattle.ec_whole.proofs.Halts.{crashed-whole, doubted-whole, found-whole, nothing-whole, start-leaves, stopped-line-whole, stopped-whole, unsettled-whole, up-whole}
 use Rattle.ec_whole.proofs.Server.{ends-whole, most-stays, takes-whole}
+
+-- what is kept fits the volume at the beginning
+kept-fits : (g : System) → AllAgree g → Fits g.origin (updates (kept (base_of g) (place g.ghost.shown)))
+kept-fits g all = subst (Fits g.origin) (sym (ap (λ h. updates (kept (base_of g) h)) ((all.0).events.placed) ∙ ap updates ((all.0).events.keeps) ∙ shown-updates g g.ghost.kept)) (all.0).images.fits
 
 -- What is asked of each step of a clerk.
 pub record ClerksKeep (F : System → Type 0) : Type 0 where
@@ -118,7 +125,7 @@ module _ (clerks : ClerksKeep Whole) (v : Images) (most : ℕ) where
     r = close (run_from (bound ls) 1 ls fs w).ending (run_from (bound ls) 1 ls fs w)
 
     q : RunAsks F ls r
-    q = asked-drills F keep rest ls fs w holds.0 holds.1 holds.2 fresh no-calls no-lines fit
+    q = asked-drills F keep rest (λ g f. calls-lined g (f.whole).calls (f.whole).rest) ls fs w holds.0 holds.1 holds.2 fresh no-calls no-lines fit
 
     abbrev c : Closed F [] [] ls r
     c = q.closed
@@ -158,8 +165,11 @@ module _ (clerks : ClerksKeep Whole) (v : Images) (most : ℕ) where
               counted = c.counted;
               own_calls = subst (EachLine (InScript c.more)) (c.sofar).shown (own r.world.shown ((c.sofar).of).shown);
               ends = q.asked;
+              numbered = q.numbered;
               fresh = (base_of g).fresh;
               fronts = shows.fronts;
+              fit = subst (λ ss. Fits v (updates (kept (record { volume = v; fresh = (base_of g).fresh }) (place ss)))) lines-are
+                  (subst (λ o. Fits o (updates (kept (record { volume = o; fresh = (base_of g).fresh }) (place g.ghost.shown)))) f.origin (kept-fits g (f.whole).all));
               formed = λ u. subst (λ d. WellFormed (images d.volume)) (same u) shows.formed;
               stored = λ u. subst (λ d. IsStored (record { volume = v; fresh = (base_of g).fresh }) (joined r.pieces) (images d.volume)) (same u) shows.stored;
             }

@@ -1,11 +1,12 @@
 -- What a whole run shows, where all facts are kept.
-use Rattle.std.specs.Prelude.{◌≡◌, ◌<◌, ◌≤◌, ◌+◌, ℕ, T, List, length, take}
-use Rattle.ec_volume.specs.Volume.{Images, WellFormed, images}
+use Rattle.std.specs.Prelude.{◌≡◌, ◌<◌, ◌≤◌, ◌+◌, ℕ, T, List, [], length, take}
+use Rattle.ec_volume.specs.Volume.{Fits, Images, WellFormed, images}
+use Rattle.ec_history.specs.History.{kept, updates}
 use Rattle.ec_history.specs.Lines.{IsStored}
-use Rattle.ec_history.specs.Placing.{EachLine}
+use Rattle.ec_history.specs.Placing.{EachLine, place}
 use Rattle.ec_protocol.specs.Drill.{Ran, Read}
 use Rattle.ec_coherence.specs.System.{System}
-use Rattle.ec_headline.specs.Headline.{AreEndsAsked, FrontsAreLawful, InScript, Lines, joined}
+use Rattle.ec_headline.specs.Headline.{AreEndsAsked, ArePieces, FrontsAreLawful, InScript, Lines, joined}
 use Rattle.ec_steps.specs.Drills.{IsUnspent, lines_in}
 use Rattle.ec_whole.specs.Whole.{Whole}
 
@@ -24,7 +25,11 @@ pub record RunShows (v : Images) (most : ℕ) (ls : List Read) (r : Ran) : Type 
   pub own_calls : EachLine (InScript lines) (joined r.pieces)
   -- no session ends but by a crash or an end
   pub ends : AreEndsAsked lines r.pieces
+  -- the first line of each call stands in the piece of its number
+  pub numbered : ArePieces 1 [] r.pieces
   pub fresh : ℕ → ℕ
   pub fronts : FrontsAreLawful (record { volume = v; fresh = fresh }) most (joined r.pieces)
+  -- at the end each update that is kept fits, so that no two objects have one id
+  pub fit : Fits v (updates (kept (record { volume = v; fresh = fresh }) (place (joined r.pieces))))
   pub formed : IsUnspent r.ending → WellFormed (images r.world.durable.volume)
   pub stored : IsUnspent r.ending → IsStored (record { volume = v; fresh = fresh }) (joined r.pieces) (images r.world.durable.volume)
