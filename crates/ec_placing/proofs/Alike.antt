@@ -1,7 +1,6 @@
 -- What a call comes to with one id for a new object or with another one.
-use Rattle.std.proofs.Common.{◌≡◌, refl, sym, ap, ap₂, ◌∙◌, inl, inr, ◌⊎◌, ◌-◌, ◌==◌, ◌||◌, ℕ, Bool, true, false, cond, T, List, [], ◌∷◌, ◌++◌, length}
+use Rattle.std.proofs.Common.{◌≡◌, refl, sym, ap, ◌∙◌, inl, inr, ◌⊎◌, ◌-◌, ◌==◌, ◌||◌, ℕ, Bool, true, false, cond, List, [], ◌∷◌, ◌++◌, length}
 use Rattle.std.specs.Prelude.{is_some, nat_le}
-use Rattle.std.specs.List.{list_any}
 use Rattle.std.proofs.lemmas.List.Folds.{list_any-append}
 use Rattle.ec_volume.specs.Entries.{Entries, entry}
 use Rattle.ec_volume.specs.Image.{entries_of, is_dir}
@@ -12,7 +11,7 @@ use Rattle.ec_volume.specs.declared.image.Kind.{Kind}
 use Rattle.ec_volume.specs.declared.image.Kind.TheVariants as kind
 use Rattle.ec_volume.specs.declared.update.Update.TheVariants.{Make}
 use Rattle.ec_plain.specs.Walk.{At, Not, Path, Reached, last_of, parent_of, walk}
-use Rattle.ec_plain.specs.Plain.{is_sync, issues, make_in, on_parent, on_reached, plain, plain_make, refuses}
+use Rattle.ec_plain.specs.Plain.{is_sync, issues, make_in, on_parent, plain, plain_make, refuses}
 use Rattle.ec_plain.specs.declared.call.Call.{Call}
 use Rattle.ec_plain.specs.declared.call.Call.TheVariants as call
 use Rattle.ec_plain.specs.declared.call.Refusal.TheVariants as no

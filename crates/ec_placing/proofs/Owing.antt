@@ -1,9 +1,9 @@
 -- What is owed is on operands of operations that were issued.
-use Rattle.std.proofs.Common.{◌≡◌, refl, sym, ap, subst, ◌∙◌, ◌==◌, ◌||◌, not, ℕ, Bool, true, false, cond, T, List, [], ◌∷◌, ◌++◌, map}
+use Rattle.std.proofs.Common.{◌≡◌, refl, sym, subst, ◌∙◌, ◌==◌, ◌||◌, not, ℕ, Bool, true, false, cond, List, [], ◌∷◌, ◌++◌, map}
 use Rattle.std.specs.List.{filter}
 use Rattle.std.proofs.lemmas.Bool.{eqb-true}
 use Rattle.ec_volume.specs.Update.{has_operand, member, operands}
-use Rattle.ec_history.specs.History.{Base, Each, History, Op, Owed, is_one_of, issued, issued_by, issued_from, kept_from, kept_next, meets, outcome, owed, owed_from, owed_next, pairs_of, same_start, without}
+use Rattle.ec_history.specs.History.{Base, Each, History, Op, Owed, is_one_of, issued, issued_by, issued_from, kept_next, meets, outcome, owed, owed_from, owed_next, pairs_of, same_start}
 use Rattle.ec_history.specs.declared.entry.Entry.{Entry}
 use Rattle.ec_history.specs.declared.entry.Entry.TheVariants as entry
 use Rattle.ec_laws.proofs.Numbers.{each-append, each-back, each-filter, each-front}
@@ -48,7 +48,7 @@ module _ (base : Base) (x c b : ℕ) where
       go true = each-append (IsOff x) qs (pairs_of (filter (is_one_of d f ns) ks)) q (pairs-off x (filter (is_one_of d f ns) ks) (each-filter P (is_one_of d f ns) ks k))
       go false = q
 
-  next-clear : (ks : List Op) (e : ℕ × Entry) → Clear x ks → Clear x (issued_by base ks e) → Clear x (kept_next base ks e)
+  pub next-clear : (ks : List Op) (e : ℕ × Entry) → Clear x ks → Clear x (issued_by base ks e) → Clear x (kept_next base ks e)
   next-clear ks (p, entry.Call d f l begun cl a op) k i = each-append P ks (issued_by base ks (p, entry.Call d f l begun cl a op)) k i
   next-clear ks (p, entry.Loss d f ns) k i = each-filter P (λ o. not (is_one_of d f ns o)) ks k
 

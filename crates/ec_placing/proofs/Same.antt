@@ -5,9 +5,8 @@ use Rattle.std.specs.List.{filter, list_all, list_any}
 use Rattle.ec_volume.specs.Update.{has_operand, is_make, member, operands}
 use Rattle.ec_volume.specs.Volume.{Images, Fits, after}
 use Rattle.ec_volume.specs.declared.update.Update.{Update}
-use Rattle.ec_volume.specs.declared.update.Update.TheVariants.{Make}
 use Rattle.ec_plain.specs.Plain.{issues}
-use Rattle.ec_plain.specs.Walk.{At, Not, Path, Reached, walk}
+use Rattle.ec_plain.specs.Walk.{At, Not, Reached, walk}
 use Rattle.ec_plain.specs.declared.call.Call.{Call}
 use Rattle.ec_plain.specs.declared.call.Call.TheVariants as call
 use Rattle.ec_plain.specs.declared.call.Reply.TheVariants as reply

@@ -1,7 +1,10 @@
 -- Histories with other ids for their new objects.
-use Rattle.std.specs.Prelude.{◌≡◌, ◌==◌, ◌⊎◌, ℕ, false, List, [], ◌∷◌}
-use Rattle.ec_volume.specs.Update.{has_operand, is_make}
-use Rattle.ec_volume.specs.Volume.{Images}
+use Rattle.std.specs.Prelude.{◌≡◌, ◌⊎◌, ◌+◌, ◌≤◌, ℕ, T, false, not, List, [], ◌∷◌}
+use Rattle.ec_volume.specs.Image.{is_gone}
+use Rattle.ec_volume.specs.Update.{has_operand, is_make, member}
+use Rattle.ec_volume.specs.Volume.{Images, WellFormed}
+use Rattle.ec_volume.specs.declared.update.Update.{Update}
+use Rattle.ec_volume.specs.declared.update.Update.TheVariants.{Make}
 use Rattle.ec_history.specs.History.{Base, Each, History, Op, Throughout, issued, issued_by, kept}
 use Rattle.ec_history.specs.Legal.{IsLegal}
 use Rattle.ec_history.specs.Lines.{AreCovered, IsStored}
@@ -25,3 +28,19 @@ IdlesMayChange = (v : Images) (f q : ℕ → ℕ) (ss : List Shown) → Througho
     → ((most : ℕ) → IsLegal (record { volume = v; fresh = f }) most (place ss) → IsLegal (record { volume = v; fresh = q }) most (place ss))
     × (AreCovered (record { volume = v; fresh = f }) ss → AreCovered (record { volume = v; fresh = q }) ss)
     × ((w : Images) → IsStored (record { volume = v; fresh = f }) ss w → IsStored (record { volume = v; fresh = q }) ss w)
+
+-- The id at an entry is of no object of the volume, and no operation that was issued before made it.
+
+abbrev pub made_ids : Update → List ℕ
+made_ids (Make dir name obj k) = obj ∷ []
+made_ids _ = []
+
+abbrev pub IsNewId : Images → (ℕ → ℕ) → History → ℕ × Entry → Type 0
+IsNewId v f past e = T (is_gone (v (f e.0))) × Each (λ o. member (f e.0) (made_ids o.update) ≡ false) (issued (record { volume = v; fresh = f }) past)
+
+-- Where it's so at each entry, each id may be exchanged for the place of its call, above all ids of the volume.
+abbrev pub IdsArePlaces : Type 0
+IdsArePlaces = (v : Images) (f : ℕ → ℕ) (n : ℕ) (ss : List Shown) → WellFormed v → ((x : ℕ) → T (not (is_gone (v x))) → x ≤ n) → Throughout (IsNewId v f) [] (place ss)
+    → ((most : ℕ) → IsLegal (record { volume = v; fresh = f }) most (place ss) → IsLegal (record { volume = v; fresh = λ p. n + p }) most (place ss))
+    × (AreCovered (record { volume = v; fresh = f }) ss → AreCovered (record { volume = v; fresh = λ p. n + p }) ss)
+    × ((w : Images) → IsStored (record { volume = v; fresh = f }) ss w → IsStored (record { volume = v; fresh = λ p. n + p }) ss w)

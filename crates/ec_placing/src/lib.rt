@@ -2,9 +2,15 @@
 //! function has an empty body, and its contract is a law.
 #![tactic(auto)]
 
-ghost use Rattle.ec_placing.specs.Placing.{IdlesMayChange};
+ghost use Rattle.ec_placing.specs.Placing.{IdlesMayChange, IdsArePlaces};
 
 /// The ids at the places of calls that make no object may be changed for other ones that no operation has.
 pub fn idle_ids_may_change()
     ensures { IdlesMayChange }
+{}
+
+/// Where each id was of no object and made by no operation before, it may be exchanged for the place of its call, above
+/// all ids of the volume.
+pub fn new_ids_are_places()
+    ensures { IdsArePlaces }
 {}
