@@ -8,7 +8,7 @@ use Rattle.ec_volume.specs.declared.update.Update.{Update}
 use Rattle.ec_volume.specs.declared.update.Update.TheVariants.{Make, Drop, Move, Put, Len, Mode, Stamp, Order, Shift, Owner}
 use Rattle.ec_plain.specs.declared.call.Call.{Call}
 use Rattle.ec_history.specs.History.{Base, Each, History, Op, Throughout, issued, issued_by, issued_from, kept, kept_next, outcome, updates}
-use Rattle.ec_history.specs.Legal.{IsLegal}
+use Rattle.ec_history.specs.Legal.{IsLegal, is_making}
 use Rattle.ec_history.specs.Lines.{AreCovered, IsStored}
 use Rattle.ec_history.specs.Placing.{place}
 use Rattle.ec_history.specs.declared.entry.Entry.{Entry}
@@ -22,7 +22,7 @@ use Rattle.ec_renaming.specs.Renaming.{AreRenamed, IsRenaming}
 use Rattle.ec_renaming.proofs.Agreeing.{renamed-agree}
 use Rattle.ec_renaming.proofs.Alike.{covered-as, legal-as, stored-as}
 use Rattle.ec_renaming.proofs.Shapes.{kept-by}
-use Rattle.ec_placing.specs.Placing.{IsNewId, MayChange, made_ids}
+use Rattle.ec_placing.specs.Placing.{Clear, IsNewId, MayChange, WouldMake, made_ids}
 use Rattle.ec_placing.proofs.Clearing.{Unmade, clears}
 use Rattle.ec_placing.proofs.Names.{Good, Named, named, renames}
 use Rattle.ec_placing.proofs.Owing.{parts}
@@ -54,13 +54,13 @@ module _ (v : Images) (f : ℕ → ℕ) where
   base = record { volume = v; fresh = f }
 
   -- An entry makes the object of its id, or none.
-  abbrev IsMaker : ℕ → List Op → Type 0
-  IsMaker p os = ((made_places os ≡ p ∷ []) × Each (λ o. made_ids o.update ≡ f p ∷ []) os) ⊎ ((made_places os ≡ []) × Each (λ o. is_make o.update ≡ false) os × Each (λ o. made_ids o.update ≡ []) os)
+  abbrev IsMaker : Type 0 → ℕ → List Op → Type 0
+  IsMaker W p os = ((made_places os ≡ p ∷ []) × Each (λ o. made_ids o.update ≡ f p ∷ []) os × W) ⊎ ((made_places os ≡ []) × Each (λ o. is_make o.update ≡ false) os × Each (λ o. made_ids o.update ≡ []) os)
 
   one : (ks : List Op) (p c b n : ℕ) (cl : Call) (u : Option Update) → (outcome base ks p cl).update ≡ u
-      → IsMaker p (elim u as (λ z. List Op) [ None ↦ [] | Some u ↦ record { clerk = c; boot = b; number = n; place = p; update = u } ∷ [] ])
+      → IsMaker (is_making (outcome base ks p cl).update ≡ true) p (elim u as (λ z. List Op) [ None ↦ [] | Some u ↦ record { clerk = c; boot = b; number = n; place = p; update = u } ∷ [] ])
   one ks p c b n cl None e = inr (refl, tt, tt)
-  one ks p c b n cl (Some (Make d nm o k)) e = inl (refl, (ap (λ z. z ∷ []) (plain-makes (f p) (after v (updates ks)) cl (Make d nm o k) e o refl), tt))
+  one ks p c b n cl (Some (Make d nm o k)) e = inl (refl, (ap (λ z. z ∷ []) (plain-makes (f p) (after v (updates ks)) cl (Make d nm o k) e o refl), tt), ap is_making e)
   one ks p c b n cl (Some (Drop d nm o k)) e = inr (refl, (refl, tt), (refl, tt))
   one ks p c b n cl (Some (Move d x nm o k w)) e = inr (refl, (refl, tt), (refl, tt))
   one ks p c b n cl (Some (Put o at bytes inside)) e = inr (refl, (refl, tt), (refl, tt))
@@ -71,10 +71,10 @@ module _ (v : Images) (f : ℕ → ℕ) where
   one ks p c b n cl (Some (Shift d x q nm o k w up)) e = inr (refl, (refl, tt), (refl, tt))
   one ks p c b n cl (Some (Owner o w)) e = inr (refl, (refl, tt), (refl, tt))
 
-  maker : (ks : List Op) (e : ℕ × Entry) → IsMaker e.0 (issued_by base ks e)
-  maker ks (p, entry.Call c b l begun cl a None) = inr (refl, tt, tt)
-  maker ks (p, entry.Call c b l begun cl a (Some n)) = one ks p c b n cl (outcome base ks p cl).update refl
-  maker ks (p, entry.Loss c b ns) = inr (refl, tt, tt)
+  maker : (past : History) (e : ℕ × Entry) → IsMaker (WouldMake base past e) e.0 (issued_by base (kept base past) e)
+  maker past (p, entry.Call c b l begun cl a None) = inr (refl, tt, tt)
+  maker past (p, entry.Call c b l begun cl a (Some n)) = one (kept base past) p c b n cl (outcome base (kept base past) p cl).update refl
+  maker past (p, entry.Loss c b ns) = inr (refl, tt, tt)
 
   abbrev firsts : History → List ℕ
   firsts h = map (λ e. e.0) h
@@ -119,11 +119,11 @@ module _ (v : Images) (f : ℕ → ℕ) where
           let made = (subst (Each (λ o. made_ids o.update ≡ f e.0 ∷ [])) is m).0 in
           (left (f q == f e.0) false (subst (λ z. member (f q) z ≡ false) made first), off-one e.0 q (firsts h) apart l.0)
 
-      pub more-good : IsMaker e.0 ours → Good v f n ps × Each (IsLater (past ++ e ∷ []) h) ps → Good v f n (made_places ours ++ ps) × Each (IsLater past (e ∷ h)) (made_places ours ++ ps)
+      pub more-good : IsMaker (WouldMake base past e) e.0 ours → Good v f n ps × Each (IsLater (past ++ e ∷ []) h) ps → Good v f n (made_places ours ++ ps) × Each (IsLater past (e ∷ h)) (made_places ours ++ ps)
       more-good (inr m) k = subst (λ z. Good v f n (z ++ ps) × Each (IsLater past (e ∷ h)) (z ++ ps)) (sym m.0) (k.0, each-map (IsLater (past ++ e ∷ []) h) (IsLater past (e ∷ h)) later-old ps k.1)
       more-good (inl m) k =
           subst (λ z. Good v f n (z ++ ps) × Each (IsLater past (e ∷ h)) (z ++ ps)) (sym m.0)
-          ((least, new.0, by-list ours refl, k.0), ((ap (λ z. z || member e.0 (firsts h)) (alike e.0), new.1), each-map (IsLater (past ++ e ∷ []) h) (IsLater past (e ∷ h)) later-old ps k.1))
+          ((least, (new m.2).0, by-list ours refl, k.0), ((ap (λ z. z || member e.0 (firsts h)) (alike e.0), (new m.2).1), each-map (IsLater (past ++ e ∷ []) h) (IsLater past (e ∷ h)) later-old ps k.1))
         where
           none-made : (os : List Op) → ours ≡ os → os ≡ [] → ⊥
           none-made os is q = nil-cons e.0 [] (ap made_places (sym (is ∙ q)) ∙ m.0)
@@ -139,7 +139,7 @@ module _ (v : Images) (f : ℕ → ℕ) where
         let two = and_parts-T (not (member e.0 (firsts h))) (distinct (firsts h)) d in
         let rest = subst (λ ks. Good v f n (made_places (issued_from base ks h)) × Each (IsLater (past ++ e ∷ []) h) (made_places (issued_from base ks h))) (kept-step base past e) (goods (past ++ e ∷ []) h t.1 l.1 two.1) in
         subst (λ z. Good v f n z × Each (IsLater past (e ∷ h)) z) (sym (makes-append (issued_by base (kept base past) e) (issued_from base (kept_next base (kept base past) e) h)))
-        (more-good past e h t.0 l.0 (off-all e.0 (firsts h) two.0) (made_places (issued_from base (kept_next base (kept base past) e) h)) (maker (kept base past) e) rest)
+        (more-good past e h t.0 l.0 (off-all e.0 (firsts h) two.0) (made_places (issued_from base (kept_next base (kept base past) e) h)) (maker past e) rest)
 
     -- The renaming.
     module _ (formed : WellFormed v) (top : (x : ℕ) → T (not (is_gone (v x))) → x ≤ n) (ps : List ℕ) (m : Named v f n ps) where
@@ -181,18 +181,18 @@ module _ (v : Images) (f : ℕ → ℕ) where
         first-in : member e.0 (firsts (e ∷ h)) ≡ true
         first-in = ap (λ z. z || member e.0 (firsts h)) (alike e.0)
 
-        pub changes : IsMaker e.0 its → Each (λ p. m.r (f p) ≡ n + p) (made_places its) → MayChange v f q past e
-        changes (inl k) made = inl (same-made e.0 (subst (Each (λ p. m.r (f p) ≡ n + p)) k.0 made).0)
-        changes (inr k) made = go (f e.0 == q e.0) refl
+        pub changes : IsMaker (WouldMake base past e) e.0 its → Each (λ p. m.r (f p) ≡ n + p) (made_places its) → MayChange v f q past e
+        changes (inl k) made w = inl (same-made e.0 (subst (Each (λ p. m.r (f p) ≡ n + p)) k.0 made).0)
+        changes (inr k) made w = go (f e.0 == q e.0) refl
           where
-            go : (z : Bool) → (f e.0 == q e.0) ≡ z → MayChange v f q past e
+            go : (z : Bool) → (f e.0 == q e.0) ≡ z → (q e.0 ≡ f e.0) ⊎ (Each (λ o. is_make o.update ≡ false) (issued_by base (kept base past) e) × Clear (f e.0) (issued base past) × Clear (q e.0) (issued base past))
             go true s = inl (sym (eqb-true (f e.0) (q e.0) s))
-            go false s = let z = clears v f formed (f e.0) (q e.0) (λ t. true-false (sym (subst (λ z. (f e.0 == z) ≡ true) t (alike (f e.0))) ∙ s)) new.0 (q-gone e.0 least) past new.1 (q-unmade e.0 (e ∷ h) (issued base past) first-in before) in inr (k.1, z.0, z.1)
+            go false s = let z = clears v f formed (f e.0) (q e.0) (λ t. true-false (sym (subst (λ z. (f e.0 == z) ≡ true) t (alike (f e.0))) ∙ s)) (new w).0 (q-gone e.0 least) past (new w).1 (q-unmade e.0 (e ∷ h) (issued base past) first-in before) in inr (k.1, z.0, z.1)
 
         fewer : (o : Op) → IsPlaced (e ∷ h) o → IsPlaced h o
         fewer o k z i = let w = k z i in (w.0, w.1, (parts (w.0 == e.0) (member w.0 (firsts h)) w.2).1)
 
-        ours-placed : IsMaker e.0 its → Each (λ p. m.r (f p) ≡ n + p) (made_places its) → Each (IsPlaced h) its
+        ours-placed : IsMaker (WouldMake base past e) e.0 its → Each (λ p. m.r (f p) ≡ n + p) (made_places its) → Each (IsPlaced h) its
         ours-placed (inl k) made = each-map (λ o. made_ids o.update ≡ f e.0 ∷ []) (IsPlaced h) (λ o s z i. (e.0, at z (subst (λ y. member z y ≡ true) s i), apart)) its k.1
           where
             at : (z : ℕ) → ((z == f e.0) || false) ≡ true → m.r z ≡ n + e.0
@@ -203,7 +203,7 @@ module _ (v : Images) (f : ℕ → ℕ) where
                 or-left false i = i
         ours-placed (inr k) made = each-map (λ o. made_ids o.update ≡ []) (IsPlaced h) (λ o s z i. absurd (true-false (sym i ∙ ap (member z) s))) its k.2
 
-        pub placed-on : IsMaker e.0 its → Each (λ p. m.r (f p) ≡ n + p) (made_places its) → Each (IsPlaced h) (issued base (past ++ e ∷ []))
+        pub placed-on : IsMaker (WouldMake base past e) e.0 its → Each (λ p. m.r (f p) ≡ n + p) (made_places its) → Each (IsPlaced h) (issued base (past ++ e ∷ []))
         placed-on k made = subst (Each (IsPlaced h)) (sym (issued-step base past e)) (each-append (IsPlaced h) (issued base past) its (each-map (IsPlaced (e ∷ h)) (IsPlaced h) fewer (issued base past) before) (ours-placed k made))
 
       all-change : (past h : History) → Throughout (IsNewId v f) past h → Each (λ p. 1 ≤ p) (firsts h) → T (distinct (firsts h)) → Each (IsPlaced h) (issued base past)
@@ -216,8 +216,8 @@ module _ (v : Images) (f : ℕ → ℕ) where
           let both = subst (Each (λ p. m.r (f p) ≡ n + p)) (makes-append (issued_by base (kept base past) e) rest) made in
           let here = each-front (λ p. m.r (f p) ≡ n + p) (made_places (issued_by base (kept base past) e)) (made_places rest) both in
           let more = each-back (λ p. m.r (f p) ≡ n + p) (made_places (issued_by base (kept base past) e)) (made_places rest) both in (
-            changes past e h t.0 l.0 apart k (maker (kept base past) e) here,
-            all-change (past ++ e ∷ []) h t.1 l.1 two.1 (placed-on past e h t.0 l.0 apart k (maker (kept base past) e) here) (subst (λ ks. Each (λ p. m.r (f p) ≡ n + p) (made_places (issued_from base ks h))) (sym (kept-step base past e)) more),
+            changes past e h t.0 l.0 apart k (maker past e) here,
+            all-change (past ++ e ∷ []) h t.1 l.1 two.1 (placed-on past e h t.0 l.0 apart k (maker past e) here) (subst (λ ks. Each (λ p. m.r (f p) ≡ n + p) (made_places (issued_from base ks h))) (sym (kept-step base past e)) more),
           )
 
     module _ (ss : List Shown) (formed : WellFormed v) (top : (x : ℕ) → T (not (is_gone (v x))) → x ≤ n) (t : Throughout (IsNewId v f) [] (place ss)) where

@@ -13,7 +13,7 @@ use Rattle.ec_plain.specs.declared.call.Reply.TheVariants as reply
 use Rattle.ec_plain.specs.declared.call.Outcome.{Outcome}
 use Rattle.ec_order.specs.Order.{InClosure}
 use Rattle.ec_history.specs.History.{Base, Covers, Each, History, Op, Owed, Throughout, asks, distinct_numbers, due, is_one_of, issued, issued_by, kept, kept_next, meets, numbers, of_issue, of_start, outcome, owed, owed_next, same_start, touched, updates, without}
-use Rattle.ec_history.specs.Legal.{IsFull, IsLawful, IsLegal, IsLegalNext, IsReply, IsReported, is_call_of_other, is_closed, leaves, touches_none}
+use Rattle.ec_history.specs.Legal.{IsFull, IsLawful, IsLegal, IsLegalNext, IsReply, IsReported, is_call_of_other, is_closed, is_making, leaves, touches_none}
 use Rattle.ec_history.specs.Lines.{AreCovered, IsCovered, IsStored, durable}
 use Rattle.ec_history.specs.Placing.{place}
 use Rattle.ec_history.specs.declared.entry.Answer.{Answer}
@@ -76,33 +76,44 @@ module _ (v : Images) (f q : ℕ → ℕ) where
     same-if : q p ≡ f p → o' ≡ o
     same-if e = ap (λ x. Rattle.ec_plain.specs.Plain.plain (after v (updates ks)) cl x) e
 
+    -- the same outcome; or none is made, and neither id is an operand
+    abbrev Settled : Option ℕ → Type 0
+    Settled op = (o' ≡ o) ⊎ (Each (λ o. is_make o.update ≡ false) (issued_by base (kept base past) (p, entry.Call c b l begun cl a op)) × Clear (f p) (issued base past) × Clear (q p) (issued base past))
+
+    pub settled : (op : Option ℕ) → MayChange v f q past (p, entry.Call c b l begun cl a op) → Settled op
+    settled op m = go (is_making o.update) refl
+      where
+        go : (z : Bool) → is_making o.update ≡ z → Settled op
+        go true e = elim (m e) [ inl s ↦ inl (same-if s) | inr s ↦ inr s ]
+        go false e = inl (elim like [ inl s ↦ sym s | inr s ↦ absurd (true-false (sym (ap (λ x. is_making x.update) s.4) ∙ e)) ])
+
     abbrev made : ℕ → Option Update → List Op
     made n u = elim u [ None ↦ [] | Some u ↦ record { clerk = c; boot = b; number = n; place = p; update = u } ∷ [] ]
 
-    issues-same : (n : ℕ) → MayChange v f q past (p, entry.Call c b l begun cl a (Some n)) → made n o'.update ≡ made n o.update
-    issues-same n (inl e) = ap (λ x. made n x.update) (same-if e)
+    issues-same : (n : ℕ) → Settled (Some n) → made n o'.update ≡ made n o.update
+    issues-same n (inl e) = ap (λ x. made n x.update) e
     issues-same n (inr m) = elim like [
       | inl e ↦ ap (λ x. made n x.update) (sym e)
       | inr s ↦ absurd (true-false (subst (λ x. Each (λ o. is_make o.update ≡ false) (made n x.update)) s.4 m.0).0)
     ]
 
-    met-same : (op : Option ℕ) → MayChange v f q past (p, entry.Call c b l begun cl a op) → (d e : ℕ) → Each (λ r. meets o' cl r ≡ meets o cl r) (owed base past d e)
+    met-same : (op : Option ℕ) → Settled op → (d e : ℕ) → Each (λ r. meets o' cl r ≡ meets o cl r) (owed base past d e)
     met-same op (inl s) d e = all (owed base past d e)
       where
         all : (rs : Owed) → Each (λ r. meets o' cl r ≡ meets o cl r) rs
         all [] = tt
-        all (r ∷ rs) = (ap (λ x. meets x cl r) (same-if s), all rs)
+        all (r ∷ rs) = (ap (λ x. meets x cl r) s, all rs)
     met-same op (inr m) d e =
         each-map (λ r. IsOff (f p) r × IsOff (q p) r) (λ r. meets o' cl r ≡ meets o cl r) (λ r x. meets-like (f p) (q p) o o' cl r like x.0 x.1) (owed base past d e)
         (both (IsOff (f p)) (IsOff (q p)) (owed base past d e) (owed-off base (f p) d e past m.1) (owed-off base (q p) d e past m.2))
 
-    due-same : (op : Option ℕ) → MayChange v f q past (p, entry.Call c b l begun cl a op) → Same past → (d e : ℕ) → due other past d e p cl ≡ due base past d e p cl
+    due-same : (op : Option ℕ) → Settled op → Same past → (d e : ℕ) → due other past d e p cl ≡ due base past d e p cl
     due-same op m s d e =
         ap₂ (λ ks qs. distinct_numbers (filter (meets (outcome other ks p cl) cl) qs)) s.kept (s.owed d e)
         ∙ ap distinct_numbers (filter-as (meets o' cl) (meets o cl) (λ r. meets o' cl r ≡ meets o cl r) (λ r x. x) (owed base past d e) (met-same op m d e))
 
     full-same : (most : ℕ) (a : Answer) → IsFull most o a → IsFull most o' a
-    full-same most (answer.NoRoom live reserved) z = (elim like [ inl e ↦ subst (λ x. T (Rattle.ec_history.specs.Legal.is_making x.update)) e z.0 | inr s ↦ subst (λ x. T (Rattle.ec_history.specs.Legal.is_making x.update)) (sym s.5) tt ], z.1)
+    full-same most (answer.NoRoom live reserved) z = (elim like [ inl e ↦ subst (λ x. T (is_making x.update)) e z.0 | inr s ↦ subst (λ x. T (is_making x.update)) (sym s.5) tt ], z.1)
     full-same most (answer.Reply r) z = z
     full-same most (answer.Lost ns) z = z
 
@@ -119,7 +130,7 @@ module _ (v : Images) (f q : ℕ → ℕ) where
 
   issued-same : (past : History) (e : ℕ × Entry) → MayChange v f q past e → issued_by other (kept base past) e ≡ issued_by base (kept base past) e
   issued-same past (p, entry.Call c b l begun cl a None) m = refl
-  issued-same past (p, entry.Call c b l begun cl a (Some n)) m = issues-same past p c b l begun cl a n m
+  issued-same past (p, entry.Call c b l begun cl a (Some n)) m = issues-same past p c b l begun cl a n (settled past p c b l begun cl a (Some n) m)
   issued-same past (p, entry.Loss c b ns) m = refl
 
   kept-same : (past : History) (e : ℕ × Entry) → MayChange v f q past e → kept_next other (kept base past) e ≡ kept_next base (kept base past) e
@@ -129,7 +140,7 @@ module _ (v : Images) (f q : ℕ → ℕ) where
   owed-same : (past : History) (e : ℕ × Entry) → MayChange v f q past e → (c b : ℕ) → owed_next other c b (kept base past) (owed base past c b) e ≡ owed_next base c b (kept base past) (owed base past c b) e
   owed-same past (p, entry.Call d g l begun cl a op) m c b = ap (λ z. cond (same_start c b d g) z (owed base past c b))
       (filter-as (λ r. not (meets (outcome other (kept base past) p cl) cl r)) (λ r. not (meets (outcome base (kept base past) p cl) cl r)) (λ r. meets (outcome other (kept base past) p cl) cl r ≡ meets (outcome base (kept base past) p cl) cl r)
-      (λ r x. ap not x) (owed base past c b) (met-same past p d g l begun cl a op m c b))
+      (λ r x. ap not x) (owed base past c b) (met-same past p d g l begun cl a op (settled past p d g l begun cl a op m) c b))
   owed-same past (p, entry.Loss d g ns) m c b = refl
 
   step : (past : History) (e : ℕ × Entry) → Same past → MayChange v f q past e → Same (past ++ e ∷ [])
@@ -204,8 +215,8 @@ module _ (v : Images) (f q : ℕ → ℕ) where
         (λ o y. sym (touched-like (f p) (q p) o (outcome base so-far p cl) (outcome other so-far p cl) (like past p d g l begun cl a) y.0 y.1)) (operands k.update)
         (both (λ o. (o == f p) ≡ false) (λ o. (o == q p) ≡ false) (operands k.update) (off (f p) (operands k.update) z.0) (off (q p) (operands k.update) z.1)))
 
-    none : MayChange v f q past e → touches_none base so-far ls e ≡ touches_none other so-far ls e
-    none (inl s) = ap (λ x. list_all (λ k. not (list_any (λ o. member o x.touched) (operands k.update))) ls) (sym (same-if past p d g l begun cl a s))
+    none : Settled past p d g l begun cl a op → touches_none base so-far ls e ≡ touches_none other so-far ls e
+    none (inl s) = ap (λ x. list_all (λ k. not (list_any (λ o. member o x.touched) (operands k.update))) ls) (sym s)
     none (inr s) = all-as (λ k. not (list_any (λ o. member o (touched base so-far e)) (operands k.update))) (λ k. not (list_any (λ o. member o (touched other so-far e)) (operands k.update)))
         (λ k. (has_operand (f p) k.update ≡ false) × (has_operand (q p) k.update ≡ false)) one ls
         (both (λ k. has_operand (f p) k.update ≡ false) (λ k. has_operand (q p) k.update ≡ false) ls (clear-in (f p) s.1) (clear-in (q p) s.2))
@@ -213,7 +224,7 @@ module _ (v : Images) (f q : ℕ → ℕ) where
   leaves-same : (past : History) (e : ℕ × Entry) → Both past e → (c b : ℕ) (ns : List ℕ)
       → leaves base (kept base past) c (filter (is_one_of c b ns) (kept base past)) e ≡ leaves other (kept other past) c (filter (is_one_of c b ns) (kept other past)) e
   leaves-same past (p, entry.Call d g l begun cl a op) m c b ns =
-      ap (λ z. not (is_call_of_other c (entry.Call d g l begun cl a op)) || z) (none past p d g l begun cl a op c b ns m.1)
+      ap (λ z. not (is_call_of_other c (entry.Call d g l begun cl a op)) || z) (none past p d g l begun cl a op c b ns (settled past p d g l begun cl a op m.1))
       ∙ ap (λ ks. leaves other ks c (filter (is_one_of c b ns) ks) (p, entry.Call d g l begun cl a op)) (sym (m.0).kept)
   leaves-same past (p, entry.Loss d g ms) m c b ns = ap (λ ks. leaves other ks c (filter (is_one_of c b ns) ks) (p, entry.Loss d g ms)) (sym (m.0).kept)
 
@@ -231,7 +242,7 @@ module _ (v : Images) (f q : ℕ → ℕ) where
   legal-next : (most : ℕ) (past : History) (e : ℕ × Entry) → Full past e → IsLegalNext base most past e → IsLegalNext other most past e
   legal-next most past (p, entry.Call c b l begun cl a op) m h = record {
     number = h.number;
-    report = subst (λ ns. IsReported ns a) (sym (due-same past p c b l begun cl a op m.1.1 m.1.0 c b)) h.report;
+    report = subst (λ ns. IsReported ns a) (sym (due-same past p c b l begun cl a op (settled past p c b l begun cl a op m.1.1) m.1.0 c b)) h.report;
     room = subst (λ ks. IsFull most (outcome other ks p cl) a) (sym (m.1.0).kept) (full-same past p c b l begun cl a most a h.room);
     reply = subst (λ ks. IsReply (outcome other ks p cl) a op) (sym (m.1.0).kept) (reply-same past p c b l begun cl a a op h.reply);
   }

@@ -1,26 +1,32 @@
 -- Histories with other ids for their new objects.
-use Rattle.std.specs.Prelude.{◌≡◌, ◌⊎◌, ◌+◌, ◌≤◌, ℕ, T, false, not, List, [], ◌∷◌}
+use Rattle.std.specs.Prelude.{◌≡◌, ◌⊎◌, ◌+◌, ◌≤◌, ℕ, T, true, false, not, List, [], ◌∷◌}
 use Rattle.ec_volume.specs.Image.{is_gone}
 use Rattle.ec_volume.specs.Update.{has_operand, is_make, member}
 use Rattle.ec_volume.specs.Volume.{Images, WellFormed}
 use Rattle.ec_volume.specs.declared.update.Update.{Update}
 use Rattle.ec_volume.specs.declared.update.Update.TheVariants.{Make}
-use Rattle.ec_history.specs.History.{Base, Each, History, Op, Throughout, issued, issued_by, kept}
-use Rattle.ec_history.specs.Legal.{IsLegal}
+use Rattle.ec_history.specs.History.{Base, Each, History, Op, Throughout, issued, issued_by, kept, outcome}
+use Rattle.ec_history.specs.Legal.{IsLegal, is_making}
 use Rattle.ec_history.specs.Lines.{AreCovered, IsStored}
 use Rattle.ec_history.specs.Placing.{place}
 use Rattle.ec_history.specs.declared.entry.Entry.{Entry}
+use Rattle.ec_history.specs.declared.entry.Entry.TheVariants as entry
 use Rattle.ec_history.specs.declared.shown.Shown.{Shown}
 
 -- none of these operations has the id as an operand
 abbrev pub Clear : ℕ → List Op → Type 0
 Clear x os = Each (λ o. has_operand x o.update ≡ false) os
 
--- At the entry the id for a new object is the same, or it makes none, and neither id is an operand of an operation that was issued before it.
+-- the entry is a call that makes an object, or would, but for its answer
+abbrev pub WouldMake : Base → History → ℕ × Entry → Type 0
+WouldMake base past (p, entry.Call c b l begun cl a op) = is_making (outcome base (kept base past) p cl).update ≡ true
+WouldMake base past (p, entry.Loss c b ns) = ⊥
+
+-- At such an entry the id for the new object is the same, or none is made, and neither id is an operand of an operation that was issued before.
 abbrev pub MayChange : Images → (ℕ → ℕ) → (ℕ → ℕ) → History → ℕ × Entry → Type 0
 MayChange v f q past e =
     let base : Base = record { volume = v; fresh = f } in
-    (q e.0 ≡ f e.0) ⊎ (Each (λ o. is_make o.update ≡ false) (issued_by base (kept base past) e) × Clear (f e.0) (issued base past) × Clear (q e.0) (issued base past))
+    WouldMake base past e → (q e.0 ≡ f e.0) ⊎ (Each (λ o. is_make o.update ≡ false) (issued_by base (kept base past) e) × Clear (f e.0) (issued base past) × Clear (q e.0) (issued base past))
 
 -- Where it's so at each entry, the history is legal with both, and what its lines cover and store is the same.
 abbrev pub IdlesMayChange : Type 0
@@ -29,14 +35,16 @@ IdlesMayChange = (v : Images) (f q : ℕ → ℕ) (ss : List Shown) → Througho
     × (AreCovered (record { volume = v; fresh = f }) ss → AreCovered (record { volume = v; fresh = q }) ss)
     × ((w : Images) → IsStored (record { volume = v; fresh = f }) ss w → IsStored (record { volume = v; fresh = q }) ss w)
 
--- The id at an entry is of no object of the volume, and no operation that was issued before made it.
+-- The id at such an entry is of no object of the volume, and no operation that was issued before made it.
 
 abbrev pub made_ids : Update → List ℕ
 made_ids (Make dir name obj k) = obj ∷ []
 made_ids _ = []
 
 abbrev pub IsNewId : Images → (ℕ → ℕ) → History → ℕ × Entry → Type 0
-IsNewId v f past e = T (is_gone (v (f e.0))) × Each (λ o. member (f e.0) (made_ids o.update) ≡ false) (issued (record { volume = v; fresh = f }) past)
+IsNewId v f past e =
+    let base : Base = record { volume = v; fresh = f } in
+    WouldMake base past e → T (is_gone (v (f e.0))) × Each (λ o. member (f e.0) (made_ids o.update) ≡ false) (issued base past)
 
 -- Where it's so at each entry, each id may be exchanged for the place of its call, above all ids of the volume.
 abbrev pub IdsArePlaces : Type 0
