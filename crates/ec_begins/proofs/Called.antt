@@ -1,20 +1,17 @@
 -- A call of a running clerk has begun.
-use Rattle.std.proofs.Common.{◌≡◌, refl, sym, ap, subst, ◌∙◌, inl, inr, ◌⊎◌, arith, ◌<◌, ◌+◌, ◌-◌, ℕ, T, Bool, true, false, ◌==◌, ◌&&◌, List, [], ◌∷◌, ◌++◌, Option, Some, None, append-nil}
-use Rattle.std.specs.List.{list_any}
+use Rattle.std.proofs.Common.{◌≡◌, refl, sym, ap, subst, ◌∙◌, inl, inr, ◌⊎◌, arith, ◌<◌, ◌+◌, ◌-◌, ℕ, T, Bool, true, false, ◌==◌, [], Option, Some, None, append-nil}
 use Rattle.ec_base.specs.Tables.{at_or, put}
 use Rattle.ec_plain.specs.Bounds.{is_bounded}
 use Rattle.ec_plain.specs.declared.call.Call.{Call}
-use Rattle.ec_history.specs.History.{Each, Op}
-use Rattle.ec_history.specs.Placing.{watch}
+use Rattle.ec_history.specs.History.{Each}
 use Rattle.ec_history.specs.declared.shown.Shown.TheVariants as show
-use Rattle.ec_protocol.specs.Clerk.{Doing, add_call, begin, doing}
-use Rattle.ec_protocol.specs.World.{is_answer_to}
+use Rattle.ec_protocol.specs.Clerk.{add_call, doing}
 use Rattle.ec_protocol.specs.declared.clerk.Clerk.{Clerk}
 use Rattle.ec_protocol.specs.declared.clerk.Waiting.{Waiting}
 use Rattle.ec_coherence.specs.System.{System, Ghost, if_in, with_start}
-use Rattle.ec_coherence.specs.ChangeLaws.{Calls, IsInIt, with_clerk}
+use Rattle.ec_coherence.specs.ChangeLaws.{Calls, with_clerk}
 use Rattle.ec_coherence.specs.Steps.{call_of, doing_in}
-use Rattle.ec_coherence.proofs.ClerkIn.{not-in-it, start-same}
+use Rattle.ec_coherence.proofs.ClerkIn.{not-in-it}
 use Rattle.ec_coherence.proofs.Tables.{differs}
 use Rattle.ec_commits.specs.Laws.{AllAgree}
 use Rattle.ec_changes.specs.Laws.{ClerkStands, GoesOn, IsUnderWay, lined}

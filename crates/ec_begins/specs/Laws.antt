@@ -1,14 +1,19 @@
 -- What is proved of the step in which a call begins, as contracts name it: before its calls are tried, all facts stand.
-use Rattle.std.specs.Prelude.{◌≡◌, ◌<◌, ◌⊎◌, ◌+◌, ℕ, T, [], None, Some}
+use Rattle.std.specs.Prelude.{◌≡◌, ◌<◌, ◌⊎◌, ◌+◌, ℕ, T, true, [], ◌∷◌, None, Some}
+use Rattle.std.specs.List.{list_any}
 use Rattle.ec_base.specs.Tables.{at_or, put}
 use Rattle.ec_plain.specs.Bounds.{is_bounded}
 use Rattle.ec_plain.specs.declared.call.Call.{Call}
 use Rattle.ec_history.specs.declared.shown.Shown.TheVariants.{Waits}
-use Rattle.ec_protocol.specs.Clerk.{Doing, add_call, doing, new_clerk}
+use Rattle.ec_history.specs.declared.entry.Answer.{Answer}
+use Rattle.ec_protocol.specs.Clerk.{Doing, add_call, begin, doing, new_clerk}
+use Rattle.ec_protocol.specs.World.{is_answer_to}
+use Rattle.ec_protocol.specs.declared.clerk.Out.TheVariants as out
 use Rattle.ec_protocol.specs.declared.clerk.Clerk.{Clerk}
-use Rattle.ec_coherence.specs.System.{System, Ghost}
+use Rattle.ec_coherence.specs.System.{System, Ghost, with_start}
 use Rattle.ec_coherence.specs.ChangeLaws.{Calls}
-use Rattle.ec_coherence.specs.Steps.{doing_in}
+use Rattle.ec_coherence.specs.Steps.{doing_in, less_call}
+use Rattle.ec_events.specs.Answers.{answered_ghost}
 use Rattle.ec_commits.specs.Laws.{AllAgree}
 use Rattle.ec_changes.specs.Laws.{ClerkStands, IsUnderWay, lined}
 use Rattle.ec_joins.specs.Counts.{CountsAgree}
@@ -17,6 +22,7 @@ use Rattle.ec_joins.specs.Laws.{started}
 use Rattle.ec_steps.specs.Steps.{IsNew, in_call}
 use Rattle.ec_calls.specs.Calls.{CallsAgree}
 use Rattle.ec_calls.specs.Waits.{AreAtRest, AreInTurn}
+use Rattle.ec_answers.specs.Zeros.{ZerosAgree}
 
 -- The step stands, its clerk is in no session or in that of the step, and its calls are in turn.
 pub record HasBegun (g : System) (c b : ℕ) (d : Doing) (γ : Ghost) : Type 0 where
@@ -39,3 +45,26 @@ abbrev pub StartsHaveBegun : Type 0
 StartsHaveBegun = (g : System) → AllAgree g → CallsAgree g → CountsAgree g → (c : ℕ) → c < 16 → g.running c ≡ None → (l : ℕ) (cl : Call) → IsNew g l → T (is_bounded cl)
     → let b = g.boots c + 1 in let h = lined (started g c (first_call c l cl g)) (Waits l c cl) in let d = doing (add_call cl (new_clerk c b)) in
     HasBegun h c b d h.ghost × CountsAgree h × (CutsAgree g → CutsAgree (doing_in c b d h.ghost h))
+
+-- Where its own step answers the first call of a clerk's next start: the clerk behind it, the ghosts, and the system.
+abbrev pub answered_start : ℕ → ℕ → Clerk
+answered_start c b = record (new_clerk c b) { calls = 1 }
+
+abbrev pub first_ghost : ℕ → ℕ → Call → Answer → Ghost → Ghost
+first_ghost c l cl a γ = answered_ghost c l cl a None 0 [] γ
+
+abbrev pub behind_first : System → ℕ → ℕ → Call → Answer → System
+behind_first g c l cl a =
+    record (started g c (less_call c 1 (first_call c l cl g))) {
+      clerks = with_start c (g.boots c + 1) (answered_start c (g.boots c + 1)) g.clerks;
+      ghost = first_ghost c l cl a g.ghost;
+    }
+
+-- all facts stand there, and the step was that
+abbrev pub FreshStartsAnswer : Type 0
+FreshStartsAnswer = (g : System) → AllAgree g → CallsAgree g → AreAtRest g → CountsAgree g → ZerosAgree g → (c : ℕ) → c < 16 → g.running c ≡ None → (l : ℕ) (cl : Call) → IsNew g l → T (is_bounded cl)
+    → list_any (is_answer_to 1) (begin cl (new_clerk c (g.boots c + 1))).outs ≡ true
+    → let b = g.boots c + 1 in
+    (a : Answer) × (begin cl (new_clerk c b) ≡ record { clerk = answered_start c b; outs = out.Answer 1 a None ∷ []; spent = None })
+    × AllAgree (behind_first g c l cl a) × CallsAgree (behind_first g c l cl a) × AreAtRest (behind_first g c l cl a) × CountsAgree (behind_first g c l cl a) × ZerosAgree (behind_first g c l cl a)
+    × (CutsAgree g → CutsAgree (behind_first g c l cl a))

@@ -4,4 +4,5 @@ pub mod Server
 pub mod Halts
 pub mod Fates
 pub mod Telling
+pub mod Lined
 pub mod Runs

@@ -26,3 +26,4 @@ pub mod Taking
 pub mod Telling
 pub mod Under
 pub mod Unread
+pub mod FromOne

@@ -6,6 +6,8 @@ use Rattle.ec_durable.specs.declared.state.Durable.{Durable}
 use Rattle.ec_durable.specs.declared.record.Record.{Record}
 use Rattle.ec_durable.specs.Durable.{formatted, step as record_step}
 use Rattle.ec_base.specs.Limits.{clerk_count}
+use Rattle.ec_volume.specs.Volume.{images}
+use Rattle.ec_volume.specs.declared.image.Image.TheVariants.{Gone}
 use Rattle.ec_durable.specs.WellFormed.{WellFormed}
 use Rattle.ec_stands.specs.Stands.{StandsFor, IsBadAt}
 use Rattle.ec_protocol.specs.World.{Fate, runs, stops_without, stops_with, Moving, open_world}
@@ -21,9 +23,10 @@ use Rattle.ec_protocol.specs.declared.world.WorldFault.TheVariants.{BadDisk, Dis
 
 -- Opening.
 
--- a well-formed state, with a slot for each clerk
+-- a well-formed state, with a slot for each clerk, whose objects have ids from 1
 pub record IsWhole (d : Durable) : Type 0 where
   pub formed : ∥ WellFormed d ∥₁
+  pub from_one : images d.volume 0 ≡ Gone
   pub slots : length d.sessions ≡ clerk_count
 
 -- What is opened: an empty disk is formatted, and any other one stands for the state. It's well formed in any case.

@@ -5,6 +5,8 @@ ghost use Rattle.ec_disk.specs.Disk.{Counted};
 ghost use Rattle.ec_durable.specs.Durable.{slot, formatted as formatted_state};
 ghost use Rattle.ec_sessions.specs.Slots as slots;
 ghost use Rattle.ec_stands.specs.Stands.{StandsFor};
+ghost use Rattle.ec_volume.specs.Volume.{images};
+ghost use Rattle.ec_volume.specs.declared.image.Image.TheVariants.{Gone};
 ghost use Rattle.ec_durable.specs.WellFormed.{least_max_objects, most_max_objects};
 ghost use Rattle.ec_protocol.specs.Server as machine_server;
 ghost use Rattle.ec_protocol.specs.World as machine;
@@ -19,7 +21,7 @@ ghost use Rattle.ec_world.specs.Worlds.{view_of, IsInStep};
 use crate::keeping::{self, Came};
 use crate::lines::Lines;
 use crate::world::World;
-use ec_base::{CLERK_COUNT, ClerkId, NoMemory, SortedMap};
+use ec_base::{CLERK_COUNT, ClerkId, NoMemory, ObjId, SortedMap};
 use ec_disk::{Choice, CrashDisk, DiskLen};
 use ec_durable::{Durable, Record};
 use ec_pool::Pool;
@@ -27,6 +29,7 @@ use ec_protocol::{Served, WorldFault};
 use ec_server::Server;
 use ec_store::{Store, StoreFault};
 use ec_trace::Trace;
+use ec_volume::Volume;
 use std::alloc::Global;
 
 // A disk of length 0 is laid out first.
@@ -95,8 +98,26 @@ fn shown(store: Store) -> Store
     let Some(clerk) = ClerkId::new(0) else {
         unreachable!();
     };
-    let _slot = store.view().sessions.slot(clerk);
+    let state = store.view();
+    let _slot = state.sessions.slot(clerk);
+    counts_from_one(&state.volume);
     store
+}
+
+// A volume's objects have ids from 1.
+fn counts_from_one(volume: &Volume)
+    ensures { images volume.now 0 ≡ Gone }
+{
+    let _count = volume.live();
+    if let Some((id, _)) = volume.at(0) {
+        is_from_one(id);
+    }
+}
+
+fn is_from_one(id: ObjId)
+    ensures { 1 ≤ id }
+{
+    let _number = id.get();
 }
 
 // Why a disk isn't opened. One that isn't armed doesn't stop, and a disk that is read refuses no record.
