@@ -5,3 +5,4 @@ pub mod Swap
 pub mod Clearing
 pub mod Names
 pub mod Placed
+pub mod Grown

@@ -151,13 +151,13 @@ module _ (v : Images) (f q : ℕ → ℕ) where
   }
 
   -- of an entry, and of all before it
-  abbrev Both : History → ℕ × Entry → Type 0
+  abbrev pub Both : History → ℕ × Entry → Type 0
   Both past e = Same past × MayChange v f q past e
 
-  abbrev Full : History → ℕ × Entry → Type 0
+  abbrev pub Full : History → ℕ × Entry → Type 0
   Full past e = Throughout Both [] past × Both past e
 
-  full : (past h : History) → Same past → Throughout Both [] past → Throughout (MayChange v f q) past h → Throughout Full past h
+  pub full : (past h : History) → Same past → Throughout Both [] past → Throughout (MayChange v f q) past h → Throughout Full past h
   full past [] s was t = tt
   full past (e ∷ h) s was t = ((was, (s, t.0)), full (past ++ e ∷ []) h (step past e s t.0) (throughout-append Both [] past (e ∷ []) was ((s, t.0), tt)) t.1)
 
@@ -165,10 +165,10 @@ module _ (v : Images) (f q : ℕ → ℕ) where
   ends past [] s t = subst Same (sym (append-nil past)) s
   ends past (e ∷ h) s t = subst Same (Rattle.std.proofs.Common.append_assoc past (e ∷ []) h) (ends (past ++ e ∷ []) h (step past e s t.0) t.1)
 
-  begin : Same []
+  pub begin : Same []
   begin = record { kept = refl; issued = refl; owed = λ c b. refl }
 
-  along : (P Q R : History → ℕ × Entry → Type 0) → ((past : History) (e : ℕ × Entry) → P past e → Q past e → R past e) → (past h : History) → Throughout P past h → Throughout Q past h → Throughout R past h
+  pub along : (P Q R : History → ℕ × Entry → Type 0) → ((past : History) (e : ℕ × Entry) → P past e → Q past e → R past e) → (past h : History) → Throughout P past h → Throughout Q past h → Throughout R past h
   along P Q R g past [] t u = tt
   along P Q R g past (e ∷ h) t u = (g past e t.0 u.0, along P Q R g (past ++ e ∷ []) h t.1 u.1)
 

@@ -1,5 +1,5 @@
 -- Histories with other ids for their new objects.
-use Rattle.std.specs.Prelude.{◌≡◌, ◌⊎◌, ◌+◌, ◌≤◌, ℕ, T, true, false, not, List, [], ◌∷◌}
+use Rattle.std.specs.Prelude.{◌≡◌, ◌⊎◌, ◌+◌, ◌≤◌, ℕ, T, true, false, not, List, [], ◌∷◌, ◌++◌, length}
 use Rattle.ec_volume.specs.Image.{is_gone}
 use Rattle.ec_volume.specs.Update.{has_operand, is_make, member}
 use Rattle.ec_volume.specs.Volume.{Images, WellFormed}
@@ -52,3 +52,8 @@ IdsArePlaces = (v : Images) (f : ℕ → ℕ) (n : ℕ) (ss : List Shown) → We
     → ((most : ℕ) → IsLegal (record { volume = v; fresh = f }) most (place ss) → IsLegal (record { volume = v; fresh = λ p. n + p }) most (place ss))
     × (AreCovered (record { volume = v; fresh = f }) ss → AreCovered (record { volume = v; fresh = λ p. n + p }) ss)
     × ((w : Images) → IsStored (record { volume = v; fresh = f }) ss w → IsStored (record { volume = v; fresh = λ p. n + p }) ss w)
+
+-- One more line: where its entries come last, and the ids at the places so far are the same, the ids stay new if those of the line's entries are.
+abbrev pub NewIdsGrow : Type 0
+NewIdsGrow = (v : Images) (f q : ℕ → ℕ) (ss : List Shown) (s : Shown) (es : History) → place (ss ++ s ∷ []) ≡ place ss ++ es → ((p : ℕ) → p ≤ length ss → q p ≡ f p)
+    → Throughout (IsNewId v f) [] (place ss) → Throughout (IsNewId v q) (place ss) es → Throughout (IsNewId v q) [] (place (ss ++ s ∷ []))

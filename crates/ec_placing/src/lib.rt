@@ -2,7 +2,7 @@
 //! function has an empty body, and its contract is a law.
 #![tactic(auto)]
 
-ghost use Rattle.ec_placing.specs.Placing.{IdlesMayChange, IdsArePlaces};
+ghost use Rattle.ec_placing.specs.Placing.{IdlesMayChange, IdsArePlaces, NewIdsGrow};
 
 /// The ids at the places of calls that make no object may be changed for other ones that no operation has.
 pub fn idle_ids_may_change()
@@ -13,4 +13,9 @@ pub fn idle_ids_may_change()
 /// all ids of the volume.
 pub fn new_ids_are_places()
     ensures { IdsArePlaces }
+{}
+
+/// Ids stay new behind one more line whose entries come last, if those of its entries are.
+pub fn new_ids_grow()
+    ensures { NewIdsGrow }
 {}
