@@ -6,3 +6,4 @@ pub mod Clearing
 pub mod Names
 pub mod Placed
 pub mod Grown
+pub mod Inserted

@@ -57,3 +57,12 @@ IdsArePlaces = (v : Images) (f : ℕ → ℕ) (n : ℕ) (ss : List Shown) → We
 abbrev pub NewIdsGrow : Type 0
 NewIdsGrow = (v : Images) (f q : ℕ → ℕ) (ss : List Shown) (s : Shown) (es : History) → place (ss ++ s ∷ []) ≡ place ss ++ es → ((p : ℕ) → p ≤ length ss → q p ≡ f p)
     → Throughout (IsNewId v f) [] (place ss) → Throughout (IsNewId v q) (place ss) es → Throughout (IsNewId v q) [] (place (ss ++ s ∷ []))
+
+-- A late answer: its entry comes in before the loss, which names its operation, too. Where the same is kept behind the loss, the ids stay new if that of the entry is,
+-- and it's none of those behind the loss.
+abbrev pub NewIdsBesideLate : Type 0
+NewIdsBesideLate = (v : Images) (f : ℕ → ℕ) (h : History) (e : ℕ × Entry) (at c b : ℕ) (ns ms : List ℕ) (more : History) → let base : Base = record { volume = v; fresh = f } in
+    kept base (h ++ e ∷ (at, entry.Loss c b ms) ∷ []) ≡ kept base (h ++ (at, entry.Loss c b ns) ∷ [])
+    → Throughout (IsNewId v f) [] (h ++ (at, entry.Loss c b ns) ∷ more) → IsNewId v f h e
+    → Throughout (λ past d. WouldMake base past d → Each (λ o. member (f d.0) (made_ids o.update) ≡ false) (issued_by base (kept base h) e)) (h ++ (at, entry.Loss c b ns) ∷ []) more
+    → Throughout (IsNewId v f) [] (h ++ e ∷ (at, entry.Loss c b ms) ∷ more)

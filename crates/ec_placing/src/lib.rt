@@ -2,7 +2,7 @@
 //! function has an empty body, and its contract is a law.
 #![tactic(auto)]
 
-ghost use Rattle.ec_placing.specs.Placing.{IdlesMayChange, IdsArePlaces, NewIdsGrow};
+ghost use Rattle.ec_placing.specs.Placing.{IdlesMayChange, IdsArePlaces, NewIdsBesideLate, NewIdsGrow};
 
 /// The ids at the places of calls that make no object may be changed for other ones that no operation has.
 pub fn idle_ids_may_change()
@@ -18,4 +18,9 @@ pub fn new_ids_are_places()
 /// Ids stay new behind one more line whose entries come last, if those of its entries are.
 pub fn new_ids_grow()
     ensures { NewIdsGrow }
+{}
+
+/// So they do behind a late answer, whose entry comes in before the loss.
+pub fn new_ids_stay_behind_late_answers()
+    ensures { NewIdsBesideLate }
 {}
