@@ -1,0 +1,275 @@
+-- From one turn at the lock to what the pass knows.
+use Rattle.std.proofs.Common.{◌≡◌, ℕ, ◌+◌, ◌≤◌, ◌⊎◌, false, cond, IfOk, List, [], ◌∷◌, ◌++◌, length, Option, Some, None, Result, Ok, Err, IfSome, slice_get, sym, refl, ap, ◌∙◌, subst, inl, inr, ⊎_elim, arith, eq-eqb, ne_eqb, append_assoc, append-nil}
+use mathlib.Core.List.{IsPrefix}
+use Rattle.std.specs.List.{All}
+use Rattle.std.proofs.lemmas.List.Elements.{All-nil}
+use Rattle.ec_base.specs.declared.ids.Age.{Age}
+use Rattle.ec_log.specs.declared.state.Asked.{Asked}
+use Rattle.ec_plain.specs.declared.call.Call.{Call}
+use Rattle.ec_protocol.specs.declared.clerk.Clerk.{Clerk}
+use Rattle.ec_protocol.specs.declared.clerk.Flushed.{Flushed}
+use Rattle.ec_link.specs.Links.{Heard, added}
+use Rattle.ec_lock.specs.Passes.{first, front, numbers, raised, answered, IsPassOf, Same, Marked}
+use Rattle.ec_lock.specs.Steps.{of}
+use Rattle.ec_lock.specs.declared.types.Pass.{Pass}
+use Rattle.ec_lock.specs.declared.types.TracedLock.{TracedLock}
+use Rattle.ec_clerknode.specs.declared.fault.NodeFault.{NodeFault}
+use Rattle.ec_clerknode.specs.declared.fault.NodeFault.TheVariants as fault
+use Rattle.ec_clerknode.specs.declared.step.Step.{Step}
+use Rattle.ec_clerknode.specs.declared.state.Node.{Node}
+use Rattle.ec_clerknode.specs.Floors.{highest_grows}
+use Rattle.ec_clerknode.specs.Folded.{answer_to}
+use Rattle.ec_clerknode.specs.Run.{Reply, told_by, heard_by, said_by, nets, call_of, calls, marks, mark_of_deed, mark_of_end, Among, IsRun, leads, highest, old_boot}
+use Rattle.ec_clerknode.specs.Node.{Since, By, AnsweredAt, AnsweredFrom}
+use Rattle.ec_clerknode.specs.Closed.{More, Caused, Fails, Begun, Works, Flushes, ReadsFlushes, Started, Waited}
+use Rattle.ec_clerknode.specs.Turns.{number_of, calls_by, Replied, Failed, Worked, Goes, Stays, Turned, Pending, Starts, Waits, PickedLast, Asks, FlushTurned, Finished}
+use Rattle.ec_clerknode.proofs.Lists.{prefix_trans, prefix_length, prefix_get, get_last, of-append}
+use Rattle.ec_clerknode.proofs.Each.{each-append}
+use Rattle.ec_clerknode.proofs.Told.{added-nil}
+
+pub of_own : (pass : ℕ) (more : List Step) → By pass more → of number_of pass more ≡ more
+of_own pass [] h = refl
+of_own pass (s ∷ ss) h = ap (λ b. cond b (s ∷ of number_of pass ss) (of number_of pass ss)) (eq-eqb s.pass pass h.0) ∙ ap (λ l. s ∷ l) (of_own pass ss h.1)
+
+pub of_others : (pass n : ℕ) (more : List Step) → By pass more → ¬ (n ≡ pass) → of number_of n more ≡ []
+of_others pass n [] h ne = refl
+of_others pass n (s ∷ ss) h ne = ap (λ b. cond b (s ∷ of number_of n ss) (of number_of n ss)) (ne_eqb s.pass n (λ e. ne (sym e ∙ h.0))) ∙ of_others pass n ss h.1 ne
+
+pub calls-append : (xs ys : List Step) → calls (xs ++ ys) ≡ calls xs ++ calls ys
+calls-append xs ys = each-append (λ (s : Step). call_of s.deed) xs ys
+
+among_right : {A : Type 0} (x : A) (xs ys : List A) → Among x ys → Among x (xs ++ ys)
+among_right x [] ys m = m
+among_right x (y ∷ xs) ys m = inr (among_right x xs ys m)
+
+pub marks-right : (f : NodeFault) (xs ys : List Step) → Among f (marks ys) → Among f (marks (xs ++ ys))
+marks-right f xs ys m = subst (Among f) (sym (each-append (λ (s : Step). mark_of_deed s.deed ++ mark_of_end s.end) xs ys)) (among_right f (marks xs) (marks ys) m)
+
+pub caused-right : (boot : Option Age) (f : NodeFault) (xs ys : List Step) → Caused boot f ys → Caused boot f (xs ++ ys)
+caused-right boot fault.Net xs ys c = (c.0, marks-right fault.Net xs ys c.1)
+caused-right boot (fault.Peer place) xs ys c = (c.0, marks-right (fault.Peer place) xs ys c.1)
+caused-right boot (fault.Long n) xs ys c = (c.0, marks-right (fault.Long n) xs ys c.1)
+caused-right boot (fault.OldBoot age) xs ys c = c
+caused-right boot (fault.Spent counter) xs ys c = (c.0, marks-right (fault.Spent counter) xs ys c.1)
+caused-right boot fault.NoMemory xs ys c = tt
+
+by-append : (pass : ℕ) (xs ys : List Step) → By pass xs → By pass ys → By pass (xs ++ ys)
+by-append pass [] ys a b = b
+by-append pass (x ∷ xs) ys a b = (a.0, by-append pass xs ys a.1 b)
+
+none_both : (xs ys : List Step) → calls xs ≡ [] → calls ys ≡ [] → calls (xs ++ ys) ≡ []
+none_both xs ys a b = calls-append xs ys ∙ (λ i. a i ++ b i)
+
+none_of : (more : List Step) → (calls more ≡ []) ⊎ (calls more ≡ []) → calls more ≡ []
+none_of more h = ⊎_elim (λ (e : calls more ≡ []). e) (λ (e : calls more ≡ []). e) h
+
+module _ {L : Type 0} where
+  -- only the pass's own steps were added
+  pub own_only : (pass mine : ℕ) (before : List Step) (v w : Node L) → before ≡ v.trace.items → mine ≡ pass → (more : List Step) × More pass v w more → (n : ℕ) → ¬ (n ≡ mine) → of number_of n before ≡ of number_of n w.trace.items
+  own_only pass mine before v w e same m n ne =
+      ap (of number_of n) e ∙ sym (ap (of number_of n) m.1.0 ∙ (of-append number_of n v.trace.items m.0 ∙ (ap (λ l. of number_of n v.trace.items ++ l) (of_others pass n m.0 m.1.1 (λ x. ne (x ∙ sym same))) ∙ append-nil (of number_of n v.trace.items))))
+
+  -- the list goes on from this front
+  pub later_front : (pass : ℕ) (before : List Step) (v w : Node L) → before ≡ v.trace.items → (more : List Step) × More pass v w more → IsPrefix before w.trace.items
+  later_front pass before v w e m = (m.0, ap (λ l. l ++ m.0) e ∙ sym m.1.0)
+
+  pub grown : (pass : ℕ) (v w : Node L) → (more : List Step) × More pass v w more → IsPrefix v.trace.items w.trace.items
+  grown pass v w m = (m.0, sym m.1.0)
+
+  fails_more : (pass : ℕ) (cs : List Call) (v w : Node L) (f : NodeFault) → Fails pass cs v w f → (more : List Step) × More pass v w more
+  fails_more pass cs v w f b = (b.0, b.1)
+
+  begun_more : (pass : ℕ) (call : Call) (v w : Node L) (r : Result ℕ NodeFault) → Begun pass call v w r → (more : List Step) × More pass v w more
+  begun_more pass call v w (Ok n) b = (b.1.1 ∷ [], b.1.4)
+  begun_more pass call v w (Err f) b = fails_more pass (call ∷ []) v w f b
+
+  pub works_more : {A : Type 0} (pass : ℕ) (v w : Node L) (r : Result A NodeFault) → Works pass v w r → (more : List Step) × More pass v w more
+  works_more pass v w (Ok x) b = (b.1.0, b.1.1)
+  works_more pass v w (Err f) b = fails_more pass [] v w f b
+
+  more_both : (pass : ℕ) (old mid new : Node L) (xs ys : List Step) → More pass old mid xs → More pass mid new ys → More pass old new (xs ++ ys)
+  more_both pass old mid new xs ys a b = (b.0 ∙ (ap (λ l. l ++ ys) a.0 ∙ append_assoc old.trace.items xs ys), by-append pass xs ys a.1 b.1)
+
+  pub fails_both : (pass : ℕ) (old mid new : Node L) (f : NodeFault) (xs : List Step) → More pass old mid xs → calls xs ≡ [] → Fails pass [] mid new f → Fails pass [] old new f
+  fails_both pass old mid new f xs m none b = (xs ++ b.0, more_both pass old mid new xs b.0 m b.1, inl (none_both xs b.0 none (none_of b.0 b.2)), caused-right new.boot f xs b.0 b.3)
+
+  module _ (counts : L → ℕ) (given : L → Option (List Heard)) (got : L → Option (List (List ℕ))) where
+    pub started_more : (pass : ℕ) (call : Call) (v w : Node L) (r : Result (ℕ × ℕ × Option Reply) NodeFault) → Started counts given got pass call v w r → (more : List Step) × More pass v w more
+    started_more pass call v w (Ok r) b = begun_more pass call v w (Ok r.0) b.0
+    started_more pass call v w (Err f) b = begun_more pass call v w (Err f) b
+
+    pub flushed_more : {A : Type 0} (pass : ℕ) (asked : Asked) (v w : Node L) (r : Result (A × Flushed) NodeFault) → ReadsFlushes counts given got pass asked v w r → (more : List Step) × More pass v w more
+    flushed_more pass asked v w (Ok r) b = let step = b.3.2 in (b.2.0 ++ step.0 ∷ [], more_both pass v b.0 w b.2.0 (step.0 ∷ []) b.2.1 step.5)
+    flushed_more pass asked v w (Err f) b = fails_more pass [] v w f b
+
+    -- a turn at the lock
+    pub turned : (lock : TracedLock (Node L) Step) (old mid new : Pass (Node L) Step) (v w : Node L) → Since counts given got (first lock) w → IsPrefix (front old) v.trace.items → IsPrefix v.trace.items w.trace.items
+        → Same old mid → Marked old (highest v.trace.items) → IsPassOf lock new → front new ≡ w.trace.items → Stays mid new → highest (front new) ≤ raised new → Turned lock old new
+    turned lock old mid new v w since later more same marked is_pass is stays raises =
+        let up : highest v.trace.items ≤ highest (front new) = subst (λ l. highest v.trace.items ≤ highest l) (sym is) (highest_grows v.trace.items w.trace.items more) in
+        let same_raised = same.2 in
+        let rises = stays.3 in
+        let low = marked.0 in
+        let low_too = marked.1 in
+        record {
+          is_pass = is_pass;
+          stays = (stays.0 ∙ same.0, stays.1 ∙ same.1, stays.2 ∙ same.3, omega arith);
+          goes = (subst (IsRun (first lock).clerk) (sym is) since.run, subst (IsPrefix (front old)) (sym is) (prefix_trans (front old) v.trace.items w.trace.items later more));
+          marked = (omega arith, omega arith);
+          raises = raises;
+        }
+
+    pub turned_both : (lock : TracedLock (Node L) Step) (old mid new : Pass (Node L) Step) → Turned lock old mid → Turned lock mid new → Turned lock old new
+    turned_both lock old mid new p q =
+        let a = p.stays in
+        let b = q.stays in
+        let raised_up = a.3 in
+        let raised_more = b.3 in
+        let same = a.2 in
+        let low = q.marked.0 in
+        let low_too = q.marked.1 in
+        record {
+          is_pass = q.is_pass;
+          stays = (b.0 ∙ a.0, b.1 ∙ a.1, b.2 ∙ a.2, omega arith);
+          goes = (q.goes.0, prefix_trans (front old) (front mid) (front new) p.goes.1 q.goes.1);
+          marked = (omega arith, omega arith);
+          raises = q.raises;
+        }
+
+    module _ (first : Node L) (pass : ℕ) (before after : List Step) (v w : Node L) (sv : Since counts given got first v) (sw : Since counts given got first w) (later : IsPrefix before v.trace.items)
+        (own : of number_of pass before ≡ of number_of pass v.trace.items) (is : w.trace.items ≡ after) where
+      calls_then : (more : List Step) → More pass v w more → calls_by pass after ≡ calls_by pass before ++ calls more
+      calls_then more m = ap (calls_by pass) (sym is ∙ m.0) ∙ (ap calls (of-append number_of pass v.trace.items more) ∙ (calls-append (of number_of pass v.trace.items) (of number_of pass more)
+          ∙ ((λ i. calls (sym own i) ++ calls (of_own pass more m.1 i)))))
+
+      none_then : (more : List Step) → More pass v w more → calls more ≡ [] → calls_by pass after ≡ calls_by pass before
+      none_then more m e = calls_then more m ∙ (ap (λ l. calls_by pass before ++ l) e ∙ append-nil (calls_by pass before))
+
+      boot_is : w.boot ≡ old_boot after
+      boot_is = sw.old ∙ ap old_boot is
+
+      fails : (cs : List Call) (f : NodeFault) → Fails pass cs v w f → Failed pass cs before after f
+      fails cs f b =
+          let more = b.0 in
+          let m = b.1 in (
+            ⊎_elim (λ (e : calls more ≡ []). inl (none_then more m e)) (λ (e : calls more ≡ cs). inr (calls_then more m ∙ ap (λ l. calls_by pass before ++ l) e)) b.2,
+            (
+              later.0 ++ more,
+              sym (append_assoc before later.0 more) ∙ (ap (λ l. l ++ more) later.1 ∙ (sym m.0 ∙ is)),
+              subst (λ l. Caused (old_boot after) f l) (sym (of-append number_of pass later.0 more ∙ ap (λ l. of number_of pass later.0 ++ l) (of_own pass more m.1)))
+                  (caused-right (old_boot after) f (of number_of pass later.0) more (subst (λ o. Caused o f more) boot_is b.3)),
+            ),
+          )
+
+      pub starts : (call : Call) (r : Result (ℕ × ℕ × Option Reply) NodeFault) → Started counts given got pass call v w r → Starts pass call before after r
+      starts call (Ok r) b =
+          let own_step = b.0.1 in
+          let more = own_step.4 in
+          let place : r.1 ≡ length v.trace.items = b.1 ∙ sv.counted in
+          let le = prefix_length before v.trace.items later in
+          let long : after ≡ v.trace.items ++ own_step.1 ∷ [] = sym is ∙ more.0 in
+          let one : call_of own_step.1.deed ≡ call ∷ [] = ap call_of own_step.3 ∙ ap (λ c. c ∷ []) own_step.2 in (
+            (
+              calls_then (own_step.1 ∷ []) more ∙ ap (λ l. calls_by pass before ++ l) (append-nil (call_of own_step.1.deed) ∙ one),
+              omega arith,
+              (own_step.1, own_step.0, ap (slice_get after) place ∙ (ap (λ l. slice_get l (length v.trace.items)) long ∙ get_last v.trace.items own_step.1), own_step.3, own_step.2),
+            ),
+            sym boot_is ∙ b.0.0,
+            subst (λ l. IfSome r.2 (λ a. AnsweredFrom l r.1 r.0 a)) is (b.2 first sv),
+          )
+      starts call (Err f) b = fails (call ∷ []) f b
+
+      pub works : {A : Type 0} (r : Result A NodeFault) → Works pass v w r → Worked pass before after r
+      works (Ok x) b = (none_then b.1.0 b.1.1 b.1.2, sym boot_is ∙ b.0)
+      works (Err f) b = fails [] f b
+
+      pub waits : {A : Type 0} (number place : ℕ) (r : Result (A × Option Reply) NodeFault) → Works pass v w r → Waited counts given got number place v w r → Waits pass before after number place r
+      waits number place (Ok r) b a = (works (Ok r) b, subst (λ l. IfSome r.1 (λ x. AnsweredFrom l place number x)) is (a first sv))
+      waits number place (Err f) b a = fails [] f b
+
+      picked_last : (asked : Asked) (mid : Node L) (xs : List Step) (s : Step) (answer : Flushed) → Since counts given got first mid → More pass v mid xs → Flushes pass asked mid w (Ok answer) → PickedLast first.clerk pass asked before after answer
+      picked_last asked mid xs s answer sm m f =
+          let step = f.2 in
+          let up = f.1 in (
+            mid.trace.items,
+            step.0,
+            step.1,
+            sym step.5.0 ∙ is,
+            prefix_trans before v.trace.items mid.trace.items later (xs, sym m.0),
+            step.3,
+            step.2,
+            step.5.1.0,
+            step.4 ∙ ap (answer_to asked) (sym (sm.leads_to up)),
+          )
+
+      pub flushes : {A : Type 0} (asked : Asked) (r : A × Flushed) → ReadsFlushes counts given got pass asked v w (Ok r) → FlushTurned first.clerk pass asked before after (Ok r.1)
+      flushes asked r b =
+          let f = b.3 in
+          let step = f.2 in
+          let all = more_both pass v b.0 w b.2.0 (step.0 ∷ []) b.2.1 step.5 in
+          let none : calls (step.0 ∷ []) ≡ [] = append-nil (call_of step.0.deed) ∙ ap call_of step.3 in (
+            (none_then (b.2.0 ++ step.0 ∷ []) all (none_both b.2.0 (step.0 ∷ []) b.2.2 none), sym boot_is ∙ f.0),
+            picked_last asked b.0 b.2.0 step.0 r.1 (b.1 first sv) b.2.1 f,
+          )
+
+      pub asks : {A : Type 0} (asked : Asked) (r : Result (A × Flushed) NodeFault) → ReadsFlushes counts given got pass asked v w r → Asks first.clerk pass asked before after r
+      asks asked (Ok r) b = flushes asked r b
+      asks asked (Err f) b = fails [] f b
+
+    -- the value that a lock is made with
+    pub begins : (n : Node L) → n.trace.items ≡ [] → n.kept.items ≡ [] → n.told.items ≡ [] → n.boot ≡ None → n.steps ≡ 0 → n.top ≡ 0 → Since counts given got n n
+    begins n list kept told boot steps top = record {
+      run = subst (IsRun n.clerk) (sym list) tt;
+      counted = steps ∙ sym (ap length list);
+      leads_to = λ up. ap (leads n.clerk) list;
+      kept = subst (All (λ a. AnsweredAt n.trace.items a.at a.number a.reply)) (sym kept) (All-nil (λ a. AnsweredAt n.trace.items a.at a.number a.reply));
+      told = λ up. told ∙ sym (ap told_by list);
+      old = boot ∙ sym (ap old_boot list);
+      top = top ∙ sym (ap highest list);
+      net = omega (arith, ap nets list);
+      heard = λ up. sym (ap (λ l. added (given n.link) (heard_by l)) list ∙ added-nil (given n.link));
+      sent = sym (ap (λ l. added (got n.link) (said_by l)) list ∙ added-nil (got n.link));
+    }
+
+    module _ (start v : Node L) (steps : List Step) (is : steps ≡ v.trace.items) (s : Since counts given got start v) where
+      nets_are : nets steps + counts start.link ≤ counts v.link
+      nets_are = let net = s.net in omega (arith, ap nets is)
+
+      pub finished_none : Finished counts given got start steps None v.link
+      finished_none = (subst (IsRun start.clerk) (sym is) s.run, nets_are, s.sent ∙ ap (λ l. added (got start.link) (said_by l)) (sym is), tt)
+
+      pub finished_some : v.broken ≡ false → Finished counts given got start steps (Some v.clerk) v.link
+      finished_some up = (
+        subst (IsRun start.clerk) (sym is) s.run,
+        nets_are,
+        s.sent ∙ ap (λ l. added (got start.link) (said_by l)) (sym is),
+        (ap (leads start.clerk) is ∙ s.leads_to up, s.heard up ∙ ap (λ l. added (given start.link) (heard_by l)) (sym is)),
+      )
+
+      pub losses_told : {A : Type 0} (f : A → List (List ℕ)) (r : Result A NodeFault) → IfOk r (λ lists. (first : Node L) → Since counts given got first v → f lists ≡ told_by v.trace.items) → IfOk r (λ lists. f lists ≡ told_by steps)
+      losses_told f (Ok lists) h = h start s ∙ ap told_by (sym is)
+      losses_told f (Err e) h = tt
+
+-- a call that waits, over further turns
+module _ (pass mine : ℕ) (call : Call) (before now after : List Step) (number place : ℕ) (same : mine ≡ pass) (begins : IsPrefix before now) (goes : IsPrefix now after) (p : Pending pass call before now number place) where
+  still_pending : calls_by mine after ≡ calls_by mine now → Pending pass call before after number place
+  still_pending e = (ap (λ n. calls_by n after) (sym same) ∙ (e ∙ (ap (λ n. calls_by n now) same ∙ p.0)), p.1, (p.2.0, p.2.1, prefix_get now after place p.2.0 goes p.2.2, p.2.3, p.2.4))
+
+  pub pending_ok : {A : Type 0} (r : A × Option Reply) → Waits mine now after number place (Ok r) → Pending pass call before after number place
+  pending_ok r w = still_pending w.0.0
+
+  pub replied : {A : Type 0} (x : A) (a : Reply) → Waits mine now after number place (Ok (x, Some a)) → Replied pass call before after a
+  replied x a w = let q = still_pending w.0.0 in (q.0, (number, place, w.1.0, q.1, w.1.1, q.2, w.1.2), w.0.1)
+
+  pub failed_later : (f : NodeFault) → Failed mine [] now after f → Failed pass (call ∷ []) before after f
+  failed_later f w =
+      let said = ⊎_elim (λ (e : calls_by mine after ≡ calls_by mine now). e) (λ (e : calls_by mine after ≡ calls_by mine now ++ []). e ∙ append-nil (calls_by mine now)) w.0 in
+      let m = w.1 in (
+        inr (still_pending said).0,
+        (
+          begins.0 ++ m.0,
+          sym (append_assoc before begins.0 m.0) ∙ (ap (λ l. l ++ m.0) begins.1 ∙ m.1),
+          subst (λ l. Caused (old_boot after) f l) (sym (of-append number_of pass begins.0 m.0)) (caused-right (old_boot after) f (of number_of pass begins.0) (of number_of pass m.0)
+              (subst (λ n. Caused (old_boot after) f (of number_of n m.0)) same m.2)),
+        ),
+      )

@@ -1,0 +1,8 @@
+use Rattle.ec_lock.specs.Passes.{front}
+use Rattle.ec_clerknode.specs.Turns.{Turned, Pending}
+use Rattle.ec_clerknode.proofs.shared.SharedClerk.call_op.Given as goal
+
+abbrev pub invariant-loop : goal.invariant-loop
+invariant-loop g l =
+    (goal.iterator-loop g).can_next l.iterator' × (goal.iterator-loop g).is_finite l.iterator'
+    × Turned l.self.lock l.fn.pass l.pass × Pending l.fn.pass.number l.fn.call (front l.fn.pass) (front l.pass) l.number l.place

@@ -1,0 +1,9 @@
+use Rattle.std.proofs.Common.{ap, arith}
+use Rattle.ec_clerknode.specs.Run.{highest}
+use Rattle.ec_clerknode.proofs.shared.SharedClerk.end.Goals as goal
+
+pub raise-requires-clause-low : goal.raise-requires-clause-low
+raise-requires-clause-low g c =
+    let top = c.requires.since.top in
+    let same = ap highest c.leave.ensures.front in
+    omega arith

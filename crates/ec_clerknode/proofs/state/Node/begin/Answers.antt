@@ -1,0 +1,30 @@
+use Rattle.std.proofs.Common.{◌+◌, ◌∙◌, refl, subst, arith}
+use Rattle.ec_clerknode.specs.declared.clerk.Refused.TheVariants as refused
+use Rattle.ec_clerknode.specs.Folded.{begun, Refuses}
+use Rattle.ec_clerknode.proofs.Acts.{began, not_begun}
+use Rattle.ec_clerknode.proofs.Nodes.{follows_alone, down}
+use Rattle.ec_clerknode.proofs.state.Node.begin.Goals as goal
+
+pub returns-in_err-close-in-Ok-clause-keeps : goal.returns-in_err-close-in-Ok-clause-keeps
+returns-in_err-close-in-Ok-clause-keeps g c =
+    let a = began c.args.self.now.clerk c.begin.new.clerk c.step-act.result c.of-shot.result c.args.call c.in-Ok.number c.in-Ok.outs.items c.of-shot.ensures c.in-Ok.ensures.number c.in-Ok.ensures.ok c.step-act.ensures in
+    follows_alone (λ l. g.L.Link.faults l + g.L.Link.closes l) g.L.Link.given g.L.Link.got c.args.pass c.step-act.result c.close.ensures.grown.0 c.args.self.now c.close.new.self c.begin.new.clerk c.in_ok-check.ensures.ok.0 a.0 a.1 c.close.ensures.grown.1
+
+pub returns-in_ok-close-in-Ok-clause-keeps : goal.returns-in_ok-close-in-Ok-clause-keeps
+returns-in_ok-close-in-Ok-clause-keeps g c =
+    let a = began c.args.self.now.clerk c.begin.new.clerk c.step-act.result c.of-shot.result c.args.call c.in-Ok.number c.in-Ok.outs.items c.of-shot.ensures c.in-Ok.ensures.number c.in-Ok.ensures.ok c.step-act.ensures in
+    follows_alone (λ l. g.L.Link.faults l + g.L.Link.closes l) g.L.Link.given g.L.Link.got c.args.pass c.step-act.result c.close.ensures.grown.0 c.args.self.now c.close.new.self c.begin.new.clerk c.in_ok-check.ensures.ok.0 a.0 a.1 c.close.ensures.grown.1
+
+pub returns-in_err-close-in-Err-Spent-clause-keeps : goal.returns-in_err-close-in-Err-Spent-clause-keeps
+returns-in_err-close-in-Err-Spent-clause-keeps g c =
+    let r : Refuses (refused.Spent c.in-Err-Spent.counter) (begun c.args.call c.args.self.now.clerk) c.args.self.now.clerk c.begin.new.clerk = subst (λ f. Refuses f (begun c.args.call c.args.self.now.clerk) c.args.self.now.clerk c.begin.new.clerk) c.in-Err-Spent.field-0-is c.in-Err-Spent.ensures.err in
+    let a = not_begun c.args.self.now.clerk c.begin.new.clerk c.mark-act.result c.of-shot.result c.args.call c.in-Err-Spent.counter c.of-shot.ensures r.0 r.1 c.mark-act.ensures in
+    follows_alone (λ l. g.L.Link.faults l + g.L.Link.closes l) g.L.Link.given g.L.Link.got c.args.pass c.mark-act.result c.close-in-Err-Spent.ensures.grown.0 c.args.self.now c.close-in-Err-Spent.new.self c.begin.new.clerk c.in_ok-check.ensures.ok.0 a.0 a.1 c.close-in-Err-Spent.ensures.grown.1
+
+pub returns-in_ok-close-in-Ok-clause-begun : goal.returns-in_ok-close-in-Ok-clause-begun
+returns-in_ok-close-in-Ok-clause-begun g c =
+    let k = c.in_ok-close-in-Ok.ensures.grown in
+    (k.2.0, (c.of-shot.result, k.0, c.of-shot.ensures, k.1.deed_is ∙ c.step-act.ensures.0, (k.1.list, (k.1.pass_is, tt))))
+
+pub returns-in-Err-NoMemory-clause-keeps : goal.returns-in-Err-NoMemory-clause-keeps
+returns-in-Err-NoMemory-clause-keeps g c = down (λ l. g.L.Link.faults l + g.L.Link.closes l) g.L.Link.given g.L.Link.got c.args.self.now c.breaks.new.self c.begin.new.clerk c.args.self.now.link refl (omega arith) c.breaks.ensures.1

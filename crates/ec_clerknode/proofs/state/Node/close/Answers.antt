@@ -1,0 +1,8 @@
+use Rattle.std.proofs.Common.{sym, subst}
+use Rattle.ec_clerknode.specs.Closed.{EndsAs}
+use Rattle.ec_clerknode.proofs.state.Node.close.Goals as goal
+
+pub returns : goal.returns
+returns g c =
+    let end = c.add_step-end.ensures in
+    record { grown = (end.0, end.1, subst (λ e. EndsAs c.add_step-end.new.self.boot e c.args.act.fault c.ended.result) (sym end.2) c.ended.ensures) }

@@ -1,0 +1,156 @@
+-- What one turn adds: the clerk takes a step, its messages are sent, its answers kept, and the step stands in the list.
+use Rattle.std.specs.Prelude.{◌≡◌, ℕ, ◌+◌, ◌≤◌, ◌⊎◌, true, false, List, [], ◌∷◌, ◌++◌, length, map, Option, Some, None, Result, Ok, Err, IfSome, max}
+use Rattle.std.specs.declared.snapshot.Snapshot.{Snapshot}
+use Rattle.ec_base.specs.declared.ids.Age.{Age}
+use Rattle.ec_log.specs.declared.state.Asked.{Asked}
+use Rattle.ec_plain.specs.declared.call.Call.{Call}
+use Rattle.ec_protocol.specs.declared.clerk.Clerk.{Clerk}
+use Rattle.ec_protocol.specs.declared.clerk.Out.{Out}
+use Rattle.ec_protocol.specs.declared.clerk.Flushed.{Flushed}
+use Rattle.ec_link.specs.declared.link.Sent.{Sent}
+use Rattle.ec_link.specs.declared.link.Sent.TheVariants as sent
+use Rattle.ec_link.specs.declared.link.Got.{Got}
+use Rattle.ec_link.specs.declared.link.Got.TheVariants as gave
+use Rattle.ec_link.specs.Links.{Heard, heard, added, failed, fault_of, close_of}
+use Rattle.ec_clerknode.specs.declared.act.Act.{Act}
+use Rattle.ec_clerknode.specs.declared.fault.NodeFault.{NodeFault}
+use Rattle.ec_clerknode.specs.declared.fault.NodeFault.TheVariants as fault
+use Rattle.ec_clerknode.specs.declared.step.Deed.{Deed}
+use Rattle.ec_clerknode.specs.declared.step.Deed.TheVariants.{Began, Picked}
+use Rattle.ec_clerknode.specs.declared.step.Step.{Step}
+use Rattle.ec_clerknode.specs.declared.state.Node.{Node}
+use Rattle.ec_clerknode.specs.Folded.{floor_of, answer_to}
+use Rattle.ec_clerknode.specs.Run.{Reply, after, outs_of, IsDeed, heard_of, net_of, call_of, mark_of_deed, calls, marks, Among, said_in, told, answers, sends, old_boots, first_of}
+use Rattle.ec_clerknode.specs.Node.{kept_at, AnsweredFrom, Since, By}
+
+abbrev pub first_known : Option Age → List Age → Option Age
+first_known None l = first_of l
+first_known (Some age) l = Some age
+
+module _ {L : Type 0} (counts : L → ℕ) (given : L → Option (List Heard)) (got : L → Option (List (List ℕ))) where
+  -- the step was added. Where memory was wanting for an answer or a message, the clerk is followed no more.
+  pub record Closed (pass : ℕ) (deed : Deed) (outs : List Out) (step : Step) (old new : Node L) : Type 0 where
+    pub list : new.trace.items ≡ old.trace.items ++ step ∷ []
+    pub steps : new.steps ≡ old.steps + 1
+    pub pass_is : step.pass ≡ pass
+    pub deed_is : step.deed ≡ deed
+    pub outs_are : step.outs.value.items ≡ outs
+    pub floor : step.floor ≡ floor_of old.clerk
+    pub whole : step.end ≡ sent.Done → step.sent ≡ length (sends outs)
+    pub top : new.top ≡ max old.top step.floor
+    pub clerk : new.clerk ≡ old.clerk
+    pub kept : (new.kept.items ≡ old.kept.items ++ map (kept_at old.steps) (answers outs)) ⊎ (new.kept.items ≡ [])
+    pub told_more : new.broken ≡ false → new.told.items ≡ old.told.items ++ told outs
+    pub old_boot : new.boot ≡ first_known old.boot (old_boots outs)
+    pub given_same : given new.link ≡ given old.link
+    pub got_more : got new.link ≡ added (got old.link) (said_in step)
+    pub counted : failed step.end + counts old.link ≤ counts new.link
+
+  -- `mid` is `old` with the clerk after the deed, and with what was received for it
+  pub record Moved (deed : Deed) (outs : List Out) (old mid : Node L) : Type 0 where
+    pub up : old.broken ≡ false
+    pub is : IsDeed old.clerk deed
+    pub outs_are : outs ≡ outs_of old.clerk deed
+    pub clerk : mid.clerk ≡ after old.clerk deed
+    pub kept : mid.kept.items ≡ old.kept.items
+    pub told_same : mid.told.items ≡ old.told.items
+    pub boot : mid.boot ≡ old.boot
+    pub steps : mid.steps ≡ old.steps
+    pub top : mid.top ≡ old.top
+    pub list : mid.trace.items ≡ old.trace.items
+    pub heard : given mid.link ≡ added (given old.link) (heard_of deed)
+    pub sent : got mid.link ≡ got old.link
+    pub net : net_of deed + counts old.link ≤ counts mid.link
+
+  -- nothing is added, and the clerk is followed no more
+  pub record Breaks (old new : Node L) : Type 0 where
+    pub down : new.broken ≡ true
+    pub list : new.trace ≡ old.trace
+    pub kept : new.kept ≡ old.kept
+    pub boot : new.boot ≡ old.boot
+    pub steps : new.steps ≡ old.steps
+    pub top : new.top ≡ old.top
+    pub sent : got new.link ≡ got old.link
+    pub net : counts old.link ≤ counts new.link
+
+-- What a turn of the clerk made of it, and the fault that its mark is the cause of.
+abbrev pub Acts : Clerk → Act → Clerk → Type 0
+Acts old act new = IsDeed old act.deed × (act.outs.items ≡ outs_of old act.deed) × (new ≡ after old act.deed) × IfSome act.fault (λ f. mark_of_deed act.deed ≡ f ∷ [])
+
+-- the link gave nothing for it
+abbrev pub IsOwn : Deed → Type 0
+IsOwn deed = (heard_of deed ≡ []) × (net_of deed ≡ 0)
+
+-- a fault that has a mark, or want of memory
+abbrev pub IsMark : NodeFault → Type 0
+IsMark fault.Net = Unit {0}
+IsMark (fault.Peer place) = Unit {0}
+IsMark (fault.Long n) = Unit {0}
+IsMark (fault.OldBoot age) = ⊥
+IsMark (fault.Spent counter) = Unit {0}
+IsMark fault.NoMemory = Unit {0}
+
+-- how a turn with this mark ends
+abbrev pub Stops : Option Age → Sent → Option NodeFault → NodeFault → Type 0
+Stops boot end marked fault.Net = (boot ≡ None) × ((end ≡ sent.Failed) ⊎ (marked ≡ Some fault.Net))
+Stops boot end marked (fault.Peer place) = (boot ≡ None) × (marked ≡ Some (fault.Peer place))
+Stops boot end marked (fault.Long n) = (boot ≡ None) × (marked ≡ Some (fault.Long n))
+Stops boot end marked (fault.OldBoot age) = boot ≡ Some age
+Stops boot end marked (fault.Spent counter) = (boot ≡ None) × (marked ≡ Some (fault.Spent counter))
+Stops boot end marked fault.NoMemory = Unit {0}
+
+abbrev pub EndsAs : {A : Type 0} → Option Age → Sent → Option NodeFault → Result A NodeFault → Type 0
+EndsAs boot end marked (Ok x) = (boot ≡ None) × (marked ≡ None)
+EndsAs boot end marked (Err f) = Stops boot end marked f
+
+-- the list has grown by these steps of this pass
+abbrev pub More : {L : Type 0} → ℕ → Node L → Node L → List Step → Type 0
+More pass old new more = (new.trace.items ≡ old.trace.items ++ more) × By pass more
+
+-- A fault of the link or of a counter has its mark among these steps, and no greater age is known. For a greater age that age is known.
+abbrev pub Caused : Option Age → NodeFault → List Step → Type 0
+Caused boot fault.Net more = (boot ≡ None) × Among fault.Net (marks more)
+Caused boot (fault.Peer place) more = (boot ≡ None) × Among (fault.Peer place) (marks more)
+Caused boot (fault.Long n) more = (boot ≡ None) × Among (fault.Long n) (marks more)
+Caused boot (fault.OldBoot age) more = boot ≡ Some age
+Caused boot (fault.Spent counter) more = (boot ≡ None) × Among (fault.Spent counter) (marks more)
+Caused boot fault.NoMemory more = Unit {0}
+
+-- steps that begin these calls or none, and a fault with its cause
+abbrev pub Fails : {L : Type 0} → ℕ → List Call → Node L → Node L → NodeFault → Type 0
+Fails pass cs old new f = (more : List Step) × More pass old new more × ((calls more ≡ []) ⊎ (calls more ≡ cs)) × Caused new.boot f more
+
+-- the call was begun, in one step
+abbrev pub Begun : {L : Type 0} → ℕ → Call → Node L → Node L → Result ℕ NodeFault → Type 0
+Begun pass call old new (Ok number) = (new.boot ≡ None) × ((shot : Snapshot Call) × (step : Step) × (shot.value ≡ call) × (step.deed ≡ Began shot number) × More pass old new (step ∷ []))
+Begun pass call old new (Err f) = Fails pass (call ∷ []) old new f
+
+-- steps that begin no call
+abbrev pub Works : {L A : Type 0} → ℕ → Node L → Node L → Result A NodeFault → Type 0
+Works pass old new (Ok x) = (new.boot ≡ None) × ((more : List Step) × More pass old new more × (calls more ≡ []))
+Works pass old new (Err f) = Fails pass [] old new f
+
+-- a batch was asked for, in one step, and this is the clerk's answer
+abbrev pub Flushes : {L : Type 0} → ℕ → Asked → Node L → Node L → Result Flushed NodeFault → Type 0
+Flushes pass asked old new (Ok answer) = (new.boot ≡ None) × (old.broken ≡ false) × ((step : Step) × (shot : Snapshot Asked) × (shot.value ≡ asked) × (step.deed ≡ Picked shot) × (answer ≡ answer_to asked old.clerk) × More pass old new (step ∷ []))
+Flushes pass asked old new (Err f) = Fails pass [] old new f
+
+-- what is done with what the link gave; with nothing, nothing
+abbrev pub Hears : Clerk → Got → Clerk → Option Act → Type 0
+Hears old got new None = (new ≡ old) × (heard got ≡ []) × (got ≡ gave.Nothing)
+Hears old got new (Some act) = Acts old act new × (heard got ≡ heard_of act.deed) × (net_of act.deed ≤ fault_of got + close_of got) × (call_of act.deed ≡ [])
+
+module _ {L : Type 0} (counts : L → ℕ) (given : L → Option (List Heard)) (got : L → Option (List (List ℕ))) where
+  -- where it is there, the answer stands at the place of the call's step or behind it
+  abbrev pub Waited : {A : Type 0} → ℕ → ℕ → Node L → Node L → Result (A × Option Reply) NodeFault → Type 0
+  Waited number place old new (Ok r) = (first : Node L) → Since counts given got first old → IfSome r.1 (λ a. AnsweredFrom new.trace.items place number a)
+  Waited number place old new (Err f) = Unit {0}
+
+  abbrev pub Started : ℕ → Call → Node L → Node L → Result (ℕ × ℕ × Option Reply) NodeFault → Type 0
+  Started pass call old new (Ok r) = Begun pass call old new (Ok r.0) × (r.1 ≡ old.steps) × Waited r.0 r.1 old new (Ok (r.0, r.2))
+  Started pass call old new (Err f) = Begun pass call old new (Err f)
+
+  -- the link was read once, and then a batch asked for
+  abbrev pub ReadsFlushes : {A : Type 0} → ℕ → Asked → Node L → Node L → Result (A × Flushed) NodeFault → Type 0
+  ReadsFlushes pass asked old new (Ok r) = (mid : Node L) × ((first : Node L) → Since counts given got first old → Since counts given got first mid) × ((more : List Step) × More pass old mid more × (calls more ≡ [])) × Flushes pass asked mid new (Ok r.1)
+  ReadsFlushes pass asked old new (Err f) = Fails pass [] old new f

@@ -1,0 +1,229 @@
+-- A clerk run: a list of steps from a clerk, each with what came out.
+use Rattle.std.specs.Prelude.{◌≡◌, ℕ, ◌+◌, List, [], ◌∷◌, ◌++◌, length, map, take, max, Option, Some, None, Ok, Err, ◌⊎◌}
+use Rattle.ec_base.specs.declared.ids.Age.{Age}
+use Rattle.ec_history.specs.declared.entry.Answer.{Answer}
+use Rattle.ec_plain.specs.declared.call.Call.{Call}
+use Rattle.ec_wire.specs.declared.msg.Msg.{Msg}
+use Rattle.ec_wire.specs.Codes.{said, msg_code}
+use Rattle.ec_protocol.specs.declared.clerk.Clerk.{Clerk}
+use Rattle.ec_protocol.specs.declared.clerk.Out.{Out}
+use Rattle.ec_protocol.specs.declared.clerk.Out.TheVariants as out
+use Rattle.ec_protocol.specs.Clerk.{Doing}
+use Rattle.ec_link.specs.declared.link.Sent.{Sent}
+use Rattle.ec_link.specs.declared.link.Sent.TheVariants as sent
+use Rattle.ec_link.specs.Links.{Heard, body, long, failed}
+use Rattle.ec_clerknode.specs.declared.step.Deed.{Deed}
+use Rattle.ec_clerknode.specs.declared.step.Deed.TheVariants.{Began, Took, Picked, Parted, Net, Peer, Long, NotBegun, NotTaken, NotPicked}
+use Rattle.ec_clerknode.specs.declared.step.Step.{Step}
+use Rattle.ec_clerknode.specs.declared.fault.NodeFault.{NodeFault}
+use Rattle.ec_clerknode.specs.declared.fault.NodeFault.TheVariants as fault
+use Rattle.ec_clerknode.specs.Folded.{begun, taken, picked, parted, floor_of}
+
+-- what each element gives, one after another
+abbrev pub each : {A B : Type 0} → (A → List B) → List A → List B
+each f [] = []
+each f (x ∷ xs) = f x ++ each f xs
+
+-- an answer, with its operation's number
+abbrev pub Reply : Type 0
+Reply = Answer × Option ℕ
+
+-- What came out of a step.
+
+abbrev pub send_of : Out → List Msg
+send_of (out.Answer number answer op) = []
+send_of (out.Send msg) = msg ∷ []
+send_of (out.Told ops) = []
+send_of (out.OldBoot age) = []
+
+abbrev pub sends : List Out → List Msg
+sends = each send_of
+
+-- the answers, by the numbers of their calls
+abbrev pub answer_of : Out → List (ℕ × Reply)
+answer_of (out.Answer number answer op) = (number, (answer, op)) ∷ []
+answer_of (out.Send msg) = []
+answer_of (out.Told ops) = []
+answer_of (out.OldBoot age) = []
+
+abbrev pub answers : List Out → List (ℕ × Reply)
+answers = each answer_of
+
+abbrev pub told_of : Out → List (List ℕ)
+told_of (out.Answer number answer op) = []
+told_of (out.Send msg) = []
+told_of (out.Told ops) = ops ∷ []
+told_of (out.OldBoot age) = []
+
+-- the operations that were told lost, as each session ended
+abbrev pub told : List Out → List (List ℕ)
+told = each told_of
+
+abbrev pub old_boot_of : Out → List Age
+old_boot_of (out.Answer number answer op) = []
+old_boot_of (out.Send msg) = []
+old_boot_of (out.Told ops) = []
+old_boot_of (out.OldBoot age) = age ∷ []
+
+abbrev pub old_boots : List Out → List Age
+old_boots = each old_boot_of
+
+-- What a step makes of the clerk.
+
+-- nothing changes, and nothing comes out
+abbrev pub still : Clerk → Doing
+still c = record { clerk = c; outs = []; spent = None }
+
+abbrev pub done : Clerk → Deed → Doing
+done c (Began call number) = begun call.value c
+done c (Took bytes msg) = taken msg.value c
+done c (Picked asked) = picked asked.value c
+done c Parted = parted c
+done c Net = still c
+done c (Peer bytes fault) = still c
+done c (Long n) = still c
+done c (NotBegun call counter) = still c
+done c (NotTaken bytes msg counter) = still c
+done c (NotPicked asked counter) = still c
+
+abbrev pub after : Clerk → Deed → Clerk
+after c deed = (done c deed).clerk
+
+abbrev pub outs_of : Clerk → Deed → List Out
+outs_of c deed = (done c deed).outs
+
+-- A call has the clerk's next number, a message is what its body says, and no counter is passed. A mark has its cause.
+abbrev pub IsDeed : Clerk → Deed → Type 0
+IsDeed c (Began call number) = (number ≡ c.calls + 1) × ((begun call.value c).spent ≡ None)
+IsDeed c (Took bytes msg) = (said bytes.value.items ≡ Ok msg.value) × ((taken msg.value c).spent ≡ None)
+IsDeed c (Picked asked) = (picked asked.value c).spent ≡ None
+IsDeed c Parted = (parted c).spent ≡ None
+IsDeed c Net = Unit {0}
+IsDeed c (Peer bytes fault) = said bytes.value.items ≡ Err fault
+IsDeed c (Long n) = Unit {0}
+IsDeed c (NotBegun call counter) = (begun call.value c).spent ≡ Some counter
+IsDeed c (NotTaken bytes msg counter) = (said bytes.value.items ≡ Ok msg.value) × ((taken msg.value c).spent ≡ Some counter)
+IsDeed c (NotPicked asked counter) = (picked asked.value c).spent ≡ Some counter
+
+-- all that came out stands in the step, and all its messages were sent where the sending ended well
+abbrev pub IsStep : Clerk → Step → Type 0
+IsStep c s = IsDeed c s.deed × (s.outs.value.items ≡ outs_of c s.deed) × (s.floor ≡ floor_of (after c s.deed)) × (s.end ≡ sent.Done → s.sent ≡ length (sends s.outs.value.items))
+
+-- the clerk to which the steps lead
+abbrev pub leads : Clerk → List Step → Clerk
+leads c [] = c
+leads c (s ∷ ss) = leads (after c s.deed) ss
+
+abbrev pub IsRun : Clerk → List Step → Type 0
+IsRun c [] = Unit {0}
+IsRun c (s ∷ ss) = IsStep c s × IsRun (after c s.deed) ss
+
+-- the highest floor that a step left: it never falls as the list grows
+abbrev pub highest : List Step → ℕ
+highest [] = 0
+highest (s ∷ ss) = max s.floor (highest ss)
+
+-- What a list of steps holds.
+
+-- the calls begun
+abbrev pub call_of : Deed → List Call
+call_of (Began call number) = call.value ∷ []
+call_of (Took bytes msg) = []
+call_of (Picked asked) = []
+call_of Parted = []
+call_of Net = []
+call_of (Peer bytes fault) = []
+call_of (Long n) = []
+call_of (NotBegun call counter) = []
+call_of (NotTaken bytes msg counter) = []
+call_of (NotPicked asked counter) = []
+
+abbrev pub calls : List Step → List Call
+calls = each (λ s. call_of s.deed)
+
+-- what the link gave for a step
+abbrev pub heard_of : Deed → List Heard
+heard_of (Began call number) = []
+heard_of (Took bytes msg) = body bytes.value.items ∷ []
+heard_of (Picked asked) = []
+heard_of Parted = []
+heard_of Net = []
+heard_of (Peer bytes fault) = body bytes.value.items ∷ []
+heard_of (Long n) = long n ∷ []
+heard_of (NotBegun call counter) = []
+heard_of (NotTaken bytes msg counter) = body bytes.value.items ∷ []
+heard_of (NotPicked asked counter) = []
+
+abbrev pub heard_by : List Step → List Heard
+heard_by = each (λ s. heard_of s.deed)
+
+-- the bytes of a message
+abbrev pub encoded : Msg → List ℕ
+encoded msg = msg_code.spell msg
+
+-- the bodies that were sent: of each step's messages as many as it says
+abbrev pub said_in : Step → List (List ℕ)
+said_in s = map encoded (take s.sent (sends s.outs.value.items))
+
+abbrev pub said_by : List Step → List (List ℕ)
+said_by = each said_in
+
+abbrev pub told_in : Step → List (List ℕ)
+told_in s = told s.outs.value.items
+
+-- the lists that were told lost
+abbrev pub told_by : List Step → List (List ℕ)
+told_by = each told_in
+
+abbrev pub net_of : Deed → ℕ
+net_of (Began call number) = 0
+net_of (Took bytes msg) = 0
+net_of (Picked asked) = 0
+net_of Parted = 0
+net_of Net = 1
+net_of (Peer bytes fault) = 0
+net_of (Long n) = 0
+net_of (NotBegun call counter) = 0
+net_of (NotTaken bytes msg counter) = 0
+net_of (NotPicked asked counter) = 0
+
+-- how many marks of a failed or closed link there are
+abbrev pub nets : List Step → ℕ
+nets [] = 0
+nets (s ∷ ss) = (net_of s.deed + failed s.end) + nets ss
+
+-- the faults of which a step is the cause
+abbrev pub mark_of_deed : Deed → List NodeFault
+mark_of_deed (Began call number) = []
+mark_of_deed (Took bytes msg) = []
+mark_of_deed (Picked asked) = []
+mark_of_deed Parted = []
+mark_of_deed Net = fault.Net ∷ []
+mark_of_deed (Peer bytes place) = fault.Peer place ∷ []
+mark_of_deed (Long n) = fault.Long n ∷ []
+mark_of_deed (NotBegun call counter) = fault.Spent counter ∷ []
+mark_of_deed (NotTaken bytes msg counter) = fault.Spent counter ∷ []
+mark_of_deed (NotPicked asked counter) = fault.Spent counter ∷ []
+
+abbrev pub mark_of_end : Sent → List NodeFault
+mark_of_end sent.Done = []
+mark_of_end sent.Failed = fault.Net ∷ []
+mark_of_end sent.NoMemory = []
+
+abbrev pub marks : List Step → List NodeFault
+marks = each (λ s. mark_of_deed s.deed ++ mark_of_end s.end)
+
+abbrev pub Among : {A : Type 0} → A → List A → Type 0
+Among x [] = ⊥
+Among x (y ∷ ys) = (y ≡ x) ⊎ Among x ys
+
+abbrev pub old_boots_in : Step → List Age
+old_boots_in s = old_boots s.outs.value.items
+
+abbrev pub first_of : {A : Type 0} → List A → Option A
+first_of [] = None
+first_of (x ∷ xs) = Some x
+
+-- the first greater age that came out
+abbrev pub old_boot : List Step → Option Age
+old_boot steps = first_of (each old_boots_in steps)

@@ -1,0 +1,83 @@
+// The clerk's calls, in words that stay folded above.
+ghost use Rattle.std.specs.Prelude.{◌≡◌, ◌+◌, true, IfOk, IfErr, OnErr};
+ghost use Rattle.ec_protocol.specs.declared.clerk.ClerkFault.TheVariants as fault;
+ghost use Rattle.ec_wire.specs.Messages.{is_sound};
+ghost use Rattle.ec_clerknode.specs.Folded.{begun, taken, picked, parted, answer_to, floor_of, refused_by, Comes, Refuses};
+
+use ec_base::{Counter, NoMemory};
+use ec_clerk::Clerk;
+use ec_log::Asked;
+use ec_plain::Call;
+use ec_protocol::{ClerkFault, Flushed, Out};
+use ec_wire::Msg;
+
+/// Why the clerk took no step.
+#[derive(Clone, Copy, Drop)]
+pub enum Refused {
+    Spent(Counter),
+    NoMemory,
+}
+
+fn refusal(fault: ClerkFault) -> Refused
+    ensures { result ≡ refused_by fault }
+{
+    match fault {
+        ClerkFault::Spent(counter) => Refused::Spent(counter),
+        ClerkFault::NoSuchOp | ClerkFault::NoMemory => Refused::NoMemory,
+    }
+}
+
+/// Begins a call.
+#[tactic(auto, unfolding(crate::specs::Folded::begun))]
+pub fn begin(clerk: &mut Clerk, call: Call) -> Result<(u64, Vec<Out>), Refused>
+    ensures number { IfOk result (λ r. r.0 ≡ clerk.old.calls + 1) }
+    ensures ok { IfOk result (λ r. Comes (begun call clerk.old) clerk.new r.1.items) }
+    ensures err { IfErr result (λ f. Refuses f (begun call clerk.old) clerk.old clerk.new) }
+{
+    match clerk.begin(call) {
+        Ok(made) => Ok(made),
+        Err(fault) => Err(refusal(fault)),
+    }
+}
+
+/// Takes a message.
+#[tactic(auto, unfolding(crate::specs::Folded::taken))]
+pub fn take(clerk: &mut Clerk, msg: Msg) -> Result<Vec<Out>, Refused>
+    requires { is_sound msg ≡ true }
+    ensures ok { IfOk result (λ outs. Comes (taken msg clerk.old) clerk.new outs.items) }
+    ensures err { IfErr result (λ f. Refuses f (taken msg clerk.old) clerk.old clerk.new) }
+{
+    match clerk.take(msg) {
+        Ok(outs) => Ok(outs),
+        Err(fault) => Err(refusal(fault)),
+    }
+}
+
+/// Asks for a batch.
+#[tactic(auto, unfolding(crate::specs::Folded::picked, crate::specs::Folded::answer_to))]
+pub fn flush(clerk: &mut Clerk, asked: Asked) -> Result<(Flushed, Vec<Out>), Refused>
+    ensures answer { IfOk result (λ r. r.0 ≡ answer_to asked clerk.old) }
+    ensures ok { IfOk result (λ r. Comes (picked asked clerk.old) clerk.new r.1.items) }
+    ensures err { IfErr result (λ f. Refuses f (picked asked clerk.old) clerk.old clerk.new) }
+{
+    match clerk.flush(asked) {
+        Ok(made) => Ok(made),
+        Err(fault) => Err(refusal(fault)),
+    }
+}
+
+/// Says goodbye.
+#[tactic(auto, unfolding(crate::specs::Folded::parted))]
+pub fn bye(clerk: &mut Clerk) -> Result<Vec<Out>, NoMemory>
+    ensures { IfOk result (λ outs. Comes (parted clerk.old) clerk.new outs.items) }
+{
+    clerk.bye().ok().ok_or(NoMemory)
+}
+
+/// The clerk's floor.
+#[tactic(auto, unfolding(crate::specs::Folded::floor_of))]
+pub fn floor(clerk: &Clerk) -> u64
+    ensures { result ≡ floor_of clerk.now }
+{
+    clerk.floor()
+}

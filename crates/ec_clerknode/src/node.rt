@@ -1,0 +1,318 @@
+// What is done in one turn at the lock.
+ghost use Rattle.std.specs.Prelude.{◌≡◌, ℕ, ◌+◌, ◌≤◌, ◌<◌, ◌⊎◌, true, false, [], ◌∷◌, ◌++◌, length, map, Option, Some, None, IfOk, IfErr, IfSome, IfNone};
+ghost use Rattle.ec_base.specs.Limits.{last_counter};
+ghost use Rattle.ec_base.specs.declared.ids.Age.{Age as Years};
+ghost use Rattle.ec_clerknode.specs.Closed.{Acts, Closed, EndsAs, IsMark, Begun, Works, Flushes, ReadsFlushes, Started, Waited};
+ghost use Rattle.ec_clerknode.specs.Node.{AnsweredFrom, Since, Keeps};
+ghost use Rattle.ec_clerknode.specs.Run.{told_by};
+ghost use Rattle.ec_clerknode.specs.declared.fault.NodeFault.TheVariants as fault;
+ghost use Rattle.ec_clerknode.specs.declared.state.Node.{Node};
+ghost use Rattle.ec_clerknode.specs.declared.step.Step.{Step};
+
+use crate::act::Act;
+use crate::clerk::{self, Refused};
+use crate::fault::NodeFault;
+use crate::hear::hear;
+use crate::kept::{keep_all, known_old, send_all, take_kept};
+use crate::state::Node;
+use crate::step::{Deed, Step};
+use ec_base::{Duplicate, LAST_COUNTER, List, NoMemory, OpNo};
+use ec_history::Answer;
+use ec_link::{Link, Sent};
+use ec_log::Asked;
+use ec_plain::Call;
+use ec_protocol::{Flushed, Out};
+use std::alloc::Global;
+use std::snapshot::Snapshot;
+use std::sync::Wait;
+use std::time::Clock;
+
+fn copies(alloc: Global, lists: &[List<OpNo>]) -> Result<Vec<List<OpNo>>, NoMemory>
+    ensures { IfOk result (λ copies. copies.items ≡ lists.now) }
+{
+    let mut copies = Vec::with_capacity(alloc, lists.len())?;
+    for list in lists {
+        copies.push(list.duplicate()?)?;
+    }
+    Ok(copies)
+}
+
+impl<L: Link> Node<L> {
+    /// Whether a turn may do anything.
+    pub fn check(&self) -> Result<(), NodeFault>
+        ensures ok { IfOk result (λ _. (self.now.broken ≡ false) × (self.now.steps < last_counter) × (self.now.boot ≡ None)) }
+        ensures err { IfErr result (λ f. (f ≡ fault.NoMemory) ⊎ ((age : Years) × (f ≡ fault.OldBoot age) × (self.now.boot ≡ Some age))) }
+    {
+        if let Some(age) = self.boot {
+            return Err(NodeFault::OldBoot(age));
+        }
+        if self.broken || self.steps >= LAST_COUNTER {
+            return Err(NodeFault::NoMemory);
+        }
+        Ok(())
+    }
+
+    // Memory is wanting, and the clerk is followed no more.
+    fn breaks(&mut self) -> NodeFault
+        ensures { (result ≡ fault.NoMemory) × (self.new ≡ record self.old { broken = true }) }
+    {
+        self.broken = true;
+        NodeFault::NoMemory
+    }
+
+    // Sends the messages, keeps the answers and adds the step. It says how the sending ended.
+    fn add_step<R: Wait + Clock>(
+        &mut self,
+        rt: &R,
+        alloc: Global,
+        pass: u64,
+        deed: Deed,
+        outs: Vec<Out>,
+    ) -> Sent
+        requires { self.old.steps < last_counter }
+        ensures { (step : Step) × Closed (λ l. L.faults l + L.closes l) L.given L.got pass deed outs.items step self.old self.new × (step.end ≡ result) }
+    {
+        let shot = Snapshot::of(&outs);
+        let (sent, end) = send_all(rt, alloc, &mut self.link, &outs);
+        let floor = clerk::floor(&self.clerk);
+        self.boot = known_old(self.boot, &outs);
+        let kept = keep_all(&mut self.kept, &mut self.told, outs, self.steps);
+        let step = Step {
+            pass,
+            deed,
+            outs: shot,
+            sent,
+            end,
+            floor,
+        };
+        self.trace = self.trace.and(&step);
+        self.steps += 1;
+        self.top = self.top.max(floor);
+        self.broken = self.broken || !kept || end == Sent::NoMemory;
+        end
+    }
+
+    // How the turn ends.
+    fn ended(&self, end: Sent, marked: Option<NodeFault>) -> Result<(), NodeFault>
+        requires { IfSome marked IsMark }
+        ensures { EndsAs self.now.boot end marked result }
+    {
+        if let Some(age) = self.boot {
+            return Err(NodeFault::OldBoot(age));
+        }
+        if self.broken {
+            return Err(NodeFault::NoMemory);
+        }
+        if end == Sent::Failed {
+            return Err(NodeFault::Net);
+        }
+        match marked {
+            Some(fault) => Err(fault),
+            None => Ok(()),
+        }
+    }
+
+    // Ends what was done to the clerk: its step is added.
+    fn close<R: Wait + Clock>(
+        &mut self,
+        rt: &R,
+        alloc: Global,
+        pass: u64,
+        act: Act,
+    ) -> Result<(), NodeFault>
+        requires steps { self.old.steps < last_counter }
+        requires marked { IfSome act.fault IsMark }
+        ensures grown { (step : Step) × Closed (λ l. L.faults l + L.closes l) L.given L.got pass act.deed act.outs.items step self.old self.new × EndsAs self.new.boot step.end act.fault result }
+    {
+        let Act { deed, outs, fault } = act;
+        let end = self.add_step(rt, alloc, pass, deed, outs);
+        self.ended(end, fault)
+    }
+
+    fn take_answer(&mut self, number: u64, place: u64) -> Option<(Answer, Option<OpNo>)>
+        ensures keeps { Keeps (λ l. L.faults l + L.closes l) L.given L.got self.old self.new }
+        ensures same { (self.new.trace.items ≡ self.old.trace.items) × (self.new.boot ≡ self.old.boot) }
+        ensures answer { (first : Node L) → Since (λ l. L.faults l + L.closes l) L.given L.got first self.old → IfSome result (λ reply. AnsweredFrom self.old.trace.items place number reply) }
+    {
+        take_kept(&mut self.kept, number, place)
+    }
+
+    fn begin<R: Wait + Clock>(
+        &mut self,
+        rt: &R,
+        alloc: Global,
+        pass: u64,
+        call: Call,
+    ) -> Result<u64, NodeFault>
+        ensures keeps { Keeps (λ l. L.faults l + L.closes l) L.given L.got self.old self.new }
+        ensures begun { Begun pass call self.old self.new result }
+    {
+        self.check()?;
+        let shot = Snapshot::of(&call);
+        match clerk::begin(&mut self.clerk, call) {
+            Ok((number, outs)) => {
+                let act = Act::step(Deed::Began(shot, number), outs);
+                self.close(rt, alloc, pass, act)?;
+                Ok(number)
+            }
+            Err(Refused::Spent(counter)) => {
+                let fault = NodeFault::Spent(counter);
+                let act = Act::mark(alloc, Deed::NotBegun(shot, counter), fault);
+                self.close(rt, alloc, pass, act)?;
+                Err(fault)
+            }
+            Err(Refused::NoMemory) => Err(self.breaks()),
+        }
+    }
+
+    /// Reads the link once, and takes the message if there was one. It's true where the link gave something.
+    pub fn read<R: Wait + Clock>(
+        &mut self,
+        rt: &R,
+        alloc: Global,
+        pass: u64,
+    ) -> Result<bool, NodeFault>
+        ensures keeps { Keeps (λ l. L.faults l + L.closes l) L.given L.got self.old self.new }
+        ensures works { Works pass self.old self.new result }
+    {
+        self.check()?;
+        let got = self.link.recv(rt);
+        match hear(&mut self.clerk, alloc, got) {
+            Ok(None) => Ok(false),
+            Ok(Some(act)) => {
+                self.close(rt, alloc, pass, act)?;
+                Ok(true)
+            }
+            Err(_) => Err(self.breaks()),
+        }
+    }
+
+    /// Asks for a batch.
+    pub fn flush<R: Wait + Clock>(
+        &mut self,
+        rt: &R,
+        alloc: Global,
+        pass: u64,
+        asked: Asked,
+    ) -> Result<Flushed, NodeFault>
+        ensures keeps { Keeps (λ l. L.faults l + L.closes l) L.given L.got self.old self.new }
+        ensures flushes { Flushes pass asked self.old self.new result }
+    {
+        self.check()?;
+        let shot = Snapshot::of(&asked);
+        match clerk::flush(&mut self.clerk, asked) {
+            Ok((answer, outs)) => {
+                let act = Act::step(Deed::Picked(shot), outs);
+                self.close(rt, alloc, pass, act)?;
+                Ok(answer)
+            }
+            Err(Refused::Spent(counter)) => {
+                let fault = NodeFault::Spent(counter);
+                let act = Act::mark(alloc, Deed::NotPicked(shot, counter), fault);
+                self.close(rt, alloc, pass, act)?;
+                Err(fault)
+            }
+            Err(Refused::NoMemory) => Err(self.breaks()),
+        }
+    }
+
+    /// Says goodbye.
+    pub fn bye<R: Wait + Clock>(
+        &mut self,
+        rt: &R,
+        alloc: Global,
+        pass: u64,
+    ) -> Result<(), NodeFault>
+        ensures keeps { Keeps (λ l. L.faults l + L.closes l) L.given L.got self.old self.new }
+        ensures works { Works pass self.old self.new result }
+    {
+        self.check()?;
+        match clerk::bye(&mut self.clerk) {
+            Ok(outs) => self.close(rt, alloc, pass, Act::step(Deed::Parted, outs)),
+            Err(_) => Err(self.breaks()),
+        }
+    }
+
+    /// Begins a call. Its number, the place of its step, and the answer where it is there at once.
+    pub fn start_call<R: Wait + Clock>(
+        &mut self,
+        rt: &R,
+        alloc: Global,
+        pass: u64,
+        call: Call,
+    ) -> Result<(u64, u64, Option<(Answer, Option<OpNo>)>), NodeFault>
+        ensures keeps { Keeps (λ l. L.faults l + L.closes l) L.given L.got self.old self.new }
+        ensures started { Started (λ l. L.faults l + L.closes l) L.given L.got pass call self.old self.new result }
+    {
+        let place = self.steps;
+        let number = self.begin(rt, alloc, pass, call)?;
+        let answer = self.take_answer(number, place);
+        Ok((number, place, answer))
+    }
+
+    /// One more turn of a call that waits: whether the link gave something, and the answer where it is there. The link is
+    /// read once, unless another lane found the answer.
+    pub fn wait_call<R: Wait + Clock>(
+        &mut self,
+        rt: &R,
+        alloc: Global,
+        pass: u64,
+        number: u64,
+        place: u64,
+    ) -> Result<(bool, Option<(Answer, Option<OpNo>)>), NodeFault>
+        ensures keeps { Keeps (λ l. L.faults l + L.closes l) L.given L.got self.old self.new }
+        ensures works { Works pass self.old self.new result }
+        ensures answered { Waited (λ l. L.faults l + L.closes l) L.given L.got number place self.old self.new result }
+    {
+        self.check()?;
+        if let Some(reply) = self.take_answer(number, place) {
+            return Ok((false, Some(reply)));
+        }
+        self.read_and_take(rt, alloc, pass, number, place)
+    }
+
+    // Reads the link once, and takes the answer if it's there then.
+    fn read_and_take<R: Wait + Clock>(
+        &mut self,
+        rt: &R,
+        alloc: Global,
+        pass: u64,
+        number: u64,
+        place: u64,
+    ) -> Result<(bool, Option<(Answer, Option<OpNo>)>), NodeFault>
+        ensures keeps { Keeps (λ l. L.faults l + L.closes l) L.given L.got self.old self.new }
+        ensures works { Works pass self.old self.new result }
+        ensures answered { Waited (λ l. L.faults l + L.closes l) L.given L.got number place self.old self.new result }
+    {
+        let heard = self.read(rt, alloc, pass)?;
+        let answer = self.take_answer(number, place);
+        Ok((heard, answer))
+    }
+
+    /// Reads the link once and asks for a batch. Whether the link gave something, and the answer.
+    pub fn read_and_flush<R: Wait + Clock>(
+        &mut self,
+        rt: &R,
+        alloc: Global,
+        pass: u64,
+        asked: Asked,
+    ) -> Result<(bool, Flushed), NodeFault>
+        ensures keeps { Keeps (λ l. L.faults l + L.closes l) L.given L.got self.old self.new }
+        ensures flushes { ReadsFlushes (λ l. L.faults l + L.closes l) L.given L.got pass asked self.old self.new result }
+    {
+        let heard = self.read(rt, alloc, pass)?;
+        let flushed = self.flush(rt, alloc, pass, asked)?;
+        Ok((heard, flushed))
+    }
+
+    /// The lists that were told lost.
+    pub fn losses(&self, alloc: Global) -> Result<Vec<List<OpNo>>, NodeFault>
+        ensures ok { IfOk result (λ lists. (first : Node L) → Since (λ l. L.faults l + L.closes l) L.given L.got first self.now → lists.items ≡ told_by self.now.trace.items) }
+        ensures err { IfErr result (λ f. f ≡ fault.NoMemory) }
+    {
+        if self.broken {
+            return Err(NodeFault::NoMemory);
+        }
+        Ok(copies(alloc, &self.told)?)
+    }
+}

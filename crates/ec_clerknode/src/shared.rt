@@ -1,0 +1,298 @@
+// The clerk that several threads share.
+ghost use Rattle.std.specs.Prelude.{◌≡◌, ℕ, ◌+◌, ◌<◌, ◌≤◌, ◌⊎◌, max, List, [], ◌∷◌, ◌++◌, length, Some, None, IfOk, IfErr, IfSome, IfNone, Option};
+ghost use mathlib.Core.List.{IsPrefix};
+ghost use Rattle.ec_base.specs.Limits.{last_counter};
+ghost use Rattle.ec_lock.specs.Passes.{first, front, numbers, next_number, raised, answered, note_view, HasTurn, IsPassOf, IsNoteOf, Same};
+ghost use Rattle.ec_lock.specs.Steps.{Member, of};
+ghost use Rattle.ec_clerknode.specs.declared.fault.NodeFault.TheVariants as fault;
+ghost use Rattle.ec_clerknode.specs.Closed.{Started, Waited, Works};
+ghost use Rattle.ec_clerknode.specs.Floors.{highest_grows};
+ghost use Rattle.ec_clerknode.specs.Node.{Since};
+ghost use Rattle.ec_clerknode.specs.Run.{highest, old_boot, told_by};
+ghost use Rattle.ec_clerknode.specs.Turns.{number_of, Stays, Turned, Starts, Waits, Called, CalledPlain, Worked, Asks, FlushTurned, Finished};
+
+use crate::fault::NodeFault;
+use crate::state::Node;
+use crate::step::Step;
+use ec_base::{Age, List, OpNo};
+use ec_clerk::Clerk;
+use ec_history::Answer;
+use ec_link::{Bell, Link};
+use ec_lock::{Note, Pass, Traced, TracedLock, Turn};
+use ec_log::Asked;
+use ec_plain::Call;
+use ec_protocol::Flushed;
+use ec_trace::Trace;
+use std::alloc::Global;
+use std::sync::Wait;
+use std::time::Clock;
+
+impl<L: Link> Traced for Node<L> {
+    type Step = Step;
+
+    ghost list = { λ n. n.trace.items };
+
+    ghost number = { λ s. Some s.pass };
+
+    ghost floor = { highest };
+
+    ghost since = { Since (λ l. L.faults l + L.closes l) L.given L.got };
+
+    fn steps(&self) -> u64 {
+        self.steps
+    }
+
+    ghost grows = { highest_grows };
+}
+
+/// A clerk and its link behind a lock. A call that waits takes turns at the lock, and between them it waits on the link's
+/// bell. In a turn nobody waits for the other end.
+#[derive(Drop)]
+pub struct SharedClerk<L: Link> {
+    pub(crate) lock: TracedLock<Node<L>>,
+    bell: L::Bell,
+    pub(crate) alloc: Global,
+}
+
+impl<L: Link> SharedClerk<L> {
+    // Ends a turn. The pass raises the mark to the floor of its front, and the others look where there may be something for them.
+    fn end(&self, turn: Turn<Node<L>>, pass: &mut Pass<Node<L>>, is_news: bool)
+        requires turn { HasTurn self.now.lock pass.old turn.next }
+        requires later { IsPrefix (front pass.old) turn.value.trace.items }
+        requires own { (n : ℕ) → ¬ (n ≡ pass.old.number) → of number_of n (front pass.old) ≡ of number_of n turn.value.trace.items }
+        requires since { Since (λ l. L.faults l + L.closes l) L.given L.got (first self.now.lock) turn.value }
+        ensures pass { IsPassOf self.now.lock pass.new }
+        ensures front { front pass.new ≡ turn.value.trace.items }
+        ensures stays { Stays pass.old pass.new }
+        ensures raises { highest (front pass.new) ≤ raised pass.new }
+    {
+        let top = turn.value.top;
+        self.lock.leave(turn, pass);
+        self.lock.raise(pass, top);
+        if is_news {
+            self.bell.ring();
+        }
+    }
+
+    // The turn in which a call is begun.
+    fn start<R: Wait + Clock>(
+        &self,
+        rt: &R,
+        pass: &mut Pass<Node<L>>,
+        call: Call,
+    ) -> Result<(u64, u64, Option<(Answer, Option<OpNo>)>), NodeFault>
+        requires pass { IsPassOf self.now.lock pass.old }
+        ensures turned { Turned self.now.lock pass.old pass.new }
+        ensures starts { Starts pass.old.number call (front pass.old) (front pass.new) result }
+    {
+        let number = pass.number();
+        let mut turn = self.lock.enter(rt, pass);
+        let kept = turn.value.kept.len();
+        let result = turn.value.start_call(rt, self.alloc, number, call);
+        let is_news = result.is_err() || turn.value.kept.len() > kept;
+        self.end(turn, pass, is_news);
+        result
+    }
+
+    // A further turn of a call that waits.
+    fn wait<R: Wait + Clock>(
+        &self,
+        rt: &R,
+        pass: &mut Pass<Node<L>>,
+        number: u64,
+        place: u64,
+    ) -> Result<(bool, Option<(Answer, Option<OpNo>)>), NodeFault>
+        requires pass { IsPassOf self.now.lock pass.old }
+        ensures turned { Turned self.now.lock pass.old pass.new }
+        ensures waits { Waits pass.old.number (front pass.old) (front pass.new) number place result }
+    {
+        let mine = pass.number();
+        let mut turn = self.lock.enter(rt, pass);
+        let result = turn.value.wait_call(rt, self.alloc, mine, number, place);
+        let is_news = match &result {
+            Ok((heard, _)) => *heard,
+            Err(_) => true,
+        };
+        self.end(turn, pass, is_news);
+        result
+    }
+
+    /// Begins the call and waits for its answer, with its operation's number. What is answered at once waits for nobody
+    /// and doesn't read the link.
+    pub fn call_op<R: Wait + Clock>(
+        &self,
+        rt: &R,
+        pass: &mut Pass<Node<L>>,
+        call: Call,
+    ) -> Result<(Answer, Option<OpNo>), NodeFault>
+        requires pass { IsPassOf self.now.lock pass.old }
+        ensures turned { Turned self.now.lock pass.old pass.new }
+        ensures called { Called pass.old.number call (front pass.old) (front pass.new) result }
+    {
+        let (number, place, reply) = self.start(rt, pass, call)?;
+        if let Some(reply) = reply {
+            return Ok(reply);
+        }
+        for _ in rt.forever() {
+            let seen = self.bell.rings();
+            let (heard, reply) = self.wait(rt, pass, number, place)?;
+            if let Some(reply) = reply {
+                return Ok(reply);
+            }
+            if !heard {
+                self.bell.wait(rt, seen);
+            }
+        }
+        unreachable!()
+    }
+
+    /// The same without the operation's number.
+    pub fn call<R: Wait + Clock>(
+        &self,
+        rt: &R,
+        pass: &mut Pass<Node<L>>,
+        call: Call,
+    ) -> Result<Answer, NodeFault>
+        requires pass { IsPassOf self.now.lock pass.old }
+        ensures turned { Turned self.now.lock pass.old pass.new }
+        ensures called { CalledPlain pass.old.number call (front pass.old) (front pass.new) result }
+    {
+        let (answer, _) = self.call_op(rt, pass, call)?;
+        Ok(answer)
+    }
+
+    // The turn in which a batch is asked for: whether the link gave something, and the answer.
+    fn ask<R: Wait + Clock>(
+        &self,
+        rt: &R,
+        pass: &mut Pass<Node<L>>,
+        asked: Asked,
+    ) -> Result<(bool, Flushed), NodeFault>
+        requires pass { IsPassOf self.now.lock pass.old }
+        ensures turned { Turned self.now.lock pass.old pass.new }
+        ensures asks { Asks (first self.now.lock).clerk pass.old.number asked (front pass.old) (front pass.new) result }
+    {
+        let number = pass.number();
+        let mut turn = self.lock.enter(rt, pass);
+        let result = turn.value.read_and_flush(rt, self.alloc, number, asked);
+        let is_news = match &result {
+            Ok((heard, _)) => *heard,
+            Err(_) => true,
+        };
+        self.end(turn, pass, is_news);
+        result
+    }
+
+    /// Asks once for a batch, in a turn that also reads the link.
+    pub fn flush_turn<R: Wait + Clock>(
+        &self,
+        rt: &R,
+        pass: &mut Pass<Node<L>>,
+        asked: Asked,
+    ) -> Result<Flushed, NodeFault>
+        requires pass { IsPassOf self.now.lock pass.old }
+        ensures turned { Turned self.now.lock pass.old pass.new }
+        ensures flushed { FlushTurned (first self.now.lock).clerk pass.old.number asked (front pass.old) (front pass.new) result }
+    {
+        let (_, flushed) = self.ask(rt, pass, asked)?;
+        Ok(flushed)
+    }
+
+    /// Says goodbye.
+    pub fn bye<R: Wait + Clock>(&self, rt: &R, pass: &mut Pass<Node<L>>) -> Result<(), NodeFault>
+        requires pass { IsPassOf self.now.lock pass.old }
+        ensures turned { Turned self.now.lock pass.old pass.new }
+        ensures worked { Worked pass.old.number (front pass.old) (front pass.new) result }
+    {
+        let number = pass.number();
+        let mut turn = self.lock.enter(rt, pass);
+        let result = turn.value.bye(rt, self.alloc, number);
+        self.end(turn, pass, result.is_err());
+        result
+    }
+
+    /// The lists that were told lost, in the order of the sessions' ends.
+    pub fn losses<R: Wait>(
+        &self,
+        rt: &R,
+        pass: &mut Pass<Node<L>>,
+    ) -> Result<Vec<List<OpNo>>, NodeFault>
+        requires pass { IsPassOf self.now.lock pass.old }
+        ensures turned { Turned self.now.lock pass.old pass.new }
+        ensures same { of number_of pass.old.number (front pass.new) ≡ of number_of pass.old.number (front pass.old) }
+        ensures ok { IfOk result (λ lists. lists.items ≡ told_by (front pass.new)) }
+        ensures err { IfErr result (λ f. f ≡ fault.NoMemory) }
+    {
+        let turn = self.lock.enter(rt, pass);
+        let lists = turn.value.losses(self.alloc);
+        self.end(turn, pass, false);
+        lists
+    }
+
+    // A turn in which nothing is done. It tells the greater age that is known, if there is one.
+    pub(crate) fn look<R: Wait>(&self, rt: &R, pass: &mut Pass<Node<L>>) -> Option<Age>
+        requires pass { IsPassOf self.now.lock pass.old }
+        ensures turned { Turned self.now.lock pass.old pass.new }
+        ensures own { (n : ℕ) → Member n (numbers pass.old) → of number_of n (front pass.old) ≡ of number_of n (front pass.new) }
+        ensures old_boot { result ≡ old_boot (front pass.new) }
+    {
+        let turn = self.lock.enter(rt, pass);
+        let boot = turn.value.boot;
+        self.end(turn, pass, false);
+        boot
+    }
+
+    /// What threads wait on for this clerk, outside of the lock. It rings where the link may have something new.
+    pub fn bell(&self) -> &L::Bell
+        ensures { result.now ≡ self.now.bell }
+    {
+        &self.bell
+    }
+}
+
+impl<L: Link + Drop> SharedClerk<L> {
+    /// A clerk that has taken no step since its start, its link, and the link's bell. The first pass has the number 0.
+    pub fn new(
+        alloc: Global,
+        clerk: Clerk,
+        link: L,
+        bell: L::Bell,
+    ) -> Result<(SharedClerk<L>, Pass<Node<L>>), NodeFault>
+        ensures pass { IfOk result (λ made. IsPassOf made.0.lock made.1 × (front made.1 ≡ []) × (made.1.number ≡ 0) × (numbers made.1 ≡ 0 ∷ [])) }
+        ensures clerk { IfOk result (λ made. (first made.0.lock).clerk ≡ clerk) }
+        ensures link { IfOk result (λ made. (first made.0.lock).link ≡ link) }
+        ensures err { IfErr result (λ f. f ≡ fault.NoMemory) }
+    {
+        let node = Node {
+            clerk,
+            link,
+            kept: Vec::new(alloc),
+            told: Vec::new(alloc),
+            boot: None,
+            steps: 0,
+            broken: false,
+            top: 0,
+            trace: Trace::new(),
+        };
+        match TracedLock::new(alloc, node) {
+            Ok((lock, pass)) => Ok((SharedClerk { lock, bell, alloc }, pass)),
+            Err(_) => Err(NodeFault::NoMemory),
+        }
+    }
+
+    /// Hands the clerk and the link back. The pass's front is the whole list then. There is no clerk where a call met want
+    /// of memory, after which nothing is begun.
+    pub fn finish<R: Wait>(self, rt: &R, pass: &mut Pass<Node<L>>) -> (Option<Clerk>, L)
+        requires pass { IsPassOf self.lock pass.old }
+        ensures same { Same pass.old pass.new }
+        ensures later { IsPrefix (front pass.old) (front pass.new) }
+        ensures finished { Finished (λ l. L.faults l + L.closes l) L.given L.got (first self.lock) (front pass.new) result.0 result.1 }
+    {
+        let turn = self.lock.enter(rt, pass);
+        let node = turn.into_value();
+        if node.broken {
+            return (None, node.link);
+        }
+        (Some(node.clerk), node.link)
+    }
+}

@@ -1,0 +1,32 @@
+// The value behind the lock: the clerk, the link, the answers that other lanes have yet to take, and the list of steps.
+use crate::step::Step;
+use ec_base::{Age, List, OpNo};
+use ec_clerk::Clerk;
+use ec_history::Answer;
+use ec_trace::Trace;
+
+/// An answer that no lane has taken yet.
+#[derive(Drop)]
+pub struct Kept {
+    pub number: u64,
+    /// The place of the step that gave it.
+    pub at: u64,
+    /// With its operation's number.
+    pub reply: (Answer, Option<OpNo>),
+}
+
+#[derive(Drop)]
+pub struct Node<L> {
+    pub clerk: Clerk,
+    pub link: L,
+    pub kept: Vec<Kept>,
+    /// The operations that were told lost, as each session ended.
+    pub told: Vec<List<OpNo>>,
+    pub boot: Option<Age>,
+    pub steps: u64,
+    /// Memory was wanting where the clerk, an answer or a message was lost by it. From then on nothing is begun.
+    pub broken: bool,
+    /// The highest floor that a step left.
+    pub top: u64,
+    pub trace: Trace<Step>,
+}
