@@ -49,7 +49,7 @@ apart-more [] v n a = (tt, tt)
 apart-more (w ∷ ws) v n a = (each-append (λ x. (x.no == w.no) ≡ false) ws (v ∷ []) a.0 (n.0, tt), apart-more ws v n.1 a.1)
 
 -- no line is of a new call
-fresh-lines : (l c : ℕ) (cl : Call) (ss : List Shown) → list_any (is_numbered l) ss ≡ false → EachLine (Agrees l c cl) ss × EachLine (Unanswered l) ss
+pub fresh-lines : (l c : ℕ) (cl : Call) (ss : List Shown) → list_any (is_numbered l) ss ≡ false → EachLine (Agrees l c cl) ss × EachLine (Unanswered l) ss
 fresh-lines l c cl [] e = (tt, tt)
 fresh-lines l c cl (s ∷ ss) e =
     let t = or_parts (is_numbered l s) (list_any (is_numbered l) ss) e in
@@ -223,6 +223,17 @@ module _ (g : System) (events : EventsAgree g) (c b l : ℕ) (cl : Call) (k : Cl
 
   pub begun-calls : CallsAgree h
   begun-calls = record { starts = any-start; calls = calls-now; lines = lines-now }
+
+  -- the earlier ones keep their lines
+  pub begun-lines : AreAtRest g → Each (HasLine h c) k.waiting
+  begun-lines rest = still k.waiting its.numbers (rest c b k run there).calls
+    where
+      still : (ws : List Waiting) → Each (λ w. w.no ≤ k.calls) ws → Each (λ w. T (does_wait w k) × HasLine g c w) ws → Each (HasLine h c) ws
+      still [] le r = tt
+      still (w ∷ ws) le r = ((((r.0).1).0, other-call c w.no (less w.no le.0) ∙ ((r.0).1).1, ((r.0).1).2), still ws le.1 r.1)
+
+  pub begun-call : call_of c n h.calls ≡ Some (l, cl)
+  begun-call = own-call
 
   pub begun-turn : AreAtRest g → AreInTurn h c (add_call cl k)
   begun-turn rest = inr (k.waiting, v, refl, still k.waiting its.numbers (rest c b k run there).calls)

@@ -52,7 +52,7 @@ module _ (g : System) (events : EventsAgree g) (c n l : ℕ) (cl : Call) (x : ca
   still-shown : (j : ℕ) → is_shown g j ≡ true → is_shown h j ≡ true
   still-shown j e = shown-is j ∙ ap (λ z. z || ((l == j) || false)) e
 
-  untold-still : (f : ℕ) → (watch f h.ghost.shown).untold ≡ (watch f g.ghost.shown).untold
+  pub untold-still : (f : ℕ) → (watch f h.ghost.shown).untold ≡ (watch f g.ghost.shown).untold
   untold-still f = ap (λ z. z.untold) (watch-step f g.ghost.shown line) ∙ cond_both (f == c) (begun (watch f g.ghost.shown)) (watch f g.ghost.shown) (λ z. z.untold ≡ (watch f g.ghost.shown).untold) (λ e. begun-untold (watch f g.ghost.shown)) (λ e. refl)
 
   began : (f a : ℕ) (k : Clerk) → g.running f ≡ Some a → g.clerks f a ≡ Some k → (w : Waiting) (j : ℕ) → Began g f a k w j → Began h f a k w j

@@ -26,11 +26,12 @@ use Rattle.ec_protocol.specs.declared.clerk.Waiting.{Waiting}
 use Rattle.ec_coherence.specs.System.{System, clerk_in, clerk_of, if_in, is_of, is_open, is_session}
 use Rattle.ec_coherence.specs.Events.{CutAgrees, cut_in, shown_boot, shown_op}
 use Rattle.ec_coherence.specs.Log.{HasWrites, Knows, LogAgrees, mine, numbered}
+use Rattle.ec_coherence.specs.Invariant.{Invariant}
 use Rattle.ec_coherence.specs.Steps.{call_of}
 use Rattle.ec_coherence.proofs.ClerkIn.{was-in}
 use Rattle.ec_coherence.proofs.SlotLaws.{open-of}
 use Rattle.ec_coherence.proofs.Tables.{equal, none_some, refutes, same, same_some, some-of}
-use Rattle.ec_commits.specs.Laws.{AllAgree}
+use Rattle.ec_commits.specs.Starts.{StartsAgree}
 use Rattle.ec_events.specs.Answers.{Gives, IsLive, Sees, based, fresh_of}
 use Rattle.ec_events.specs.Comes.{begun_at, entry_next}
 use Rattle.ec_events.proofs.Answering.{alike, is-at, kept-now, new_fresh, old_fresh, shown-updates}
@@ -127,7 +128,7 @@ module _ (g : System) (c b : ℕ) (above : g.first_boot c < b) where
           (dc, sym (equal b f boots))
       go false e t = absurd t
 
-module _ (g : System) (all : AllAgree g) (q : CallsAgree g) (c b : ℕ) (k : Clerk) (w : Waiting) (l : ℕ) (waiting : IsWaiting g c b k w l) where
+module _ (g : System) (inv : Invariant g) (st : StartsAgree g) (q : CallsAgree g) (c b : ℕ) (k : Clerk) (w : Waiting) (l : ℕ) (waiting : IsWaiting g c b k w l) where
   abbrev x : ℕ
   x = fresh_of k
 
@@ -138,13 +139,13 @@ module _ (g : System) (all : AllAgree g) (q : CallsAgree g) (c b : ℕ) (k : Cle
   its = q.starts c b k waiting.running waiting.stands
 
   above : g.first_boot c < b
-  above = (all.3).started c b k waiting.stands
+  above = st.started c b k waiting.stands
 
   abbrev most : ℕ
   most = g.durable.max_objects
 
   whole-legal : IsLegal B most g.ghost.history
-  whole-legal = legal-same g.origin (old_fresh g x) (new_fresh g x) most g.ghost.history (alike g x (all.0).events) (all.0).events.legal
+  whole-legal = legal-same g.origin (old_fresh g x) (new_fresh g x) most g.ghost.history (alike g x inv.events) inv.events.legal
 
   -- what was issued before the call
   before-it : Each (IsBefore c (shown_boot g c b) (begun_at g c b l) w.begun) g.ghost.history
@@ -158,14 +159,14 @@ module _ (g : System) (all : AllAgree g) (q : CallsAgree g) (c b : ℕ) (k : Cle
 
       go : (y : Bool) → is_shown g l ≡ y → Each (IsBefore c (shown_boot g c b) (begun_at g c b l) w.begun) g.ghost.history
       go true e = began.earlier e
-      go false e = began-last g (all.0).events c b k waiting.running waiting.stands w.begun (began.now e) (begun_at g c b l)
+      go false e = began-last g inv.events c b k waiting.running waiting.stands w.begun (began.now e) (begun_at g c b l)
 
   module _ (live : IsLive g c k) (sees : Sees g k) (passes : Passes k w) (m : ℕ) (a : Answer) (op : Option ℕ) (left : Owed) (gives : Gives m k (verdict w.call k) a op left) where
     abbrev its_ops : List Op
     its_ops = filter (of_start c b) g.ghost.kept
 
     kept-is : of_issue c (shown_boot g c b) (kept B g.ghost.history) ≡ numbered its_ops
-    kept-is = ap (of_issue c (shown_boot g c b)) (kept-now g x (all.0).events) ∙ shown-issue g c b above g.ghost.kept
+    kept-is = ap (of_issue c (shown_boot g c b)) (kept-now g x inv.events) ∙ shown-issue g c b above g.ghost.kept
 
     -- a covered number is that of an operation of the start that is kept
     kept-op : (P : Op → Type 0) (n : ℕ) → Each P its_ops → Covers B g.ghost.history (entry_next g c b l w.call a op) c (shown_boot g c b) n → (o : Op) × (o.number ≡ n) × P o
@@ -182,21 +183,21 @@ module _ (g : System) (all : AllAgree g) (q : CallsAgree g) (c b : ℕ) (k : Cle
     durable-like : (o j : Op) → o.clerk ≡ c → o.boot ≡ b → (of_start c b j ≡ true) → j.number ≡ o.number → T (g.ghost.is_durable j) → T (g.ghost.is_durable o)
     durable-like o j oc ob s n t =
         let two = and_parts (c == j.clerk) (b == j.boot) s in
-        subst T (sym ((all.3).alike o j (oc ∙ equal c j.clerk two.0) (ob ∙ equal b j.boot two.1) (sym n))) t
+        subst T (sym (st.alike o j (oc ∙ equal c j.clerk two.0) (ob ∙ equal b j.boot two.1) (sym n))) t
 
     -- in a session
     module _ (s : ℕ) (at : k.session ≡ Some s) where
       owns : g.ghost.owner s ≡ Some (c, k.age)
-      owns = ((all.0).sessions.in_session c b s k waiting.stands at).0
+      owns = (inv.sessions.in_session c b s k waiting.stands at).0
 
       boot-is : k.age.boot ≡ b
-      boot-is = ((all.0).sessions.starts c b k waiting.stands).1
+      boot-is = (inv.sessions.starts c b k waiting.stands).1
 
       unfrozen : g.ghost.frozen s ≡ None
       unfrozen = ap (cut_in g) (sym at) ∙ live.sees_all
 
       open-now : T (is_open g s)
-      open-now = go ((all.0).images.cut_off s (some-of owns))
+      open-now = go (inv.images.cut_off s (some-of owns))
         where
           go : T (is_open g s) ⊎ T (is_some (g.ghost.frozen s)) → T (is_open g s)
           go (inl o) = o
@@ -212,17 +213,17 @@ module _ (g : System) (all : AllAgree g) (q : CallsAgree g) (c b : ℕ) (k : Cle
       slot-now = open-of g.durable.sessions s open-now
 
       log-now : LogAgrees g s slot-now.1 k
-      log-now = (all.0).logs.logs s slot-now.0 slot-now.1 slot-now.2 slot-now.4 slot-now.3 k there
+      log-now = inv.logs.logs s slot-now.0 slot-now.1 slot-now.2 slot-now.4 slot-now.3 k there
 
       rest-now : IsRest (of_issue c (shown_boot g c b) (kept B g.ghost.history)) log-now.knows.known k.log
       rest-now = subst (λ xs. IsRest xs log-now.knows.known k.log) (ap numbered mine-is ∙ sym kept-is) log-now.knows.rest
 
       lost-now : Each (LosesBelow c (shown_boot g c b) k.log.first) g.ghost.history
-      lost-now = subst (λ o. Each (LosesBelow c (shown_boot g c b) k.log.first) (told_to c (shown_boot g c b) o g.ghost.history)) ((all.0).events.untold c b k waiting.running waiting.stands live.uncut) its.lost
+      lost-now = subst (λ o. Each (LosesBelow c (shown_boot g c b) k.log.first) (told_to c (shown_boot g c b) o g.ghost.history)) (inv.events.untold c b k waiting.running waiting.stands live.uncut) its.lost
 
       settled-in : (o : Op) → o.clerk ≡ c → o.boot ≡ b → Covers B g.ghost.history (entry_next g c b l w.call a op) c (shown_boot g c b) o.number → T (g.ghost.is_durable o)
       settled-in o oc ob v =
-          let both = covered-done B most c (shown_boot g c b) g.ghost.history whole-legal k (is-at g x (all.0).events c b k waiting.running waiting.stands live sees).shows log-now.knows.known rest-now its.own lost-now w (begun_at g c b l) before-it passes (length g.ghost.shown + 1) l m op left o.number a gives v in
+          let both = covered-done B most c (shown_boot g c b) g.ghost.history whole-legal k (is-at g x inv.events c b k waiting.running waiting.stands live sees).shows log-now.knows.known rest-now its.own lost-now w (begun_at g c b l) before-it passes (length g.ghost.shown + 1) l m op left o.number a gives v in
           let sure : T (log-now.knows.known o.number) = first-of (log-now.knows.known o.number) (is_lost c (shown_boot g c b) o.number g.ghost.history) both v.not_lost in
           let j = kept-op (λ i. (of_start c b i ≡ true) × (g.ghost.is_durable i ≡ log-now.knows.durable i.number)) o.number facts v in
           durable-like o j.0 oc ob (j.2).0 j.1 (subst T (sym ((j.2).1 ∙ ap log-now.knows.durable j.1)) (log-now.knows.sure o.number sure))
@@ -255,7 +256,7 @@ module _ (g : System) (all : AllAgree g) (q : CallsAgree g) (c b : ℕ) (k : Cle
 
       all-durable : Each (λ i. (of_start c b i ≡ true) × T (g.ghost.is_durable i)) its_ops
       all-durable = each-part (λ i. (of_start c b i ≡ true) × T (g.ghost.is_durable i)) (of_start c b) g.ghost.kept
-          (each-map (λ o. T (not (g.ghost.is_durable o)) → HasWrites g o) (λ o. of_start c b o ≡ true → (of_start c b o ≡ true) × T (g.ghost.is_durable o)) (λ o h e. (e, go o (g.ghost.is_durable o) e h)) g.ghost.kept (all.0).logs.writes)
+          (each-map (λ o. T (not (g.ghost.is_durable o)) → HasWrites g o) (λ o. of_start c b o ≡ true → (of_start c b o ≡ true) × T (g.ghost.is_durable o)) (λ o h e. (e, go o (g.ghost.is_durable o) e h)) g.ghost.kept inv.logs.writes)
         where
           go : (o : Op) (y : Bool) → of_start c b o ≡ true → (T (not y) → HasWrites g o) → T y
           go o true e h = tt
@@ -280,10 +281,10 @@ module _ (g : System) (all : AllAgree g) (q : CallsAgree g) (c b : ℕ) (k : Cle
     loss = (z.at, entry.Loss c (shown_boot g c b) z.lost)
 
     boot-of : k.age.boot ≡ b
-    boot-of = ((all.0).sessions.starts c b k waiting.stands).1
+    boot-of = (inv.sessions.starts c b k waiting.stands).1
 
     same-ids : Alike (old_fresh g x) (new_fresh g x) z.before
-    same-ids = each-front (λ y. old_fresh g x y.0 ≡ new_fresh g x y.0) z.before (loss ∷ z.behind) (subst (Alike (old_fresh g x) (new_fresh g x)) z.was (alike g x (all.0).events))
+    same-ids = each-front (λ y. old_fresh g x y.0 ≡ new_fresh g x y.0) z.before (loss ∷ z.behind) (subst (Alike (old_fresh g x) (new_fresh g x)) z.was (alike g x inv.events))
 
     kept-before : kept B z.before ≡ map (shown_op g) ks
     kept-before = sym (kept-same g.origin (old_fresh g x) (new_fresh g x) z.before same-ids) ∙ z.keeps

@@ -1,8 +1,3 @@
 pub mod Frames
 pub mod Serving
 pub mod Changing
-pub mod Storing
-pub mod Moves
-pub mod Stored
-pub mod Stilling
-pub mod StoredIds

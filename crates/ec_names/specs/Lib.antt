@@ -1,4 +1,2 @@
 pub mod Follows
 pub mod Laws
-pub mod Frees
-pub mod FreeLaws

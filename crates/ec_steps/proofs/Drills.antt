@@ -1,6 +1,6 @@
 -- A run over the lines of a script: the facts hold behind each line, and its lines are told.
 use Rattle.std.proofs.Common.{◌≡◌, refl, sym, ap, subst, ◌∙◌, arith, ◌<◌, ◌≤◌, ◌-◌, ◌+◌, ℕ, zero, suc, T, Bool, true, false, ◌==◌, ◌||◌, cond, length, List, [], ◌∷◌, ◌++◌, Option, Some, None, append-nil, append_assoc}
-use Rattle.std.specs.Prelude.{nat_lt, slice_get, take, ⊤}
+use Rattle.std.specs.Prelude.{is_some, nat_lt, slice_get, take, ⊤}
 use Rattle.std.specs.List.{list_any}
 use Rattle.std.proofs.lemmas.List.{length-append}
 use Rattle.std.proofs.lemmas.Bool.{or_from}
@@ -9,6 +9,11 @@ use Rattle.ec_history.specs.Placing.{EachLine, is_numbered}
 use Rattle.ec_history.specs.declared.shown.Shown.{Shown}
 use Rattle.ec_history.specs.declared.shown.Shown.TheVariants as show
 use Rattle.ec_protocol.specs.Drill.{Ending, Fates, Ran, Read, reads, unfit, BadLine, Done, IsSpent, TooMany, bound, carry_out, close, last_restart, ending_of, ends, first_fates, later_fates, line_happens, max_pending, on_message, onward, piece_before, rest_fates, run_from, settle, this_fate}
+use Rattle.ec_base.specs.declared.counter.Counter.{Counter}
+use Rattle.ec_durable.specs.declared.record.Record.TheVariants as record_of
+use Rattle.ec_protocol.specs.Server as server
+use Rattle.ec_protocol.specs.declared.world.Noted.{Noted}
+use Rattle.ec_protocol.specs.declared.world.Noted.TheVariants as noted_of
 use Rattle.ec_protocol.specs.World as world
 use Rattle.ec_protocol.specs.World.{Fate, Moving, due, find, forget, happen, moving, pending, restart, runs, show_line}
 use Rattle.ec_protocol.specs.declared.script.Line.{Line}
@@ -21,11 +26,12 @@ use Rattle.ec_protocol.specs.declared.world.WorldFault.{WorldFault}
 use Rattle.ec_protocol.specs.declared.world.WorldFault.TheVariants as fault
 use Rattle.ec_coherence.specs.System.{System}
 use Rattle.ec_coherence.specs.Steps.{call_of}
-use Rattle.ec_coherence.proofs.Tables.{none_some}
+use Rattle.ec_coherence.proofs.Tables.{none_some, same_some}
+use Rattle.ec_steps.proofs.Pool.{sends-all}
 use Rattle.ec_changes.specs.Laws.{lined}
 use Rattle.ec_headline.specs.Headline.{Lines, Pieces, joined}
 use Rattle.ec_steps.specs.Calls.{AreOf, EachCall, IsOf, Tells}
-use Rattle.ec_steps.specs.Drills.{AreFit, Closed, Comes, IsCallIn, IsFit, Sofar, lines_in}
+use Rattle.ec_steps.specs.Drills.{AreFit, Closed, Comes, IsCallIn, IsFit, IsUnspent, Sofar, lines_in}
 use Rattle.ec_steps.specs.Steps.{Holds, IsNewIn, MayHappen, StepsKeep}
 use Rattle.ec_steps.proofs.Calls.{MayBe, deliver-tells, event-tells, line-tells, quiet-tells, restart-tells}
 use Rattle.ec_steps.proofs.Events.{deliver-holds, event-holds, restart-holds}
@@ -278,14 +284,45 @@ module _ (F : System → Type 0) (keep : StepsKeep F) where
 
   -- The end: a stopped server is restarted.
 
-  closes : (lines : Lines) (pieces : Pieces) (ls : List Read) (r : Ran) → Comes F lines pieces ls r → Closed F lines pieces ls (close r.ending r)
-  closes lines pieces ls r c = by r.ending
+  -- a restart that isn't refused brings the server up
+  comes-up : (w : World) → (restart runs w).fault ≡ None → T (is_some (restart runs w).world.server)
+  comes-up w f = by (server.start w.durable).spent f
     where
-      same : Closed F lines pieces ls r
-      same = record { more = c.more; front = c.front; sofar = c.sofar; counted = omega (arith, c.counted) }
+      by : (o : Option Counter) → (elim o as (λ z. Moving) [ Some n ↦ world.fails (fault.Spent n) w | None ↦ world.restarted runs (server.start w.durable) w ]).fault ≡ None
+          → T (is_some (elim o as (λ z. Moving) [ Some n ↦ world.fails (fault.Spent n) w | None ↦ world.restarted runs (server.start w.durable) w ]).world.server)
+      by (Some n) f = absurd (none_some (sym f))
+      by None f =
+          let t = server.start w.durable in
+          let x = record ((show_line show.Started (world.show_noted w.unshown (moving w))).world) { unshown = None; records = (show_line show.Started (world.show_noted w.unshown (moving w))).world.records ++ record_of.Epoch t.server.durable.epoch ∷ [] } in
+          subst (λ o. T (is_some o)) (sym (sends-all t.sent (record x { server = Some t.server; durable = t.server.durable })).server) tt
 
-      faulty : (e : Ending) → Closed F lines pieces ls (record r { ending = e })
-      faulty e = record { more = c.more; front = c.front; sofar = record { holds = (c.sofar).holds; of = (c.sofar).of; shown = (c.sofar).shown }; counted = omega (arith, c.counted) }
+  -- where it is refused, a counter is spent
+  refused : (w : World) (f : WorldFault) → (restart runs w).fault ≡ Some f → IsUnspent (ending_of 0 0 f) → ⊥
+  refused w f q u = by (server.start w.durable).spent q
+    where
+      by : (o : Option Counter) → (elim o as (λ z. Moving) [ Some n ↦ world.fails (fault.Spent n) w | None ↦ world.restarted runs (server.start w.durable) w ]).fault ≡ Some f → ⊥
+      by (Some n) q = subst (λ x. IsUnspent (ending_of 0 0 x)) (same_some (sym q)) u
+      by None q = none_some (sym (noted-fault w.unshown (moving w) refl) ∙ q)
+        where
+          noted-fault : (o : Option Noted) (m : Moving) → m.fault ≡ None → (world.show_noted o m).fault ≡ None
+          noted-fault None m e = e
+          noted-fault (Some (noted_of.Durable c ns)) m e = e
+          noted-fault (Some (noted_of.Ended c b)) m e = e
+
+  closes : (lines : Lines) (pieces : Pieces) (ls : List Read) (r : Ran) → Comes F lines pieces ls r → Closed F lines pieces ls (close r.ending r)
+  closes lines pieces ls r c = by r.ending refl
+    where
+      same : (IsUnspent r.ending → T (is_some r.world.server)) → Closed F lines pieces ls r
+      same up = record { more = c.more; front = c.front; sofar = c.sofar; counted = omega (arith, c.counted); up = up }
+
+      faulty : (f : WorldFault) → (restart runs r.world).fault ≡ Some f → Closed F lines pieces ls (record r { ending = ending_of 0 0 f })
+      faulty f q = record {
+        more = c.more;
+        front = c.front;
+        sofar = record { holds = (c.sofar).holds; of = (c.sofar).of; shown = (c.sofar).shown };
+        counted = omega (arith, c.counted);
+        up = λ u. absurd (refused r.world f q u);
+      }
 
       restarted : r.world.server ≡ None → (restart runs r.world).fault ≡ None → Closed F lines pieces ls (record r { world = (restart runs r.world).world; pieces = r.pieces ++ (restart runs r.world).shown ∷ [] })
       restarted q f =
@@ -299,6 +336,7 @@ module _ (F : System → Type 0) (keep : StepsKeep F) where
               shown = t.lines ∙ ap (λ x. x ++ (restart runs r.world).shown) (c.sofar).shown ∙ sym (joined-push (pieces ++ r.pieces) (restart runs r.world).shown) ∙ ap joined (append_assoc pieces r.pieces ((restart runs r.world).shown ∷ []));
             };
             counted = subst (λ n. n ≤ length c.more + 2) (sym (length-append r.pieces ((restart runs r.world).shown ∷ []))) (one-more (length r.pieces) (length c.more) c.counted);
+            up = λ u. comes-up r.world f;
           }
         where
           one-more : (a b : ℕ) → a ≤ b + 1 → a + 1 ≤ b + 2
@@ -308,18 +346,18 @@ module _ (F : System → Type 0) (keep : StepsKeep F) where
         | Some f ↦ record r { ending = ending_of 0 0 f }
         | None ↦ record r { world = (restart runs r.world).world; pieces = r.pieces ++ (restart runs r.world).shown ∷ [] }
       ])
-      last q (Some f) p = faulty (ending_of 0 0 f)
+      last q (Some f) p = faulty f p
       last q None p = restarted q p
 
       stopped : (o : Option Server) → r.world.server ≡ o → Closed F lines pieces ls (elim (elim o as (λ z. Bool) [ None ↦ true | Some s ↦ false ]) as (λ z. Ran) [ true ↦ last_restart r | false ↦ r ])
-      stopped (Some s) q = same
+      stopped (Some s) q = same (λ u. subst (λ o. T (is_some o)) (sym q) tt)
       stopped None q = last q (restart runs r.world).fault refl
 
-      by : (e : Ending) → Closed F lines pieces ls (close e r)
-      by (IsSpent n) = same
-      by Done = stopped r.world.server refl
-      by (BadLine n k) = stopped r.world.server refl
-      by (TooMany n) = stopped r.world.server refl
+      by : (e : Ending) → r.ending ≡ e → Closed F lines pieces ls (close e r)
+      by (IsSpent n) q = same (λ u. absurd (subst IsUnspent q u))
+      by Done q = stopped r.world.server refl
+      by (BadLine n k) q = stopped r.world.server refl
+      by (TooMany n) q = stopped r.world.server refl
 
   pub drills-on : (ls : List Read) (fs : List Fates) (w : World) → Holds F w → w.calls ≡ [] → w.shown ≡ [] → AreFit ls → let ran = run_from (bound ls) 1 ls fs w in Closed F [] [] ls (close ran.ending ran)
   drills-on ls fs w h q r p = closes [] [] ls (run_from (bound ls) 1 ls fs w) (runs-on (bound ls) ls fs [] [] w record {

@@ -1,10 +1,10 @@
 -- A run over the lines of a script: what holds of its end, and how its lines stand to those of the script.
-use Rattle.std.specs.Prelude.{◌≡◌, ◌<◌, ◌≤◌, ◌-◌, ◌+◌, ℕ, T, List, [], ◌∷◌, ◌++◌, length, take, slice_get, Some, ⊤}
+use Rattle.std.specs.Prelude.{◌≡◌, ◌<◌, ◌≤◌, ◌-◌, ◌+◌, ℕ, T, List, [], ◌∷◌, ◌++◌, length, take, slice_get, Some, is_some, ⊤}
 use Rattle.ec_plain.specs.Bounds.{is_bounded}
 use Rattle.ec_plain.specs.declared.call.Call.{Call}
 use Rattle.ec_history.specs.Placing.{EachLine}
 use Rattle.ec_history.specs.History.{Each}
-use Rattle.ec_protocol.specs.Drill.{Ran, Read, reads, unfit}
+use Rattle.ec_protocol.specs.Drill.{Ending, Ran, Read, IsSpent, reads, unfit}
 use Rattle.ec_protocol.specs.declared.script.Line.TheVariants as line
 use Rattle.ec_protocol.specs.declared.world.World.{World}
 use Rattle.ec_coherence.specs.System.{System}
@@ -44,9 +44,16 @@ pub record Comes (F : System → Type 0) (lines : Lines) (pieces : Pieces) (ls :
   -- one piece for each, and perhaps one for a line that doesn't fit
   pub counted : length r.pieces ≤ length more + 1
 
+-- the run didn't end by a spent counter
+abbrev pub IsUnspent : Ending → Type 0
+IsUnspent (IsSpent n) = ⊥
+IsUnspent _ = ⊤
+
 -- The same behind the restart at the end, which gives a piece of its own.
 pub record Closed (F : System → Type 0) (lines : Lines) (pieces : Pieces) (ls : List Read) (r : Ran) : Type 0 where
   pub more : Lines
   pub front : more ≡ take (length more) (lines_in ls)
   pub sofar : Sofar F (lines ++ more) (pieces ++ r.pieces) r.world
   pub counted : length r.pieces ≤ length more + 2
+  -- and the server runs, but behind a spent counter
+  pub up : IsUnspent r.ending → T (is_some r.world.server)

@@ -1,9 +1,8 @@
--- Refusals of room: each one that was sent tells of objects and reserved ids that leave no room for sixteen ids more.
+-- Refusals of room: of so many objects at most, each tells of objects and reserved ids that leave no room for sixteen ids more.
 use Rattle.std.specs.Prelude.{◌+◌, ℕ, T, nat_lt, List, ⊤}
 use Rattle.ec_history.specs.History.{Each}
 use Rattle.ec_wire.specs.declared.msg.Msg.{Msg}
 use Rattle.ec_wire.specs.declared.msg.Msg.TheVariants.{NoRoom}
-use Rattle.ec_coherence.specs.System.{System}
 
 abbrev pub IsFullAt : ℕ → Msg → Type 0
 IsFullAt most (NoRoom s e ask live reserved) = T (nat_lt most (live + reserved + 16))
@@ -11,6 +10,3 @@ IsFullAt most _ = ⊤
 
 abbrev pub AreFullAt : ℕ → List (ℕ × Msg) → Type 0
 AreFullAt most ms = Each (λ m. IsFullAt most m.1) ms
-
-abbrev pub FullsAgree : System → Type 0
-FullsAgree g = AreFullAt g.durable.max_objects g.pool

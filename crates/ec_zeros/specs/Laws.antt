@@ -21,9 +21,9 @@ use Rattle.ec_coherence.specs.System.{System, Ghost, with_start}
 use Rattle.ec_coherence.specs.Tokens.{Fits, view}
 use Rattle.ec_coherence.specs.Steps.{Committed, doing_in, serving_in}
 use Rattle.ec_changes.specs.Laws.{IsUnderWay}
-use Rattle.ec_answers.specs.Zeros.{HasNoZero, ZerosAgree}
 use Rattle.ec_joins.specs.Frames.{RecordMakes, behind}
-use Rattle.ec_zeros.specs.Fulls.{FullsAgree}
+use Rattle.ec_answers.specs.Frees.{FullsAgree}
+use Rattle.ec_answers.specs.Zeros.{HasNoZero, ZerosAgree}
 
 -- The id 0.
 

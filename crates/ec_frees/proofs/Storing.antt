@@ -19,12 +19,14 @@ use Rattle.ec_coherence.proofs.Carried.{gone-is}
 use Rattle.ec_coherence.proofs.Lists.{each-at, each-fewer, each-turn}
 use Rattle.ec_coherence.proofs.Tables.{is-false, is-true, none_some, same_some}
 use Rattle.ec_doings.specs.Names.{AreOnNamed, NamesAgree}
-use Rattle.ec_names.specs.Follows.{AreGiven, AreSameOps, EndsOne, GhostsFollow, GhostsMove}
-use Rattle.ec_names.specs.Frees.{FreesAgree, LeaveOut}
+use Rattle.ec_names.specs.Follows.{AreGiven, GhostsFollow}
+use Rattle.ec_frees.specs.Moves.{AreSameOps, EndsOne, GhostsMove}
+use Rattle.ec_answers.specs.Frees.{FreesAgree}
+use Rattle.ec_answers.specs.Zeros.{LeaveOut}
 use Rattle.ec_names.proofs.Serving.{still-in}
 
 -- an object that no operation has stays as it was
-same-image : (x : ℕ) (i : Image) (os : List Op) → LeaveOut x os → image_after x i (updates os) ≡ i
+pub same-image : (x : ℕ) (i : Image) (os : List Op) → LeaveOut x os → image_after x i (updates os) ≡ i
 same-image x i [] l = refl
 same-image x i (o ∷ os) l = ap (λ z. image_after x z (updates os)) (go (has_operand x o.update) l.0) ∙ same-image x i os l.1
   where

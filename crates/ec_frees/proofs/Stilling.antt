@@ -19,8 +19,8 @@ use Rattle.ec_protocol.specs.declared.clerk.Clerk.{Clerk}
 use Rattle.ec_protocol.specs.declared.clerk.Recalled.{Recalled}
 use Rattle.ec_protocol.specs.Clerk.{Doing, answer_recalls, ask_anew, ask_for, ask_pushes, ask_room, claim, enter_epoch, epoch, evict, evict_unpinned, give_back, has_session, hello, is_need, is_ready, is_session, is_settled, is_wanted, keep_push, keep_recall, mark_recall, may_want, needs, on_objects, resend_batches, resend_needs, resend_room, resend_want, send, send_backs, send_batch, send_outstanding, send_picked, send_room, send_want, session, spend, take_recall, take_restarted, taken, try_pushes, try_recalls, want, wanted, with_cache, with_clerk, with_log}
 use Rattle.ec_doings.specs.Laws.{IsGrant, IsKept, IsRecall, IsRestarted}
-use Rattle.ec_names.specs.Follows.{IsStill}
-use Rattle.ec_names.specs.FreeLaws.{AreStill}
+use Rattle.ec_frees.specs.Moves.{IsStill}
+use Rattle.ec_frees.specs.Laws.{AreStill}
 
 module _ (k : Clerk) where
   abbrev Still : Doing → Type 0

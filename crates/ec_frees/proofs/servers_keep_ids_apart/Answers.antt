@@ -1,7 +1,7 @@
-use Rattle.ec_names.proofs.Moves.{servers-keep-frees}
-use Rattle.ec_names.proofs.Stored.{frees-begin, frees-read}
-use Rattle.ec_names.proofs.Storing.{moves-follow, states-keep-frees}
-use Rattle.ec_names.proofs.servers_keep_ids_apart.Goals as goal
+use Rattle.ec_frees.proofs.Moves.{servers-keep-frees}
+use Rattle.ec_frees.proofs.Stored.{frees-begin, frees-read}
+use Rattle.ec_frees.proofs.Storing.{moves-follow, states-keep-frees}
+use Rattle.ec_frees.proofs.servers_keep_ids_apart.Goals as goal
 
 pub returns-clause-states : goal.returns-clause-states
 returns-clause-states z g all na fa d v p γ next m = states-keep-frees g (all.0).images na fa (all.0).sessions d v p γ m

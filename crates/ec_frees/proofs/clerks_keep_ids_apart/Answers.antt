@@ -1,7 +1,7 @@
-use Rattle.ec_names.proofs.Stilling.{are-still, restarts-still}
-use Rattle.ec_names.proofs.Stored.{clerks-keep-frees, ended-keeps-frees, opened-keeps-frees, stills-keep}
-use Rattle.ec_names.proofs.StoredIds.{ids-keep-frees}
-use Rattle.ec_names.proofs.clerks_keep_ids_apart.Goals as goal
+use Rattle.ec_frees.proofs.Stilling.{are-still, restarts-still}
+use Rattle.ec_frees.proofs.Stored.{clerks-keep-frees, ended-keeps-frees, opened-keeps-frees, stills-keep}
+use Rattle.ec_frees.proofs.StoredIds.{ids-keep-frees}
+use Rattle.ec_frees.proofs.clerks_keep_ids_apart.Goals as goal
 use Rattle.std.proofs.Common.{inl}
 
 pub returns-clause-change : goal.returns-clause-change

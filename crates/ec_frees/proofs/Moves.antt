@@ -15,10 +15,11 @@ use Rattle.ec_coherence.proofs.OpenSlots.{at-open}
 use Rattle.ec_commits.specs.Laws.{AllAgree, Stands}
 use Rattle.ec_makes.specs.Makes.{Makes}
 use Rattle.ec_doings.specs.Names.{NamesAgree}
-use Rattle.ec_names.specs.Follows.{AreGiven, GhostsMove}
-use Rattle.ec_names.specs.Frees.{FreesAgree}
+use Rattle.ec_names.specs.Follows.{AreGiven}
+use Rattle.ec_frees.specs.Moves.{GhostsMove}
+use Rattle.ec_answers.specs.Frees.{FreesAgree}
 use Rattle.ec_names.proofs.Serving.{step-next}
-use Rattle.ec_names.proofs.Storing.{states-keep-frees}
+use Rattle.ec_frees.proofs.Storing.{states-keep-frees}
 
 module _ (g : System) (all : AllAgree g) where
   same-given : (s : ℕ) → AreGiven g g.ghost s

@@ -21,8 +21,8 @@ use Rattle.ec_coherence.proofs.Tables.{equal, holds, is-true, same, same_some}
 use Rattle.ec_coherence.proofs.TakeGrant.{by-session}
 use Rattle.ec_doings.specs.Laws.{IsIds, IsInHand}
 use Rattle.ec_doings.proofs.Moving as moving
-use Rattle.ec_names.specs.Frees.{FreesAgree}
-use Rattle.ec_names.proofs.Stored.{in-step, one-keeps, stills-keep}
+use Rattle.ec_answers.specs.Frees.{FreesAgree}
+use Rattle.ec_frees.proofs.Stored.{in-step, one-keeps, stills-keep}
 
 off : (b : Bool) → (T b → ⊥) → T (not b)
 off true f = absurd (f tt)

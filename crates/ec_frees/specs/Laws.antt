@@ -20,8 +20,9 @@ use Rattle.ec_commits.specs.Laws.{AllAgree, Stands}
 use Rattle.ec_makes.specs.Makes.{Makes}
 use Rattle.ec_doings.specs.Laws.{IsGrant, IsIds, IsInHand, IsKept, IsRecall, IsRestarted}
 use Rattle.ec_doings.specs.Names.{NamesAgree}
-use Rattle.ec_names.specs.Follows.{GhostsFollow, GhostsMove, IsStill}
-use Rattle.ec_names.specs.Frees.{FreesAgree}
+use Rattle.ec_names.specs.Follows.{GhostsFollow}
+use Rattle.ec_frees.specs.Moves.{GhostsMove, IsStill}
+use Rattle.ec_answers.specs.Frees.{FreesAgree}
 
 -- The server.
 

@@ -25,8 +25,9 @@ use Rattle.ec_coherence.proofs.ClerkIn.{start-same}
 use Rattle.ec_coherence.proofs.Lists.{and_first, no_both}
 use Rattle.ec_coherence.proofs.Tables.{equal, holds, none_some, same, same_some}
 use Rattle.ec_commits.specs.Laws.{AllAgree}
-use Rattle.ec_names.specs.Follows.{IsStill}
-use Rattle.ec_names.specs.Frees.{FreesAgree, LeaveOut}
+use Rattle.ec_frees.specs.Moves.{IsStill}
+use Rattle.ec_answers.specs.Frees.{FreesAgree}
+use Rattle.ec_answers.specs.Zeros.{LeaveOut}
 
 -- Nothing that they read changes.
 module _ (g h : System) (fa : FreesAgree g) (origin : h.origin ≡ g.origin) (clerks : h.clerks ≡ g.clerks) (kept : h.ghost.kept ≡ g.ghost.kept) (frozen : h.ghost.frozen ≡ g.ghost.frozen) (owner : h.ghost.owner ≡ g.ghost.owner)

@@ -1,0 +1,6 @@
+pub mod Carrying
+pub mod Readying
+pub mod Beginning
+pub mod Ending
+pub mod Resending
+pub mod Settling

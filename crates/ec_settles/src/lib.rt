@@ -1,0 +1,20 @@
+//! A whole step of a clerk around the tries of its waiting calls, with all facts. Each function has an empty body, and
+//! its contract is a law.
+#![tactic(auto)]
+
+ghost use Rattle.ec_settles.specs.Laws.{CallsAreReady, ResendsKeep, StepsAreReady, StepsBegin, StepsEnd};
+
+/// A step of a running clerk begins with all facts, and they stand behind what comes before the tries of its waiting
+/// calls, and behind what comes after them.
+pub fn steps_come_to_tries()
+    ensures begin { StepsBegin }
+    ensures ready { StepsAreReady }
+    ensures calls { CallsAreReady }
+{}
+
+/// Behind the tries a step ends with all facts, and all calls wait; so does a step that sends again what is
+/// outstanding.
+pub fn steps_end_whole()
+    ensures end { StepsEnd }
+    ensures resends { ResendsKeep }
+{}
