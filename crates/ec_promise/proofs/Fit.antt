@@ -1,5 +1,5 @@
 -- A script that was read is one that a run may begin on: its calls are of clerks that there are, and within their bounds.
-use Rattle.std.proofs.Common.{◌≡◌, ◌<◌, ℕ, T, List, [], ◌∷◌, subst, sym, inl, inr, tt}
+use Rattle.std.proofs.Common.{◌≡◌, ◌<◌, ℕ, T, List, [], ◌∷◌, subst, sym, inl, inr}
 use Rattle.ec_plain.specs.Bounds.{is_bounded}
 use Rattle.ec_words.specs.Words.{words_of}
 use Rattle.ec_words.specs.Rows.{Word}
@@ -34,15 +34,15 @@ behind_keyword column keyword.Restart ws l is = subst (IsOne column) is.1.1 tt
 
 spelled : (column : ℕ) (ws : List Word) (l : Line) → Spells ws l → IsOne column l
 spelled column [] l is = absurd is
-spelled column (w ∷ ws) l (inl c, head, begun) = subst (IsOne column) begun.1.1 (head.1, call_bounded ws begun.0 begun.1.0)
-spelled column (w ∷ ws) l (inr k, head, says) = behind_keyword column k ws l says
+spelled column (w ∷ ws) l (inl c, (head, begun)) = subst (IsOne column) begun.1.1 (head.1, call_bounded ws begun.0 begun.1.0)
+spelled column (w ∷ ws) l (inr k, (head, says)) = behind_keyword column k ws l says
 
 one_line : (column : ℕ) (bytes : List ℕ) (l : Line) → IsLine bytes l → IsOne column l
 one_line column bytes l (inl comment) = subst (IsOne column) (sym comment.1) tt
 one_line column bytes l (inr is) = spelled column (words_of bytes) l is
 
 fit_read : (bytes : List ℕ) (r : Read) → IsRead bytes r → IsFit r
-fit_read bytes (reads l column) is = subst (λ m. IsFit (reads m column)) (sym is.1.1.0) (one_line column bytes is.0 is.1.0)
+fit_read bytes (reads l column) is = subst (λ m. IsFit (reads m column)) (sym is.2) (one_line column bytes is.0 is.1)
 fit_read bytes (unfit column) is = tt
 
 pub fit_script : (bs : List (List ℕ)) (rs : List Read) → AreRead bs rs → AreFit rs
