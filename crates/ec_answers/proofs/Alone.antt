@@ -1,20 +1,17 @@
 -- All facts behind an answer of a clerk without a session, where those on the history stand.
-use Rattle.std.proofs.Common.{◌≡◌, ◌≢◌, refl, sym, ap, subst, ◌∙◌, ◌<◌, ◌+◌, ℕ, Bool, true, false, not, ◌==◌, ◌&&◌, ◌||◌, cond, map, T, List, [], ◌∷◌, ◌++◌, length, Option, Some, None, append-nil}
+use Rattle.std.proofs.Common.{◌≡◌, refl, sym, ap, subst, ◌∙◌, ℕ, Bool, true, false, not, ◌==◌, ◌&&◌, ◌||◌, cond, map, T, List, [], ◌∷◌, ◌++◌, Option, Some, None, append-nil}
 use Rattle.std.specs.List.{filter}
-use Rattle.std.specs.Prelude.{is_some}
 use Rattle.std.proofs.lemmas.Bool.{true≢false}
-use Rattle.ec_base.specs.Tables.{Table, at, once, or_else, put}
+use Rattle.ec_base.specs.Tables.{Table, once, or_else}
 use Rattle.ec_base.specs.declared.ids.Hold.TheVariants.{Read, Write}
 use Rattle.ec_volume.specs.Image.{is_id}
-use Rattle.ec_volume.specs.Update.{listed, member}
+use Rattle.ec_volume.specs.Update.{member}
 use Rattle.ec_plain.specs.Plain.{is_sync, plain}
 use Rattle.ec_plain.specs.declared.call.Call.{Call}
 use Rattle.ec_plain.specs.declared.call.Call.TheVariants as call
-use Rattle.ec_plain.specs.declared.call.Outcome.{Outcome}
 use Rattle.ec_cache.specs.Cache.{holds, images_held}
-use Rattle.ec_history.specs.History.{Each, History, Op}
-use Rattle.ec_history.specs.Placing.{answered, begun, place, shows, watch}
-use Rattle.ec_history.specs.Placing as placing
+use Rattle.ec_history.specs.History.{History, Op}
+use Rattle.ec_history.specs.Placing.{answered, begun, shows, watch}
 use Rattle.ec_history.specs.declared.entry.Answer.{Answer}
 use Rattle.ec_history.specs.declared.entry.Answer.TheVariants as answer
 use Rattle.ec_history.specs.declared.shown.Shown.{Shown}
@@ -34,7 +31,7 @@ use Rattle.ec_coherence.specs.System.{System, with_start}
 use Rattle.ec_coherence.specs.Sessions.{HasNone}
 use Rattle.ec_coherence.specs.Tokens.{IsWrite}
 use Rattle.ec_coherence.proofs.Needs.{holds-write}
-use Rattle.ec_coherence.proofs.Tables.{by-session, is-true, none_some, same}
+use Rattle.ec_coherence.proofs.Tables.{by-session, is-true, same}
 use Rattle.ec_commits.specs.Watches.{WatchAgrees, WatchesAgree, still_in}
 use Rattle.ec_events.specs.Answers.{Gives}
 use Rattle.ec_answers.specs.Answering.{Suits}

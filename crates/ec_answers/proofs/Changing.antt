@@ -1,23 +1,20 @@
 -- Tokens, logs and images behind an answer of a clerk in its session, without an operation and with one.
-use Rattle.std.proofs.Common.{◌≡◌, refl, sym, ap, subst, ◌∙◌, inl, inr, ◌⊎◌, ◌+◌, ℕ, Bool, true, false, ◌==◌, T, List, [], ◌∷◌, ◌++◌, Option, Some, None, append-nil}
+use Rattle.std.proofs.Common.{◌≡◌, refl, sym, ap, subst, ◌∙◌, inl, inr, ℕ, T, List, [], ◌∷◌, ◌++◌, Option, Some, None, append-nil}
 use Rattle.std.specs.Prelude.{is_some}
 use Rattle.ec_base.specs.Tables.{Table, at}
 use Rattle.ec_base.specs.declared.ids.Age.{Age}
 use Rattle.ec_volume.specs.Update.{has_operand, operands}
 use Rattle.ec_volume.specs.declared.update.Update.{Update}
-use Rattle.ec_plain.specs.declared.call.Call.{Call}
-use Rattle.ec_history.specs.History.{Each, History, Op}
+use Rattle.ec_history.specs.History.{History, Op}
 use Rattle.ec_history.specs.declared.entry.Answer.{Answer}
 use Rattle.ec_history.specs.declared.shown.Shown.{Shown}
 use Rattle.ec_sessions.specs.declared.slot.Slot.{Slot}
 use Rattle.ec_cache.specs.Cache as cache
 use Rattle.ec_durable.specs.Durable.{made, slot}
 use Rattle.ec_report.specs.Report.{Owed}
-use Rattle.ec_protocol.specs.Clerk.{Doing, doing, first_id, suits, with_update}
+use Rattle.ec_protocol.specs.Clerk.{doing, first_id, suits, with_update}
 use Rattle.ec_protocol.specs.declared.clerk.Clerk.{Clerk}
-use Rattle.ec_protocol.specs.declared.clerk.Out.TheVariants as out
 use Rattle.ec_coherence.specs.System.{System, Ghost, is_open, is_of, seen, undurable, with_start}
-use Rattle.ec_coherence.specs.Tokens as tokens
 use Rattle.ec_coherence.specs.Tokens.{IsWrite, TokensAgree, view}
 use Rattle.ec_coherence.specs.Log.{LogsAgree}
 use Rattle.ec_coherence.specs.Images.{ImagesAgree}

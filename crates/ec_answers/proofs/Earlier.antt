@@ -1,10 +1,10 @@
 -- A history with one more call before the last loss of its start.
-use Rattle.std.proofs.Common.{◌≡◌, refl, sym, ap, subst, ◌∙◌, ◌+◌, ℕ, T, Bool, true, false, ◌==◌, ◌&&◌, ◌||◌, cond, List, [], ◌∷◌, ◌++◌, length, Option, Some, None, is_some, append_assoc, append-nil}
-use Rattle.std.specs.List.{filter, list_any}
+use Rattle.std.proofs.Common.{◌≡◌, sym, subst, ◌∙◌, ℕ, false, List, [], ◌∷◌, ◌++◌, Option, append_assoc, append-nil}
+use Rattle.std.specs.List.{list_any}
 use Rattle.std.proofs.lemmas.Bool.{or_parts}
 use Rattle.ec_volume.specs.Update.{listed}
 use Rattle.ec_plain.specs.declared.call.Call.{Call}
-use Rattle.ec_history.specs.History.{Base, History, Throughout, is_entry_of, kept}
+use Rattle.ec_history.specs.History.{Base, History, Throughout, is_entry_of}
 use Rattle.ec_history.specs.Legal.{IsCall, IsLegal}
 use Rattle.ec_history.specs.declared.entry.Answer.{Answer}
 use Rattle.ec_history.specs.declared.entry.Entry.{Entry}

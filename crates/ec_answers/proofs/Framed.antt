@@ -1,5 +1,5 @@
 -- What a clerk's answer leaves: of sessions, stops and starts all facts, and of what is shown logs and images read nothing.
-use Rattle.std.proofs.Common.{◌≡◌, refl, sym, ap, subst, ◌∙◌, ◌⊎◌, ◌<◌, ◌≤◌, ◌+◌, ℕ, Bool, true, false, not, ◌==◌, ◌&&◌, T, List, [], ◌++◌, Option, Some, None}
+use Rattle.std.proofs.Common.{◌≡◌, refl, sym, ap, subst, ◌∙◌, ◌⊎◌, ◌<◌, ◌≤◌, ℕ, Bool, true, false, not, ◌==◌, ◌&&◌, T, List, [], ◌++◌, Option, Some, None}
 use Rattle.std.specs.Prelude.{is_some}
 use Rattle.std.proofs.lemmas.Bool.{and_parts}
 use Rattle.ec_base.specs.Ages.{is_older}
@@ -22,7 +22,7 @@ use Rattle.ec_coherence.specs.Images.{ImagesAgree}
 use Rattle.ec_coherence.specs.Stops.{StopsAgree}
 use Rattle.ec_coherence.specs.ChangeLaws.{Calls}
 use Rattle.ec_coherence.proofs.Lists.{each-more, each-turn}
-use Rattle.ec_coherence.proofs.Tables.{equal, none_some, same_some}
+use Rattle.ec_coherence.proofs.Tables.{equal, same_some}
 use Rattle.ec_commits.specs.Starts.{Greets, StartsAgree}
 use Rattle.ec_answers.specs.Zeros.{HasNoZero, LeaveOut, ZerosAgree}
 

@@ -1,14 +1,14 @@
 -- The facts on histories behind an answer of a clerk that is cut off: its entry stands before the clerk's loss, which names its operation too.
-use Rattle.std.proofs.Common.{◌≡◌, refl, sym, ap, subst, ◌∙◌, inl, inr, ◌⊎◌, arith, ◌<◌, ◌≤◌, ◌+◌, ℕ, T, Bool, true, false, not, ◌==◌, ◌&&◌, ◌||◌, cond, map, List, [], ◌∷◌, ◌++◌, length, Option, Some, None, add-one, append_assoc, append-nil, length-append}
+use Rattle.std.proofs.Common.{◌≡◌, refl, sym, ap, subst, ◌∙◌, inl, inr, arith, ◌<◌, ◌+◌, ℕ, T, Bool, true, false, not, ◌==◌, ◌&&◌, ◌||◌, cond, map, List, [], ◌∷◌, ◌++◌, length, Option, Some, None, add-one, append_assoc, append-nil, length-append}
 use Rattle.std.specs.Prelude.{if◌then◌else◌, is_some}
-use Rattle.std.specs.List.{filter, list_any, list_all}
-use Rattle.std.proofs.lemmas.Bool.{and_parts, cond-true, or_parts, true≢false}
+use Rattle.std.specs.List.{filter, list_any}
+use Rattle.std.proofs.lemmas.Bool.{and_parts, or_parts, true≢false}
 use Rattle.std.proofs.lemmas.List.{map-append}
 use Rattle.std.proofs.lemmas.List.Elements.{filter-append}
 use Rattle.std.proofs.lemmas.List.Folds.{list_any-append}
-use Rattle.ec_base.specs.Tables.{Table, put}
+use Rattle.ec_base.specs.Tables.{put}
 use Rattle.ec_base.specs.declared.ids.Age.{Age}
-use Rattle.ec_volume.specs.Update.{listed, member, operands}
+use Rattle.ec_volume.specs.Update.{listed, member}
 use Rattle.ec_plain.specs.declared.call.Call.{Call}
 use Rattle.ec_order.specs.Order.{InClosure, Issued}
 use Rattle.ec_history.specs.History.{Base, Covers, Each, History, Op, Throughout, is_entry_of, is_one_of, issued_by, kept, numbers, of_start, owed, same_start}
@@ -24,14 +24,14 @@ use Rattle.ec_wire.specs.declared.msg.Msg.{Msg}
 use Rattle.ec_laws.proofs.Beside.{IsBeside, covers-same}
 use Rattle.ec_laws.proofs.Cuts.{legal-split, placeable-step}
 use Rattle.ec_laws.proofs.Held.{place-late}
-use Rattle.ec_laws.proofs.More.{count-next, kept-step, watch-step}
+use Rattle.ec_laws.proofs.More.{kept-step, watch-step}
 use Rattle.ec_laws.proofs.Numbers.{each-append as each-join, each-back, each-filter, each-front}
 use Rattle.ec_laws.proofs.Watching.{untold-runs}
 use Rattle.ec_protocol.specs.declared.clerk.Clerk.{Clerk}
 use Rattle.ec_coherence.specs.System.{System, at_session, base_of, is_of, is_open, undurable, with_start}
 use Rattle.ec_coherence.specs.Events.{CutAgrees, EventsAgree, Frees, IsUncut, same_op, shown_boot, shown_op}
 use Rattle.ec_coherence.specs.ChangeLaws.{Calls}
-use Rattle.ec_coherence.proofs.Tables.{each-map, equal, none_some, same, same_some}
+use Rattle.ec_coherence.proofs.Tables.{equal, none_some, same, same_some}
 use Rattle.ec_events.specs.Answers.{IsAnswered, based, fresh_of}
 use Rattle.ec_events.specs.Comes.{begun_at, entry_next}
 use Rattle.ec_events.proofs.Answering.{alike, kept-now, new_fresh, old_fresh}

@@ -1,5 +1,5 @@
 -- The images that one session is to see change where its clerk holds Write, whether it's open or not: no message and no id that is on its way is about them.
-use Rattle.std.proofs.Common.{◌≡◌, refl, sym, ap, subst, ◌∙◌, inl, inr, ◌⊎◌, ℕ, T}
+use Rattle.std.proofs.Common.{◌≡◌, sym, ap, subst, ◌∙◌, inl, inr, ◌⊎◌, ℕ, T}
 use Rattle.std.specs.Prelude.{Option, None, Some}
 use Rattle.ec_base.specs.Tables.{at}
 use Rattle.ec_volume.specs.declared.image.Image.{Image}

@@ -1,13 +1,9 @@
 -- A clerk in its open session sees all that is kept, and what it has left is nobody else's.
-use Rattle.std.proofs.Common.{◌≡◌, refl, sym, ap, subst, ◌∙◌, ℕ, Bool, true, false, not, ◌==◌, ◌||◌, T, List, [], ◌∷◌, Option, Some, None}
-use Rattle.std.specs.Prelude.{is_some}
-use Rattle.ec_base.specs.Tables.{at}
+use Rattle.std.proofs.Common.{◌≡◌, refl, sym, ap, subst, ◌∙◌, ℕ, false, not, ◌==◌, ◌||◌, T, List, [], ◌∷◌, Some, None}
 use Rattle.ec_base.specs.declared.ids.Age.{Age}
 use Rattle.ec_volume.specs.Update.{has_operand, member, operands}
 use Rattle.ec_volume.specs.Volume.{after}
-use Rattle.ec_volume.specs.declared.image.Image.TheVariants.{Gone}
-use Rattle.ec_cache.specs.declared.state.Held.{Held}
-use Rattle.ec_history.specs.History.{Each, Op, updates}
+use Rattle.ec_history.specs.History.{Each, updates}
 use Rattle.ec_sessions.specs.declared.slot.Slot.{Slot}
 use Rattle.ec_durable.specs.Durable.{slot}
 use Rattle.ec_protocol.specs.Clerk.{first_id}
@@ -20,7 +16,7 @@ use Rattle.ec_coherence.proofs.Lists.{no_both}
 use Rattle.ec_coherence.proofs.OpenSlots.{open-at}
 use Rattle.ec_coherence.proofs.Tables.{each-map, same, same_some}
 use Rattle.ec_commits.specs.Laws.{AllAgree}
-use Rattle.ec_events.specs.Answers.{IsLive, Sees, fresh_of, id_of, seen_by}
+use Rattle.ec_events.specs.Answers.{IsLive, Sees, id_of}
 use Rattle.ec_events.specs.Comes.{Marked}
 use Rattle.ec_answers.specs.Zeros.{ZerosAgree}
 use Rattle.ec_answers.proofs.Free.{free-gone, free-unused}

@@ -13,7 +13,7 @@ use Rattle.ec_history.specs.Placing.{MayFollow, place}
 use Rattle.ec_history.specs.declared.entry.Answer.{Answer}
 use Rattle.ec_history.specs.declared.shown.Shown.{Shown}
 use Rattle.ec_history.specs.declared.shown.Shown.TheVariants.{Answered}
-use Rattle.ec_report.specs.Report.{Owed, clear}
+use Rattle.ec_report.specs.Report.{clear}
 use Rattle.ec_resolve.specs.declared.verdict.Verdict.{Verdict}
 use Rattle.ec_resolve.specs.declared.verdict.Verdict.TheVariants.{Need, Lost, NeedIds, Done}
 use Rattle.ec_protocol.specs.Clerk.{verdict}
@@ -31,7 +31,7 @@ use Rattle.ec_events.specs.Comes.{after_answer}
 use Rattle.ec_events.proofs.Touching.{leaves-others}
 use Rattle.ec_answers.specs.Answering.{Suits, answered_clerk, answering, done_clerk}
 use Rattle.ec_answers.specs.Laws.{IsSettled}
-use Rattle.ec_answers.specs.Zeros.{LeaveOut, ZerosAgree}
+use Rattle.ec_answers.specs.Zeros.{ZerosAgree}
 use Rattle.ec_answers.proofs.Changing as changing
 use Rattle.ec_answers.proofs.Changing.{NodesAgree}
 use Rattle.ec_answers.proofs.Framed as framed

@@ -1,5 +1,5 @@
 -- A clerk without a session answers a call: it issues nothing, and tokens, logs and images read nothing of it.
-use Rattle.std.proofs.Common.{◌≡◌, refl, sym, ap, subst, ◌∙◌, inl, inr, ℕ, Bool, true, false, not, ◌==◌, ◌&&◌, ◌||◌, T, List, [], ◌∷◌, ◌++◌, Option, Some, None, append-nil}
+use Rattle.std.proofs.Common.{◌≡◌, refl, sym, ap, subst, ◌∙◌, ℕ, Bool, true, false, not, ◌==◌, ◌&&◌, T, List, [], ◌∷◌, ◌++◌, Option, Some, None, append-nil}
 use Rattle.std.proofs.lemmas.Bool.{and_parts}
 use Rattle.std.specs.List.{filter}
 use Rattle.ec_base.specs.Tables.{Table, at}
@@ -10,7 +10,7 @@ use Rattle.ec_volume.specs.declared.update.Update.{Update}
 use Rattle.ec_volume.specs.declared.update.Update.TheVariants.{Make, Drop, Move, Put, Len, Mode, Stamp, Order, Shift, Owner}
 use Rattle.ec_plain.specs.declared.call.Call.{Call}
 use Rattle.ec_plain.specs.declared.call.Outcome.{Outcome}
-use Rattle.ec_history.specs.History.{Each, History, Op}
+use Rattle.ec_history.specs.History.{History, Op}
 use Rattle.ec_history.specs.declared.shown.Shown.{Shown}
 use Rattle.ec_wire.specs.declared.msg.Msg.{Msg}
 use Rattle.ec_wire.specs.declared.msg.Msg.TheVariants.{Flush, Room}
@@ -135,7 +135,7 @@ module _ (g : System) (inv : Invariant g) (c b : ℕ) (k now : Clerk) (at-start 
   in-none : (t : ℕ) (m : Clerk) → m.session ≡ None → if_in t (Some m) ≡ None
   in-none t m e = ap (λ z. elim (is_session t z) as (λ z. Option Clerk) [ true ↦ Some m | false ↦ None ]) e
 
-  same-in : (t : ℕ) → clerk_of t (g.ghost.owner t) (with_start c b now g.clerks) ≡ clerk_of t (g.ghost.owner t) g.clerks
+  pub same-in : (t : ℕ) → clerk_of t (g.ghost.owner t) (with_start c b now g.clerks) ≡ clerk_of t (g.ghost.owner t) g.clerks
   same-in t = go (g.ghost.owner t)
     where
       go : (o : Option (ℕ × Age)) → clerk_of t o (with_start c b now g.clerks) ≡ clerk_of t o g.clerks

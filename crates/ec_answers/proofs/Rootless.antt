@@ -1,15 +1,14 @@
 -- A call that touched nothing and has no update shows no session.
-use Rattle.std.proofs.Common.{◌≡◌, refl, sym, ap, subst, ◌∙◌, ℕ, Bool, true, false, T, List, [], ◌∷◌, ◌++◌, Option, Some, None}
+use Rattle.std.proofs.Common.{◌≡◌, refl, sym, ap, subst, ◌∙◌, ℕ, false, T, List, [], ◌∷◌, ◌++◌, Some, None}
 use Rattle.ec_volume.specs.Update.{member, root}
 use Rattle.ec_volume.specs.Volume.{Images}
 use Rattle.ec_volume.specs.declared.image.Image.TheVariants.{Gone}
-use Rattle.ec_volume.specs.declared.update.Update.{Update}
 use Rattle.std.specs.Prelude.{◌-◌, if◌then◌else◌, length}
 use Rattle.ec_volume.specs.Entries.{Entries, entry}
 use Rattle.ec_volume.specs.Image.{entries_of, is_dir, is_gone}
 use Rattle.ec_volume.specs.declared.image.Kind.TheVariants as kind
 use Rattle.ec_volume.specs.declared.update.Update.TheVariants.{Mode, Owner, Stamp}
-use Rattle.ec_plain.specs.Walk.{Path, Reached, At, Not, Walk, last_of, parent_of, walk}
+use Rattle.ec_plain.specs.Walk.{Path, At, Not, Walk, last_of, parent_of, walk}
 use Rattle.ec_plain.specs.Plain.{answers, drop_in, issues, len_in, list_in, make_in, on_parent, on_reached, once_more, plain, plain_forder, read_in, refuses, rename_in, stat_of, write_in}
 use Rattle.ec_plain.specs.declared.call.Reply.TheVariants as reply
 use Rattle.ec_plain.specs.declared.call.Call.{Call}

@@ -1,9 +1,9 @@
 -- What a verdict makes of its clerk, and of the operation that it issues.
-use Rattle.std.proofs.Common.{◌≡◌, refl, sym, ap, subst, ◌∙◌, inl, inr, ◌⊎◌, ◌+◌, ℕ, Bool, true, false, cond, T, List, [], ◌∷◌, Option, Some, None}
+use Rattle.std.proofs.Common.{◌≡◌, refl, sym, ap, ◌∙◌, inl, inr, ◌⊎◌, ◌+◌, ℕ, true, false, T, List, [], ◌∷◌, Option, Some, None}
 use Rattle.std.specs.Prelude.{if◌then◌else◌, is_some}
 use Rattle.std.proofs.lemmas.Bool.{true≢false}
 use Rattle.ec_base.specs.Tables.{at, or_else}
-use Rattle.ec_volume.specs.Update.{has_operand, listed, member, operands}
+use Rattle.ec_volume.specs.Update.{has_operand, listed}
 use Rattle.ec_volume.specs.declared.update.Update.{Update}
 use Rattle.ec_volume.specs.declared.update.Update.TheVariants.{Make, Drop, Move, Put, Len, Mode, Stamp, Order, Shift, Owner}
 use Rattle.ec_plain.specs.Plain.{is_sync, plain}
@@ -14,14 +14,13 @@ use Rattle.ec_plain.specs.declared.call.Reply.TheVariants as reply
 use Rattle.ec_plain.specs.declared.call.Refusal.TheVariants as no
 use Rattle.ec_plain.specs.declared.call.Outcome.{Outcome}
 use Rattle.ec_cache.specs.Cache.{images_held}
-use Rattle.ec_history.specs.History.{Each, Op, numbers}
+use Rattle.ec_history.specs.History.{Op, numbers}
 use Rattle.ec_history.specs.Placing.{shows}
 use Rattle.ec_history.specs.declared.entry.Answer.{Answer}
 use Rattle.ec_history.specs.declared.entry.Answer.TheVariants as answer
 use Rattle.ec_durable.specs.Durable.{made}
 use Rattle.ec_report.specs.Report.{Owed}
 use Rattle.ec_resolve.specs.Agreement.{IsFor, IsReady, Shows}
-use Rattle.ec_resolve.specs.Resolve.{evaluate}
 use Rattle.ec_resolve.specs.declared.verdict.Verdict.{Verdict}
 use Rattle.ec_resolve.specs.declared.verdict.Verdict.TheVariants.{Need, Lost, NeedIds, Done}
 use Rattle.ec_resolve.proofs.Verdicts.{done-ready, done-says}
@@ -29,7 +28,7 @@ use Rattle.ec_protocol.specs.Clerk.{first_id, verdict}
 use Rattle.ec_protocol.specs.declared.clerk.Clerk.{Clerk}
 use Rattle.ec_coherence.specs.Tokens.{IsWrite}
 use Rattle.ec_coherence.proofs.Needs.{holds-write}
-use Rattle.ec_coherence.proofs.Tables.{is-true, none_some, same_some}
+use Rattle.ec_coherence.proofs.Tables.{is-true, none_some}
 use Rattle.ec_events.specs.Answers.{Gives, op_given}
 use Rattle.ec_answers.specs.Answering.{answered_clerk, done_clerk}
 use Rattle.ec_answers.proofs.Refusing.{plain-fair}

@@ -15,8 +15,8 @@ use Rattle.ec_history.specs.History.{Each, Op, updates}
 use Rattle.ec_laws.specs.Needs.{holds_needed}
 use Rattle.ec_laws.proofs.Objects.{common}
 use Rattle.ec_durable.specs.Durable.{made}
-use Rattle.ec_coherence.proofs.Lists.{and_first, and_next, either_way, filter-no, filter-yes, no_both, or_else, or_first, or_next}
-use Rattle.ec_coherence.proofs.Tables.{is-false, is-true}
+use Rattle.ec_coherence.proofs.Lists.{and_first, and_next, filter-no, filter-yes, no_both, or_else, or_first, or_next}
+use Rattle.ec_coherence.proofs.Tables.{is-true}
 
 -- What fits an object that is gone makes it.
 

@@ -1,12 +1,11 @@
 -- The answer of a clerk without a session, which isn't cut off, leaves all facts standing.
-use Rattle.std.proofs.Common.{◌≡◌, refl, sym, ap, subst, ◌∙◌, inl, inr, ◌<◌, ◌+◌, ℕ, Bool, true, false, not, ◌==◌, ◌||◌, map, T, List, [], ◌∷◌, ◌++◌, length, Option, Some, None, append-nil}
-use Rattle.std.specs.List.{filter, list_any, list_all}
+use Rattle.std.proofs.Common.{◌≡◌, refl, sym, ap, subst, ◌∙◌, inl, inr, ◌<◌, ◌+◌, ℕ, Bool, true, not, map, T, List, [], ◌∷◌, ◌++◌, length, Option, Some, None, append-nil}
+use Rattle.std.specs.List.{filter, list_any}
 use Rattle.std.proofs.lemmas.Bool.{cases_eq}
 use Rattle.ec_base.specs.Tables.{Table, put}
-use Rattle.ec_base.specs.declared.ids.Age.{Age}
 use Rattle.ec_volume.specs.Update.{has_operand, member, operands}
 use Rattle.ec_plain.specs.declared.call.Call.{Call}
-use Rattle.ec_history.specs.History.{Each, History, Op, is_one_of, kept, numbers, touched}
+use Rattle.ec_history.specs.History.{Each, Op, is_one_of, kept, numbers, touched}
 use Rattle.ec_history.specs.Legal.{is_call_of_other, leaves}
 use Rattle.ec_history.specs.Placing.{MayFollow, place}
 use Rattle.ec_history.specs.declared.entry.Answer.{Answer}
@@ -15,14 +14,14 @@ use Rattle.ec_history.specs.declared.shown.Shown.TheVariants.{Answered}
 use Rattle.ec_resolve.specs.declared.verdict.Verdict.{Verdict}
 use Rattle.ec_protocol.specs.Clerk.{verdict}
 use Rattle.ec_protocol.specs.declared.clerk.Clerk.{Clerk}
-use Rattle.ec_coherence.specs.System.{System, is_open, undurable, with_start}
+use Rattle.ec_coherence.specs.System.{System, undurable, with_start}
 use Rattle.ec_coherence.specs.Sessions.{HasNone}
 use Rattle.ec_coherence.specs.Events.{EventsAgree, IsUncut, cut_in, shown_boot, shown_op}
 use Rattle.ec_coherence.specs.Steps.{calls_after}
 use Rattle.ec_coherence.specs.Invariant.{Invariant}
 use Rattle.ec_coherence.specs.ChangeLaws.{Calls}
 use Rattle.ec_coherence.proofs.Lists.{no_both}
-use Rattle.ec_coherence.proofs.Tables.{each-map, none_some}
+use Rattle.ec_coherence.proofs.Tables.{none_some}
 use Rattle.ec_commits.specs.Laws.{AllAgree}
 use Rattle.ec_commits.specs.Starts.{StartsAgree}
 use Rattle.ec_commits.specs.Watches.{FirstsAgree}
@@ -40,7 +39,7 @@ use Rattle.ec_answers.proofs.Outside as outside
 use Rattle.ec_answers.proofs.Outside.{IsQuiet, holds-none, no-number, no-ops, quiet-now, reads-none}
 use Rattle.ec_answers.proofs.Turned.{next-is, same-age, same-id, same-session}
 use Rattle.ec_answers.proofs.Unseen.{answer-keeps-all}
-use Rattle.ec_answers.proofs.Zeroless.{ops-left-out, still-no-zero}
+use Rattle.ec_answers.proofs.Zeroless.{still-no-zero}
 
 -- All facts but those on the history, of any answer outside a session.
 module _ (g : System) (inv : Invariant g) (firsts : FirstsAgree g.ghost) (starts : StartsAgree g) (zeros : ZerosAgree g) (c b : ℕ) (k : Clerk) (ws : IsBegun g c) (at-start : g.clerks c b ≡ Some k) (out : k.session ≡ None)

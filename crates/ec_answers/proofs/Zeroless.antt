@@ -1,5 +1,5 @@
 -- No operation that a clerk issues has the object 0, and nothing is owed on it.
-use Rattle.std.proofs.Common.{◌≡◌, refl, sym, ap, subst, ◌∙◌, inl, inr, ℕ, Bool, true, false, not, ◌==◌, ◌||◌, cond, map, T, List, [], ◌∷◌, ◌++◌, Option, Some, None}
+use Rattle.std.proofs.Common.{◌≡◌, refl, sym, ap, subst, ◌∙◌, inl, inr, ℕ, Bool, true, false, not, ◌==◌, ◌||◌, cond, map, T, List, [], ◌∷◌, Option, Some, None}
 use Rattle.std.specs.List.{filter}
 use Rattle.std.specs.Prelude.{drop}
 use Rattle.ec_base.specs.Tables.{at}
@@ -10,17 +10,16 @@ use Rattle.ec_volume.specs.declared.image.Image.TheVariants.{Gone}
 use Rattle.ec_volume.specs.declared.update.Update.{Update}
 use Rattle.ec_plain.specs.declared.call.Call.{Call}
 use Rattle.ec_plain.specs.declared.call.Outcome.{Outcome}
-use Rattle.ec_history.specs.History.{Each, Op, updates}
+use Rattle.ec_history.specs.History.{Op, updates}
 use Rattle.ec_durable.specs.Durable.{made}
-use Rattle.ec_report.specs.Report.{Owed, clear}
+use Rattle.ec_report.specs.Report.{Owed}
 use Rattle.ec_resolve.specs.declared.verdict.Verdict.{Verdict}
 use Rattle.ec_resolve.specs.declared.verdict.Verdict.TheVariants.{Need, Lost, NeedIds, Done}
 use Rattle.ec_cache.specs.declared.state.Held.{Held}
 use Rattle.ec_protocol.specs.Clerk.{first_id, less_id, suits, verdict}
 use Rattle.ec_protocol.specs.declared.clerk.Clerk.{Clerk}
-use Rattle.ec_coherence.specs.Tokens.{IsWrite}
 use Rattle.ec_coherence.proofs.CacheChange.{suits-held}
-use Rattle.ec_coherence.proofs.Lists.{either_way, no_both, or_next}
+use Rattle.ec_coherence.proofs.Lists.{either_way, no_both}
 use Rattle.ec_coherence.proofs.Tables.{each-append, equal, is-false, is-true, none_some, same, same_some}
 use Rattle.ec_events.specs.Answers.{IsUnowed, op_given}
 use Rattle.ec_answers.specs.Answering.{Suits, answered_clerk, done_clerk}

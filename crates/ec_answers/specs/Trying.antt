@@ -1,16 +1,14 @@
 -- A clerk's step while it tries its waiting calls.
 use Rattle.std.specs.Prelude.{◌≡◌, ◌≤◌, ◌⊎◌, ◌+◌, ℕ, T, length, Option, Some, None, is_some, List, ◌∷◌, ◌++◌}
-use Rattle.ec_base.specs.Tables.{at_or, put}
+use Rattle.ec_base.specs.Tables.{put}
 use Rattle.ec_history.specs.History.{Op}
 use Rattle.ec_history.specs.Placing.{place}
 use Rattle.ec_history.specs.declared.entry.Answer.{Answer}
 use Rattle.ec_history.specs.declared.shown.Shown.TheVariants.{Answered}
 use Rattle.ec_plain.specs.declared.call.Call.{Call}
 use Rattle.ec_protocol.specs.Clerk.{Doing}
-use Rattle.ec_protocol.specs.declared.clerk.Clerk.{Clerk}
-use Rattle.ec_protocol.specs.declared.clerk.Waiting.{Waiting}
 use Rattle.ec_coherence.specs.System.{System, Ghost, at_session}
-use Rattle.ec_coherence.specs.Steps.{call_of, doing_in}
+use Rattle.ec_coherence.specs.Steps.{doing_in}
 use Rattle.ec_changes.specs.Laws.{ClerkStands, IsUnderWay}
 use Rattle.ec_calls.specs.Calls.{CallsAgree}
 use Rattle.ec_calls.specs.Waits.{AreInTurn}

@@ -2,7 +2,6 @@
 use Rattle.std.specs.Prelude.{◌≡◌, ◌≤◌, ℕ, zero, suc, T, not, List, Some}
 use Rattle.ec_volume.specs.Update.{has_operand, member}
 use Rattle.ec_volume.specs.declared.image.Image.TheVariants.{Gone}
-use Rattle.ec_order.specs.Order.{Issued}
 use Rattle.ec_history.specs.History.{Each, Op}
 use Rattle.ec_protocol.specs.declared.clerk.Clerk.{Clerk}
 use Rattle.ec_events.specs.Answers.{IsUnowed}

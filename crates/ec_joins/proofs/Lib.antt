@@ -12,6 +12,7 @@ pub mod Begins
 pub mod Owing
 pub mod Left
 pub mod Leaving
+pub mod Cases
 pub mod Wholes
 pub mod Steps
 pub mod Keeping

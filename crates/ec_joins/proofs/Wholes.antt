@@ -1,5 +1,5 @@
 -- A clerk takes whole messages: any without a session, and in one any that isn't of it.
-use Rattle.std.proofs.Common.{◌≡◌, refl, sym, ap, subst, ◌∙◌, inl, inr, ◌⊎◌, ℕ, Bool, true, false, not, ◌==◌, ◌&&◌, T, [], Option, Some, None, append-nil}
+use Rattle.std.proofs.Common.{◌≡◌, refl, sym, ap, subst, ◌∙◌, inl, inr, ◌⊎◌, ℕ, Bool, true, false, ◌==◌, ◌&&◌, T, [], Option, Some, None, append-nil}
 use Rattle.std.specs.Prelude.{Contains, is_some, nat_le}
 use Rattle.std.proofs.lemmas.Bool.{and_parts}
 use Rattle.ec_base.specs.Tables.{keys}
@@ -8,12 +8,11 @@ use Rattle.ec_base.specs.declared.ids.Age.{Age}
 use Rattle.ec_sessions.specs.Limits.{last_round}
 use Rattle.ec_sessions.specs.declared.window.Window.{Window}
 use Rattle.ec_wire.specs.declared.msg.Msg.{Msg}
-use Rattle.ec_wire.specs.declared.msg.Msg.TheVariants.{Hello, Want, Back, Flush, Room, Claim, Bye, Opened, Grant, Recall, Kept, Ids, NoRoom, Ended, Restarted, OldBoot}
-use Rattle.ec_cache.specs.Cache as cache
+use Rattle.ec_wire.specs.declared.msg.Msg.TheVariants.{Claim, Opened, Ended}
 use Rattle.ec_log.specs.Log as log
 use Rattle.ec_protocol.specs.declared.clerk.Out.TheVariants as out
 use Rattle.ec_protocol.specs.declared.clerk.Clerk.{Clerk}
-use Rattle.ec_protocol.specs.Clerk.{Doing, doing, emit, epoch, has_session, hello, in_session, is_session, lose, or_hello, refuse_makes, same_age, send, spend, take_ended, take_ids, take_recall, take_restarted, with_cache, with_clerk, with_log}
+use Rattle.ec_protocol.specs.Clerk.{Doing, doing, emit, hello, lose, send, spend, take_ended, with_clerk}
 use Rattle.ec_coherence.specs.System.{System, Ghost, if_in, with_start}
 use Rattle.ec_coherence.specs.Clerks.{take_session}
 use Rattle.ec_coherence.specs.Sessions as sessions
@@ -21,18 +20,16 @@ use Rattle.ec_coherence.specs.Sessions.{HasNone}
 use Rattle.ec_coherence.specs.Tokens.{Fits, view}
 use Rattle.ec_coherence.specs.Steps.{calls_after, doing_in}
 use Rattle.ec_coherence.proofs.Needs.{each-of}
-use Rattle.ec_coherence.proofs.Tables.{differ, equal}
+use Rattle.ec_coherence.proofs.Tables.{equal}
 use Rattle.ec_commits.specs.Laws.{AllAgree}
 use Rattle.ec_changes.specs.Laws.{ClerkStands, IsUnderWay}
 use Rattle.ec_changes.proofs.Doings.{begins-stand}
 use Rattle.ec_joins.specs.Cuts.{CutKnows, CutsAgree}
-use Rattle.ec_joins.specs.Laws.{Goes, IsGoing, IsOfSession, SameCalls, tell_loss}
+use Rattle.ec_joins.specs.Laws.{Goes, IsBeside, IsGoing, IsOfSession, SameCalls, tell_loss}
+use Rattle.ec_joins.proofs.Cases as cases
 use Rattle.ec_joins.proofs.Hellos.{hello-cuts, hello-stands, old-boot-cuts, old-boot-stands}
 use Rattle.ec_joins.proofs.Joined.{joins-cuts, joins-go}
 use Rattle.ec_joins.proofs.Leaving.{ended-stands}
-
-same-ages : (a b : Age) → same_age a b ≡ true → a ≡ b
-same-ages a b e = let q = and_parts (a.boot == b.boot) (a.round == b.round) e in λ j. record { boot = equal a.boot b.boot q.0 j; round = equal a.round b.round q.1 j }
 
 -- what is lost takes no call away
 ended-calls : (w : Window) (d : Doing) → SameCalls d.clerk (take_ended w d).clerk
@@ -49,7 +46,7 @@ module _ (g : System) (all : AllAgree g) (cuts : CutsAgree g) (c b : ℕ) (k : C
   abbrev here : System
   here = doing_in c b d g.ghost g
 
-  ended-out : (w : Window) → calls_after c (take_ended w d).outs g.calls ≡ g.calls
+  pub ended-out : (w : Window) → calls_after c (take_ended w d).outs g.calls ≡ g.calls
   ended-out w = go (nat_le last_round k.age.round)
     where
       go : (z : Bool) → calls_after c (elim z as (λ y. Doing) [ true ↦ spend counter.Round d | false ↦ hello (emit (out.Told (keys (log.lost w k.log))) (with_clerk (lose (log.lost w k.log)) d)) ]).outs g.calls ≡ g.calls
@@ -58,7 +55,7 @@ module _ (g : System) (all : AllAgree g) (cuts : CutsAgree g) (c b : ℕ) (k : C
 
   -- A step begins.
 
-  st : ClerkStands g c b d g.ghost
+  pub st : ClerkStands g c b d g.ghost
   st = begins-stand g all c b k runs at-start
 
   cuts-here : CutsAgree here
@@ -87,144 +84,57 @@ module _ (g : System) (all : AllAgree g) (cuts : CutsAgree g) (c b : ℕ) (k : C
       go None e = inl e
       go (Some s) e = inr (s, in-it s e)
 
-  shows-old : (a : Age) → IsGoing g c b k (emit (out.OldBoot a) d) g.ghost
+  pub shows-old : (a : Age) → IsGoing g c b k (emit (out.OldBoot a) d) g.ghost
   shows-old a = record { stands = old-boot-stands g c b d g.ghost st a; cuts = old-boot-cuts g c b d g.ghost st a cuts-here; place = place begins.place; calls = begins.calls; same_calls = refl }
     where
       place : (k.session ≡ None) ⊎ ((s : ℕ) × IsUnderWay g c b s d g.ghost) → (k.session ≡ None) ⊎ ((s : ℕ) × IsUnderWay g c b s (emit (out.OldBoot a) d) g.ghost)
       place (inl e) = inl e
       place (inr u) = inr (u.0, record { stands = old-boot-stands g c b d g.ghost st a; age = u.1.age; owns = u.1.owns; boot = u.1.boot; session = u.1.session; before = u.1.before })
 
-  old : (asked greatest : Age) → Goes g c b k (OldBoot asked greatest)
-  old asked greatest = inr (go (same_age asked k.age))
-    where
-      go : (z : Bool) → IsGoing g c b k (elim z as (λ y. Doing) [ true ↦ emit (out.OldBoot greatest) d | false ↦ d ]) g.ghost
-      go true = shows-old greatest
-      go false = begins
-
   -- The message was sent.
 
   in-pool : (m : Msg) → Contains g.pool (c, m) → Contains here.pool (c, m)
   in-pool m p = subst (λ ms. Contains ms (c, m)) (sym (append-nil g.pool)) p
 
-  of-sessions : (m : Msg) → Contains g.pool (c, m) → sessions.Fits here c m
+  pub of-sessions : (m : Msg) → Contains g.pool (c, m) → sessions.Fits here c m
   of-sessions m p = each-of (λ z. sessions.Fits here z.0 z.1) here.pool (c, m) ((st.0).invariant.sessions.messages) (in-pool m p)
 
-  of-tokens : (m : Msg) → Contains g.pool (c, m) → Fits (view here) m
+  pub of-tokens : (m : Msg) → Contains g.pool (c, m) → Fits (view here) m
   of-tokens m p = each-of (λ z. Fits (view here) z.1) here.pool (c, m) ((st.0).invariant.tokens.messages) (in-pool m p)
+
+  pub greeted : IsGoing g c b k (hello d) g.ghost
+  greeted = record { stands = hello-stands g c b d g.ghost st; cuts = hello-cuts g c b d g.ghost st cuts-here; place = place begins.place; calls = begins.calls; same_calls = refl }
+    where
+      place : (k.session ≡ None) ⊎ ((s : ℕ) × IsUnderWay g c b s d g.ghost) → (k.session ≡ None) ⊎ ((s : ℕ) × IsUnderWay g c b s (hello d) g.ghost)
+      place (inl e) = inl e
+      place (inr u) = inr (u.0, record { stands = hello-stands g c b d g.ghost st; age = u.1.age; owns = u.1.owns; boot = u.1.boot; session = u.1.session; before = u.1.before })
 
   -- Without a session.
   module _ (without : k.session ≡ None) where
-    no-one : (t : ℕ) → is_session t k.session ≡ false
-    no-one t = ap (is_session t) without
-
-    no-session : has_session k ≡ false
-    no-session = ap is_some without
-
     none : HasNone k
     none = (all.0).sessions.without c b k at-start without
 
     outside : (t : ℕ) → if_in t (g.clerks c b) ≡ None
     outside t = ap (if_in t) at-start ∙ ap (λ o. elim (Rattle.ec_coherence.specs.System.is_session t o) as (λ z. Option Clerk) [ true ↦ Some k | false ↦ None ]) without
 
-    greeted : IsGoing g c b k (hello d) g.ghost
-    greeted = record { stands = hello-stands g c b d g.ghost st; cuts = hello-cuts g c b d g.ghost st cuts-here; place = inl without; calls = begins.calls; same_calls = refl }
-
-    opens : (age : Age) (s e : ℕ) → Contains g.pool (c, Opened age s e) → Goes g c b k (Opened age s e)
-    opens age s e p = inr (go (not (has_session k) && same_age age k.age) refl)
-      where
-        go : (z : Bool) → (not (has_session k) && same_age age k.age) ≡ z
-            → IsGoing g c b k (elim z as (λ y. Doing) [ true ↦ send (Claim s e []) (with_clerk (λ k. record k { session = Some s; epoch = e }) d) | false ↦ d ]) (elim z as (λ y. Ghost) [ true ↦ take_session s g.ghost | false ↦ g.ghost ])
-        go true q =
-            let its = same-ages age k.age (and_parts (not (has_session k)) (same_age age k.age) q).1 in
-            let u = joins-go g c b d g.ghost st without outside age s e (of-sessions (Opened age s e) p) (of-tokens (Opened age s e) p) its in
-            record { stands = u.stands; cuts = joins-cuts g c b d g.ghost st without outside age s e (of-sessions (Opened age s e) p) (of-tokens (Opened age s e) p) its cuts-here; place = inr (s, u); calls = record { waiting = refl; calls = refl; next = refl }; same_calls = refl }
-        go false q = begins
-
-    passed : (t e : ℕ) (f : Doing → Doing) → IsGoing g c b k (in_session t e f d) g.ghost
-    passed t e f = subst (λ z. IsGoing g c b k (elim (z && (e == epoch d)) as (λ y. Doing) [ true ↦ f d | false ↦ d ]) g.ghost) (sym (no-one t)) begins
-
-    or-greets : (t : ℕ) (f : Doing → Doing) → IsGoing g c b k (or_hello t f d) g.ghost
-    or-greets t f = subst (λ z. IsGoing g c b k (elim z as (λ y. Doing) [ false ↦ hello d | true ↦ elim (is_session t k.session) as (λ y. Doing) [ true ↦ f d | false ↦ d ] ]) g.ghost) (sym no-session) greeted
-
-    ends : (t low mask : ℕ) → Goes g c b k (Ended t low mask)
-    ends t low mask = inr (subst (λ z. IsGoing g c b k (or_hello t (take_ended (record { low = low; mask = mask })) d) (elim z as (λ y. Ghost) [ true ↦ tell_loss c (keys (log.lost (record { low = low; mask = mask }) k.log)) g.ghost | false ↦ g.ghost ])) (sym (no-one t))
-        (or-greets t (take_ended (record { low = low; mask = mask }))))
+    pub opens : (age : Age) (s e : ℕ) → Contains g.pool (c, Opened age s e) → age ≡ k.age → IsGoing g c b k (send (Claim s e []) (with_clerk (λ k. record k { session = Some s; epoch = e }) d)) (take_session s g.ghost)
+    opens age s e p own =
+        let u = joins-go g c b d g.ghost st without outside age s e (of-sessions (Opened age s e) p) (of-tokens (Opened age s e) p) own in
+        record { stands = u.stands; cuts = joins-cuts g c b d g.ghost st without outside age s e (of-sessions (Opened age s e) p) (of-tokens (Opened age s e) p) own cuts-here; place = inr (s, u); calls = record { waiting = refl; calls = refl; next = refl }; same_calls = refl }
 
     pub takes-outside : (m : Msg) → Contains g.pool (c, m) → Goes g c b k m
-    takes-outside (Opened age s e) p = opens age s e p
-    takes-outside (Grant t e x n h i) p = inr (passed t e (with_cache (cache.take x h n i)))
-    takes-outside (Recall t e x n to) p = inr (passed t e (take_recall x n to))
-    takes-outside (Kept t e n) p = inr (subst (λ z. IsGoing g c b k (elim z as (λ y. Doing) [ true ↦ with_log (log.kept n) d | false ↦ d ]) g.ghost) (sym (no-one t)) begins)
-    takes-outside (Ids t e got n first) p = inr (passed t e (take_ids got n first))
-    takes-outside (NoRoom t e ask live reserved) p = inr (subst (λ z. IsGoing g c b k (elim z as (λ y. Doing) [ true ↦ refuse_makes live reserved k.waiting (with_clerk (λ k. record k { asking = None; waiting = [] }) d) | false ↦ d ]) g.ghost) (sym (ap (is_session ask) none.asking)) begins)
-    takes-outside (Ended t low mask) p = ends t low mask
-    takes-outside (Restarted t e) p = inr (or-greets t (take_restarted e))
-    takes-outside (OldBoot asked greatest) p = old asked greatest
-    takes-outside (Hello i a) p = inr begins
-    takes-outside (Want t e x h m) p = inr begins
-    takes-outside (Back t e x m h) p = inr begins
-    takes-outside (Flush t e n ops) p = inr begins
-    takes-outside (Room t e got ask) p = inr begins
-    takes-outside (Claim t e l) p = inr begins
-    takes-outside (Bye t e) p = inr begins
+    takes-outside = cases.outside c g.pool k g.ghost (IsGoing g c b k) begins greeted shows-old without none.asking opens
 
   -- In one.
   module _ (s : ℕ) (within : k.session ≡ Some s) where
-    has-one : has_session k ≡ true
-    has-one = ap is_some within
+    pub own-end : (low mask : ℕ) → Contains g.pool (c, Ended s low mask) → let w : Window = record { low = low; mask = mask } in T (is_some (take_ended w d).spent) ⊎ IsGoing g c b k (take_ended w d) (tell_loss c (keys (log.lost w k.log)) g.ghost)
+    own-end low mask p = elim (ended-stands g c b s d g.ghost (in-it s within) cuts-here (record { low = low; mask = mask }) (of-sessions (Ended s low mask) p)) [
+      | inl n ↦ inl n
+      | inr q ↦ inr (record { stands = q.0; cuts = q.1; place = inl q.2; calls = ended-calls (record { low = low; mask = mask }) d; same_calls = ended-out (record { low = low; mask = mask }) })
+    ]
 
-    its : (t : ℕ) → is_session t k.session ≡ (t == s)
-    its t = ap (is_session t) within
-
-    another : (t : ℕ) → (t ≡ s → ⊥) → is_session t k.session ≡ false
-    another t n = its t ∙ differ t s n
-
-    beside : (t e : ℕ) (f : Doing → Doing) → (t ≡ s → ⊥) → IsGoing g c b k (in_session t e f d) g.ghost
-    beside t e f n = subst (λ z. IsGoing g c b k (elim (z && (e == epoch d)) as (λ y. Doing) [ true ↦ f d | false ↦ d ]) g.ghost) (sym (another t n)) begins
-
-    keeps : (age : Age) (t e : ℕ) → Goes g c b k (Opened age t e)
-    keeps age t e = inr (subst (λ z. IsGoing g c b k (elim (not z && same_age age k.age) as (λ y. Doing) [ true ↦ send (Claim t e []) (with_clerk (λ k. record k { session = Some t; epoch = e }) d) | false ↦ d ]) (elim (not z && same_age age k.age) as (λ y. Ghost) [ true ↦ take_session t g.ghost | false ↦ g.ghost ]))
-        (sym has-one) begins)
-
-    module _ (t low mask : ℕ) (p : Contains g.pool (c, Ended t low mask)) where
-      abbrev w : Window
-      w = record { low = low; mask = mask }
-
-      abbrev told : Ghost
-      told = tell_loss c (keys (log.lost w k.log)) g.ghost
-
-      abbrev Ends : Doing → Ghost → Type 0
-      Ends e δ = T (is_some e.spent) ⊎ IsGoing g c b k e δ
-
-      own-end : t ≡ s → Ends (take_ended w d) told
-      own-end e = elim (ended-stands g c b s d g.ghost (in-it s within) cuts-here w (subst (λ z. sessions.Fits here c (Ended z low mask)) e (of-sessions (Ended t low mask) p))) [
-        | inl n ↦ inl n
-        | inr q ↦ inr (record { stands = q.0; cuts = q.1; place = inl q.2; calls = ended-calls w d; same_calls = ended-out w })
-      ]
-
-      by-session : (z : Bool) → (t == s) ≡ z → Ends (elim z as (λ y. Doing) [ true ↦ take_ended w d | false ↦ d ]) (elim z as (λ y. Ghost) [ true ↦ told | false ↦ g.ghost ])
-      by-session true e = own-end (equal t s e)
-      by-session false e = inr begins
-
-      pub ends-inside : Goes g c b k (Ended t low mask)
-      ends-inside = subst (λ y. Ends (elim y as (λ x. Doing) [ false ↦ hello d | true ↦ elim (is_session t k.session) as (λ x. Doing) [ true ↦ take_ended w d | false ↦ d ] ]) (elim (is_session t k.session) as (λ x. Ghost) [ true ↦ told | false ↦ g.ghost ])) (sym has-one)
-          (subst (λ y. Ends (elim y as (λ x. Doing) [ true ↦ take_ended w d | false ↦ d ]) (elim y as (λ x. Ghost) [ true ↦ told | false ↦ g.ghost ])) (sym (its t)) (by-session (t == s) refl))
+    pub takes-beside : (m : Msg) → Contains g.pool (c, m) → IsBeside s k m → Goes g c b k m
+    takes-beside = cases.inside c g.pool k g.ghost (IsGoing g c b k) begins greeted shows-old s within own-end
 
     pub takes-others : (m : Msg) → Contains g.pool (c, m) → (IsOfSession s m → ⊥) → Goes g c b k m
-    takes-others (Opened age t e) p n = keeps age t e
-    takes-others (Grant t e x m h i) p n = inr (beside t e (with_cache (cache.take x h m i)) n)
-    takes-others (Recall t e x m to) p n = inr (beside t e (take_recall x m to) n)
-    takes-others (Kept t e m) p n = inr (subst (λ z. IsGoing g c b k (elim z as (λ y. Doing) [ true ↦ with_log (log.kept m) d | false ↦ d ]) g.ghost) (sym (another t n)) begins)
-    takes-others (Ids t e got m first) p n = inr (beside t e (take_ids got m first) n)
-    takes-others (NoRoom t e ask live reserved) p n = absurd (n refl)
-    takes-others (Ended t low mask) p n = ends-inside t low mask p
-    takes-others (Restarted t e) p n = inr (subst (λ z. IsGoing g c b k (elim z as (λ y. Doing) [ false ↦ hello d | true ↦ elim (is_session t k.session) as (λ y. Doing) [ true ↦ take_restarted e d | false ↦ d ] ]) g.ghost) (sym has-one)
-        (subst (λ z. IsGoing g c b k (elim z as (λ y. Doing) [ true ↦ take_restarted e d | false ↦ d ]) g.ghost) (sym (another t n)) begins))
-    takes-others (OldBoot asked greatest) p n = old asked greatest
-    takes-others (Hello i a) p n = inr begins
-    takes-others (Want t e x h m) p n = inr begins
-    takes-others (Back t e x m h) p n = inr begins
-    takes-others (Flush t e m ops) p n = inr begins
-    takes-others (Room t e got ask) p n = inr begins
-    takes-others (Claim t e l) p n = inr begins
-    takes-others (Bye t e) p n = inr begins
+    takes-others m p n = takes-beside m p (cases.is-beside s k m n)

@@ -1,5 +1,5 @@
 -- What is proved of a clerk that starts, greets, takes a session and leaves it, as contracts name it: all facts stand behind it.
-use Rattle.std.specs.Prelude.{◌≡◌, ◌==◌, ◌<◌, ◌⊎◌, ◌+◌, ℕ, T, true, false, not, ◌&&◌, List, [], ◌∷◌, ◌++◌, Contains, None, Some, is_some}
+use Rattle.std.specs.Prelude.{◌≡◌, ◌==◌, ◌<◌, ◌⊎◌, ◌+◌, ℕ, T, true, false, not, ◌&&◌, List, [], ◌∷◌, ◌++◌, Contains, None, Some, is_some, ⊤}
 use Rattle.ec_base.specs.declared.ids.Age.{Age}
 use Rattle.ec_plain.specs.declared.call.Call.{Call}
 use Rattle.ec_history.specs.History.{Each}
@@ -139,6 +139,16 @@ IsOfSession s (Ids t e got n first) = t ≡ s
 IsOfSession s (NoRoom t e ask live reserved) = t ≡ t
 IsOfSession s (Restarted t e) = t ≡ s
 IsOfSession s _ = ⊥
+
+-- a message changes nothing in the session s: it's of another one, or refuses ids that weren't asked for
+abbrev pub IsBeside : ℕ → Clerk → Msg → Type 0
+IsBeside s k (Grant t e x n h i) = ¬ (t ≡ s)
+IsBeside s k (Recall t e x n h) = ¬ (t ≡ s)
+IsBeside s k (Kept t e b) = ¬ (t ≡ s)
+IsBeside s k (Ids t e got n first) = ¬ (t ≡ s)
+IsBeside s k (NoRoom t e ask live reserved) = is_session ask k.asking ≡ false
+IsBeside s k (Restarted t e) = ¬ (t ≡ s)
+IsBeside s k _ = ⊤
 
 -- a clerk in a session takes any message but one of those
 abbrev pub TakesOthers : Type 0

@@ -4,3 +4,5 @@ pub mod Beginning
 pub mod Ending
 pub mod Resending
 pub mod Settling
+pub mod Plains
+pub mod Waiting

@@ -1,9 +1,15 @@
 -- What is proved of a whole step of a clerk around the tries of its waiting calls, as contracts name it: all facts stand.
-use Rattle.std.specs.Prelude.{◌≡◌, ◌==◌, ◌⊎◌, ℕ, T, false, Some, is_some}
+use Rattle.std.specs.Prelude.{◌≡◌, ◌==◌, ◌⊎◌, ℕ, T, false, Some, is_some, ⊤}
 use Rattle.ec_history.specs.History.{Each}
-use Rattle.ec_protocol.specs.Clerk.{Doing, doing, evict, keep_push, resend, try_all}
+use Rattle.ec_wire.specs.Messages.{is_sound}
+use Rattle.ec_wire.specs.declared.msg.Msg.{Msg}
+use Rattle.ec_wire.specs.declared.msg.Msg.TheVariants.{Grant, Ids, Kept, Recall, Restarted}
+use Rattle.ec_protocol.specs.Clerk.{Doing, Tried, Waits, Answered, doing, evict, keep_push, resend, taken, try, try_all}
 use Rattle.ec_protocol.specs.declared.clerk.Clerk.{Clerk}
+use Rattle.ec_protocol.specs.declared.clerk.Waiting.{Waiting}
 use Rattle.ec_coherence.specs.System.{System, Ghost}
+use Rattle.ec_coherence.specs.Sessions as sessions
+use Rattle.ec_coherence.specs.Tokens.{Fits, view}
 use Rattle.ec_coherence.specs.Steps.{doing_in}
 use Rattle.ec_calls.specs.Laws.{prepared}
 use Rattle.ec_calls.specs.Waits.{HasLine, IsAtRest, NoneReady, does_wait}
@@ -37,6 +43,27 @@ StepsAreReady = Keeps prepared × Keeps evict
 -- also where a call began in the step, before the others, of which no kept recall is ready
 abbrev pub CallsAreReady : Type 0
 CallsAreReady = (g : System) (c b : ℕ) (d : Doing) (γ : Ghost) → IsTrying g c b d γ → NoneReady d.clerk → IsTrying g c b (prepared d) γ × NoneReady (prepared d).clerk
+
+-- messages of its session that answer no call, and no asking for ids
+abbrev pub IsPlain : Msg → Type 0
+IsPlain (Grant s e x n h i) = ⊤
+IsPlain (Recall s e x n h) = ⊤
+IsPlain (Kept s e b) = ⊤
+IsPlain (Ids s e got n first) = ⊤
+IsPlain (Restarted s e) = ⊤
+IsPlain _ = ⊥
+
+abbrev pub PlainsKeep : Type 0
+PlainsKeep = (g : System) (c b s : ℕ) (d : Doing) (γ : Ghost) → IsLined g c b d γ → d.clerk.session ≡ Some s → (m : Msg) → IsPlain m → sessions.Fits (doing_in c b d γ g) c m → T (is_sound m) → Fits (view (doing_in c b d γ g)) m
+    → IsLined g c b (taken m d) γ
+
+-- A call that is tried waits on, with the same ghosts, unless a counter is spent; of one that is answered nothing is said here.
+abbrev pub WaitsOn : System → ℕ → ℕ → Doing → Ghost → Tried → Type 0
+WaitsOn g c b d γ (Waits e) = T (is_some e.spent) ⊎ (IsTrying g c b e γ × (e.clerk.waiting ≡ d.clerk.waiting))
+WaitsOn g c b d γ (Answered e) = ⊤
+
+abbrev pub WaitsStand : Type 0
+WaitsStand = (g : System) (c b : ℕ) (d : Doing) (γ : Ghost) → IsTrying g c b d γ → (w : Waiting) → WaitsOn g c b d γ (try w d)
 
 -- What a step of the clerk c leaves alone, or has from the state in which it began.
 pub record Beside (g : System) (c : ℕ) : Type 0 where

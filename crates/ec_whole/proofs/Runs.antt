@@ -25,7 +25,8 @@ use Rattle.ec_coherence.specs.Stops.{RunsOn}
 use Rattle.ec_coherence.specs.Steps.{Stands, doing_in, serving_in}
 use Rattle.ec_commits.specs.Laws as commits
 use Rattle.ec_changes.specs.Laws.{crashed, lined, stopped}
-use Rattle.ec_found.specs.Doubts.{ComesFrom, doubted}
+use Rattle.ec_commits.specs.Laws.{AllAgree}
+use Rattle.ec_found.specs.Doubts.{ComesFrom, DoubtAgrees, doubted}
 use Rattle.ec_found.proofs.Keeps.{doubts-hold, restarts-hold}
 use Rattle.ec_headline.specs.Headline.{FrontsAreLawful, InScript, ShowLawfully, joined}
 use Rattle.ec_headline.proofs.Stored.{show-lawfully}
@@ -33,7 +34,8 @@ use Rattle.ec_steps.specs.Calls.{IsOf}
 use Rattle.ec_steps.specs.Drills.{AreFit, Closed, IsCallIn, IsUnspent}
 use Rattle.ec_steps.specs.Steps.{Holds, IsDone, IsNew, IsServed, IsStep, StepsKeep, begun, calling, in_call}
 use Rattle.ec_steps.specs.Ties.{called, waiting}
-use Rattle.ec_steps.proofs.Drills.{drills-on}
+use Rattle.ec_asked.specs.Laws.{IsFresh, RestsKeep, RunAsks}
+use Rattle.ec_asked.proofs.Drills.{asked-drills}
 use Rattle.ec_joins.proofs.Steps.{step-most}
 use Rattle.ec_whole.specs.Runs.{OfRun, RunShows}
 use Rattle.ec_whole.specs.Whole.{Whole}
@@ -75,16 +77,30 @@ module _ (clerks : ClerksKeep Whole) (v : Images) (most : ℕ) where
   stops-fixed : (g : System) (u : Server) → F g → g.server ≡ Some u → F (stopped g)
   stops-fixed g u f up = fixed g (stopped g) refl refl f (stopped-whole g f.whole u up (subst (RunsOn g) up ((f.whole).all.0).stops.runs).1)
 
+  found-most : (h : System) → F h → h.server ≡ None → (r : Record) → h.unshown ≡ Some r → (stepped r h.durable).max_objects ≡ h.durable.max_objects
+  found-most h x d r p = step-most r h.durable (stepped r h.durable) (steps-so h (x.whole).all (x.whole).doubts d r p)
+
+  -- behind a stop with a record in doubt, and behind a restart
+  rest : RestsKeep F
+  rest = record {
+    in_doubt = λ h x. (x.whole).doubts;
+    doubts = λ h y x p s from now. fixed h (doubted h s) refl refl x (doubted-whole h x.whole y p s from now);
+    lines = λ h x. fixed h (lined h show.Stopped) refl refl x (stopped-line-whole h x.whole);
+    finds = λ h x d r p m now. fixed h _ refl (found-most h x d r p) x (found-whole h x.whole d r p now);
+    starts = λ h x d s e now. fixed h _ refl (ap (λ y. y.max_objects) (start-leaves (record (h.durable) { epoch = e }))) x (up-whole h x.whole d s e now);
+  }
+
+  abbrev agrees : (g : System) → F g → AllAgree g × DoubtAgrees g
+  agrees g f = ((f.whole).all, (f.whole).doubts)
+
   keep : StepsKeep F
   keep = record {
     agrees = λ g f. (f.whole).all;
     takes = λ g u f up c m p. served-fixed g (take c m u) f (takes-whole g u f.whole up c m p);
     ends = λ g u f up c. served-fixed g (end c u) f (ends-whole g u f.whole up c);
     stops = stops-fixed;
-    doubts = λ w g f st u up t is r q n. doubts-hold F (λ h x. ((x.whole).all, (x.whole).doubts)) stops-fixed (λ h y x p s from now. fixed h (doubted h s) refl refl x (doubted-whole h x.whole y p s from now)) w g f st u up t is r q n;
-    restarts = λ w g f st down spare fate. restarts-hold F (λ h x. ((x.whole).all, (x.whole).doubts)) (λ h x. fixed h (lined h show.Stopped) refl refl x (stopped-line-whole h x.whole))
-        (λ h x d r p m now. fixed h _ refl (found-most h x d r p) x (found-whole h x.whole d r p now))
-        (λ h x d s e now. fixed h _ refl (ap (λ y. y.max_objects) (start-leaves (record (h.durable) { epoch = e }))) x (up-whole h x.whole d s e now)) w g f st down spare fate;
+    doubts = λ w g f st u up t is r q n. doubts-hold F agrees stops-fixed rest.doubts w g f st u up t is r q n;
+    restarts = λ w g f st down spare fate. restarts-hold F agrees rest.lines rest.finds rest.starts w g f st down spare fate;
     messages = λ g c b k f run there m p. done-fixed g c b (take_message m k) g refl refl f (clerks.messages g c b k f.whole run there m p);
     pushes = λ g c b k f run there n. done-fixed g c b (push n k) g refl refl f (clerks.pushes g c b k f.whole run there n);
     resends = λ g c b k f run there. done-fixed g c b (resend k) g refl refl f (clerks.resends g c b k f.whole run there);
@@ -95,17 +111,17 @@ module _ (clerks : ClerksKeep Whole) (v : Images) (most : ℕ) where
     nothing = λ g f. fixed g (lined g show.Nothing) refl refl f (nothing-whole g f.whole);
     unsettled = λ g f. fixed g (lined g show.Unsettled) refl refl f (unsettled-whole g f.whole);
   }
-    where
-      found-most : (h : System) → F h → h.server ≡ None → (r : Record) → h.unshown ≡ Some r → (stepped r h.durable).max_objects ≡ h.durable.max_objects
-      found-most h x d r p = step-most r h.durable (stepped r h.durable) (steps-so h (x.whole).all (x.whole).doubts d r p)
 
   -- The end of a run.
-  module _ (ls : List Read) (fs : List Fates) (w : World) (holds : Holds F w) (no-calls : w.calls ≡ []) (no-lines : w.shown ≡ []) (fit : AreFit ls) where
+  module _ (ls : List Read) (fs : List Fates) (w : World) (holds : Holds F w) (fresh : IsFresh holds.0) (no-calls : w.calls ≡ []) (no-lines : w.shown ≡ []) (fit : AreFit ls) where
     abbrev r : Ran
     r = close (run_from (bound ls) 1 ls fs w).ending (run_from (bound ls) 1 ls fs w)
 
-    c : Closed F [] [] ls r
-    c = drills-on F keep ls fs w holds no-calls no-lines fit
+    q : RunAsks F ls r
+    q = asked-drills F keep rest ls fs w holds.0 holds.1 holds.2 fresh no-calls no-lines fit
+
+    abbrev c : Closed F [] [] ls r
+    c = q.closed
 
     pub run-shows : RunShows v most ls r
     run-shows = go (c.sofar).holds
@@ -141,6 +157,7 @@ module _ (clerks : ClerksKeep Whole) (v : Images) (most : ℕ) where
               front = c.front;
               counted = c.counted;
               own_calls = subst (EachLine (InScript c.more)) (c.sofar).shown (own r.world.shown ((c.sofar).of).shown);
+              ends = q.asked;
               fresh = (base_of g).fresh;
               fronts = shows.fronts;
               formed = λ u. subst (λ d. WellFormed (images d.volume)) (same u) shows.formed;

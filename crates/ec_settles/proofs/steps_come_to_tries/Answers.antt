@@ -1,5 +1,7 @@
 use Rattle.ec_settles.proofs.Beginning.{begins, begins-pushed}
+use Rattle.ec_settles.proofs.Plains.{plains-keep}
 use Rattle.ec_settles.proofs.Readying.{evicts-lined, prepares, prepares-call}
+use Rattle.ec_settles.proofs.Waiting.{waits-stand}
 use Rattle.ec_settles.proofs.steps_come_to_tries.Goals as goal
 
 pub returns-clause-begin : goal.returns-clause-begin
@@ -10,3 +12,9 @@ returns-clause-ready z = (prepares, evicts-lined)
 
 pub returns-clause-calls : goal.returns-clause-calls
 returns-clause-calls z = prepares-call
+
+pub returns-clause-messages : goal.returns-clause-messages
+returns-clause-messages z g c b s d γ l session m p own sound f = plains-keep g c b s d γ l session m p own sound f
+
+pub returns-clause-waits : goal.returns-clause-waits
+returns-clause-waits z = waits-stand

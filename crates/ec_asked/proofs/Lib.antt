@@ -1,0 +1,14 @@
+pub mod Said
+pub mod Told
+pub mod Seats
+pub mod Pays
+pub mod Reading
+pub mod Unended
+pub mod Places
+pub mod Serving
+pub mod Events
+pub mod Shown
+pub mod Opened
+pub mod Agreeing
+pub mod Fronts
+pub mod Drills

@@ -1,0 +1,2 @@
+pub mod Forgets
+pub mod Refuses

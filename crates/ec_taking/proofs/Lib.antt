@@ -1,0 +1,4 @@
+pub mod Same
+pub mod Ended
+pub mod Plain
+pub mod Taken
