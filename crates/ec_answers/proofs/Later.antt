@@ -170,7 +170,7 @@ module _ (g : System) (c s : ℕ) (age : Age) (d : Doing) (γ : Ghost) (t : IsTr
   both =
       let q = ((all.0).sessions).owned s (c, age) owns in
       one.late-answers here all t.zeros t.frees c s age k in-it running ks fz w.no l w.call a op its-gives its-suit line-follows
-      (late-settled here all t.calls c b k w l (single.waits-at g c b d γ t before rest w split) s ks own-is saw (q.2).window (cut-knows.knows q.2 q.3) (one.cut here all t.zeros t.frees c s age k in-it running ks fz w.no l w.call a op its-gives its-suit line-follows) lost-is passes most a op (answered_clerk v k).owed its-gives)
+      (late-settled here all.0 all.3 t.calls c b k w l (single.waits-at g c b d γ t before rest w split) s ks own-is saw (q.2).window (cut-knows.knows q.2 q.3) (one.cut here all t.zeros t.frees c s age k in-it running ks fz w.no l w.call a op its-gives its-suit line-follows) lost-is passes most a op (answered_clerk v k).owed its-gives)
       lost-is
 
   -- The waiting calls leave.

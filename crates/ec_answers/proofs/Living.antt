@@ -159,7 +159,7 @@ module _ (g : System) (c s : ℕ) (age : Age) (d : Doing) (γ : Ghost) (t : IsTr
     one : AllAgree behind × ZerosAgree behind
     one =
         let f = live-answers here2 all2 zeros2 c s age left (record { start = record { owns = owns; stands = start-same c b left here.clerks }; session = in_it }) running its-open w.no l w.call a op gives suit line-follows
-        (settled here all t.calls c b d.clerk w l (single.waits-at g c b d γ t before rest w split) (live.live here all c s age d.clerk in-it t.zeros its-open) (live.sees here all c s age d.clerk in-it t.zeros its-open) passes
+        (settled here all.0 all.3 t.calls c b d.clerk w l (single.waits-at g c b d γ t before rest w split) (live.live here all c s age d.clerk in-it t.zeros its-open) (live.sees here all c s age d.clerk in-it t.zeros its-open) passes
         g.durable.max_objects a op now.owed (gives-same g.durable.max_objects d.clerk (before ++ rest) (verdict w.call left) a op now.owed gives)) in
         let path = target.plain-is g c b d γ w.no l w.call a op now δ (single.line g c b d γ t before rest w split) left in
         (subst AllAgree path f.0, subst ZerosAgree path f.1)

@@ -180,7 +180,7 @@ module _ (g : System) (c b : ℕ) (d : Doing) (γ : Ghost) (t : IsTrying g c b d
     one : AllAgree now-behind × ZerosAgree now-behind
     one =
         let f = without.without-answers here2 (all2.0) all2.2 all2.3 zeros2 c b left ws (start-same c b left here.clerks) out w.no l w.call a op gives suit running uncut2 line-follows
-        (settled here all t.calls c b d.clerk w l (single.waits-at g c b d γ t before rest w split) live sees passes
+        (settled here all.0 all.3 t.calls c b d.clerk w l (single.waits-at g c b d γ t before rest w split) live sees passes
         g.durable.max_objects a op now.owed (gives-same g.durable.max_objects d.clerk (before ++ rest) (verdict w.call left) a op now.owed gives)) in
         let path = target.plain-is g c b d γ w.no l w.call a op now δ (single.line g c b d γ t before rest w split) left in
         (subst AllAgree path f.0, subst ZerosAgree path f.1)

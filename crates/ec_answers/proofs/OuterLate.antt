@@ -168,7 +168,7 @@ module _ (g : System) (c b s : ℕ) (d : Doing) (γ : Ghost) (t : IsTrying g c b
   uncovered : Each (λ n. ¬ (Covers B cut.before e c sb n)) cut.lost
   uncovered =
       let q = ((all.0).sessions).owned s (c, k.age) own in
-      late-settled here all t.calls c b k w l (single.waits-at g c b d γ t before rest w split) s ks own (shows-any (after g.origin (updates ks))) (q.2).window (cut-knows.knows q.2 q.3) cut lost-is passes most a op alone.owed its-gives
+      late-settled here all.0 all.3 t.calls c b k w l (single.waits-at g c b d γ t before rest w split) s ks own (shows-any (after g.origin (updates ks))) (q.2).window (cut-knows.knows q.2 q.3) cut lost-is passes most a op alone.owed its-gives
 
   -- It may stand before the loss.
 

@@ -1,3 +1,1 @@
-pub mod Spent
-pub mod All
-pub mod Told
+pub mod Tries

@@ -1,14 +1,19 @@
--- What is proved of the tries of all waiting calls, as contracts name it.
-use Rattle.std.specs.Prelude.{ℕ, T, is_some}
-use Rattle.ec_protocol.specs.Clerk.{Doing, try_all}
-use Rattle.ec_coherence.specs.System.{System}
-use Rattle.ec_answers.specs.Laws.{TriesStand}
+-- What is proved of the tries of a step under way, as contracts name it.
+use Rattle.std.specs.Prelude.{ℕ}
+use Rattle.ec_protocol.specs.Clerk.{Doing}
+use Rattle.ec_coherence.specs.System.{System, Ghost}
+use Rattle.ec_coherence.specs.Steps.{doing_in}
+use Rattle.ec_headline.specs.Laws.{TellsAll}
 use Rattle.ec_settles.specs.Laws.{TriesAll}
+use Rattle.ec_norooms.specs.Laws.{OneAnswers}
 
--- a spent counter stays spent
-abbrev pub TriesStaySpent : Type 0
-TriesStaySpent = (d : Doing) → T (is_some d.spent) → T (is_some (try_all d).spent)
+-- behind the tries of all calls
+abbrev pub EachTries : Type 0
+EachTries = (g : System) (c b : ℕ) → TriesAll g c b
 
--- where each single try stands, all do, with the lines of their calls and what lines tell
-abbrev pub AllStand : Type 0
-AllStand = TriesStand → (g : System) (c b : ℕ) → TriesAll g c b
+-- and behind a single answer
+abbrev pub Tells : System → ℕ → ℕ → Doing → Ghost → Type 0
+Tells g c b d γ = TellsAll (doing_in c b d γ g)
+
+abbrev pub EachAnswers : Type 0
+EachAnswers = (g : System) (c b : ℕ) → OneAnswers g c b (Tells g c b)

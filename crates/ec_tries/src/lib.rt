@@ -1,14 +1,12 @@
-//! The tries of all waiting calls of a clerk. Each function has an empty body, and its contract is a law.
+//! Tries of calls, with all facts of a step under way and what the lines tell. The function has an empty body, and its
+//! contract is a law.
 #![tactic(auto)]
 
-ghost use Rattle.ec_tries.specs.Laws.{AllStand, TriesStaySpent};
+ghost use Rattle.ec_tries.specs.Laws.{EachAnswers, EachTries};
 
-/// Where a counter is spent it stays so behind the tries.
-pub fn tries_stay_spent()
-    ensures { TriesStaySpent }
-{}
-
-/// The step of a clerk stands behind the tries of all its waiting calls.
-pub fn all_tries_stand()
-    ensures { AllStand }
+/// A step under way stands behind the tries of all waiting calls, and behind each single answer, with its lines and with
+/// what they tell.
+pub fn tries_tell()
+    ensures tried { EachTries }
+    ensures answered { EachAnswers }
 {}

@@ -1,0 +1,2 @@
+pub mod Clerks
+pub mod Shows
