@@ -7,6 +7,7 @@ use Rattle.ec_base.specs.Outside.{Rose}
 use Rattle.ec_gen.specs.Generator.{script_of}
 use Rattle.ec_drill.specs.Drill.{Outside, Drilled, IsDiskUntouched}
 use Rattle.ec_drill.specs.declared.status.Status as drilled
+use Rattle.ec_promise.specs.Promise.{IsLawful}
 use Rattle.echofs.specs.Check.{Streams, Judged}
 use Rattle.echofs.specs.Made.{made_lines}
 use Rattle.echofs.specs.Soak.{Soaked}
@@ -49,9 +50,9 @@ streams w = record {
   writes_after = w.writes_after;
 }
 
--- what each form of words does
+-- What each form of words does. The lines that a drill wrote are lawful besides: they stand in one legal history of one uncached volume.
 abbrev pub Does : Command → Status → Outside → Type 0
-Does (Drill most) st w = (end : drilled.Status) × (st ≡ of_drill end) × Drilled most end w
+Does (Drill most) st w = (end : drilled.Status) × (st ≡ of_drill end) × (did : Drilled most end w) × IsLawful most end w did
 Does (Check most) st w = Judged most st (streams w) × IsDiskUntouched w
 Does (Make n) st w = Made n st w.held w.held_after w.writes w.writes_after × IsSourceUntouched w × IsDiskUntouched w
 Does (Soak n) st w = Soaked n st w × IsSourceUntouched w

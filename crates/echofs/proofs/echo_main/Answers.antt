@@ -1,13 +1,14 @@
 use Rattle.std.proofs.Common.{refl, inl, inr}
 use Rattle.echofs.specs.declared.command.Command.TheVariants.{Drill, Check, Make, Soak}
 use Rattle.echofs.specs.declared.status.Status.TheVariants as status
+use Rattle.ec_promise.proofs.Lawful.{drills-lawful}
 use Rattle.echofs.proofs.Soaks.{soaked_over}
 use Rattle.echofs.proofs.Usage.{answers-usage}
 use Rattle.echofs.proofs.echo_main.Goals as goal
 
 pub returns-in-Some-Drill-clause-echoes : goal.returns-in-Some-Drill-clause-echoes
 returns-in-Some-Drill-clause-echoes g c =
-    (c.of_drill.result, c.code.ensures, inr (Drill c.in-Some-Drill.max_objects, rw c.in-Some-Drill.field-0-is at c.in-Some-Drill.ensures, (c.drill.result, c.of_drill.ensures, c.drill.ensures.drilled)))
+    (c.of_drill.result, c.code.ensures, inr (Drill c.in-Some-Drill.max_objects, rw c.in-Some-Drill.field-0-is at c.in-Some-Drill.ensures, (c.drill.result, c.of_drill.ensures, c.drill.ensures.drilled, drills-lawful _ c.drill.result _ c.drill.ensures.drilled)))
 
 pub returns-in-Some-Drill-clause-usage : goal.returns-in-Some-Drill-clause-usage
 returns-in-Some-Drill-clause-usage g c = answers-usage _ _ _ (returns-in-Some-Drill-clause-echoes g c)

@@ -1,0 +1,203 @@
+-- The lines that a drill wrote are lawful, where those of each run of the machine are.
+use Rattle.std.proofs.Common.{◌≡◌, ◌≤◌, ◌⊎◌, ◌+◌, ℕ, zero, suc, T, List, [], ◌∷◌, ◌++◌, length, drop, Result, Ok, Err, refl, sym, ap, subst, ◌∙◌, inl, inr, arith, append_assoc, append-nil}
+use Rattle.std.specs.Prelude.{⊤}
+use Rattle.std.proofs.Math.Logic.{∥∥₁_map}
+use Rattle.ec_base.specs.declared.counter.Counter.{Counter}
+use Rattle.ec_volume.specs.Volume.{images}
+use Rattle.ec_volume.specs.declared.image.Image.TheVariants.{Gone}
+use Rattle.ec_history.specs.Placing.{EachLine}
+use Rattle.ec_history.specs.declared.shown.Shown.{Shown}
+use Rattle.ec_history.specs.declared.shown.Shown.TheVariants as show
+use Rattle.ec_durable.specs.WellFormed.{WellFormed}
+use Rattle.ec_durable.specs.declared.state.Durable.{Durable}
+use Rattle.ec_protocol.specs.World.{open_world}
+use Rattle.ec_protocol.specs.Drill.{Read, Fates, Ran, Ending, IsSpent, Done, BadLine, TooMany, bound, close, drill, drill_in, joined, last_line, run_from, status}
+use Rattle.ec_protocol.specs.declared.world.World.{World}
+use Rattle.ec_headline.specs.Headline.{AreLawful, FrontsAreLawful}
+use Rattle.ec_headline.specs.Headline as headline
+use Rattle.ec_steps.specs.Drills.{AreFit, IsUnspent}
+use Rattle.ec_whole.specs.Runs.{RunShows}
+use Rattle.ec_world.specs.Steps.{IsWhole}
+use Rattle.ec_drill.specs.Drill.{Outside, Drilled, IsCut, IsCutClean, IsToldAll, RanWhole, RanInPart, end_of, state_after}
+use Rattle.ec_drill.specs.declared.status.Status.{Status}
+use Rattle.ec_drill.specs.declared.status.Status.TheVariants as own
+use Rattle.ec_promise.specs.Promise.{AreLawfulOn, AreStoredOn, CutIsLawful, DrillsAreLawful, CleanIsLawful, IsLawful, PartIsLawful, SpentIsLawful, WholeIsLawful, base_on}
+use Rattle.ec_promise.proofs.Fit.{fit_script}
+
+-- Lists.
+
+-- a front of lines and a last one is a front of the lines, or all of it
+cut-front : (xs more told last : List Shown) → xs ++ more ≡ told ++ last → length last ≤ 1 → ((rest : List Shown) × (xs ++ rest ≡ told)) ⊎ (xs ≡ told ++ last)
+cut-front [] more told last e le = inl (told, refl)
+cut-front (x ∷ xs) more [] last e le = inr (alone xs more last e le)
+  where
+    alone : (ys zs ls : List Shown) → x ∷ ys ++ zs ≡ ls → length ls ≤ 1 → x ∷ ys ≡ ls
+    alone [] [] ls e le = e
+    alone [] (z ∷ zs) ls e le = absurd (omega (arith, le, ap length (sym e)))
+    alone (y ∷ ys) zs ls e le = absurd (omega (arith, le, ap length (sym e)))
+cut-front (x ∷ xs) more (t ∷ told) last e le = go (cut-front xs more told last (tail e) le)
+  where
+    tail : (x ∷ xs) ++ more ≡ (t ∷ told) ++ last → xs ++ more ≡ told ++ last
+    tail h = ap (λ (ls : List Shown). drop 1 ls) h
+
+    head : x ≡ t
+    head = cc
+
+    go : ((rest : List Shown) × (xs ++ rest ≡ told)) ⊎ (xs ≡ told ++ last) → ((rest : List Shown) × ((x ∷ xs) ++ rest ≡ t ∷ told)) ⊎ (x ∷ xs ≡ (t ∷ told) ++ last)
+    go (inl (rest, q)) = inl (rest, ap (λ (y : Shown). y ∷ xs ++ rest) head ∙ ap (λ (ls : List Shown). t ∷ ls) q)
+    go (inr q) = inr (ap (λ (y : Shown). y ∷ xs) head ∙ ap (λ (ls : List Shown). t ∷ ls) q)
+
+each-front : (P : Shown → Type 0) (xs rest : List Shown) → EachLine P (xs ++ rest) → EachLine P xs
+each-front P [] rest each = tt
+each-front P (x ∷ xs) rest each = (each.0, each-front P xs rest each.1)
+
+-- fronts of a front
+fronts-front : (state : Durable) (ids : ℕ → ℕ) (xs rest : List Shown) → FrontsAreLawful (base_on state ids) state.max_objects (xs ++ rest) → FrontsAreLawful (base_on state ids) state.max_objects xs
+fronts-front state ids xs rest lawful front more e = lawful front (more ++ rest) (sym (append_assoc front more rest) ∙ ap (λ (ls : List Shown). ls ++ rest) e)
+
+-- the same pieces
+same-joined : (pieces : List (List Shown)) → headline.joined pieces ≡ joined pieces
+same-joined [] = refl
+same-joined (p ∷ ps) = ap (λ (ls : List Shown). p ++ ls) (same-joined ps)
+
+one-last : (e : Ending) → length (last_line e) ≤ 1
+one-last Done = omega arith
+one-last (BadLine n k) = omega arith
+one-last (TooMany n) = omega arith
+one-last (IsSpent n) = omega arith
+
+-- a front of lawful lines is lawful
+lawful-front : (reads : List Read) (state : Durable) (all xs more : List Shown) → AreLawfulOn reads state all → xs ++ more ≡ all → AreLawfulOn reads state xs
+lawful-front reads state all xs more a e = go (cut-front xs more a.told a.last (e ∙ a.written) a.at_most_one)
+  where
+    go : ((rest : List Shown) × (xs ++ rest ≡ a.told)) ⊎ (xs ≡ a.told ++ a.last) → AreLawfulOn reads state xs
+    go (inr q) = record { told = a.told; last = a.last; written = q; at_most_one = a.at_most_one; lines = a.lines; front = a.front; own_calls = a.own_calls; ids = a.ids; fronts = a.fronts }
+    go (inl (rest, q)) = record {
+      told = xs;
+      last = [];
+      written = sym (append-nil xs);
+      at_most_one = omega arith;
+      lines = a.lines;
+      front = a.front;
+      own_calls = each-front (headline.InScript a.lines) xs rest (subst (EachLine (headline.InScript a.lines)) (sym q) a.own_calls);
+      ids = a.ids;
+      fronts = fronts-front state a.ids xs rest (subst (FrontsAreLawful (base_on state a.ids) state.max_objects) (sym q) a.fronts);
+    }
+
+-- Where each run of the machine shows what is lawful.
+
+abbrev pub RunsShow : Type 0
+RunsShow = (d : Durable) → WellFormed d → length d.sessions ≡ 16 → images d.volume 0 ≡ Gone → (w : World) → open_world d ≡ Ok w → (ls : List Read) (fs : List Fates) → AreFit ls
+    → let ran : Ran = run_from (bound ls) 1 ls fs w in RunShows (images d.volume) d.max_objects ls (close ran.ending ran)
+
+module _ (runs : RunsShow) where
+  module _ (reads : List Read) (fates : List Fates) (d : Durable) (wf : WellFormed d) (sixteen : length d.sessions ≡ 16) (zero : images d.volume 0 ≡ Gone) (fit : AreFit reads) where
+    -- nothing is told but that a counter is spent
+    unopened : (n : Counter) → AreLawfulOn reads d (show.Spent n ∷ [])
+    unopened n = record {
+      told = [];
+      last = show.Spent n ∷ [];
+      written = refl;
+      at_most_one = omega arith;
+      lines = [];
+      front = refl;
+      own_calls = tt;
+      ids = λ place. 0;
+      fronts = λ front rest e. subst (AreLawful (base_on d (λ place. 0)) d.max_objects) (sym (none front rest e)) record { placed = tt; history = tt; fsync = tt };
+    }
+      where
+        none : (xs ys : List Shown) → xs ++ ys ≡ [] → xs ≡ []
+        none [] ys e = refl
+        none (x ∷ xs) ys e = absurd cc
+
+    module _ (w : World) (o : open_world d ≡ Ok w) where
+      abbrev ran : Ran
+      ran = run_from (bound reads) 1 reads fates w
+
+      shows : RunShows (images d.volume) d.max_objects reads (close ran.ending ran)
+      shows = runs d wf sixteen zero w o reads fates fit
+
+      opened : AreLawfulOn reads d (joined (close ran.ending ran).pieces ++ last_line (close ran.ending ran).ending)
+      opened = record {
+        told = headline.joined (close ran.ending ran).pieces;
+        last = last_line (close ran.ending ran).ending;
+        written = ap (λ (ls : List Shown). ls ++ last_line (close ran.ending ran).ending) (sym (same-joined (close ran.ending ran).pieces));
+        at_most_one = one-last (close ran.ending ran).ending;
+        lines = shows.lines;
+        front = shows.front;
+        own_calls = shows.own_calls;
+        ids = shows.fresh;
+        fronts = shows.fronts;
+      }
+
+    all-lawful : AreLawfulOn reads d (drill reads fates d).0
+    all-lawful = go (open_world d) refl
+      where
+        go : (o : Result World Counter) → open_world d ≡ o → AreLawfulOn reads d (drill_in reads fates o).0
+        go (Err n) q = unopened n
+        go (Ok w) q = opened w q
+
+    ends-unspent : (e : Ending) (number : ℕ) → status e ≡ number → (number ≡ 15 → ⊥) → IsUnspent e
+    ends-unspent (IsSpent n) number q not = absurd (not (sym q))
+    ends-unspent Done number q not = tt
+    ends-unspent (BadLine n k) number q not = tt
+    ends-unspent (TooMany n) number q not = tt
+
+    all-stored : (number : ℕ) → (drill reads fates d).1 ≡ number → (number ≡ 15 → ⊥) → AreStoredOn reads d (state_after reads fates d) (drill reads fates d).0
+    unfolding opened
+    all-stored number is not = go (open_world d) refl is
+      where
+        after-of : Result World Counter → Durable
+        after-of o = elim o [ Err n ↦ d | Ok start ↦ (end_of reads fates start).durable ]
+
+        go : (o : Result World Counter) → open_world d ≡ o → (drill_in reads fates o).1 ≡ number → AreStoredOn reads d (elim o [ Err n ↦ d | Ok start ↦ (end_of reads fates start).durable ]) (drill_in reads fates o).0
+        go (Err n) q s = absurd (not (sym s))
+        go (Ok w) q s =
+            let u = ends-unspent (close (ran w q).ending (ran w q)).ending number s not in
+            record { lawful = opened w q; formed = (shows w q).formed u; stored = (shows w q).stored u }
+
+  pub machine-lawful : DrillsAreLawful
+  machine-lawful reads fates d is fit =
+      (all-lawful reads fates d is.formed is.slots is.from_one fit, λ not. all-stored reads fates d is.formed is.slots is.from_one fit (drill reads fates d).1 refl not)
+
+  -- The same of what a drill did.
+
+  whole-lawful : (most number : ℕ) (w : Outside) (r : RanWhole most number w) → (number ≡ 15 → ⊥) → WholeIsLawful most number w r
+  whole-lawful most number w r not told =
+      let is = (r.opens).whole in
+      ∥∥₁_map is.formed (λ wf. subst (AreStoredOn r.reads r.state (state_after r.reads r.fates r.state)) (r.lines told)
+      (all-stored r.reads r.fates r.state wf is.slots is.from_one (fit_script _ r.reads (r.given).read) number (r.status told) not))
+
+  spent-lawful : (most number : ℕ) (w : Outside) (r : RanWhole most number w) → SpentIsLawful most number w r
+  spent-lawful most number w r told =
+      let is = (r.opens).whole in
+      ∥∥₁_map is.formed (λ wf. subst (AreLawfulOn r.reads r.state) (r.lines told) (all-lawful r.reads r.fates r.state wf is.slots is.from_one (fit_script _ r.reads (r.given).read)))
+
+  part-lawful : (most : ℕ) (w : Outside) (last : List ℕ) (r : RanInPart most w last) → PartIsLawful most w last r
+  part-lawful most w last r told =
+      let is = (r.opens).whole in
+      let f = r.front told in
+      ∥∥₁_map is.formed (λ wf. lawful-front r.reads r.state (drill r.reads r.fates r.state).0 r.shown (r.unwritten ++ f.0)
+      (all-lawful r.reads r.fates r.state wf is.slots is.from_one (fit_script _ r.reads (r.given).read)) (sym f.1))
+
+  cut-lawful : (most : ℕ) (w : Outside) (c : IsCut most w) → CutIsLawful most w c
+  cut-lawful most w (inl part) = part-lawful most w part.0 part.1
+  cut-lawful most w (inr refused) = tt
+
+  clean-lawful : (most : ℕ) (w : Outside) (c : IsCutClean most w) → CleanIsLawful most w c
+  clean-lawful most w (inl part) = part-lawful most w [] part
+  clean-lawful most w (inr silent) = tt
+
+  pub drills-lawful : (most : ℕ) (st : Status) (w : Outside) (d : Drilled most st w) → IsLawful most st w d
+  drills-lawful most own.Done w d = whole-lawful most 0 w d (λ e. absurd cc)
+  drills-lawful most own.BadLine w d = whole-lawful most 3 w d (λ e. absurd cc)
+  drills-lawful most own.Limit w (inl tells) = tt
+  drills-lawful most own.Limit w (inr d) = whole-lawful most 11 w d (λ e. absurd cc)
+  drills-lawful most own.Spent w d = spent-lawful most 15 w d
+  drills-lawful most own.SinkFault w d = cut-lawful most w d.1
+  drills-lawful most own.DiskFault w d = clean-lawful most w d.1
+  drills-lawful most own.NoMemory w (inl cut) = cut-lawful most w cut
+  drills-lawful most own.NoMemory w (inr silent) = tt
+  drills-lawful most own.Usage w d = tt
+  drills-lawful most own.SourceFault w d = tt
+  drills-lawful most own.BadDisk w d = tt

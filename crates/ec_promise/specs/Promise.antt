@@ -1,0 +1,88 @@
+-- What a drill promises of the lines that it wrote: they stand in one legal history of one uncached volume. It's told by the lines, the script and the
+-- volumes of the disk alone.
+use Rattle.std.specs.Prelude.{◌≡◌, ◌≤◌, ◌⊎◌, ℕ, List, [], ◌++◌, length, take, ⊤}
+use Rattle.std.proofs.Common.{inl, inr}
+use Rattle.ec_volume.specs.Volume.{WellFormed, images}
+use Rattle.ec_history.specs.History.{Base}
+use Rattle.ec_history.specs.Lines.{IsStored}
+use Rattle.ec_history.specs.Placing.{EachLine}
+use Rattle.ec_history.specs.declared.shown.Shown.{Shown}
+use Rattle.ec_base.specs.Limits.{clerk_count}
+use Rattle.ec_volume.specs.declared.image.Image.TheVariants.{Gone}
+use Rattle.ec_durable.specs.WellFormed as states
+use Rattle.ec_durable.specs.declared.state.Durable.{Durable}
+use Rattle.ec_protocol.specs.Drill.{Read, Fates, drill}
+use Rattle.ec_headline.specs.Headline.{FrontsAreLawful, InScript, Lines}
+use Rattle.ec_steps.specs.Drills.{AreFit, lines_in}
+use Rattle.ec_drill.specs.Drill.{Outside, Drilled, IsCut, IsCutClean, IsToldAll, RanWhole, RanInPart, state_after}
+use Rattle.ec_drill.specs.declared.status.Status.{Status}
+use Rattle.ec_drill.specs.declared.status.Status.TheVariants as status
+
+-- histories on the volume of this state, in which the object made by the call of a line has the id at its place
+abbrev pub base_on : Durable → (ℕ → ℕ) → Base
+base_on state ids = record { volume = images state.volume; fresh = ids }
+
+-- a well-formed state, with a slot for each clerk, whose objects have ids from 1
+pub record WholeState (d : Durable) : Type 0 where
+  pub formed : states.WellFormed d
+  pub slots : length d.sessions ≡ clerk_count
+  pub from_one : images d.volume 0 ≡ Gone
+
+-- The lines that a run over this script wrote, on a disk that stood for this state.
+pub record AreLawfulOn (reads : List Read) (state : Durable) (shown : List Shown) : Type 0 where
+  -- all but the last one, where that says why the run ended early
+  pub told : List Shown
+  pub last : List Shown
+  pub written : shown ≡ told ++ last
+  pub at_most_one : length last ≤ 1
+  -- each call in them is that of its line in the script, of which the first ones were carried out
+  pub lines : Lines
+  pub front : lines ≡ take (length lines) (lines_in reads)
+  pub own_calls : EachLine (InScript lines) told
+  -- each front of them has a history, which is legal on the volume at the beginning; what an fsync covers was durable; new objects have ids of their own
+  pub ids : ℕ → ℕ
+  pub fronts : FrontsAreLawful (base_on state ids) state.max_objects told
+
+-- And the volume on the disk behind the run is well formed, and has the shape that the operations leave which durable lines name, in the history's order.
+pub record AreStoredOn (reads : List Read) (state end : Durable) (shown : List Shown) : Type 0 where
+  pub lawful : AreLawfulOn reads state shown
+  pub formed : WellFormed (images end.volume)
+  pub stored : IsStored (base_on state lawful.ids) lawful.told (images end.volume)
+
+-- Where it's known what the disk did: of a run that ended by itself, also of one that a spent counter ended, and of one that was cut off.
+abbrev pub WholeIsLawful : (most number : ℕ) (w : Outside) → RanWhole most number w → Type 0
+WholeIsLawful most number w r = IsToldAll w → ∥ AreStoredOn r.reads r.state (state_after r.reads r.fates r.state) r.shown ∥₁
+
+abbrev pub SpentIsLawful : (most number : ℕ) (w : Outside) → RanWhole most number w → Type 0
+SpentIsLawful most number w r = IsToldAll w → ∥ AreLawfulOn r.reads r.state r.shown ∥₁
+
+abbrev pub PartIsLawful : (most : ℕ) (w : Outside) (last : List ℕ) → RanInPart most w last → Type 0
+PartIsLawful most w last r = IsToldAll w → ∥ AreLawfulOn r.reads r.state r.shown ∥₁
+
+abbrev pub CutIsLawful : (most : ℕ) (w : Outside) → IsCut most w → Type 0
+CutIsLawful most w (inl part) = PartIsLawful most w part.0 part.1
+CutIsLawful most w (inr refused) = ⊤
+
+abbrev pub CleanIsLawful : (most : ℕ) (w : Outside) → IsCutClean most w → Type 0
+CleanIsLawful most w (inl part) = PartIsLawful most w [] part
+CleanIsLawful most w (inr silent) = ⊤
+
+-- Of each status, of which the drill did this: the lines written are lawful.
+abbrev pub IsLawful : (most : ℕ) (st : Status) (w : Outside) → Drilled most st w → Type 0
+IsLawful most status.Done w d = WholeIsLawful most 0 w d
+IsLawful most status.BadLine w d = WholeIsLawful most 3 w d
+IsLawful most status.Limit w (inl tells) = ⊤
+IsLawful most status.Limit w (inr d) = WholeIsLawful most 11 w d
+IsLawful most status.Spent w d = SpentIsLawful most 15 w d
+IsLawful most status.SinkFault w d = CutIsLawful most w d.1
+IsLawful most status.DiskFault w d = CleanIsLawful most w d.1
+IsLawful most status.NoMemory w (inl cut) = CutIsLawful most w cut
+IsLawful most status.NoMemory w (inr silent) = ⊤
+IsLawful most status.Usage w d = ⊤
+IsLawful most status.SourceFault w d = ⊤
+IsLawful most status.BadDisk w d = ⊤
+
+-- Of the machine: the lines of each drill over a script, on a disk that stands for a well-formed state, are lawful, and stored where no spent counter ended it.
+abbrev pub DrillsAreLawful : Type 0
+DrillsAreLawful = (reads : List Read) (fates : List Fates) (d : Durable) → WholeState d → AreFit reads
+    → AreLawfulOn reads d (drill reads fates d).0 × (((drill reads fates d).1 ≡ 15 → ⊥) → AreStoredOn reads d (state_after reads fates d) (drill reads fates d).0)
