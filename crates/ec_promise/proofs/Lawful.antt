@@ -1,6 +1,7 @@
 -- The lines that a drill wrote are lawful, where those of each run of the machine are.
-use Rattle.std.proofs.Common.{◌≡◌, ◌≤◌, ◌⊎◌, ◌+◌, ℕ, zero, suc, T, List, [], ◌∷◌, ◌++◌, length, drop, Result, Ok, Err, refl, sym, ap, subst, ◌∙◌, inl, inr, arith, append_assoc, append-nil}
+use Rattle.std.proofs.Common.{◌≡◌, ◌≤◌, ◌⊎◌, ◌+◌, ℕ, zero, suc, T, List, [], ◌∷◌, ◌++◌, length, take, drop, Result, Ok, Err, refl, sym, ap, subst, ◌∙◌, inl, inr, arith, append_assoc, append-nil}
 use Rattle.std.specs.Prelude.{⊤}
+use Rattle.std.specs.List.{filter}
 use Rattle.std.proofs.Math.Logic.{∥∥₁_map}
 use Rattle.ec_base.specs.declared.counter.Counter.{Counter}
 use Rattle.ec_volume.specs.Volume.{images}
@@ -17,11 +18,12 @@ use Rattle.ec_headline.specs.Headline.{AreLawful, FrontsAreLawful}
 use Rattle.ec_headline.specs.Headline as headline
 use Rattle.ec_steps.specs.Drills.{AreFit, IsUnspent}
 use Rattle.ec_whole.specs.Runs.{RunShows}
+use Rattle.ec_lawful.proofs.Shows.{runs-show}
 use Rattle.ec_world.specs.Steps.{IsWhole}
 use Rattle.ec_drill.specs.Drill.{Outside, Drilled, IsCut, IsCutClean, IsToldAll, RanWhole, RanInPart, end_of, state_after}
 use Rattle.ec_drill.specs.declared.status.Status.{Status}
 use Rattle.ec_drill.specs.declared.status.Status.TheVariants as own
-use Rattle.ec_promise.specs.Promise.{AreLawfulOn, AreStoredOn, CutIsLawful, DrillsAreLawful, CleanIsLawful, IsLawful, PartIsLawful, SpentIsLawful, WholeIsLawful, base_on}
+use Rattle.ec_promise.specs.Promise.{AreLawfulOn, AreStoredOn, AreWholeOn, CutIsLawful, DrillsAreLawful, CleanIsLawful, IsLawful, PartIsLawful, SpentIsLawful, WholeIsLawful, base_on}
 use Rattle.ec_promise.proofs.Fit.{fit_script}
 
 -- Lists.
@@ -84,120 +86,143 @@ lawful-front reads state all xs more a e = go (cut-front xs more a.told a.last (
       fronts = fronts-front state a.ids xs rest (subst (FrontsAreLawful (base_on state a.ids) state.max_objects) (sym q) a.fronts);
     }
 
--- Where each run of the machine shows what is lawful.
+-- Each run of the machine shows what is lawful.
 
-abbrev pub RunsShow : Type 0
-RunsShow = (d : Durable) → WellFormed d → length d.sessions ≡ 16 → images d.volume 0 ≡ Gone → (w : World) → open_world d ≡ Ok w → (ls : List Read) (fs : List Fates) → AreFit ls
-    → let ran : Ran = run_from (bound ls) 1 ls fs w in RunShows (images d.volume) d.max_objects ls (close ran.ending ran)
+module _ (reads : List Read) (fates : List Fates) (d : Durable) (wf : WellFormed d) (sixteen : length d.sessions ≡ 16) (zero : images d.volume 0 ≡ Gone) (fit : AreFit reads) where
+  -- nothing is told but that a counter is spent
+  unopened-lines : (n : Counter) → AreLawfulOn reads d (show.Spent n ∷ [])
+  unopened-lines n = record {
+    told = [];
+    last = show.Spent n ∷ [];
+    written = refl;
+    at_most_one = omega arith;
+    lines = [];
+    front = refl;
+    own_calls = tt;
+    ids = λ place. 0;
+    fronts = λ front rest e. subst (AreLawful (base_on d (λ place. 0)) d.max_objects) (sym (none front rest e)) record { placed = tt; history = tt; fsync = tt };
+  }
+    where
+      none : (xs ys : List Shown) → xs ++ ys ≡ [] → xs ≡ []
+      none [] ys e = refl
+      none (x ∷ xs) ys e = absurd cc
 
-module _ (runs : RunsShow) where
-  module _ (reads : List Read) (fates : List Fates) (d : Durable) (wf : WellFormed d) (sixteen : length d.sessions ≡ 16) (zero : images d.volume 0 ≡ Gone) (fit : AreFit reads) where
-    -- nothing is told but that a counter is spent
-    unopened : (n : Counter) → AreLawfulOn reads d (show.Spent n ∷ [])
-    unopened n = record {
-      told = [];
-      last = show.Spent n ∷ [];
-      written = refl;
-      at_most_one = omega arith;
-      lines = [];
-      front = refl;
-      own_calls = tt;
-      ids = λ place. 0;
-      fronts = λ front rest e. subst (AreLawful (base_on d (λ place. 0)) d.max_objects) (sym (none front rest e)) record { placed = tt; history = tt; fsync = tt };
+  unopened : (n : Counter) → AreWholeOn reads d (show.Spent n ∷ [])
+  unfolding unopened-lines
+  unopened n = record {
+    lawful = unopened-lines n;
+    pieces = [];
+    in_pieces = refl;
+    counted = omega arith;
+    numbered = tt;
+    ends = λ c k le. no-ends c k;
+    fit = λ o. tt;
+  }
+    where
+      no-ends : (c k : ℕ) → length (filter (headline.ends c) (headline.joined (take k []))) ≤ length (filter (headline.may_end c) (take k []))
+      no-ends c zero = omega arith
+      no-ends c (suc k) = omega arith
+
+  module _ (w : World) (o : open_world d ≡ Ok w) where
+    abbrev ran : Ran
+    ran = run_from (bound reads) 1 reads fates w
+
+    shows : RunShows (images d.volume) d.max_objects reads (close ran.ending ran)
+    shows = runs-show d wf sixteen zero w o reads fates fit
+
+    opened-lines : AreLawfulOn reads d (joined (close ran.ending ran).pieces ++ last_line (close ran.ending ran).ending)
+    opened-lines = record {
+      told = headline.joined (close ran.ending ran).pieces;
+      last = last_line (close ran.ending ran).ending;
+      written = ap (λ (ls : List Shown). ls ++ last_line (close ran.ending ran).ending) (sym (same-joined (close ran.ending ran).pieces));
+      at_most_one = one-last (close ran.ending ran).ending;
+      lines = shows.lines;
+      front = shows.front;
+      own_calls = shows.own_calls;
+      ids = shows.fresh;
+      fronts = shows.fronts;
     }
-      where
-        none : (xs ys : List Shown) → xs ++ ys ≡ [] → xs ≡ []
-        none [] ys e = refl
-        none (x ∷ xs) ys e = absurd cc
 
-    module _ (w : World) (o : open_world d ≡ Ok w) where
-      abbrev ran : Ran
-      ran = run_from (bound reads) 1 reads fates w
+    opened : AreWholeOn reads d (joined (close ran.ending ran).pieces ++ last_line (close ran.ending ran).ending)
+    unfolding opened-lines
+    opened = record {
+      lawful = opened-lines;
+      pieces = (close ran.ending ran).pieces;
+      in_pieces = refl;
+      counted = shows.counted;
+      numbered = shows.numbered;
+      ends = shows.ends;
+      fit = shows.fit;
+    }
 
-      shows : RunShows (images d.volume) d.max_objects reads (close ran.ending ran)
-      shows = runs d wf sixteen zero w o reads fates fit
+  all-lawful : AreWholeOn reads d (drill reads fates d).0
+  all-lawful = go (open_world d) refl
+    where
+      go : (o : Result World Counter) → open_world d ≡ o → AreWholeOn reads d (drill_in reads fates o).0
+      go (Err n) q = unopened n
+      go (Ok w) q = opened w q
 
-      opened : AreLawfulOn reads d (joined (close ran.ending ran).pieces ++ last_line (close ran.ending ran).ending)
-      opened = record {
-        told = headline.joined (close ran.ending ran).pieces;
-        last = last_line (close ran.ending ran).ending;
-        written = ap (λ (ls : List Shown). ls ++ last_line (close ran.ending ran).ending) (sym (same-joined (close ran.ending ran).pieces));
-        at_most_one = one-last (close ran.ending ran).ending;
-        lines = shows.lines;
-        front = shows.front;
-        own_calls = shows.own_calls;
-        ids = shows.fresh;
-        fronts = shows.fronts;
-      }
+  ends-unspent : (e : Ending) (number : ℕ) → status e ≡ number → (number ≡ 15 → ⊥) → IsUnspent e
+  ends-unspent (IsSpent n) number q not = absurd (not (sym q))
+  ends-unspent Done number q not = tt
+  ends-unspent (BadLine n k) number q not = tt
+  ends-unspent (TooMany n) number q not = tt
 
-    all-lawful : AreLawfulOn reads d (drill reads fates d).0
-    all-lawful = go (open_world d) refl
-      where
-        go : (o : Result World Counter) → open_world d ≡ o → AreLawfulOn reads d (drill_in reads fates o).0
-        go (Err n) q = unopened n
-        go (Ok w) q = opened w q
+  all-stored : (number : ℕ) → (drill reads fates d).1 ≡ number → (number ≡ 15 → ⊥) → AreStoredOn reads d (state_after reads fates d) (drill reads fates d).0
+  unfolding opened opened-lines
+  all-stored number is not = go (open_world d) refl is
+    where
+      after-of : Result World Counter → Durable
+      after-of o = elim o [ Err n ↦ d | Ok start ↦ (end_of reads fates start).durable ]
 
-    ends-unspent : (e : Ending) (number : ℕ) → status e ≡ number → (number ≡ 15 → ⊥) → IsUnspent e
-    ends-unspent (IsSpent n) number q not = absurd (not (sym q))
-    ends-unspent Done number q not = tt
-    ends-unspent (BadLine n k) number q not = tt
-    ends-unspent (TooMany n) number q not = tt
+      go : (o : Result World Counter) → open_world d ≡ o → (drill_in reads fates o).1 ≡ number → AreStoredOn reads d (elim o [ Err n ↦ d | Ok start ↦ (end_of reads fates start).durable ]) (drill_in reads fates o).0
+      go (Err n) q s = absurd (not (sym s))
+      go (Ok w) q s =
+          let u = ends-unspent (close (ran w q).ending (ran w q)).ending number s not in
+          record { whole = opened w q; formed = (shows w q).formed u; stored = (shows w q).stored u }
 
-    all-stored : (number : ℕ) → (drill reads fates d).1 ≡ number → (number ≡ 15 → ⊥) → AreStoredOn reads d (state_after reads fates d) (drill reads fates d).0
-    unfolding opened
-    all-stored number is not = go (open_world d) refl is
-      where
-        after-of : Result World Counter → Durable
-        after-of o = elim o [ Err n ↦ d | Ok start ↦ (end_of reads fates start).durable ]
+pub machine-lawful : DrillsAreLawful
+machine-lawful reads fates d is fit =
+    (all-lawful reads fates d is.formed is.slots is.from_one fit, λ not. all-stored reads fates d is.formed is.slots is.from_one fit (drill reads fates d).1 refl not)
 
-        go : (o : Result World Counter) → open_world d ≡ o → (drill_in reads fates o).1 ≡ number → AreStoredOn reads d (elim o [ Err n ↦ d | Ok start ↦ (end_of reads fates start).durable ]) (drill_in reads fates o).0
-        go (Err n) q s = absurd (not (sym s))
-        go (Ok w) q s =
-            let u = ends-unspent (close (ran w q).ending (ran w q)).ending number s not in
-            record { lawful = opened w q; formed = (shows w q).formed u; stored = (shows w q).stored u }
+-- The same of what a drill did.
 
-  pub machine-lawful : DrillsAreLawful
-  machine-lawful reads fates d is fit =
-      (all-lawful reads fates d is.formed is.slots is.from_one fit, λ not. all-stored reads fates d is.formed is.slots is.from_one fit (drill reads fates d).1 refl not)
+whole-lawful : (most number : ℕ) (w : Outside) (r : RanWhole most number w) → (number ≡ 15 → ⊥) → WholeIsLawful most number w r
+whole-lawful most number w r not told =
+    let is = (r.opens).whole in
+    ∥∥₁_map is.formed (λ wf. subst (AreStoredOn r.reads r.state (state_after r.reads r.fates r.state)) (r.lines told)
+    (all-stored r.reads r.fates r.state wf is.slots is.from_one (fit_script _ r.reads (r.given).read) number (r.status told) not))
 
-  -- The same of what a drill did.
+spent-lawful : (most number : ℕ) (w : Outside) (r : RanWhole most number w) → SpentIsLawful most number w r
+spent-lawful most number w r told =
+    let is = (r.opens).whole in
+    ∥∥₁_map is.formed (λ wf. subst (AreWholeOn r.reads r.state) (r.lines told) (all-lawful r.reads r.fates r.state wf is.slots is.from_one (fit_script _ r.reads (r.given).read)))
 
-  whole-lawful : (most number : ℕ) (w : Outside) (r : RanWhole most number w) → (number ≡ 15 → ⊥) → WholeIsLawful most number w r
-  whole-lawful most number w r not told =
-      let is = (r.opens).whole in
-      ∥∥₁_map is.formed (λ wf. subst (AreStoredOn r.reads r.state (state_after r.reads r.fates r.state)) (r.lines told)
-      (all-stored r.reads r.fates r.state wf is.slots is.from_one (fit_script _ r.reads (r.given).read) number (r.status told) not))
+part-lawful : (most : ℕ) (w : Outside) (last : List ℕ) (r : RanInPart most w last) → PartIsLawful most w last r
+part-lawful most w last r told =
+    let is = (r.opens).whole in
+    let f = r.front told in
+    ∥∥₁_map is.formed (λ wf. lawful-front r.reads r.state (drill r.reads r.fates r.state).0 r.shown (r.unwritten ++ f.0)
+    (all-lawful r.reads r.fates r.state wf is.slots is.from_one (fit_script _ r.reads (r.given).read)).lawful (sym f.1))
 
-  spent-lawful : (most number : ℕ) (w : Outside) (r : RanWhole most number w) → SpentIsLawful most number w r
-  spent-lawful most number w r told =
-      let is = (r.opens).whole in
-      ∥∥₁_map is.formed (λ wf. subst (AreLawfulOn r.reads r.state) (r.lines told) (all-lawful r.reads r.fates r.state wf is.slots is.from_one (fit_script _ r.reads (r.given).read)))
+cut-lawful : (most : ℕ) (w : Outside) (c : IsCut most w) → CutIsLawful most w c
+cut-lawful most w (inl part) = part-lawful most w part.0 part.1
+cut-lawful most w (inr refused) = tt
 
-  part-lawful : (most : ℕ) (w : Outside) (last : List ℕ) (r : RanInPart most w last) → PartIsLawful most w last r
-  part-lawful most w last r told =
-      let is = (r.opens).whole in
-      let f = r.front told in
-      ∥∥₁_map is.formed (λ wf. lawful-front r.reads r.state (drill r.reads r.fates r.state).0 r.shown (r.unwritten ++ f.0)
-      (all-lawful r.reads r.fates r.state wf is.slots is.from_one (fit_script _ r.reads (r.given).read)) (sym f.1))
+clean-lawful : (most : ℕ) (w : Outside) (c : IsCutClean most w) → CleanIsLawful most w c
+clean-lawful most w (inl part) = part-lawful most w [] part
+clean-lawful most w (inr silent) = tt
 
-  cut-lawful : (most : ℕ) (w : Outside) (c : IsCut most w) → CutIsLawful most w c
-  cut-lawful most w (inl part) = part-lawful most w part.0 part.1
-  cut-lawful most w (inr refused) = tt
-
-  clean-lawful : (most : ℕ) (w : Outside) (c : IsCutClean most w) → CleanIsLawful most w c
-  clean-lawful most w (inl part) = part-lawful most w [] part
-  clean-lawful most w (inr silent) = tt
-
-  pub drills-lawful : (most : ℕ) (st : Status) (w : Outside) (d : Drilled most st w) → IsLawful most st w d
-  drills-lawful most own.Done w d = whole-lawful most 0 w d (λ e. absurd cc)
-  drills-lawful most own.BadLine w d = whole-lawful most 3 w d (λ e. absurd cc)
-  drills-lawful most own.Limit w (inl tells) = tt
-  drills-lawful most own.Limit w (inr d) = whole-lawful most 11 w d (λ e. absurd cc)
-  drills-lawful most own.Spent w d = spent-lawful most 15 w d
-  drills-lawful most own.SinkFault w d = cut-lawful most w d.1
-  drills-lawful most own.DiskFault w d = clean-lawful most w d.1
-  drills-lawful most own.NoMemory w (inl cut) = cut-lawful most w cut
-  drills-lawful most own.NoMemory w (inr silent) = tt
-  drills-lawful most own.Usage w d = tt
-  drills-lawful most own.SourceFault w d = tt
-  drills-lawful most own.BadDisk w d = tt
+pub drills-lawful : (most : ℕ) (st : Status) (w : Outside) (d : Drilled most st w) → IsLawful most st w d
+drills-lawful most own.Done w d = whole-lawful most 0 w d (λ e. absurd cc)
+drills-lawful most own.BadLine w d = whole-lawful most 3 w d (λ e. absurd cc)
+drills-lawful most own.Limit w (inl tells) = tt
+drills-lawful most own.Limit w (inr d) = whole-lawful most 11 w d (λ e. absurd cc)
+drills-lawful most own.Spent w d = spent-lawful most 15 w d
+drills-lawful most own.SinkFault w d = cut-lawful most w d.1
+drills-lawful most own.DiskFault w d = clean-lawful most w d.1
+drills-lawful most own.NoMemory w (inl cut) = cut-lawful most w cut
+drills-lawful most own.NoMemory w (inr silent) = tt
+drills-lawful most own.Usage w d = tt
+drills-lawful most own.SourceFault w d = tt
+drills-lawful most own.BadDisk w d = tt

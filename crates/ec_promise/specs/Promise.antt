@@ -1,18 +1,18 @@
 -- What a drill promises of the lines that it wrote: they stand in one legal history of one uncached volume. It's told by the lines, the script and the
 -- volumes of the disk alone.
-use Rattle.std.specs.Prelude.{◌≡◌, ◌≤◌, ◌⊎◌, ℕ, List, [], ◌++◌, length, take, ⊤}
+use Rattle.std.specs.Prelude.{◌≡◌, ◌≤◌, ◌+◌, ◌⊎◌, ℕ, List, [], ◌++◌, length, take, ⊤}
 use Rattle.std.proofs.Common.{inl, inr}
-use Rattle.ec_volume.specs.Volume.{WellFormed, images}
-use Rattle.ec_history.specs.History.{Base}
+use Rattle.ec_volume.specs.Volume.{Fits, WellFormed, images}
+use Rattle.ec_history.specs.History.{Base, kept, updates}
 use Rattle.ec_history.specs.Lines.{IsStored}
-use Rattle.ec_history.specs.Placing.{EachLine}
+use Rattle.ec_history.specs.Placing.{EachLine, place}
 use Rattle.ec_history.specs.declared.shown.Shown.{Shown}
 use Rattle.ec_base.specs.Limits.{clerk_count}
 use Rattle.ec_volume.specs.declared.image.Image.TheVariants.{Gone}
 use Rattle.ec_durable.specs.WellFormed as states
 use Rattle.ec_durable.specs.declared.state.Durable.{Durable}
 use Rattle.ec_protocol.specs.Drill.{Read, Fates, drill}
-use Rattle.ec_headline.specs.Headline.{FrontsAreLawful, InScript, Lines}
+use Rattle.ec_headline.specs.Headline.{AreEndsAsked, ArePieces, FrontsAreLawful, InScript, Lines, Pieces, joined}
 use Rattle.ec_steps.specs.Drills.{AreFit, lines_in}
 use Rattle.ec_drill.specs.Drill.{Outside, Drilled, IsCut, IsCutClean, IsToldAll, RanWhole, RanInPart, state_after}
 use Rattle.ec_drill.specs.declared.status.Status.{Status}
@@ -43,18 +43,31 @@ pub record AreLawfulOn (reads : List Read) (state : Durable) (shown : List Shown
   pub ids : ℕ → ℕ
   pub fronts : FrontsAreLawful (base_on state ids) state.max_objects told
 
+-- Those of a run that ended by itself, in pieces: one for each line carried out, and perhaps one for the line that ended it, and for the restart at the end.
+pub record AreWholeOn (reads : List Read) (state : Durable) (shown : List Shown) : Type 0 where
+  pub lawful : AreLawfulOn reads state shown
+  pub pieces : Pieces
+  pub in_pieces : lawful.told ≡ joined pieces
+  pub counted : length pieces ≤ length lawful.lines + 2
+  -- the first line of each call stands in the piece of the call's line
+  pub numbered : ArePieces 1 [] pieces
+  -- no session ends but by a crash or an end: up to each line no more of a clerk's sessions ended than such lines were carried out
+  pub ends : AreEndsAsked lawful.lines pieces
+  -- at the end each update that is kept fits in turn
+  pub fit : Fits (images state.volume) (updates (kept (base_on state lawful.ids) (place lawful.told)))
+
 -- And the volume on the disk behind the run is well formed, and has the shape that the operations leave which durable lines name, in the history's order.
 pub record AreStoredOn (reads : List Read) (state end : Durable) (shown : List Shown) : Type 0 where
-  pub lawful : AreLawfulOn reads state shown
+  pub whole : AreWholeOn reads state shown
   pub formed : WellFormed (images end.volume)
-  pub stored : IsStored (base_on state lawful.ids) lawful.told (images end.volume)
+  pub stored : IsStored (base_on state whole.lawful.ids) whole.lawful.told (images end.volume)
 
 -- Where it's known what the disk did: of a run that ended by itself, also of one that a spent counter ended, and of one that was cut off.
 abbrev pub WholeIsLawful : (most number : ℕ) (w : Outside) → RanWhole most number w → Type 0
 WholeIsLawful most number w r = IsToldAll w → ∥ AreStoredOn r.reads r.state (state_after r.reads r.fates r.state) r.shown ∥₁
 
 abbrev pub SpentIsLawful : (most number : ℕ) (w : Outside) → RanWhole most number w → Type 0
-SpentIsLawful most number w r = IsToldAll w → ∥ AreLawfulOn r.reads r.state r.shown ∥₁
+SpentIsLawful most number w r = IsToldAll w → ∥ AreWholeOn r.reads r.state r.shown ∥₁
 
 abbrev pub PartIsLawful : (most : ℕ) (w : Outside) (last : List ℕ) → RanInPart most w last → Type 0
 PartIsLawful most w last r = IsToldAll w → ∥ AreLawfulOn r.reads r.state r.shown ∥₁
@@ -85,4 +98,4 @@ IsLawful most status.BadDisk w d = ⊤
 -- Of the machine: the lines of each drill over a script, on a disk that stands for a well-formed state, are lawful, and stored where no spent counter ended it.
 abbrev pub DrillsAreLawful : Type 0
 DrillsAreLawful = (reads : List Read) (fates : List Fates) (d : Durable) → WholeState d → AreFit reads
-    → AreLawfulOn reads d (drill reads fates d).0 × (((drill reads fates d).1 ≡ 15 → ⊥) → AreStoredOn reads d (state_after reads fates d) (drill reads fates d).0)
+    → AreWholeOn reads d (drill reads fates d).0 × (((drill reads fates d).1 ≡ 15 → ⊥) → AreStoredOn reads d (state_after reads fates d) (drill reads fates d).0)
