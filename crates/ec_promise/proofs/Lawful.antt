@@ -88,6 +88,10 @@ lawful-front reads state all xs more a e = go (cut-front xs more a.told a.last (
 
 -- Each run of the machine shows what is lawful.
 
+no-ends : (c k : ℕ) → length (filter (headline.ends c) (headline.joined (take k []))) ≤ length (filter (headline.may_end c) (take k []))
+no-ends c zero = omega arith
+no-ends c (suc k) = omega arith
+
 module _ (reads : List Read) (fates : List Fates) (d : Durable) (wf : WellFormed d) (sixteen : length d.sessions ≡ 16) (zero : images d.volume 0 ≡ Gone) (fit : AreFit reads) where
   -- nothing is told but that a counter is spent
   unopened-lines : (n : Counter) → AreLawfulOn reads d (show.Spent n ∷ [])
@@ -118,10 +122,6 @@ module _ (reads : List Read) (fates : List Fates) (d : Durable) (wf : WellFormed
     ends = λ c k le. no-ends c k;
     fit = λ o. tt;
   }
-    where
-      no-ends : (c k : ℕ) → length (filter (headline.ends c) (headline.joined (take k []))) ≤ length (filter (headline.may_end c) (take k []))
-      no-ends c zero = omega arith
-      no-ends c (suc k) = omega arith
 
   module _ (w : World) (o : open_world d ≡ Ok w) where
     abbrev ran : Ran
