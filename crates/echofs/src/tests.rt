@@ -1,10 +1,6 @@
 use super::*;
 use ec_base::{MemSink, MemSource};
-use ec_disk::{Disk, DiskAnswer};
 use std::test::Fail;
-
-// The place of the next id on a new disk: behind the first journal, the length of the table and its version.
-const NEXT_ID_AT: u64 = 4_096 + 2_097_152 + 5;
 
 // The status and the output of these words over a script and a new disk, where the source, the sink
 // and the disk fail at these calls.
@@ -107,29 +103,6 @@ fn each_call_of_the_disk_fails_once(rt: HostRuntime) -> Result<(), Fail> {
         assert_eq!(rt; status, 6);
     }
     assert!(rt; calls > 10);
-    Ok(())
-}
-
-// The ids of this disk are spent: its next one is the last number.
-#[test]
-fn tells_a_spent_counter(rt: HostRuntime) -> Result<(), Fail> {
-    let mut own = Vec::new(rt.alloc());
-    own.push(String::from_str(rt.alloc(), "drill")?)?;
-    let mut disk = MemDisk::new(rt.alloc(), Vec::new(rt.alloc()))?;
-    let mut sink = MemSink::new(rt.alloc(), Vec::new(rt.alloc()));
-    let mut nothing = MemSource::new(Vec::new(rt.alloc()), Vec::new(rt.alloc()));
-    assert_eq!(rt;
-        echo_main(&rt, &own, &mut nothing, &mut sink, &mut disk, 1),
-        0
-    );
-    assert!(rt; disk.write_at(NEXT_ID_AT, &[255, 255, 255, 255]) == DiskAnswer::Done);
-    let script = Vec::from_slice(rt.alloc(), b"A create /f\n")?;
-    let mut source = MemSource::new(script, Vec::new(rt.alloc()));
-    assert_eq!(rt;
-        echo_main(&rt, &own, &mut source, &mut sink, &mut disk, 1),
-        15
-    );
-    assert!(rt; sink.bytes() == b"1 A create /f -> waits\nspent Id\n".as_slice());
     Ok(())
 }
 
