@@ -14,14 +14,14 @@ use Rattle.ec_volume.specs.Update.{member, operands}
 use Rattle.ec_volume.specs.declared.update.Update.{Update}
 use Rattle.ec_volume.specs.declared.update.Update.TheVariants.{Make, Drop, Move, Put, Len, Mode, Stamp, Order, Shift, Owner}
 use Rattle.ec_order.specs.Order.{Issued, Holds, share, needs, meet}
-use Rattle.ec_chains.specs.ClosureLaws.{walk-passing, above-held}
-use Rattle.ec_chains.specs.Front.{closure_for, IsFront, is_alone, Covers, IsBound, wanted, Reaches}
+use Rattle.ec_chains.specs.ClosureLaws.{walk-passing}
+use Rattle.ec_chains.specs.Front.{closure_for, IsFront, is_alone, Covers, IsBound}
 use Rattle.ec_chains.specs.Held.{is_behind}
 use Rattle.ec_chains.specs.Walk.{passes, walk}
 use Rattle.ec_chains.proofs.Maps.{at-put}
 use Rattle.ec_chains.proofs.Needs.{look, plain_needs, range_needs, ranges_need}
 use Rattle.ec_chains.specs.declared.closure.Ask.{Ask}
-use Rattle.ec_chains.specs.declared.closure.Ask.TheVariants.{Object, Op, All}
+use Rattle.ec_chains.specs.declared.closure.Ask.TheVariants.{Object, Op}
 
 is-true : (b : Bool) → b ≡ true → T b
 is-true b e = subst T (sym e) tt
@@ -32,12 +32,12 @@ from-true false t = absurd t
 
 -- Lists in two parts.
 
-split : {X : Type 0} (n : ℕ) (xs : List X) → xs ≡ take n xs ++ drop n xs
+pub split : {X : Type 0} (n : ℕ) (xs : List X) → xs ≡ take n xs ++ drop n xs
 split zero xs = refl
 split (suc n) [] = refl
 split (suc n) (x ∷ xs) = ap (λ l. x ∷ l) (split n xs)
 
-filter-both : (p : ℕ × Update → Bool) (xs ys : Issued) → filter p (xs ++ ys) ≡ filter p xs ++ filter p ys
+pub filter-both : (p : ℕ × Update → Bool) (xs ys : Issued) → filter p (xs ++ ys) ≡ filter p xs ++ filter p ys
 filter-both p [] ys = refl
 filter-both p (x ∷ xs) ys = go (p x) (filter-both p xs ys)
   where
@@ -45,7 +45,7 @@ filter-both p (x ∷ xs) ys = go (p x) (filter-both p xs ys)
     go true e = ap (λ l. x ∷ l) e
     go false e = e
 
-length-both : (xs ys : Issued) → length (xs ++ ys) ≡ length xs + length ys
+pub length-both : (xs ys : Issued) → length (xs ++ ys) ≡ length xs + length ys
 length-both [] ys = omega arith
 length-both (x ∷ xs) ys = let rest = length-both xs ys in omega (arith, rest)
 
@@ -79,7 +79,7 @@ take-front zero xs ys l = refl
 take-front (suc m) [] ys l = absurd (omega (arith, l))
 take-front (suc m) (x ∷ xs) ys l = ap (λ zs. x ∷ zs) (take-front m xs ys (omega (arith, l)))
 
-sorted-front : (i : ℕ) (xs : Issued) → T (is_sorted nat_cmp xs) → T (is_sorted nat_cmp (take i xs))
+pub sorted-front : (i : ℕ) (xs : Issued) → T (is_sorted nat_cmp xs) → T (is_sorted nat_cmp (take i xs))
 sorted-front zero xs s = tt
 sorted-front (suc i) [] s = tt
 sorted-front (suc i) (x ∷ xs) s = both _ _ (below-front i xs (first _ _ s)) (sorted-front i xs (second _ _ s))
@@ -180,7 +180,7 @@ module _ (ask : Ask) (held : Issued) (s : T (is_sorted nat_cmp held)) where
   abbrev q : ℕ × Update → Bool
   q = passes ask
 
-  front-of : (place most : ℕ) → NeedsAsked q (drop place held) → ((most ≤ length (filter q (take place held))) ⊎ (filter q (drop place held) ≡ [])) → IsFront ask held most (keys (walk q (take place held)))
+  pub front-of : (place most : ℕ) → NeedsAsked q (drop place held) → ((most ≤ length (filter q (take place held))) ⊎ (filter q (drop place held) ≡ [])) → IsFront ask held most (keys (walk q (take place held)))
   front-of place most a r =
       let found : keys (closure_for ask held) ≡ keys (walk q (take place held)) ++ keys (filter q (drop place held)) =
       ap keys (sym (walk-passing q held s) ∙ ap (walk q) (split place held) ∙ walk-parts q (take place held) (drop place held) a) ∙ keys-both (walk q (take place held)) (filter q (drop place held)) in
@@ -287,34 +287,14 @@ bound-object shared held obj covers n u h l p x d = go (is_alone u) refl
     go true e = alone-needs u e obj p x.1 d
     go false e = let most : n ≤ at_or 0 obj shared = covers n u h e obj p in absurd (omega (arith, most, l))
 
-pub bound-op : (held : Issued) (op : ℕ) → IsBound (Op op) held op
-bound-op held op n u h l p x d = absurd (apart (n == op) refl p)
-  where
-    apart : (b : Bool) → (n == op) ≡ b → T b → ⊥
-    apart true e t = let same : n ≡ op = grind (arith, nat_tests, e) in omega (arith, l, same)
-    apart false e t = t
-
-pub bound-all : (held : Issued) (bound : ℕ) → IsBound All held bound
-bound-all held bound n u h l p x d = tt
-
 -- As far as it reaches.
 
-above-none : (op : ℕ) (xs : Issued) → T (below_all nat_cmp op xs) → filter (passes (Op op)) xs ≡ []
+pub above-none : (op : ℕ) (xs : Issued) → T (below_all nat_cmp op xs) → filter (passes (Op op)) xs ≡ []
 above-none op [] b = refl
 above-none op (x ∷ xs) b = ap (λ t. cond t (x ∷ filter (passes (Op op)) xs) (filter (passes (Op op)) xs)) (higher (first _ _ b)) ∙ above-none op xs (second _ _ b)
   where
     higher : T (is_lt (nat_cmp op x.0)) → (x.0 == op) ≡ false
     higher l = grind (arith, nat_tests, l)
-
-pub front-reached : (ask : Ask) (held : Issued) (most bound place : ℕ) → T (is_sorted nat_cmp held) → IsBound ask held bound → Reaches ask held (wanted ask most) bound place → ((op : ℕ) → ask ≡ Op op → bound ≡ op)
-    → IsFront ask held most (keys (walk (passes ask) (take place held)))
-front-reached ask held most bound place s b (inl e) o = front-of ask held s place most (λ n u h. absurd (subst (λ l. Holds l n u) e h)) (inr (ap (filter (passes ask)) e))
-front-reached ask held most bound place s b (inr r) o = front-of ask held s place most (λ n u h t. b n u (holds-behind place held n u h) (above-held bound (drop place held) r.1 n u h) t) (by-ask ask refl)
-  where
-    by-ask : (a : Ask) → ask ≡ a → (most ≤ length (filter (passes ask) (take place held))) ⊎ (filter (passes ask) (drop place held) ≡ [])
-    by-ask (Object obj) e = inl (subst (λ a. wanted a most ≤ length (filter (passes ask) (take place held))) e r.0)
-    by-ask All e = inl (subst (λ a. wanted a most ≤ length (filter (passes ask) (take place held))) e r.0)
-    by-ask (Op op) e = inr (subst (λ a. filter (passes a) (drop place held) ≡ []) (sym e) (above-none op (drop place held) (subst (λ n. T (below_all nat_cmp n (drop place held))) (o op e) r.1)))
 
 -- One by one.
 
@@ -404,7 +384,7 @@ module _ (p : ℕ × Update → Bool) (held : Issued) where
 pub covers-none : (shared : Table ℕ) → Covers shared []
 covers-none shared n u h e o m = absurd h
 
-holds-part : (t : ℕ × Update → Bool) (xs : Issued) (n : ℕ) (u : Update) → Holds (filter t xs) n u → Holds xs n u
+pub holds-part : (t : ℕ × Update → Bool) (xs : Issued) (n : ℕ) (u : Update) → Holds (filter t xs) n u → Holds xs n u
 holds-part t [] n u h = h
 holds-part t (x ∷ xs) n u h = go (t x) h (holds-part t xs n u)
   where
@@ -416,7 +396,7 @@ holds-part t (x ∷ xs) n u h = go (t x) h (holds-part t xs n u)
 pub covers-part : (t : ℕ × Update → Bool) (shared : Table ℕ) (xs : Issued) → Covers shared xs → Covers shared (filter t xs)
 covers-part t shared xs c n u h = c n u (holds-part t xs n u h)
 
-holds-last : (xs : Issued) (y : ℕ × Update) (n : ℕ) (u : Update) → Holds (xs ++ y ∷ []) n u → Holds xs n u ⊎ ((y.0 ≡ n) × (y.1 ≡ u))
+pub holds-last : (xs : Issued) (y : ℕ × Update) (n : ℕ) (u : Update) → Holds (xs ++ y ∷ []) n u → Holds xs n u ⊎ ((y.0 ≡ n) × (y.1 ≡ u))
 holds-last [] y n u (inl e) = inr e
 holds-last [] y n u (inr h) = absurd h
 holds-last (x ∷ xs) y n u (inl e) = inl (inl e)

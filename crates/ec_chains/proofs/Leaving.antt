@@ -18,7 +18,9 @@ use Rattle.ec_chains.specs.Front.{is_alone, Covers, Reaches}
 use Rattle.ec_chains.specs.declared.closure.Ask.TheVariants.{All}
 use Rattle.ec_chains.specs.Held.{is_behind, settle}
 use Rattle.ec_chains.proofs.Fronts.{covers-more, covers-raised, covers-part}
+use Rattle.ec_chains.specs.Chains.{AreLinked, AreKept}
 use Rattle.ec_chains.proofs.Held.{sorted_more, sorted_part}
+use Rattle.ec_chains.proofs.Linked.{Stay, linked-raised, linked-more, linked-part}
 
 -- What is above each of the numbers stays.
 pub stays-above : (ops : List ℕ) (bound : ℕ) (xs : Issued) → ((n : ℕ) → T (member n ops) → n ≤ bound) → T (below_all nat_cmp bound xs) → settle ops xs ≡ xs
@@ -31,6 +33,14 @@ stays-above ops bound (x ∷ xs) most t = ap (λ b. cond (not b) (x ∷ settle o
     none : (b : Bool) → member x.0 ops ≡ b → b ≡ false
     none false e = refl
     none true e = let m = most x.0 (subst T (sym e) tt) in let l = above (first _ _ t) in absurd (omega (arith, m, l))
+
+-- What is below each of the numbers is none of them.
+pub below-none : (ops : List ℕ) (least op : ℕ) → ((n : ℕ) → T (member n ops) → least ≤ n) → op < least → false ≡ member op ops
+below-none ops least op most l = go (member op ops) refl
+  where
+    go : (b : Bool) → member op ops ≡ b → false ≡ member op ops
+    go false e = sym e
+    go true e = let m = most op (subst T (sym e) tt) in absurd (omega (arith, m, l))
 
 -- Behind the place that is reached all stays.
 pub reached-stays : (ops : List ℕ) (bound gone place : ℕ) (held items : Issued) → ((n : ℕ) → T (member n ops) → n ≤ bound) → held ≡ drop gone items → Reaches All held 0 bound place → settle ops (drop (gone + place) items) ≡ drop (gone + place) items
@@ -118,14 +128,14 @@ moved-all ops old new from place to moved l = let b : from ≤ place = moved.beg
     both b = omega (arith, b, l)
 
 -- The first ones go to the end, and are cut off.
-pub cut-off : (k n : ℕ) (xs turned rest : Issued) → k ≤ length xs → turned ≡ drop k xs ++ take k xs → n ≡ length xs - k → rest ≡ take n turned → rest ≡ drop k xs
+pub cut-off : {X : Type 0} (k n : ℕ) (xs turned rest : List X) → k ≤ length xs → turned ≡ drop k xs ++ take k xs → n ≡ length xs - k → rest ≡ take n turned → rest ≡ drop k xs
 cut-off k n xs turned rest l t m e =
     e ∙ ap (take n) t ∙ ap (λ i. take i (drop k xs ++ take k xs)) (m ∙ sym (length-drop k xs)) ∙ take-append_seam (drop k xs) (take k xs)
 
 -- Held operations behind those that have left.
 
-abbrev pub IsOrder : ℕ → Issued → Table ℕ → Type 0
-IsOrder gone items shared = (gone ≤ length items) × T (is_sorted nat_cmp (drop gone items)) × Covers shared (drop gone items)
+abbrev pub IsOrder : ℕ → Issued → Table ℕ → Table (List ℕ) → Type 0
+IsOrder gone items shared chains = (gone ≤ length items) × T (is_sorted nat_cmp (drop gone items)) × Covers shared (drop gone items) × AreLinked chains (drop gone items)
 
 drop-more : (k : ℕ) (xs ys : Issued) → k ≤ length xs → drop k (xs ++ ys) ≡ drop k xs ++ ys
 drop-more zero xs ys l = refl
@@ -136,26 +146,35 @@ longer : (xs : Issued) (x : ℕ × Update) → length xs ≤ length (xs ++ x ∷
 longer [] x = omega arith
 longer (y ∷ ys) x = let rest = longer ys x in omega (arith, rest)
 
-pub order-more : (gone : ℕ) (items : Issued) (old new : Table ℕ) (op : ℕ) (u : Update) → IsOrder gone items old → is_behind op (drop gone items) ≡ true → ((o n : ℕ) → n ≤ at_or 0 o old → n ≤ op → n ≤ at_or 0 o new)
-    → (is_alone u ≡ false → (o : ℕ) → T (member o (operands u)) → op ≤ at_or 0 o new) → IsOrder gone (items ++ (op, u) ∷ []) new
-order-more gone items old new op u inv b raised its =
-    let within : gone ≤ length items = inv.0 in
-    let more = longer items (op, u) in
-    let same : drop gone (items ++ (op, u) ∷ []) ≡ drop gone items ++ (op, u) ∷ [] = drop-more gone items ((op, u) ∷ []) inv.0 in (
-      omega (arith, within, more),
-      subst (λ l. T (is_sorted nat_cmp l)) (sym same) (sorted_more (drop gone items) op u inv.1 b),
-      subst (Covers new) (sym same) (covers-more old new (drop gone items) op u b inv.2 raised its),
-    )
+module _ (gone : ℕ) (items : Issued) (old new : Table ℕ) (chains linked : Table (List ℕ)) (op : ℕ) (inv : IsOrder gone items old chains) (b : is_behind op (drop gone items) ≡ true) where
+  -- one more operation
+  pub order-more : (u : Update) → ((o n : ℕ) → n ≤ at_or 0 o old → n ≤ op → n ≤ at_or 0 o new) → (is_alone u ≡ false → (o : ℕ) → T (member o (operands u)) → op ≤ at_or 0 o new)
+      → Stay op chains linked → ((o : ℕ) → T (member o (operands u)) → T (member op (at_or [] o linked))) → IsOrder gone (items ++ (op, u) ∷ []) new linked
+  order-more u raised its stay there =
+      let within : gone ≤ length items = inv.0 in
+      let more = longer items (op, u) in
+      let same : drop gone (items ++ (op, u) ∷ []) ≡ drop gone items ++ (op, u) ∷ [] = drop-more gone items ((op, u) ∷ []) inv.0 in (
+        omega (arith, within, more),
+        subst (λ l. T (is_sorted nat_cmp l)) (sym same) (sorted_more (drop gone items) op u inv.1 b),
+        subst (Covers new) (sym same) (covers-more old new (drop gone items) op u b inv.2 raised its),
+        subst (AreLinked linked) (sym same) (linked-more chains linked (drop gone items) op u b inv.3 stay there),
+      )
 
-pub order-raised : (gone : ℕ) (items : Issued) (old new : Table ℕ) (op : ℕ) → IsOrder gone items old → is_behind op (drop gone items) ≡ true → ((o n : ℕ) → n ≤ at_or 0 o old → n ≤ op → n ≤ at_or 0 o new) → IsOrder gone items new
-order-raised gone items old new op inv b raised = (inv.0, inv.1, covers-raised old new (drop gone items) op b inv.2 raised)
+  -- the maps are ready for it
+  pub order-raised : ((o n : ℕ) → n ≤ at_or 0 o old → n ≤ op → n ≤ at_or 0 o new) → Stay op chains linked → IsOrder gone items new linked
+  order-raised raised stay = (inv.0, inv.1, covers-raised old new (drop gone items) op b inv.2 raised, linked-raised chains linked (drop gone items) op b inv.3 stay)
 
-pub order-cut : (gone : ℕ) (items rest : Issued) (shared : Table ℕ) → IsOrder gone items shared → rest ≡ drop gone items → IsOrder 0 rest shared
-order-cut gone items rest shared inv e = (omega arith, subst (λ xs. T (is_sorted nat_cmp xs)) (sym e) inv.1, subst (Covers shared) (sym e) inv.2)
+  pub order-linked : Stay op chains linked → IsOrder gone items old linked
+  order-linked stay = (inv.0, inv.1, inv.2, linked-raised chains linked (drop gone items) op b inv.3 stay)
 
-pub order-part : (ops : List ℕ) (gone left : ℕ) (items rest : Issued) (shared : Table ℕ) → IsOrder gone items shared → left ≤ length rest → drop left rest ≡ settle ops (drop gone items) → IsOrder left rest shared
-order-part ops gone left items rest shared inv l e = (
+pub order-cut : (gone : ℕ) (items rest : Issued) (shared : Table ℕ) (chains : Table (List ℕ)) → IsOrder gone items shared chains → rest ≡ drop gone items → IsOrder 0 rest shared chains
+order-cut gone items rest shared chains inv e = (omega arith, subst (λ xs. T (is_sorted nat_cmp xs)) (sym e) inv.1, subst (Covers shared) (sym e) inv.2, subst (AreLinked chains) (sym e) inv.3)
+
+pub order-part : (ops : List ℕ) (gone left : ℕ) (items rest : Issued) (shared : Table ℕ) (chains linked : Table (List ℕ)) → IsOrder gone items shared chains → AreKept (drop gone items) ops chains linked → left ≤ length rest → drop left rest ≡ settle ops (drop gone items)
+    → IsOrder left rest shared linked
+order-part ops gone left items rest shared chains linked inv kept l e = (
   l,
   subst (λ xs. T (is_sorted nat_cmp xs)) (sym e) (sorted_part (λ x. not (member x.0 ops)) (drop gone items) inv.1),
   subst (Covers shared) (sym e) (covers-part (λ x. not (member x.0 ops)) shared (drop gone items) inv.2),
+  subst (AreLinked linked) (sym e) (linked-part ops chains linked (drop gone items) kept inv.3),
 )

@@ -1,7 +1,14 @@
+pub mod Chained
 pub mod Fronts
 pub mod Held
 pub mod Leaving
+pub mod Linked
 pub mod Maps
 pub mod Needs
+pub mod Numbers
+pub mod Onward
 pub mod Operands
+pub mod Places
+pub mod Reached
+pub mod Taken
 pub mod Walks

@@ -9,7 +9,6 @@ use Rattle.ec_volume.specs.declared.update.Update.TheVariants.{Put, Len, Mode, S
 use Rattle.ec_order.specs.Order.{Issued, Holds, needs, closure}
 use Rattle.ec_chains.specs.Walk.{passes}
 use Rattle.ec_chains.specs.declared.closure.Ask.{Ask}
-use Rattle.ec_chains.specs.declared.closure.Ask.TheVariants.{Object, Op, All}
 
 -- the closure of what is asked for
 abbrev pub closure_for : Ask → Issued → Issued
@@ -36,12 +35,6 @@ Covers shared held = (n : ℕ) (u : Update) → Holds held n u → is_alone u �
 -- What is asked for behind the number needs nothing that isn't asked for.
 abbrev pub IsBound : Ask → Issued → ℕ → Type 0
 IsBound ask held bound = (n : ℕ) (u : Update) → Holds held n u → bound < n → T (passes ask (n, u)) → (x : ℕ × Update) → T (needs x.1 u) → T (passes ask x)
-
--- so many have to be asked for in front; of one operation there is no other
-abbrev pub wanted : Ask → ℕ → ℕ
-wanted (Object obj) most = most
-wanted (Op op) most = 0
-wanted All most = most
 
 -- All the operations come in front of the place, or so many that are asked for do, and those behind it are above the bound.
 abbrev pub Reaches : Ask → Issued → ℕ → ℕ → ℕ → Type 0

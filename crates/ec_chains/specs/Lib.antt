@@ -1,3 +1,4 @@
+pub mod Chains
 pub mod ClosureLaws
 pub mod Front
 pub mod Held

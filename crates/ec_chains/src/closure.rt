@@ -1,12 +1,17 @@
-// Closures, by one walk from the last operation to the first.
-ghost use Rattle.std.specs.Prelude.{◌≡◌, ◌||◌, IfOk};
+// Closures, by a walk from the last operation to the first over the chains of the objects that it meets.
+ghost use Rattle.std.specs.Prelude.{◌≡◌, ◌||◌, T, IfOk};
+ghost use Rattle.std.specs.Ordering.{nat_cmp};
+ghost use Rattle.std.specs.FinMap.{is_sorted};
 ghost use Rattle.ec_base.specs.Tables.{keys};
 ghost use Rattle.ec_chains.specs.Needed.{is_needed};
+ghost use Rattle.ec_chains.specs.Chains.{AreLinked, IsOne};
 ghost use Rattle.ec_chains.specs.Walk.{passes, walk};
 
+use crate::chain::Chain;
 use crate::needed::Needed;
 use crate::operand::has_operand;
-use ec_base::{NoMemory, ObjId, OpNo};
+use crate::walking::{await_operands, begin, take_last};
+use ec_base::{NoMemory, ObjId, OpNo, SortedMap};
 use ec_volume::Update;
 use std::alloc::Global;
 
@@ -40,17 +45,58 @@ fn is_chosen(ask: &Ask, needed: &Needed, op: OpNo, update: &Update) -> Result<bo
     needed.has(update)
 }
 
-/// The closure of what is asked for, in the order of issue. Each operation is looked at once.
-pub fn closure(alloc: Global, held: &[(OpNo, Update)], ask: Ask) -> Result<Vec<OpNo>, NoMemory>
+/// The closure of what is asked for, in the order of issue. The chains of the objects that are met are
+/// walked, and each operation is looked at once.
+pub fn closure(
+    alloc: Global,
+    held: &[(OpNo, Update)],
+    chains: &SortedMap<ObjId, Chain>,
+    ask: Ask,
+) -> Result<Vec<OpNo>, NoMemory>
+    requires sorted { T (is_sorted nat_cmp held.now) }
+    requires linked { AreLinked chains.now held.now }
     ensures { IfOk result (λ ops. ops.items ≡ keys (walk (passes ask) held.now)) }
+{
+    match ask {
+        Ask::All => numbers(alloc, held),
+        Ask::Object(_) | Ask::Op(_) => walk_back(alloc, held, chains, &ask),
+    }
+}
+
+// The numbers of all of them.
+fn numbers(alloc: Global, held: &[(OpNo, Update)]) -> Result<Vec<OpNo>, NoMemory>
+    ensures { IfOk result (λ ops. ops.items ≡ keys held.now) }
+{
+    let mut ops = Vec::new(alloc);
+    for (op, _) in held {
+        ops.push(*op)?;
+    }
+    Ok(ops)
+}
+
+fn walk_back(
+    alloc: Global,
+    held: &[(OpNo, Update)],
+    chains: &SortedMap<ObjId, Chain>,
+    ask: &Ask,
+) -> Result<Vec<OpNo>, NoMemory>
+    requires sorted { T (is_sorted nat_cmp held.now) }
+    requires linked { AreLinked chains.now held.now }
+    requires one { IsOne ask.now }
+    ensures { IfOk result (λ ops. ops.items ≡ keys (walk (passes ask.now) held.now)) }
 {
     let mut needed = Needed::new(alloc);
     let mut ops = Vec::new(alloc);
-    let mut left = held.len();
-    'walk: while left > 0 {
-        left -= 1;
-        let (op, update) = &held[left];
-        if is_chosen(&ask, &needed, *op, update)? {
+    let mut places = begin(alloc, held, chains, ask)?;
+    let mut rest = held;
+    'walk: loop {
+        let Some(place) = take_last(&mut places) else {
+            break;
+        };
+        let (op, update) = &rest[place];
+        rest = &rest[..place];
+        await_operands(alloc, &mut places, chains, rest, update)?;
+        if is_chosen(ask, &needed, *op, update)? {
             needed.add(update)?;
             ops.push(*op)?;
         }

@@ -3,10 +3,17 @@ ghost use Rattle.std.specs.Prelude.{◌≡◌, ◌≤◌, ℕ, T, false, length,
 ghost use Rattle.std.specs.Ordering.{nat_cmp};
 ghost use Rattle.std.specs.FinMap.{is_sorted};
 ghost use Rattle.ec_base.specs.Tables.{at_or};
-ghost use Rattle.ec_volume.specs.Update.{member, operands};
-ghost use Rattle.ec_chains.specs.Front.{is_alone, wanted, Reaches};
+ghost use Rattle.ec_volume.specs.Update.{member, has_operand, operands};
+ghost use Rattle.std.specs.List.Sorted.{IsNonDecreasing};
+ghost use Rattle.ec_volume.specs.declared.update.Update.{Update as Of};
+ghost use Rattle.ec_order.specs.Order.{Holds};
+ghost use Rattle.ec_chains.specs.Chains.{IsReached};
+ghost use Rattle.ec_chains.specs.Front.{is_alone, IsBound, Reaches};
+ghost use Rattle.ec_chains.specs.declared.closure.Ask.TheVariants.{Object, Op, All};
 
+use crate::chain::slot_of;
 use crate::closure::{Ask, passes};
+use crate::walking::place_on;
 use ec_base::{NoMemory, ObjId, OpNo, SortedMap};
 use ec_volume::{Update, operands};
 use std::alloc::Global;
@@ -33,14 +40,51 @@ pub fn reach(held: &[(OpNo, Update)], ask: &Ask, bound: u64, most: usize) -> usi
     at
 }
 
-/// So many have to be asked for by themselves: of one operation there is no other.
-pub fn wanted(ask: &Ask, most: usize) -> usize
-    ensures { result ≡ wanted ask.now most }
+/// How far the closure of the object reaches, by its chain: so many operations on it come before the
+/// place, and those behind it are above the bound.
+pub fn reach_on(
+    chain: &[OpNo],
+    held: &[(OpNo, Update)],
+    obj: ObjId,
+    bound: u64,
+    most: usize,
+) -> usize
+    requires sorted { T (is_sorted nat_cmp held.now) }
+    requires rising { IsNonDecreasing chain.now }
+    requires linked { (n : ℕ) (u : Of) → Holds held.now n u → T (has_operand obj u) → T (member n chain.now) }
+    requires bound { IsBound (Object obj) held.now bound }
+    ensures { IsReached (Object obj) held.now most result }
 {
-    match ask {
-        Ask::Object(_) | Ask::All => most,
-        Ask::Op(_) => 0,
+    let mut place = 0;
+    let mut found = 0;
+    'reach: for op in chain {
+        if most <= found && bound < op.0 {
+            return place;
+        }
+        if let Some(at) = place_on(&held[place..], *op, obj) {
+            place += at + 1;
+            found += 1;
+        }
     }
+    place
+}
+
+/// Right behind the operation, or before all where it isn't held.
+pub fn reach_op(held: &[(OpNo, Update)], op: OpNo, most: usize) -> usize
+    requires sorted { T (is_sorted nat_cmp held.now) }
+    ensures { IsReached (Op op) held.now most result }
+{
+    match slot_of(held, op) {
+        Ok(place) => place + 1,
+        Err(_) => 0,
+    }
+}
+
+/// So many, or all.
+pub fn reach_all(held: &[(OpNo, Update)], most: usize) -> usize
+    ensures { IsReached All held.now most result }
+{
+    most.min(held.len())
 }
 
 /// Whether the update is on one object alone.

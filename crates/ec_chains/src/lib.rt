@@ -1,12 +1,15 @@
 //! The operations that a clerk holds, and their closures.
 #![tactic(auto)]
 
+mod chain;
+mod chains;
 mod closure;
 mod front;
 mod needed;
 mod operand;
 mod order;
 mod settling;
+mod walking;
 
 pub use closure::Ask;
 pub use needed::Needed;

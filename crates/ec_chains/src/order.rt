@@ -1,19 +1,22 @@
 // The held operations.
-ghost use Rattle.std.specs.Prelude.{◌≡◌, ◌≤◌, ℕ, T, length, drop, true, false, Err, [], ◌∷◌, ◌++◌, IfOk, OnOk, OnErr};
+ghost use Rattle.std.specs.Prelude.{◌≡◌, ℕ, T, true, false, Err, [], ◌∷◌, ◌++◌, IfOk, OnOk, OnErr};
 ghost use Rattle.std.specs.Ordering.{nat_cmp};
 ghost use Rattle.std.specs.FinMap.{is_sorted};
 ghost use Rattle.ec_base.specs.Tables.{keys};
 ghost use Rattle.ec_volume.specs.Update.{member};
-ghost use Rattle.ec_chains.specs.Front.{IsFront, IsBound};
+ghost use Rattle.ec_chains.specs.Chains.{IsReached};
+ghost use Rattle.ec_chains.specs.Front.{IsFront};
 ghost use Rattle.ec_chains.specs.Held as held;
-ghost use Rattle.ec_chains.specs.declared.closure.Ask.TheVariants.{Op};
+ghost use Rattle.ec_chains.specs.declared.closure.Ask.TheVariants.{Object};
 ghost use Rattle.ec_chains.specs.declared.order.OrderFault.TheVariants as fault;
 
+use crate::chain::Chain;
+use crate::chains::{chain_of, link, unlink};
 use crate::closure::{Ask, closure};
-use crate::front::{last_on, note, reach, wanted};
+use crate::front::{last_on, note, reach_all, reach_on, reach_op};
 use crate::settling::{leave, remove_first};
 use ec_base::{Duplicate, NoMemory, ObjId, OpNo, SortedMap};
-use ec_volume::Update;
+use ec_volume::{Update, operands};
 use std::alloc::Global;
 use std::marker::Model;
 use thiserror::Error;
@@ -27,6 +30,8 @@ pub struct Order {
     gone: usize,
     // for objects the last operation on them that is on others too, or a later number
     shared: SortedMap<ObjId, OpNo>,
+    // for objects the operations on them
+    chains: SortedMap<ObjId, Chain>,
 }
 
 impl Model for Order {
@@ -37,6 +42,7 @@ impl Model for Order {
     ghost use Rattle.ec_volume.specs.contracts.update.Update as update;
     ghost use Rattle.ec_order.specs.Order.{Issued};
     ghost use Rattle.ec_chains.specs.Front.{Covers};
+    ghost use Rattle.ec_chains.specs.Chains.{AreLinked};
 
     ghost Value = { Issued };
 
@@ -44,7 +50,7 @@ impl Model for Order {
 
     ghost view = { λ o. drop o.gone o.held.items };
 
-    ghost invariant = { λ o. (o.gone ≤ length o.held.items) × T (is_sorted nat_cmp (drop o.gone o.held.items)) × Covers o.shared (drop o.gone o.held.items) };
+    ghost invariant = { λ o. (o.gone ≤ length o.held.items) × T (is_sorted nat_cmp (drop o.gone o.held.items)) × Covers o.shared (drop o.gone o.held.items) × AreLinked o.chains (drop o.gone o.held.items) };
 }
 
 #[derive(Clone, Copy, Debug, Drop, PartialEq, Eq, Error)]
@@ -74,6 +80,7 @@ impl Order {
             held: Vec::new(alloc),
             gone: 0,
             shared: SortedMap::new(alloc),
+            chains: SortedMap::new(alloc),
         })
     }
 
@@ -92,6 +99,8 @@ impl Order {
         ensures ok { OnOk result (self.new ≡ self.old ++ (op, update) ∷ []) }
         ensures err { OnErr result (self.new ≡ self.old) }
     {
+        let objs = operands(self.alloc, &update)?;
+        link(self.alloc, &mut self.chains, op, &objs)?;
         note(self.alloc, &mut self.shared, op, &update)?;
         Ok(self.held.push((op, update))?)
     }
@@ -108,7 +117,7 @@ impl Order {
     pub fn closure_of_object(&self, obj: ObjId) -> Result<Vec<OpNo>, NoMemory>
         ensures { IfOk result (λ ops. ops.items ≡ keys (held.closure_of_object obj self.now)) }
     {
-        closure(self.alloc, self.held(), Ask::Object(obj))
+        closure(self.alloc, self.held(), &self.chains, Ask::Object(obj))
     }
 
     /// The closure of the operation, in the order of issue. `NoSuchOp` where it isn't held.
@@ -117,7 +126,7 @@ impl Order {
         ensures held { OnOk result (member op (keys self.now) ≡ true) }
         ensures none { (n : ℕ) → result ≡ Err (fault.NoSuchOp n) → (n ≡ op) × (member op (keys self.now) ≡ false) }
     {
-        let ops = closure(self.alloc, self.held(), Ask::Op(op))?;
+        let ops = closure(self.alloc, self.held(), &self.chains, Ask::Op(op))?;
         if ops.as_slice().is_empty() {
             return Err(OrderFault::NoSuchOp(op));
         }
@@ -125,27 +134,30 @@ impl Order {
     }
 
     /// The first of the closure of what is asked for, in the order of issue: at least so many, or
-    /// all. The rest of the closure is asked for by itself. It walks from the least operation on as
-    /// far as needed.
+    /// all. The rest of the closure is asked for by itself. Of an object it walks its chain as far as
+    /// needed.
     pub fn front(&self, ask: Ask, most: usize) -> Result<Vec<OpNo>, NoMemory>
         ensures { IfOk result (λ ops. IsFront ask self.now most ops.items) }
     {
-        let bound = self.bound(&ask);
-        let held = self.held();
-        let place = reach(held, &ask, bound, wanted(&ask, most));
-        closure(self.alloc, &held[..place], ask)
+        let place = self.reach(&ask, most);
+        closure(self.alloc, &self.held()[..place], &self.chains, ask)
     }
 
-    // What is asked for behind this number needs nothing that isn't asked for.
-    fn bound(&self, ask: &Ask) -> u64
-        ensures bound { IsBound ask.now self.now result }
-        ensures op { (op : ℕ) → ask.now ≡ Op op → result ≡ op }
+    fn reach(&self, ask: &Ask, most: usize) -> usize
+        ensures { IsReached ask.now self.now most result }
     {
         match ask {
-            Ask::Object(obj) => last_on(&self.shared, *obj),
-            Ask::Op(op) => op.0,
-            Ask::All => 0,
+            Ask::Object(obj) => self.reach_on(*obj, most),
+            Ask::Op(op) => reach_op(self.held(), *op, most),
+            Ask::All => reach_all(self.held(), most),
         }
+    }
+
+    fn reach_on(&self, obj: ObjId, most: usize) -> usize
+        ensures { IsReached (Object obj) self.now most result }
+    {
+        let bound = last_on(&self.shared, obj);
+        reach_on(chain_of(&self.chains, obj), self.held(), obj, bound, most)
     }
 
     /// The operations of these numbers leave, in time in proportion to the place of the last one, and
@@ -153,6 +165,7 @@ impl Order {
     pub fn settle(&mut self, ops: &[OpNo])
         ensures { self.new ≡ held.settle ops.now self.old }
     {
+        unlink(self.alloc, &mut self.chains, &self.held[self.gone..], ops);
         self.gone = leave(&mut self.held, self.gone, ops);
         self.trim();
     }
@@ -174,5 +187,6 @@ impl Order {
         self.held.clear();
         self.gone = 0;
         self.shared = SortedMap::new(self.alloc);
+        self.chains = SortedMap::new(self.alloc);
     }
 }

@@ -19,7 +19,7 @@ pub fn leave(held: &mut Vec<(OpNo, Update)>, gone: usize, ops: &[OpNo]) -> usize
     ensures rest { drop result held.new.items ≡ settle ops.now (drop gone held.old.items) }
 {
     let count = reach(&held[gone..], &Ask::All, greatest(ops), 0);
-    move_up(held, gone, gone + count, ops)
+    move_up(held, gone, gone + count, ops, least(ops))
 }
 
 /// No number is above it.
@@ -33,10 +33,28 @@ fn greatest(ops: &[OpNo]) -> u64
     bound
 }
 
+/// No number is below it.
+fn least(ops: &[OpNo]) -> u64
+    ensures { (n : ℕ) → T (member n ops.now) → result ≤ n }
+{
+    let mut bound = u64::MAX;
+    'each: for op in ops {
+        bound = bound.min(op.0);
+    }
+    bound
+}
+
 // What stays between the places moves up to the latter one, behind which all stays.
-fn move_up(held: &mut Vec<(OpNo, Update)>, from: usize, end: usize, ops: &[OpNo]) -> usize
+fn move_up(
+    held: &mut Vec<(OpNo, Update)>,
+    from: usize,
+    end: usize,
+    ops: &[OpNo],
+    least: u64,
+) -> usize
     requires order { from ≤ end }
     requires within { end ≤ length held.old.items }
+    requires least { (n : ℕ) → T (member n ops.now) → least ≤ n }
     requires behind { settle ops.now (drop end held.old.items) ≡ drop end held.old.items }
     ensures within { result ≤ length held.new.items }
     ensures rest { drop result held.new.items ≡ settle ops.now (drop from held.old.items) }
@@ -45,7 +63,7 @@ fn move_up(held: &mut Vec<(OpNo, Update)>, from: usize, end: usize, ops: &[OpNo]
     let mut first = end;
     'each: while from < place {
         place -= 1;
-        if !is_one_of(ops, held[place].0) {
+        if !is_one_of(ops, least, held[place].0) {
             first -= 1;
             held.swap(place, first);
         }
@@ -53,18 +71,23 @@ fn move_up(held: &mut Vec<(OpNo, Update)>, from: usize, end: usize, ops: &[OpNo]
     first
 }
 
-fn is_one_of(ops: &[OpNo], op: OpNo) -> bool
+// No number of the list is below the least one.
+fn is_one_of(ops: &[OpNo], least: u64, op: OpNo) -> bool
+    requires { (n : ℕ) → T (member n ops.now) → least ≤ n }
     ensures { result ≡ member op ops.now }
 {
+    if op.0 < least {
+        return false;
+    }
     ops.contains(&op)
 }
 
-/// Drops so many of the first operations. It takes no memory.
-pub fn remove_first(held: &mut Vec<(OpNo, Update)>, count: usize)
-    requires { count ≤ length held.old.items }
-    ensures { held.new.items ≡ drop count held.old.items }
+/// Drops so many of the first items. It takes no memory.
+pub fn remove_first<X: Drop>(items: &mut Vec<X>, count: usize)
+    requires { count ≤ length items.old.items }
+    ensures { items.new.items ≡ drop count items.old.items }
 {
-    let rest = held.len() - count;
-    held.rotate_left(count);
-    held.truncate(rest);
+    let rest = items.len() - count;
+    items.rotate_left(count);
+    items.truncate(rest);
 }

@@ -1,0 +1,206 @@
+// One chain for each object.
+ghost use Rattle.std.specs.Prelude.{◌≡◌, ◌<◌, ℕ, T, [], true, is_some, OnOk};
+ghost use Rattle.std.specs.Ordering.{nat_cmp};
+ghost use Rattle.std.specs.FinMap.{is_sorted};
+ghost use Rattle.std.specs.List.Sorted.{IsNonDecreasing};
+ghost use Rattle.ec_base.specs.Tables.{at, at_or, put};
+ghost use Rattle.ec_volume.specs.Update.{member};
+ghost use Rattle.ec_chains.specs.Chains.{AreKept};
+
+use crate::chain::{Chain, slot_of};
+use ec_base::{Name, NoMemory, ObjId, OpNo, SortedMap};
+use ec_volume::Update;
+use std::alloc::Global;
+
+/// The numbers of the object's chain, rising.
+pub fn chain_of(chains: &SortedMap<ObjId, Chain>, obj: ObjId) -> &[OpNo]
+    ensures value { result.now ≡ at_or [] obj chains.now }
+    ensures rising { IsNonDecreasing result.now }
+{
+    match chains.get(&obj) {
+        Some(chain) => chain.ops(),
+        None => &[],
+    }
+}
+
+/// One more operation on these objects. Numbers that aren't below it leave their chains.
+pub fn link(
+    alloc: Global,
+    chains: &mut SortedMap<ObjId, Chain>,
+    op: OpNo,
+    objs: &[ObjId],
+) -> Result<(), NoMemory>
+    ensures old { (o n : ℕ) → n < op → T (member n (at_or [] o chains.old)) → T (member n (at_or [] o chains.new)) }
+    ensures new { OnOk result ((o : ℕ) → T (member o objs.now) → T (member op (at_or [] o chains.new))) }
+{
+    match objs {
+        [] => Ok(()),
+        [obj, rest @ ..] => {
+            link(alloc, chains, op, rest)?;
+            link_one(alloc, chains, op, *obj)
+        }
+    }
+}
+
+fn link_one(
+    alloc: Global,
+    chains: &mut SortedMap<ObjId, Chain>,
+    op: OpNo,
+    obj: ObjId,
+) -> Result<(), NoMemory>
+    ensures old { (o n : ℕ) → n < op → T (member n (at_or [] o chains.old)) → T (member n (at_or [] o chains.new)) }
+    ensures new { OnOk result (T (member op (at_or [] obj chains.new))) }
+    ensures kept { OnOk result ((o : ℕ) → T (member op (at_or [] o chains.old)) → T (member op (at_or [] o chains.new))) }
+{
+    match chains.replace(&obj, Chain::new(alloc)) {
+        Some(mut chain) => {
+            let pushed = chain.push(op);
+            put_back(chains, obj, chain);
+            pushed
+        }
+        None => {
+            let mut chain = Chain::new(alloc);
+            chain.push(op)?;
+            chains.insert(obj, chain)
+        }
+    }
+}
+
+// Puts a chain where one is there.
+fn put_back(chains: &mut SortedMap<ObjId, Chain>, obj: ObjId, chain: Chain)
+    requires { is_some (at obj chains.old) ≡ true }
+    ensures { chains.new ≡ put obj chain chains.old }
+{
+    chains.replace(&obj, chain);
+}
+
+/// Those of the operations that are held leave the fronts of their chains. It takes no memory.
+pub fn unlink(
+    alloc: Global,
+    chains: &mut SortedMap<ObjId, Chain>,
+    held: &[(OpNo, Update)],
+    ops: &[OpNo],
+)
+    requires { T (is_sorted nat_cmp held.now) }
+    ensures { AreKept held.now ops.now chains.old chains.new }
+{
+    'each: for op in ops {
+        if let Ok(place) = slot_of(held, *op) {
+            unlink_operands(alloc, chains, &held[place].1, held, ops);
+        }
+    }
+}
+
+fn unlink_operands(
+    alloc: Global,
+    chains: &mut SortedMap<ObjId, Chain>,
+    update: &Update,
+    held: &[(OpNo, Update)],
+    ops: &[OpNo],
+)
+    requires { T (is_sorted nat_cmp held.now) }
+    ensures { AreKept held.now ops.now chains.old chains.new }
+{
+    match update {
+        Update::Make { dir, obj, .. } | Update::Drop { dir, obj, .. } => {
+            unlink_one(alloc, chains, *dir, held, ops);
+            unlink_one(alloc, chains, *obj, held, ops);
+        }
+        Update::Move {
+            dir,
+            obj,
+            victim,
+            ..
+        } => {
+            unlink_one(alloc, chains, *dir, held, ops);
+            unlink_one(alloc, chains, *obj, held, ops);
+            unlink_victim(alloc, chains, *victim, held, ops);
+        }
+        Update::Put { obj, .. }
+        | Update::Len { obj, .. }
+        | Update::Mode { obj, .. }
+        | Update::Stamp { obj, .. }
+        | Update::Owner { obj, .. } => unlink_one(alloc, chains, *obj, held, ops),
+        Update::Order { objs } => unlink_all(alloc, chains, objs.as_slice(), held, ops),
+        Update::Shift {
+            dir,
+            into,
+            obj,
+            victim,
+            up,
+            ..
+        } => {
+            unlink_one(alloc, chains, *dir, held, ops);
+            unlink_one(alloc, chains, *into, held, ops);
+            unlink_one(alloc, chains, *obj, held, ops);
+            unlink_victim(alloc, chains, *victim, held, ops);
+            unlink_above(alloc, chains, up.as_slice(), held, ops);
+        }
+    }
+}
+
+fn unlink_one(
+    alloc: Global,
+    chains: &mut SortedMap<ObjId, Chain>,
+    obj: ObjId,
+    held: &[(OpNo, Update)],
+    ops: &[OpNo],
+)
+    requires { T (is_sorted nat_cmp held.now) }
+    ensures { AreKept held.now ops.now chains.old chains.new }
+{
+    let Some(mut chain) = chains.replace(&obj, Chain::new(alloc)) else {
+        return;
+    };
+    chain.leave(held, ops);
+    if chain.ops().is_empty() {
+        chains.remove(&obj);
+    } else {
+        put_back(chains, obj, chain);
+    }
+}
+
+fn unlink_victim(
+    alloc: Global,
+    chains: &mut SortedMap<ObjId, Chain>,
+    victim: Option<ObjId>,
+    held: &[(OpNo, Update)],
+    ops: &[OpNo],
+)
+    requires { T (is_sorted nat_cmp held.now) }
+    ensures { AreKept held.now ops.now chains.old chains.new }
+{
+    if let Some(obj) = victim {
+        unlink_one(alloc, chains, obj, held, ops);
+    }
+}
+
+fn unlink_all(
+    alloc: Global,
+    chains: &mut SortedMap<ObjId, Chain>,
+    objs: &[ObjId],
+    held: &[(OpNo, Update)],
+    ops: &[OpNo],
+)
+    requires { T (is_sorted nat_cmp held.now) }
+    ensures { AreKept held.now ops.now chains.old chains.new }
+{
+    'each: for obj in objs {
+        unlink_one(alloc, chains, *obj, held, ops);
+    }
+}
+
+fn unlink_above(
+    alloc: Global,
+    chains: &mut SortedMap<ObjId, Chain>,
+    up: &[(ObjId, Name)],
+    held: &[(OpNo, Update)],
+    ops: &[OpNo],
+)
+    requires { T (is_sorted nat_cmp held.now) }
+    ensures { AreKept held.now ops.now chains.old chains.new }
+{
+    'each: for (obj, _) in up {
+        unlink_one(alloc, chains, *obj, held, ops);
+    }
+}
