@@ -1,14 +1,22 @@
 #!/bin/sh
-# Times appends of 2,000 bytes to a journal over a real file beside a C program with the same writes and two syncs an append, and
-# prints both rates and their ratio. They run by turns; each time is the least of its runs, of which a busy disk needs more than five.
+# Times, over real files: appends of 2,000 bytes to a journal beside a C program with the same writes and two syncs an append; commits of
+# 64 small updates to a store beside that program and beside SQLite (its log written ahead, full syncs); and the opening of a full volume
+# beside reading its bytes, from the disk and from memory. It prints rates and ratios. The programs run by turns; each time is the least of
+# its runs, of which a busy disk needs more than five.
 # Usage: bench/commit.sh PROGRAM [FOLDER] [RECORDS] [RUNS]   (the ec_bench program; `rt run` in crates/ec_bench builds it; FOLDER is on the disk to be measured)
 set -eu
 program=${1:?usage: bench/commit.sh PROGRAM [FOLDER] [RECORDS] [RUNS]}
 records=${3:-500}
 runs=${4:-5}
+updates=64
+bytes=12
+# A batch's tag, clerk, session, number and count, and for each update its operation, tag, object, place, flag, length and bytes.
+body=$((19 + updates * (20 + bytes)))
+objects=1009
+here=$(dirname "$0")
 folder=$(mktemp -d "${2:-.}/commit.XXXXXX")
 trap 'rm -rf "$folder"' EXIT
-cc -O2 -o "$folder/commit" "$(dirname "$0")/commit.c"
+cc -O2 -o "$folder/commit" "$here/commit.c"
 
 # "NAME SECONDS" of one run of the words behind the name
 timed() {
@@ -20,9 +28,25 @@ timed() {
     echo "$name $start $end" | awk '{ printf "%s %.6f\n", $1, $3 - $2 }'
 }
 
+# the file's bytes are no longer in memory
+forget() {
+    dd of="$1" oflag=nocache conv=notrunc,fdatasync count=0 2> /dev/null
+}
+
+"$program" fill "$folder/full.img" > /dev/null
 for run in $(seq "$runs"); do
     timed journal "$program" "$folder/journal.img" "$records" 0
     timed c "$folder/commit" "$folder/c.img" "$records"
+    timed store "$program" commit "$folder/store.img" "$records" "$bytes"
+    timed two_syncs "$folder/commit" "$folder/laid.img" "$records" "$body"
+    rm -f "$folder/base.db" "$folder/base.db-wal" "$folder/base.db-shm"
+    echo "sqlite $(python3 "$here/commit.py" "$folder/base.db" "$records" "$updates" "$bytes")"
+    forget "$folder/full.img"
+    timed open "$program" open "$folder/full.img"
+    timed open_again "$program" open "$folder/full.img"
+    forget "$folder/full.img"
+    timed read "$folder/commit" "$folder/full.img" read "$objects"
+    timed read_again "$folder/commit" "$folder/full.img" read "$objects"
 done > "$folder/times"
 cmp -n $((records * 2005)) "$folder/journal.img" "$folder/c.img"
 awk -v records="$records" '
@@ -31,4 +55,9 @@ awk -v records="$records" '
         printf "journal: %.3f s, %.0f appends a second\n", least["journal"], records / least["journal"]
         printf "C:       %.3f s, %.0f appends a second\n", least["c"], records / least["c"]
         printf "ratio: %.2f (at least 0.85)\n", least["c"] / least["journal"]
+        printf "store:  %.3f s, %.0f commits a second\n", least["store"], records / least["store"]
+        printf "C:      %.3f s, ratio %.2f (at least 0.85)\n", least["two_syncs"], least["two_syncs"] / least["store"]
+        printf "SQLite: %.3f s, ratio %.2f (at least 2.5)\n", least["sqlite"], least["sqlite"] / least["store"]
+        printf "from the disk: opening %.3f s, reading %.3f s, ratio %.2f (at most 1.5)\n", least["open"], least["read"], least["open"] / least["read"]
+        printf "from memory:   opening %.3f s, reading %.3f s, ratio %.2f\n", least["open_again"], least["read_again"], least["open_again"] / least["read_again"]
     }' "$folder/times"

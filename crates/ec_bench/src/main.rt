@@ -1,9 +1,10 @@
-//! ec_bench: the work that the benches of the journal, the frames, the lines and the messages time.
+//! ec_bench: the work that the benches of the journal, the store, the frames, the lines and the messages time.
 #![tactic(auto)]
 
 mod formats;
 mod frames;
 mod records;
+mod store;
 
 use anyhow::bail;
 use ec_disk::FileDisk;
@@ -20,10 +21,18 @@ fn main(rt: HostRuntime) -> anyhow::Result<()> {
         [path, records, bodies] => {
             records_and_bodies(&rt, path, records.parse::<u32>()?, bodies.parse::<u32>()?)
         }
-        [_, format, size, rounds] => {
-            formats::repeat(alloc, format, size.parse::<u32>()?, rounds.parse::<u32>()?)
+        [what, name, count, size] => {
+            let (count, size) = (count.parse::<u32>()?, size.parse::<u32>()?);
+            if what.as_str() == "commit" {
+                commit_all(&rt, name, count, size)
+            } else {
+                formats::repeat(alloc, name, count, size)
+            }
         }
-        _ => bail!("usage: ec_bench FILE RECORDS BODIES, or ec_bench formats FORMAT BYTES ROUNDS"),
+        [what, path] => fill_or_open(&rt, what, path),
+        _ => bail!(
+            "usage: ec_bench FILE RECORDS BODIES, ec_bench formats FORMAT BYTES ROUNDS, ec_bench commit FILE COMMITS BYTES, or ec_bench fill|open FILE"
+        ),
     }
 }
 
@@ -35,11 +44,45 @@ fn records_and_bodies(
     bodies: u32,
 ) -> anyhow::Result<()> {
     let alloc = rt.alloc();
-    let mut options = File::options();
-    options.read(true).write(true).create(true).truncate(true);
-    let mut disk = FileDisk::new(alloc, options.open(rt, path)?)?;
+    let mut disk = disk_at(rt, path, true)?;
     let kept = records::append_all(alloc, &mut disk, records)?;
     let taken = frames::take_all(alloc, bodies)?;
     println!(rt; "{kept} records, {taken} bodies")?;
+    Ok(())
+}
+
+// A disk over a new file, or over one that is there.
+fn disk_at(rt: &HostRuntime, path: &str, is_new: bool) -> anyhow::Result<FileDisk> {
+    let mut options = File::options();
+    options
+        .read(true)
+        .write(true)
+        .create(is_new)
+        .truncate(is_new);
+    Ok(FileDisk::new(rt.alloc(), options.open(rt, path)?)?)
+}
+
+// Commits to a store in a new file.
+fn commit_all(rt: &HostRuntime, path: &str, commits: u32, bytes: u32) -> anyhow::Result<()> {
+    let disk = disk_at(rt, path, true)?;
+    if store::commit_all(rt.alloc(), disk, commits, bytes).is_err() {
+        bail!("not committed");
+    }
+    Ok(())
+}
+
+// A full volume is written to a new file, or one is opened.
+fn fill_or_open(rt: &HostRuntime, what: &str, path: &str) -> anyhow::Result<()> {
+    let disk = disk_at(rt, path, what == "fill")?;
+    if what == "fill" {
+        if store::fill(rt.alloc(), disk).is_err() {
+            bail!("not filled");
+        }
+    } else {
+        let Ok(live) = store::open(rt.alloc(), disk) else {
+            bail!("not opened");
+        };
+        println!(rt; "{live} objects")?;
+    }
     Ok(())
 }

@@ -1,0 +1,211 @@
+// Commits to a store in a file, and the opening of a full one.
+ghost use Rattle.std.specs.Prelude.{◌≡◌, true, IfOk};
+ghost use Rattle.ec_durable.specs.Codes.{is_sound_record};
+
+use ec_codes::CodeFault;
+use ec_disk::FileDisk;
+use ec_durable::{Record, decode};
+use ec_store::{Store, StoreFault};
+use std::alloc::{AllocError, Global};
+
+/// The store or its disk failed, or memory ran out.
+#[derive(Clone, Copy, Debug, Drop)]
+pub struct NotDone;
+
+impl From<AllocError> for NotDone {
+    fn from(_: AllocError) -> Self {
+        NotDone
+    }
+}
+
+impl From<CodeFault> for NotDone {
+    fn from(_: CodeFault) -> Self {
+        NotDone
+    }
+}
+
+impl From<StoreFault> for NotDone {
+    fn from(_: StoreFault) -> Self {
+        NotDone
+    }
+}
+
+// A session of the first clerk.
+const OPEN: &[u8] = b"\x02\0\0\0\0\0\0\0\0\x01\0\0\0\0\0\0\0\0\0\0\0\x01";
+
+// Ids are granted to its session in rows of these.
+const IDS_PER_GRANT: u32 = 16;
+
+// A full volume has the root, and the objects of so many grants, of which the first ones are directories.
+const GRANTS: u32 = 63;
+
+const DIRECTORIES: u32 = 8;
+
+// Each of its files is filled by so many writes.
+const PIECES: u32 = 16;
+
+const PIECE: [u8; 4_096] = [7; 4_096];
+
+#[derive(Drop)]
+struct OnDisk {
+    store: Store,
+    disk: FileDisk,
+    // The number of the next batch.
+    number: u64,
+}
+
+/// Formats the disk, makes a file, and commits so many batches of 64 updates, each of which writes so many bytes to the file.
+pub fn commit_all(alloc: Global, disk: FileDisk, commits: u32, bytes: u32) -> Result<(), NotDone> {
+    let mut on = begin(alloc, disk)?;
+    grant(alloc, &mut on, 0)?;
+    for _ in 0..commits {
+        put_all(alloc, &mut on, 10, 64, bytes.min(1_024) as u16)?;
+    }
+    Ok(())
+}
+
+/// Formats the disk, and fills it with files of 64 KiB.
+pub fn fill(alloc: Global, disk: FileDisk) -> Result<(), NotDone> {
+    let mut on = begin(alloc, disk)?;
+    for got in 0..GRANTS {
+        grant(alloc, &mut on, got)?;
+        for quarter in 0..4 {
+            let first = got * IDS_PER_GRANT + 2 + quarter * 4;
+            if first >= DIRECTORIES + 2 {
+                put_all(alloc, &mut on, first, PIECES, 4_096)?;
+            }
+        }
+    }
+    Ok(())
+}
+
+/// Opens the disk, and tells how many objects it holds.
+pub fn open(alloc: Global, disk: FileDisk) -> Result<u32, NotDone> {
+    let mut disk = disk;
+    let store = Store::open(alloc, &mut disk)?;
+    Ok(store.view().volume.live())
+}
+
+fn begin(alloc: Global, disk: FileDisk) -> Result<OnDisk, NotDone> {
+    let mut disk = disk;
+    let store = Store::format(alloc, &mut disk, 1_024)?;
+    let mut on = OnDisk {
+        store,
+        disk,
+        number: 1,
+    };
+    commit(alloc, &mut on, OPEN)?;
+    Ok(on)
+}
+
+// The ids of a grant are granted, and their objects made.
+fn grant(alloc: Global, on: &mut OnDisk, got: u32) -> Result<(), NotDone> {
+    let first = got.saturating_mul(IDS_PER_GRANT).saturating_add(2);
+    let ids = ids(alloc, got, first)?;
+    commit(alloc, on, &ids)?;
+    let makes = makes(alloc, on.number, first)?;
+    commit_batch(alloc, on, &makes)
+}
+
+// 64 writes to the files from `first` on, so many to each, of so many bytes.
+fn put_all(
+    alloc: Global,
+    on: &mut OnDisk,
+    first: u32,
+    per_file: u32,
+    size: u16,
+) -> Result<(), NotDone> {
+    let puts = puts(alloc, on.number, first, per_file, size)?;
+    commit_batch(alloc, on, &puts)
+}
+
+fn commit_batch(alloc: Global, on: &mut OnDisk, bytes: &[u8]) -> Result<(), NotDone> {
+    on.number = on.number.saturating_add(1);
+    commit(alloc, on, bytes)
+}
+
+fn commit(alloc: Global, on: &mut OnDisk, bytes: &[u8]) -> Result<(), NotDone> {
+    let change = record(alloc, bytes)?;
+    match on.store.commit(&mut on.disk, &change) {
+        Ok(()) => Ok(()),
+        Err(_) => Err(NotDone),
+    }
+}
+
+fn record(alloc: Global, bytes: &[u8]) -> Result<Record, CodeFault>
+    ensures { IfOk result (λ change. is_sound_record change ≡ true) }
+{
+    decode(alloc, bytes)
+}
+
+fn ids(alloc: Global, got: u32, first: u32) -> Result<Vec<u8>, AllocError> {
+    let mut out = Vec::new(alloc);
+    out.extend_from_slice(b"\x04\0\0\0\0\0\0\0\0\x01")?;
+    out.extend_from_slice(&got.to_be_bytes())?;
+    out.extend_from_slice(&first.to_be_bytes())?;
+    Ok(out)
+}
+
+// A batch, behind which so many operations stand.
+fn batch(alloc: Global, number: u64, count: u8) -> Result<Vec<u8>, AllocError> {
+    let mut out = Vec::new(alloc);
+    out.extend_from_slice(b"\x01\0\0\0\0\0\0\0\0\x01")?;
+    out.extend_from_slice(&number.to_be_bytes())?;
+    out.push(count)?;
+    Ok(out)
+}
+
+// Makes the objects of a grant: directories in the root, and files in the directories.
+fn makes(alloc: Global, number: u64, first: u32) -> Result<Vec<u8>, AllocError> {
+    let mut out = batch(alloc, number, 16)?;
+    for place in 0..IDS_PER_GRANT {
+        let obj = first.saturating_add(place);
+        if obj < DIRECTORIES + 2 {
+            add_make(&mut out, 1, obj, 2)?;
+        } else {
+            add_make(&mut out, obj % DIRECTORIES + 2, obj, 1)?;
+        }
+    }
+    Ok(out)
+}
+
+// An operation whose number no rule looks at here. The name has the digits of the object's number.
+fn add_make(out: &mut Vec<u8>, dir: u32, obj: u32, kind: u8) -> Result<(), AllocError> {
+    out.extend_from_slice(b"\0\0\0\0\0\0\0\x01\x01")?;
+    out.extend_from_slice(&dir.to_be_bytes())?;
+    out.extend_from_slice(&obj.to_be_bytes())?;
+    out.extend_from_slice(&[kind, 4])?;
+    for shift in [12, 8, 4, 0] {
+        out.push(b'a' + (obj >> shift & 15) as u8)?;
+    }
+    Ok(())
+}
+
+fn puts(
+    alloc: Global,
+    number: u64,
+    first: u32,
+    per_file: u32,
+    size: u16,
+) -> Result<Vec<u8>, AllocError> {
+    let mut out = batch(alloc, number, 64)?;
+    let (mut obj, mut left, mut at) = (first, per_file, 0u32);
+    for _ in 0..64 {
+        if left == 0 {
+            (obj, left, at) = (obj.saturating_add(1), per_file, 0);
+        }
+        add_put(&mut out, obj, at, size)?;
+        left = left.saturating_sub(1);
+        at = at.saturating_add(u32::from(size));
+    }
+    Ok(out)
+}
+
+fn add_put(out: &mut Vec<u8>, obj: u32, at: u32, size: u16) -> Result<(), AllocError> {
+    out.extend_from_slice(b"\0\0\0\0\0\0\0\x01\x04")?;
+    out.extend_from_slice(&obj.to_be_bytes())?;
+    out.extend_from_slice(&at.to_be_bytes())?;
+    out.push(0)?;
+    out.extend_from_slice(&size.to_be_bytes())?;
+    out.extend_from_slice(&PIECE[..size.min(4_096) as usize])
+}
