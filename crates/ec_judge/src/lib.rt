@@ -12,6 +12,7 @@ mod laws;
 mod losses;
 mod replies;
 mod starts;
+mod touches;
 
 pub use checking::{check, kept, owed};
 pub use examples::each_rule_can_break;

@@ -1,15 +1,16 @@
 // The rules of a loss.
-ghost use Rattle.std.specs.Prelude.{◌≡◌, ℕ, T, ◌||◌, ◌&&◌, ◌++◌, ◌∷◌, [], ◌<◌, ◌+◌, not, map, drop, length, slice_index_or, slice_set, Some, None, IfOk, OnOk, MatchBool, MatchOption};
+ghost use Rattle.std.specs.Prelude.{◌≡◌, ◌==◌, ℕ, T, ◌||◌, ◌&&◌, ◌++◌, ◌∷◌, [], ◌<◌, ◌+◌, not, map, drop, length, slice_index_or, slice_set, Some, None, IfOk, OnOk, MatchBool, MatchOption};
 ghost use Rattle.std.specs.List.{filter, list_any, list_all};
 ghost use Rattle.ec_volume.specs.Update.{member, operands, is_sound, first_unfit};
 ghost use Rattle.ec_volume.specs.Volume.{images, formatted, after, Fits};
 ghost use Rattle.ec_order.specs.Order as order;
 ghost use Rattle.ec_history.specs.History.{updates, of_start, is_one_of, pairs_of};
-ghost use Rattle.ec_judge.specs.Carried.{ops_of, op_of, is_among, touching, are_kept, are_uncovered, are_untouched, are_closed, KeepsMarks, BreaksMarks, IsOwing};
+ghost use Rattle.ec_judge.specs.Carried.{ops_of, op_of, is_among, is_touched, is_in, are_kept, are_uncovered, are_untouched, are_closed, KeepsMarks, BreaksMarks, IsOwing};
 ghost use Rattle.ec_judge.specs.declared.carried.Start.{Start as StartOf};
 
-use crate::carried::{Kept, Start};
-use ec_base::{ClerkId, NoMemory, ObjId, OpNo};
+use crate::carried::{Issue, Kept, Start, Touches};
+use crate::touches::is_touched;
+use ec_base::{ClerkId, NoMemory, ObjId, OpNo, SortedMap};
 use ec_chains::has_operand;
 use ec_history::Rule;
 use ec_order::is_overwrite;
@@ -19,20 +20,22 @@ use std::alloc::Global;
 /// The first rule that a loss of these operations breaks, but for what is left of the others.
 pub fn broken(
     alloc: Global,
+    touches: &SortedMap<ObjId, Touches>,
+    pending: &[Issue],
     kept: &[Kept],
     clerk: ClerkId,
     boot: u64,
     ops: &[OpNo],
 ) -> Result<Option<Rule>, NoMemory>
-    ensures { IfOk result (λ found. MatchOption found (KeepsMarks clerk boot ops.now kept.now) (λ rule. BreaksMarks clerk boot ops.now kept.now rule)) }
+    ensures { IfOk result (λ found. MatchOption found (KeepsMarks clerk boot ops.now pending.now touches.now kept.now) (λ rule. BreaksMarks clerk boot ops.now pending.now touches.now kept.now rule)) }
 {
     if !are_kept(kept, clerk, boot, ops) {
         return Ok(Some(Rule::Named));
     }
-    if !are_uncovered(kept, clerk, boot, ops) {
+    if !are_uncovered(pending, kept, clerk, boot, ops) {
         return Ok(Some(Rule::Covered));
     }
-    if !are_untouched(kept, clerk, boot, ops) {
+    if !are_untouched(alloc, touches, kept, clerk, boot, ops)? {
         return Ok(Some(Rule::Touched));
     }
     if !are_closed(alloc, kept, clerk, boot, ops)? {
@@ -62,19 +65,41 @@ fn is_kept(kept: &[Kept], clerk: ClerkId, boot: u64, op: OpNo) -> bool
 }
 
 // Whether none of the operations is covered.
-fn are_uncovered(kept: &[Kept], clerk: ClerkId, boot: u64, ops: &[OpNo]) -> bool
-    ensures { result ≡ are_uncovered clerk boot ops.now kept.now }
+fn are_uncovered(pending: &[Issue], kept: &[Kept], clerk: ClerkId, boot: u64, ops: &[OpNo]) -> bool
+    ensures { result ≡ are_uncovered clerk boot ops.now pending.now kept.now }
 {
-    kept.iter()
-        .all(|kept| !(kept.covered && is_among(kept, clerk, boot, ops)))
+    kept.iter().all(|kept| !is_among(kept, clerk, boot, ops) || is_pending(pending, kept.number))
+}
+
+fn is_pending(pending: &[Issue], op: OpNo) -> bool
+    ensures { result ≡ is_in pending.now op }
+{
+    has_number(pending, op)
+}
+
+fn has_number(pending: &[Issue], op: OpNo) -> bool
+    ensures { result ≡ list_any (λ i. op == i.number) pending.now }
+{
+    pending.iter().any(|issue| op == issue.number)
 }
 
 // Whether none of the operations was touched.
-fn are_untouched(kept: &[Kept], clerk: ClerkId, boot: u64, ops: &[OpNo]) -> bool
-    ensures { result ≡ are_untouched clerk boot ops.now kept.now }
+fn are_untouched(
+    alloc: Global,
+    touches: &SortedMap<ObjId, Touches>,
+    kept: &[Kept],
+    clerk: ClerkId,
+    boot: u64,
+    ops: &[OpNo],
+) -> Result<bool, NoMemory>
+    ensures { IfOk result (λ are. are ≡ are_untouched clerk boot ops.now touches.now kept.now) }
 {
-    kept.iter()
-        .all(|kept| !(kept.touched && is_among(kept, clerk, boot, ops)))
+    for kept in kept {
+        if is_among(kept, clerk, boot, ops) && is_touched(alloc, touches, kept)? {
+            return Ok(false);
+        }
+    }
+    Ok(true)
 }
 
 // Whether no other operation of the start is ordered after one of these.
@@ -225,7 +250,7 @@ fn owe(
     ensures boot { start.new.boot ≡ start.old.boot }
     ensures count { start.new.count ≡ start.old.count }
     ensures owed { OnOk result (start.new.owed.items ≡ start.old.owed.items ++ pairs_of (filter (is_one_of clerk boot ops.now) (ops_of kept.now))) }
-    ensures issued { start.new.issued.items ≡ start.old.issued.items }
+    ensures pending { start.new.pending.items ≡ start.old.pending.items }
 {
     for lost in kept {
         if is_among(lost, clerk, boot, ops) {
@@ -253,33 +278,4 @@ pub fn forget(kept: &mut Vec<Kept>, clerk: ClerkId, boot: u64, ops: &[OpNo])
     ensures { kept.new.items ≡ filter (λ k. not (is_among clerk boot ops.now k)) kept.old.items }
 {
     kept.retain(|kept| !is_among(kept, clerk, boot, ops));
-}
-
-/// Marks the kept operations of other clerks that a call of this one touched.
-pub fn touch_all(kept: &mut Vec<Kept>, clerk: ClerkId, objs: &[ObjId])
-    ensures { kept.new.items ≡ map (touching clerk objs.now) kept.old.items }
-{
-    touch(kept, clerk, objs);
-}
-
-fn touch(kept: &mut [Kept], clerk: ClerkId, objs: &[ObjId])
-    ensures { kept.new ≡ map (touching clerk objs.now) kept.old }
-{
-    for at in 0..kept.len() {
-        touch_one(&mut kept[at], clerk, objs);
-    }
-}
-
-fn touch_one(kept: &mut Kept, clerk: ClerkId, objs: &[ObjId])
-    ensures { kept.new ≡ touching clerk objs.now kept.old }
-{
-    if kept.clerk != clerk && !kept.touched && is_on_one(&kept.update, objs) {
-        kept.touched = true;
-    }
-}
-
-fn is_on_one(update: &Update, objs: &[ObjId]) -> bool
-    ensures { result ≡ list_any (λ o. member o objs.now) (operands update.now) }
-{
-    shares(objs, update)
 }
