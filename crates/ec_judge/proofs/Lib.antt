@@ -7,6 +7,7 @@ pub mod AllStarts
 pub mod Lost
 pub mod Touched
 pub mod Pending
+pub mod Indexes
 pub mod Volumes
 pub mod Loops
 pub mod Steps

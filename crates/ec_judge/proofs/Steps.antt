@@ -375,9 +375,9 @@ unchanged c b d f ss s s' found is = go (same_start c b d f) refl
     go false e = refl
 
 -- the marks of a start's operations, by what is pending of it
-uncovered-same : (c b : ℕ) (ns : List ℕ) (ss : List Start) (is : List Issue) (ks : List Kept) → is ≡ pending_of (find (is_start c b) ss) → are_uncovered c b ns is ks ≡ list_all (λ k. not (is_covered ss k && is_among c b ns k)) ks
+uncovered-same : (c b : ℕ) (ns : List ℕ) (ss : List Start) (is : List ℕ) (ks : List Kept) → is ≡ numbers_in (pending_of (find (is_start c b) ss)) → are_uncovered c b ns is ks ≡ list_all (λ k. not (is_covered ss k && is_among c b ns k)) ks
 uncovered-same c b ns ss is [] e = refl
-uncovered-same c b ns ss is (k ∷ ks) e = ap (λ z. (not (is_among c b ns k) || is_in is k.number) && z) (uncovered-same c b ns ss is ks e) ∙ ap (λ z. z && list_all (λ k. not (is_covered ss k && is_among c b ns k)) ks) (go (is_among c b ns k) refl)
+uncovered-same c b ns ss is (k ∷ ks) e = ap (λ z. (not (is_among c b ns k) || member k.number is) && z) (uncovered-same c b ns ss is ks e) ∙ ap (λ z. z && list_all (λ k. not (is_covered ss k && is_among c b ns k)) ks) (go (is_among c b ns k) refl)
   where
     off : (x : Bool) → true ≡ not (x && false)
     off true = refl
@@ -387,15 +387,15 @@ uncovered-same c b ns ss is (k ∷ ks) e = ap (λ z. (not (is_among c b ns k) ||
     on true = refl
     on false = refl
 
-    go : (x : Bool) → is_among c b ns k ≡ x → (not x || is_in is k.number) ≡ not (is_covered ss k && x)
+    go : (x : Bool) → is_among c b ns k ≡ x → (not x || member k.number is) ≡ not (is_covered ss k && x)
     go true d =
         let parts = and_parts (of_start c b (op_of k)) (member k.number ns) d in
         let start = and_parts (c == k.clerk) (b == k.boot) parts.0 in
-        ap (λ l. is_in l k.number) (e ∙ ap (λ x. pending_of (find (is_start x b) ss)) (eqb-true c k.clerk start.0) ∙ ap (λ x. pending_of (find (is_start k.clerk x) ss)) (eqb-true b k.boot start.1))
+        ap (member k.number) (e ∙ ap (λ x. numbers_in (pending_of (find (is_start x b) ss))) (eqb-true c k.clerk start.0) ∙ ap (λ x. numbers_in (pending_of (find (is_start k.clerk x) ss))) (eqb-true b k.boot start.1))
         ∙ on (is_in (pending_of (find (is_start k.clerk k.boot) ss)) k.number)
     go false d = off (is_covered ss k)
 
-module _ (most : ℕ) (past : History) (p c b : ℕ) (ns : List ℕ) (j : Judge) (h : Carries F past j) (is : List Issue) (is-are : is ≡ pending_of (find (is_start c b) j.starts.items)) where
+module _ (most : ℕ) (past : History) (p c b : ℕ) (ns : List ℕ) (j : Judge) (h : Carries F past j) (is : List ℕ) (is-are : is ≡ numbers_in (pending_of (find (is_start c b) j.starts.items))) where
   abbrev lost : ℕ × Entry
   lost = (p, entry.Loss c b ns)
 

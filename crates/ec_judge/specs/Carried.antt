@@ -166,8 +166,8 @@ IsFitting (Some u) v = T (is_sound u) × (first_unfit u v (operands u) ≡ None)
 abbrev pub are_kept : ℕ → ℕ → List ℕ → List Kept → Bool
 are_kept c b ns ks = list_all (λ n. list_any (λ k. is_among c b (n ∷ []) k) ks) ns
 
-abbrev pub are_uncovered : ℕ → ℕ → List ℕ → List Issue → List Kept → Bool
-are_uncovered c b ns is ks = list_all (λ k. not (is_among c b ns k) || is_in is k.number) ks
+abbrev pub are_uncovered : ℕ → ℕ → List ℕ → List ℕ → List Kept → Bool
+are_uncovered c b ns pending ks = list_all (λ k. not (is_among c b ns k) || member k.number pending) ks
 
 abbrev pub are_untouched : ℕ → ℕ → List ℕ → Table Touches → List Kept → Bool
 are_untouched c b ns ts ks = list_all (λ k. not (is_touched ts k && is_among c b ns k)) ks
@@ -175,16 +175,16 @@ are_untouched c b ns ts ks = list_all (λ k. not (is_touched ts k && is_among c 
 abbrev pub are_closed : ℕ → ℕ → List ℕ → List Kept → Bool
 are_closed c b ns ks = is_closed (is_one_of c b ns) (filter (of_start c b) (ops_of ks))
 
-abbrev pub BreaksMarks : ℕ → ℕ → List ℕ → List Issue → Table Touches → List Kept → Rule → Type 0
-BreaksMarks c b ns is ts ks rule.Named = are_kept c b ns ks ≡ false
-BreaksMarks c b ns is ts ks rule.Covered = (are_kept c b ns ks ≡ true) × (are_uncovered c b ns is ks ≡ false)
-BreaksMarks c b ns is ts ks rule.Touched = (are_kept c b ns ks ≡ true) × (are_uncovered c b ns is ks ≡ true) × (are_untouched c b ns ts ks ≡ false)
-BreaksMarks c b ns is ts ks rule.Closed = (are_kept c b ns ks ≡ true) × (are_uncovered c b ns is ks ≡ true) × (are_untouched c b ns ts ks ≡ true) × (are_closed c b ns ks ≡ false)
-BreaksMarks c b ns is ts ks _ = ⊥
+abbrev pub BreaksMarks : ℕ → ℕ → List ℕ → List ℕ → Table Touches → List Kept → Rule → Type 0
+BreaksMarks c b ns pending ts ks rule.Named = are_kept c b ns ks ≡ false
+BreaksMarks c b ns pending ts ks rule.Covered = (are_kept c b ns ks ≡ true) × (are_uncovered c b ns pending ks ≡ false)
+BreaksMarks c b ns pending ts ks rule.Touched = (are_kept c b ns ks ≡ true) × (are_uncovered c b ns pending ks ≡ true) × (are_untouched c b ns ts ks ≡ false)
+BreaksMarks c b ns pending ts ks rule.Closed = (are_kept c b ns ks ≡ true) × (are_uncovered c b ns pending ks ≡ true) × (are_untouched c b ns ts ks ≡ true) × (are_closed c b ns ks ≡ false)
+BreaksMarks c b ns pending ts ks _ = ⊥
 
-pub record KeepsMarks (c b : ℕ) (ns : List ℕ) (is : List Issue) (ts : Table Touches) (ks : List Kept) : Type 0 where
+pub record KeepsMarks (c b : ℕ) (ns : List ℕ) (pending : List ℕ) (ts : Table Touches) (ks : List Kept) : Type 0 where
   pub kept : are_kept c b ns ks ≡ true
-  pub uncovered : are_uncovered c b ns is ks ≡ true
+  pub uncovered : are_uncovered c b ns pending ks ≡ true
   pub untouched : are_untouched c b ns ts ks ≡ true
   pub closed : are_closed c b ns ks ≡ true
 

@@ -8,6 +8,7 @@ ghost use Rattle.ec_history.specs.declared.entry.Entry.TheVariants as entry;
 ghost use Rattle.ec_judge.specs.Carried.{Carries, IsReady, Judges, ops_of};
 
 use crate::carried::{Issuer, Judge};
+use crate::index::Numbers;
 use crate::{calls, covers, losses, starts, touches};
 use ec_base::{ClerkId, NoMemory, ObjId, OpNo, SortedMap};
 use ec_history::{Answer, Entry, Rule};
@@ -109,6 +110,20 @@ impl Judge {
         clerk: ClerkId,
         boot: u64,
         ops: &[OpNo],
+    ) -> Result<Option<Rule>, NoMemory>
+        requires { T (list_all is_sound (updates (ops_of self.old.kept.items))) }
+        ensures { IfOk result (λ found. (most turn p : ℕ) → Judges most turn self.old self.new (p, entry.Loss clerk boot ops.now) found) }
+    {
+        let ops = Numbers::of(self.alloc, Vec::from_slice(self.alloc, ops)?)?;
+        self.judge_lost(clerk, boot, &ops)
+    }
+
+    // The same, by an index of the lost operations.
+    fn judge_lost(
+        &mut self,
+        clerk: ClerkId,
+        boot: u64,
+        ops: &Numbers,
     ) -> Result<Option<Rule>, NoMemory>
         requires { T (list_all is_sound (updates (ops_of self.old.kept.items))) }
         ensures { IfOk result (λ found. (most turn p : ℕ) → Judges most turn self.old self.new (p, entry.Loss clerk boot ops.now) found) }

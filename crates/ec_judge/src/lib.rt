@@ -7,6 +7,7 @@ mod checking;
 mod covers;
 mod examples;
 mod fault;
+mod index;
 mod judge;
 mod laws;
 mod losses;
