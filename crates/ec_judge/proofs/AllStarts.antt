@@ -13,6 +13,7 @@ use Rattle.std.proofs.lemmas.List.Sums.{passes_at_first, position_or_len_is}
 use Rattle.std.proofs.lemmas.List.Sums.{prefix_len-le-length}
 use Rattle.ec_volume.specs.declared.update.Update.{Update}
 use Rattle.ec_plain.specs.declared.call.Call.{Call}
+use Rattle.ec_plain.specs.declared.call.Outcome.{Outcome}
 use Rattle.ec_history.specs.declared.entry.Answer.{Answer}
 use Rattle.ec_history.specs.History.{Base, History, Op, Owed, meets, pairs_of, is_one_of, same_start, of_start, kept, issued, issued_by, owed, owed_next, outcome}
 use Rattle.ec_history.specs.Legal.{is_op_of}
@@ -20,8 +21,7 @@ use Rattle.ec_history.specs.declared.entry.Entry.{Entry}
 use Rattle.ec_history.specs.declared.entry.Entry.TheVariants as entry
 use Rattle.ec_laws.proofs.More.{issued-step, owed-step, count-next}
 use Rattle.ec_judge.specs.declared.carried.Start.{Start}
-use Rattle.ec_judge.specs.declared.carried.Issue.{Issue}
-use Rattle.ec_judge.specs.Carried.{IsStart, op_at, is_start, count_of, owed_of, issued_of}
+use Rattle.ec_judge.specs.Carried.{IsStart, IsUpward, issue_of, issues_in, issues_of, is_in, is_start, count_of, owed_of, pending_of}
 
 -- the clerk and the start of an entry
 abbrev pub clerk_of : Entry → ℕ
@@ -55,36 +55,44 @@ pub other-start : (base : Base) (past : History) (e : ℕ × Entry) (d f : ℕ) 
 other-start base past e d f s n h = record {
   count = h.count ∙ sym (count-next d f past e ∙ cond-false (is_op_of d f e) _ (length (filter (is_op_of d f) past)) (other-count d f e n));
   owed = h.owed ∙ sym (owed-step base past e d f ∙ other-owed base (kept base past) (owed base past d f) d f e n);
-  issued =
-      h.issued
-      ∙ sym (ap (filter (of_start d f)) (issued-step base past e) ∙ filter-append (of_start d f) (issued base past) (issued_by base (kept base past) e) ∙ ap (λ l. filter (of_start d f) (issued base past) ++ l) (other-issued base (kept base past) d f e n) ∙ append-nil _);
+  pending = subst (λ is. pending_of s ≡ filter (λ i. is_in (pending_of s) i.number) is) (sym same-issues) h.pending;
+  upward = subst (IsUpward (is_in (pending_of s))) (sym same-issues) h.upward;
 }
+  where
+    same-issues : issues_in d f (issued base (past ++ e ∷ [])) ≡ issues_in d f (issued base past)
+    same-issues = ap (map issue_of) (ap (filter (of_start d f)) (issued-step base past e) ∙ filter-append (of_start d f) (issued base past) (issued_by base (kept base past) e) ∙ ap (λ l. filter (of_start d f) (issued base past) ++ l) (other-issued base (kept base past) d f e n) ∙ append-nil _)
 
 -- The entry's own start.
 
 own-start : (c b : ℕ) → same_start c b c b ≡ true
 own-start c b = grind (arith, nat_tests)
 
-pub own-issued : (base : Base) (past : History) (p c b l g : ℕ) (cl : _) (a : _) (op : Option ℕ) (is js : List Issue) → map (op_at c b) is ≡ filter (of_start c b) (issued base past) → map (op_at c b) js ≡ issued_by base (kept base past) (p, entry.Call c b l g cl a op)
-    → map (op_at c b) (is ++ js) ≡ filter (of_start c b) (issued base (past ++ (p, entry.Call c b l g cl a op) ∷ []))
-own-issued base past p c b l g cl a op is js h k =
-    map-append is js ∙ ap (λ l. l ++ map (op_at c b) js) h ∙ ap (λ l. filter (of_start c b) (issued base past) ++ l) (k ∙ sym (own op))
-    ∙ sym (ap (filter (of_start c b)) (issued-step base past e) ∙ filter-append (of_start c b) (issued base past) (issued_by base (kept base past) e))
+pub own-issued : (base : Base) (past : History) (p c b l g : ℕ) (cl : _) (a : _) (op : Option ℕ) (out : Outcome) → out ≡ outcome base (kept base past) p cl
+    → issues_in c b (issued base (past ++ (p, entry.Call c b l g cl a op) ∷ [])) ≡ issues_in c b (issued base past) ++ issues_of p op out.update
+own-issued base past p c b l g cl a op out same =
+    ap (issues_in c b) (issued-step base past e)
+    ∙ ap (map issue_of) (filter-append (of_start c b) (issued base past) (issued_by base (kept base past) e))
+    ∙ map-append (filter (of_start c b) (issued base past)) (filter (of_start c b) (issued_by base (kept base past) e))
+    ∙ ap (λ js. issues_in c b (issued base past) ++ js) (own op ∙ ap (λ o. issues_of p op o.update) (sym same))
   where
     e : ℕ × Entry
     e = (p, entry.Call c b l g cl a op)
 
-    map-append : (xs ys : List Issue) → map (op_at c b) (xs ++ ys) ≡ map (op_at c b) xs ++ map (op_at c b) ys
+    map-append : (xs ys : List Op) → map issue_of (xs ++ ys) ≡ map issue_of xs ++ map issue_of ys
     map-append [] ys = refl
-    map-append (x ∷ xs) ys = ap (λ z. op_at c b x ∷ z) (map-append xs ys)
+    map-append (x ∷ xs) ys = ap (λ z. issue_of x ∷ z) (map-append xs ys)
 
-    own : (x : Option ℕ) → filter (of_start c b) (issued_by base (kept base past) (p, entry.Call c b l g cl a x)) ≡ issued_by base (kept base past) (p, entry.Call c b l g cl a x)
+    own : (x : Option ℕ) → issues_in c b (issued_by base (kept base past) (p, entry.Call c b l g cl a x)) ≡ issues_of p x (outcome base (kept base past) p cl).update
     own None = refl
     own (Some n) = go ((outcome base (kept base past) p cl).update)
       where
-        go : (u : Option Update) → filter (of_start c b) (elim u [ None ↦ [] | Some w ↦ record { clerk = c; boot = b; number = n; place = p; update = w } ∷ [] ]) ≡ elim u [ None ↦ [] | Some w ↦ record { clerk = c; boot = b; number = n; place = p; update = w } ∷ [] ]
+        go : (u : Option Update) → issues_in c b (elim u [ None ↦ [] | Some w ↦ record { clerk = c; boot = b; number = n; place = p; update = w } ∷ [] ]) ≡ issues_of p (Some n) u
         go None = refl
-        go (Some w) = ap (λ x. cond x (record { clerk = c; boot = b; number = n; place = p; update = w } ∷ []) []) (own-start c b)
+        go (Some w) = ap (λ x. map issue_of (cond x (record { clerk = c; boot = b; number = n; place = p; update = w } ∷ []) [])) (own-start c b)
+
+-- a loss issues nothing
+pub lost-issued : (base : Base) (past : History) (p c b d f : ℕ) (ns : List ℕ) → issues_in d f (issued base (past ++ (p, entry.Loss c b ns) ∷ [])) ≡ issues_in d f (issued base past)
+lost-issued base past p c b d f ns = ap (issues_in d f) (issued-step base past (p, entry.Loss c b ns) ∙ append-nil (issued base past))
 
 pub own-count : (past : History) (p c b l g : ℕ) (cl : _) (a : _) (op : Option ℕ) → length (filter (is_op_of c b) (past ++ (p, entry.Call c b l g cl a op) ∷ [])) ≡ cond (is_some op) (length (filter (is_op_of c b) past) + 1) (length (filter (is_op_of c b) past))
 own-count past p c b l g cl a op =
@@ -134,8 +142,8 @@ none-passes q (s ∷ ss) h = position_or_len_is q (s ∷ ss) (length (s ∷ ss))
 pub found-at : (q : Start → Bool) (ss : List Start) (i : ℕ) (s : Start) → i ≡ position_or_len q ss → i < length ss → s ≡ get_or ss i s → find q ss ≡ Some s
 found-at q ss i s at within is = find_at q ss ∙ ap (slice_get ss) (sym at) ∙ slice_get_read ss (length ss) i s refl within is
 
-pub start-same : (base : Base) (past : History) (c b : ℕ) (x y : Option Start) → IsStart base past c b x → count_of y ≡ count_of x → owed_of y ≡ owed_of x → issued_of y ≡ issued_of x → IsStart base past c b y
-start-same base past c b x y h n o i = record { count = n ∙ h.count; owed = o ∙ h.owed; issued = ap (map (op_at c b)) i ∙ h.issued }
+pub start-same : (base : Base) (past : History) (c b : ℕ) (x y : Option Start) → IsStart base past c b x → count_of y ≡ count_of x → owed_of y ≡ owed_of x → pending_of y ≡ pending_of x → IsStart base past c b y
+start-same base past c b x y h n o i = record { count = n ∙ h.count; owed = o ∙ h.owed; pending = subst (λ is. is ≡ filter (λ i. is_in is i.number) (issues_in c b (issued base past))) (sym i) h.pending; upward = subst (λ is. IsUpward (is_in is) (issues_in c b (issued base past))) (sym i) h.upward }
 
 -- A start that has done nothing is as none.
 pub found-more : {X : Type 0} (g : Option Start → X) (q : Start → Bool) (ss : List Start) (s : Start) → g (Some s) ≡ g None → g (find q (ss ++ s ∷ [])) ≡ g (find q ss)
@@ -165,3 +173,27 @@ module _ (q : Start → Bool) (ss : List Start) (i : ℕ) (s : Start) (within : 
 
   pub found-here : q s ≡ true → find q (drop i ss) ≡ Some s
   found-here e = ap (find q) back-more ∙ cond-true (q s) (Some s) (find q (drop (i + 1) ss)) e
+
+-- What is pending where one start is changed.
+pub pending-set : (c b : ℕ) (ss : List Start) (i : ℕ) (s : Start) → i ≡ position_or_len (is_start c b) ss → i < length ss → s.clerk ≡ c → s.boot ≡ b
+    → (d f : ℕ) → pending_of (find (is_start d f) (set ss i s)) ≡ cond (same_start c b d f) s.pending.items (pending_of (find (is_start d f) ss))
+pending-set c b ss i s at within sc sb d f = go (same_start c b d f) refl
+  where
+    mine : is_start c b s ≡ true
+    mine = ap (λ x. (c == x) && (b == s.boot)) sc ∙ ap (λ x. (c == c) && (b == x)) sb ∙ own-start c b
+
+    old : is_start c b (get_or ss i s) ≡ true
+    old = ap (λ j. is_start c b (get_or ss j s)) at ∙ passes_at_first (is_start c b) ss s (subst (λ j. j < length ss) at within)
+
+    flip : (x y : ℕ) → (x == y) ≡ (y == x)
+    flip x y = grind (arith, nat_tests)
+
+    go : (x : Bool) → same_start c b d f ≡ x → pending_of (find (is_start d f) (set ss i s)) ≡ cond x s.pending.items (pending_of (find (is_start d f) ss))
+    go true y =
+        let parts = and_parts (c == d) (b == f) y in
+        ap (λ x. pending_of (find (is_start x f) (set ss i s))) (sym (eqb-true c d parts.0)) ∙ ap (λ x. pending_of (find (is_start c x) (set ss i s))) (sym (eqb-true b f parts.1)) ∙ ap pending_of (find-set (is_start c b) ss i s at within mine)
+    go false y =
+        let apart : (t : Start) → is_start c b t ≡ true → is_start d f t ≡ false = λ t m.
+        let parts = and_parts (c == t.clerk) (b == t.boot) m in
+        ap (λ x. (d == x) && (f == t.boot)) (sym (eqb-true c t.clerk parts.0)) ∙ ap (λ x. (d == c) && (f == x)) (sym (eqb-true b t.boot parts.1)) ∙ ap (λ x. x && (f == b)) (flip d c) ∙ ap (λ x. (c == d) && x) (flip f b) ∙ y in
+        ap pending_of (find_past (is_start d f) ss i s s (apart (get_or ss i s) old) (apart s mine))

@@ -1,8 +1,7 @@
 -- What a call asks to be durable, by what its start issued.
-use Rattle.std.proofs.Common.{◌≡◌, refl, sym, ap, ◌∙◌, arith, ℕ, suc, Bool, true, false, ◌&&◌, cond, map, List, [], ◌∷◌, Option, Some, None, length, get_or, ◌+◌, ◌-◌, ◌<◌}
+use Rattle.std.proofs.Common.{◌≡◌, refl, sym, ap, ◌∙◌, arith, ℕ, suc, Bool, true, false, ◌&&◌, cond, map, List, [], ◌∷◌, Option, Some, None, length, ◌+◌, ◌-◌}
 use Rattle.std.specs.Prelude.{nat_le, slice_get}
 use Rattle.std.specs.List.{filter}
-use Rattle.std.proofs.lemmas.List.{get_or-map}
 use Rattle.ec_volume.specs.Entries.{entry}
 use Rattle.ec_volume.specs.Image.{is_gone}
 use Rattle.ec_volume.specs.declared.image.Image.{Image}
@@ -24,8 +23,9 @@ use Rattle.ec_history.specs.declared.entry.Answer.{Answer}
 use Rattle.ec_history.specs.declared.entry.Answer.TheVariants as answer
 use Rattle.ec_history.specs.declared.entry.Entry.TheVariants as entry
 use Rattle.ec_judge.specs.declared.carried.Issue.{Issue}
-use Rattle.ec_judge.specs.Carried.{op_at, numbered}
-use Rattle.ec_judge.specs.Rules.{asked_by, asked_of}
+use Rattle.ec_judge.specs.declared.covers.Asked.TheVariants as asked
+use Rattle.ec_judge.specs.Carried.{issue_of, issues_in, numbers_in, numbered, is_asked}
+use Rattle.ec_judge.specs.Rules.{asked_on, asked_by_call}
 
 regroup : (p q r : Op → Bool) (ks : List Op) → filter (λ k. (p k && q k) && r k) ks ≡ filter (λ k. p k && (q k && r k)) ks
 regroup p q r [] = refl
@@ -44,34 +44,38 @@ module _ (c b : ℕ) where
       go true r = ap (λ l. cond (q k) (k ∷ l) l) r
       go false r = r
 
-  of-issues : (q : Op → Bool) (is : List Issue) → numbers (filter q (map (op_at c b) is)) ≡ map (λ i. i.number) (filter (λ i. q (op_at c b i)) is)
+  of-issues : (q : Issue → Bool) (ks : List Op) → numbers (filter (λ k. q (issue_of k)) ks) ≡ numbers_in (filter q (map issue_of ks))
   of-issues q [] = refl
-  of-issues q (i ∷ is) = go (q (op_at c b i)) (of-issues q is)
+  of-issues q (k ∷ ks) = go (q (issue_of k)) (of-issues q ks)
     where
-      go : (x : Bool) → numbers (filter q (map (op_at c b) is)) ≡ map (λ i. i.number) (filter (λ i. q (op_at c b i)) is) → numbers (cond x (op_at c b i ∷ filter q (map (op_at c b) is)) (filter q (map (op_at c b) is))) ≡ map (λ i. i.number) (cond x (i ∷ filter (λ i. q (op_at c b i)) is) (filter (λ i. q (op_at c b i)) is))
-      go true r = ap (λ l. i.number ∷ l) r
+      go : (x : Bool) → numbers (filter (λ k. q (issue_of k)) ks) ≡ numbers_in (filter q (map issue_of ks)) → numbers (cond x (k ∷ filter (λ k. q (issue_of k)) ks) (filter (λ k. q (issue_of k)) ks)) ≡ numbers_in (cond x (issue_of k ∷ filter q (map issue_of ks)) (filter q (map issue_of ks)))
+      go true r = ap (λ l. k.number ∷ l) r
       go false r = r
 
-  pub issues-numbered : (is : List Issue) → map {B = ℕ × Update} (λ k. (k.number, k.update)) (map (op_at c b) is) ≡ numbered is
+  issues-numbered : (ks : List Op) → map {B = ℕ × Update} (λ k. (k.number, k.update)) ks ≡ numbered (map issue_of ks)
   issues-numbered [] = refl
-  issues-numbered (i ∷ is) = ap (λ l. (i.number, i.update) ∷ l) (issues-numbered is)
+  issues-numbered (k ∷ ks) = ap (λ l. (k.number, k.update) ∷ l) (issues-numbered ks)
 
-  module _ (base : Base) (past : History) (is : List Issue) (same : map (op_at c b) is ≡ filter (of_start c b) (issued base past)) where
-    all-of : (q : Op → Bool) → numbers (filter (λ k. of_start c b k && q k) (issued base past)) ≡ map (λ i. i.number) (filter (λ i. q (op_at c b i)) is)
-    all-of q = ap numbers (own-part q (issued base past)) ∙ ap (λ ks. numbers (filter q ks)) (sym same) ∙ of-issues q is
+  none-of : (ks : List Issue) → [] ≡ numbers_in (filter (λ i. false) ks)
+  none-of [] = refl
+  none-of (k ∷ ks) = none-of ks
 
-    pub asks-same : (p l g : ℕ) (cl : Call) (a : Answer) (op : Option ℕ) → asks base past (p, entry.Call c b l g cl a op) ≡ asked_by (after base.volume (updates (kept base past))) is g cl a
+  pub issue-same : (ks : List Op) → of_issue c b ks ≡ numbered (issues_in c b ks)
+  issue-same ks = issues-numbered (filter (of_start c b) ks)
+
+  module _ (base : Base) (past : History) where
+    all-of : (q : Issue → Bool) → numbers (filter (λ k. of_start c b k && q (issue_of k)) (issued base past)) ≡ numbers_in (filter q (issues_in c b (issued base past)))
+    all-of q = ap numbers (own-part (λ k. q (issue_of k)) (issued base past)) ∙ of-issues q (filter (of_start c b) (issued base past))
+
+    pub asks-same : (p l g : ℕ) (cl : Call) (a : Answer) (op : Option ℕ) → asks base past (p, entry.Call c b l g cl a op) ≡ numbers_in (filter (is_asked (asked_on (after base.volume (updates (kept base past))) g cl a)) (issues_in c b (issued base past)))
     asks-same p l g (call.Fsync path) (answer.Reply reply.Ok) op = go ((walk (after base.volume (updates (kept base past))) path).to)
       where
         go : (r : Reached) → ◌≡◌ {A = List ℕ} (elim r [ At o ↦ numbers (filter (λ k. of_start c b k && nat_le k.place g && has_operand o k.update) (issued base past)) | Not n ↦ [] ])
-            (elim r [ At o ↦ map (λ i. i.number) (filter (λ i. nat_le i.place g && has_operand o i.update) is) | Not n ↦ [] ])
-        go (At o) = ap numbers (regroup (λ k. of_start c b k) (λ k. nat_le k.place g) (λ k. has_operand o k.update) (issued base past)) ∙ all-of (λ k. nat_le k.place g && has_operand o k.update)
-        go (Not n) = refl
-    asks-same p l g call.Sync (answer.Reply reply.Ok) op = all-of (λ k. nat_le k.place g)
-    asks-same p l g cl a op = refl
-
-    pub issue-same : of_issue c b (issued base past) ≡ numbered is
-    issue-same = ap (map (λ k. (k.number, k.update))) (sym same) ∙ issues-numbered is
+            (numbers_in (filter (is_asked (elim r [ At o ↦ asked.On o g | Not n ↦ asked.Nothing ])) (issues_in c b (issued base past))))
+        go (At o) = ap numbers (regroup (λ k. of_start c b k) (λ k. nat_le k.place g) (λ k. has_operand o k.update) (issued base past)) ∙ all-of (λ i. nat_le i.place g && has_operand o i.update)
+        go (Not n) = none-of (issues_in c b (issued base past))
+    asks-same p l g call.Sync (answer.Reply reply.Ok) op = all-of (λ i. nat_le i.place g)
+    asks-same p l g cl a op = none-of (issues_in c b (issued base past))
 
 -- A walk that reaches an object read it last.
 
@@ -126,8 +130,8 @@ walk-last v i o [] p e = end-last i o p (is_gone (v o)) e
 walk-last v i o (n ∷ ns) p e = last-more o (next-of v p n i (v o) (λ q. walk_from v (i + 1) q ns)).read p (next-last v p n i (v o) (λ q. walk_from v (i + 1) q ns) (λ q h. walk-last v (i + 1) q ns p h) e)
 
 -- What an answered call asks, by what it touched.
-pub asked-same : (v : Images) (f : ℕ) (out : Outcome) (is : List Issue) (g : ℕ) (cl : Call) (a : Answer) (op : Option ℕ) → out ≡ plain v cl f → IsReply out a op → asked_of out.touched is g cl a ≡ asked_by v is g cl a
-asked-same v f out is g (call.Fsync path) (answer.Reply reply.Ok) op e r = reached ((walk v path).to) refl
+pub asked-same : (v : Images) (f : ℕ) (out : Outcome) (g : ℕ) (cl : Call) (a : Answer) (op : Option ℕ) → out ≡ plain v cl f → IsReply out a op → asked_by_call out.touched g cl a ≡ asked_on v g cl a
+asked-same v f out g (call.Fsync path) (answer.Reply reply.Ok) op e r = reached ((walk v path).to) refl
   where
     ok : reply.Ok ≡ (plain v (call.Fsync path) f).reply
     ok = r.0 ∙ ap (λ o. o.reply) e
@@ -135,17 +139,11 @@ asked-same v f out is g (call.Fsync path) (answer.Reply reply.Ok) op e r = reach
     not-ok : (n : Refusal) → reply.Ok ≡ reply.Refused n → ⊥
     not-ok n e = cc
 
-    reached : (t : Reached) → (walk v path).to ≡ t → asked_of out.touched is g (call.Fsync path) (answer.Reply reply.Ok) ≡ elim t [ At o ↦ map (λ i. i.number) (filter (λ i. nat_le i.place g && has_operand o i.update) is) | Not n ↦ [] ]
+    reached : (t : Reached) → (walk v path).to ≡ t → asked_by_call out.touched g (call.Fsync path) (answer.Reply reply.Ok) ≡ asked_on v g (call.Fsync path) (answer.Reply reply.Ok)
     reached (At o) q =
-        ap (λ os. elim (slice_get os (length os - 1)) [ Some o ↦ map (λ i. i.number) (filter (λ i. nat_le i.place g && has_operand o i.update) is) | None ↦ [] ]) (ap (λ x. x.touched) e ∙ ap (λ t. (on_reached (record { to = t; read = (walk v path).read }) (λ o os. answers reply.Ok os)).touched) q)
-        ∙ ap (λ x. elim x [ Some o ↦ map (λ i. i.number) (filter (λ i. nat_le i.place g && has_operand o i.update) is) | None ↦ [] ]) (walk-last v 0 root path o q)
+        ap (λ os. elim (slice_get os (length os - 1)) [ Some o ↦ asked.On o g | None ↦ asked.Nothing ]) (ap (λ x. x.touched) e ∙ ap (λ t. (on_reached (record { to = t; read = (walk v path).read }) (λ o os. answers reply.Ok os)).touched) q)
+        ∙ ap (λ x. elim x [ Some o ↦ asked.On o g | None ↦ asked.Nothing ]) (walk-last v 0 root path o q)
+        ∙ sym (ap (λ t. elim t [ At o ↦ asked.On o g | Not r ↦ asked.Nothing ]) q)
     reached (Not n) q = absurd (not-ok n (ok ∙ ap (λ t. (on_reached (record { to = t; read = (walk v path).read }) (λ o os. answers reply.Ok os)).reply) q))
-asked-same v f out is g call.Sync (answer.Reply reply.Ok) op e r = refl
-asked-same v f out is g cl a op e r = refl
-
-pub numbered-at : (is : List Issue) (n : ℕ) (i : Issue) → n < length is → i ≡ get_or is n i → (i.number, i.update) ≡ get_or (numbered is) n (i.number, i.update)
-numbered-at is n i l e = ap {B = ℕ × Update} (λ x. (x.number, x.update)) e ∙ sym (get_or-map {Y = ℕ × Update} (λ x. (x.number, x.update)) is n i (i.number, i.update) l)
-
-pub numbered-length : (is : List Issue) → length (numbered is) ≡ length is
-numbered-length [] = refl
-numbered-length (i ∷ is) = ap suc (numbered-length is)
+asked-same v f out g call.Sync (answer.Reply reply.Ok) op e r = refl
+asked-same v f out g cl a op e r = refl

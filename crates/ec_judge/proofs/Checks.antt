@@ -5,7 +5,7 @@ use Rattle.std.proofs.lemmas.Bool.Decides.{nat_tests}
 use Rattle.ec_plain.specs.declared.call.Outcome.{Outcome}
 use Rattle.ec_laws.proofs.Objects.{holds}
 use Rattle.std.specs.List.{list_all}
-use Rattle.std.proofs.lemmas.List.{take_more, take-append-drop}
+use Rattle.std.proofs.lemmas.List.{take_more, take-append-drop, length-take-le}
 use Rattle.ec_volume.specs.Image.{is_gone}
 use Rattle.ec_volume.specs.Update.{distinct, member, is_sound}
 use Rattle.ec_volume.specs.Volume.{images, after, WellFormed}
@@ -86,6 +86,9 @@ module _ (h : History) (i : ℕ) (e : ℕ × Entry) (within : i < length h) (is 
   lines-at : AreAtLines h → AreAtLines (take i h ++ e ∷ [])
   lines-at a = lines-front (take i h ++ e ∷ []) (drop (i + 1) h) (subst AreAtLines (sym (append_assoc (take i h) (e ∷ []) (drop (i + 1) h) ∙ cut-at)) a)
 
+  turn : i ≡ length (take i h)
+  turn = sym (length-take-le i h (omega (arith, within)))
+
   pub ready-at : (most : ℕ) (j : Judge) → AreAtLines h → Carries from_formatted (take i h) j → IsLegal from_formatted most (take i h) → IsReady j e
   ready-at most j a c l = ready most (take i h) e j (lines-at a) c l
 
@@ -97,13 +100,13 @@ module _ (h : History) (i : ℕ) (e : ℕ × Entry) (within : i < length h) (is 
       at (x ∷ g) zero l f = f.0
       at (x ∷ g) (suc n) l f = at g n (omega (arith, l)) f.1
 
-  pub judged-next : (most : ℕ) (j j' : Judge) → Carries from_formatted (take i h) j → IsLegal from_formatted most (take i h) → Judges most j j' e None → Carries from_formatted (take (i + 1) h) j' × IsLegal from_formatted most (take (i + 1) h)
+  pub judged-next : (most : ℕ) (j j' : Judge) → Carries from_formatted (take i h) j → IsLegal from_formatted most (take i h) → Judges most i j j' e None → Carries from_formatted (take (i + 1) h) j' × IsLegal from_formatted most (take (i + 1) h)
   judged-next most j j' c l f =
-      let both = f (take i h) c l in
+      let both = f (take i h) turn c l in
       (subst (λ g. Carries from_formatted g j') (sym front-more) both.1, subst (IsLegal from_formatted most) (sym front-more) (legal-step from_formatted most (take i h) e l both.0))
 
-  pub judged-fault : (most : ℕ) (j j' : Judge) (r : Rule) → Carries from_formatted (take i h) j → IsLegal from_formatted most (take i h) → Judges most j j' e (Some r) → IsFirstEntry from_formatted most h e.0 r
-  judged-fault most j j' r c l f = record { before = take i h; its = e.1; after = drop (i + 1) h; parts = cut-at; legal = l; broken = f (take i h) c l }
+  pub judged-fault : (most : ℕ) (j j' : Judge) (r : Rule) → Carries from_formatted (take i h) j → IsLegal from_formatted most (take i h) → Judges most i j j' e (Some r) → IsFirstEntry from_formatted most h e.0 r
+  judged-fault most j j' r c l f = record { before = take i h; its = e.1; after = drop (i + 1) h; parts = cut-at; legal = l; broken = f (take i h) turn c l }
 
 -- Legal for some greatest number of objects: legal for none.
 full-less : (most : ℕ) (out : Outcome) (a : Answer) → IsFull most out a → IsFull 0 out a

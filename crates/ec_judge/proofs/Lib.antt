@@ -5,6 +5,9 @@ pub mod Flags
 pub mod Asked
 pub mod AllStarts
 pub mod Lost
+pub mod Touched
+pub mod Pending
+pub mod Indexes
 pub mod Volumes
 pub mod Loops
 pub mod Steps

@@ -1,7 +1,6 @@
 -- Single steps of loops.
-use Rattle.std.proofs.Common.{◌≡◌, refl, sym, ap, subst, ◌∙◌, arith, ◌<◌, ◌≤◌, ◌+◌, ℕ, zero, suc, T, Bool, true, false, not, ◌==◌, ◌&&◌, ◌||◌, cond, map, List, [], ◌∷◌, ◌++◌, length, take, drop, get_or, Some, None, append-nil, append_assoc, add-one, drop-cons}
+use Rattle.std.proofs.Common.{◌≡◌, refl, sym, ap, subst, ◌∙◌, arith, ◌<◌, ◌+◌, ℕ, suc, T, Bool, true, false, not, ◌==◌, ◌&&◌, ◌||◌, cond, map, List, [], ◌∷◌, ◌++◌, length, take, drop, get_or, Some, None, append-nil, append_assoc, add-one, drop-cons}
 use Rattle.std.specs.List.{filter, list_all, list_any}
-use Rattle.std.proofs.Math.ListN.{set}
 use Rattle.std.proofs.lemmas.Bool.{cond-true, cond-false, and_from, eqb-true, true≢false}
 use Rattle.std.proofs.lemmas.Bool.Decides.{nat_tests}
 use Rattle.std.proofs.lemmas.List.{take_more, take-append-drop}
@@ -13,58 +12,13 @@ use Rattle.ec_order.specs.Order.{before}
 use Rattle.ec_volume.specs.declared.update.Update.{Update}
 use Rattle.ec_plain.specs.declared.call.Call.{Call}
 use Rattle.ec_plain.specs.declared.call.Outcome.{Outcome}
-use Rattle.ec_history.specs.History.{Op, Owed, updates, of_start, meets, distinct_numbers, pairs_of}
+use Rattle.ec_history.specs.History.{Op, Owed, updates, meets, distinct_numbers, pairs_of}
 use Rattle.ec_history.specs.Legal.{is_closed}
 use Rattle.ec_laws.proofs.Removed.{left, right}
 use Rattle.ec_judge.specs.declared.carried.Kept.{Kept}
 use Rattle.ec_judge.proofs.Volumes.{fits-more, after-more, unfit-not}
 use Rattle.ec_judge.specs.Rules.{due_of}
-use Rattle.ec_judge.specs.Carried.{op_of, ops_of, covering}
-
--- A list whose items are changed one by one.
-
-mapped : {A : Type 0} (f : A → A) (xs : List A) (i : ℕ) (d : A) → i < length xs → set (map f (take i xs) ++ drop i xs) i (f (get_or (map f (take i xs) ++ drop i xs) i d)) ≡ map f (take (suc i) xs) ++ drop (suc i) xs
-mapped f [] i d l = absurd (omega (arith, l))
-mapped f (x ∷ xs) zero d l = refl
-mapped f (x ∷ xs) (suc i) d l = ap (λ ys. f x ∷ ys) (mapped f xs i d (omega (arith, l)))
-
-pub mapped-step : {A : Type 0} (f : A → A) (xs ys : List A) (i : ℕ) (x y : A) → ys ≡ map f (take i xs) ++ drop i xs → i < length xs → x ≡ get_or ys i x → y ≡ f x → set ys i y ≡ map f (take (i + 1) xs) ++ drop (i + 1) xs
-mapped-step f xs ys i x y e l is to =
-    ap (λ z. set ys i z) (to ∙ ap f is)
-    ∙ ap (λ zs. set zs i (f (get_or zs i x))) e
-    ∙ mapped f xs i x l
-    ∙ ap (λ n. map f (take n xs) ++ drop n xs) (sym (add-one i))
-
-pub mapped-all : (A : Type 0) (f : A → A) (xs ys : List A) (n : ℕ) → ys ≡ map f (take n xs) ++ drop n xs → length xs ≤ n → ys ≡ map f xs
-mapped-all A f xs ys n e l = e ∙ whole xs n l
-  where
-    whole : (zs : List A) (m : ℕ) → length zs ≤ m → map f (take m zs) ++ drop m zs ≡ map f zs
-    whole [] m l = ends m
-      where
-        ends : (k : ℕ) → map f (take k []) ++ drop k [] ≡ []
-        ends zero = refl
-        ends (suc k) = refl
-    whole (z ∷ zs) zero l = absurd (omega (arith, l))
-    whole (z ∷ zs) (suc m) l = ap (λ rest. f z ∷ rest) (whole zs m (omega (arith, l)))
-
-covered-none : (c b : ℕ) (k : Kept) → covering c b [] k ≡ k
-covered-none c b k = ap (λ x. record k { covered = x }) (go k.covered (of_start c b (op_of k)))
-  where
-    go : (x y : Bool) → (x || (y && false)) ≡ x
-    go true y = refl
-    go false true = refl
-    go false false = refl
-
-pub mark-none : (c b : ℕ) (ns : List ℕ) (ks : List Kept) → (length ns == 0) ≡ true → ks ≡ map (covering c b ns) ks
-mark-none c b [] ks e = sym (all ks)
-  where
-    all : (js : List Kept) → map (covering c b []) js ≡ js
-    all [] = refl
-    all (k ∷ js) = ap (λ x. x ∷ map (covering c b []) js) (covered-none c b k) ∙ ap (λ l. k ∷ l) (all js)
-mark-none c b (n ∷ ns) ks e = absurd (true≢false (sym e ∙ none (length ns)))
-  where
-    none : (m : ℕ) → (suc m == 0) ≡ false
-    none m = grind (arith, nat_tests)
+use Rattle.ec_judge.specs.Carried.{op_of, ops_of}
 
 -- Two lists with a common number.
 

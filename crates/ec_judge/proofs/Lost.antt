@@ -4,6 +4,7 @@ use Rattle.std.specs.Prelude.{MatchBool}
 use Rattle.std.specs.List.{filter, list_all, list_any}
 use Rattle.std.proofs.lemmas.Bool.{and_parts, and_from, eqb-true, true≢false}
 use Rattle.std.proofs.lemmas.Bool.Decides.{nat_tests}
+use Rattle.ec_base.specs.Tables.{Table}
 use Rattle.ec_volume.specs.Update.{member}
 use Rattle.ec_history.specs.History.{Base, History, Op, Throughout, Each, Covers, of_start, is_one_of, kept}
 use Rattle.ec_history.specs.Legal.{leaves, touches_none, is_call_of_other}
@@ -11,7 +12,9 @@ use Rattle.ec_history.specs.declared.entry.Entry.{Entry}
 use Rattle.ec_laws.proofs.Objects.{holds, is-true}
 use Rattle.ec_laws.proofs.Removed.{both, left, right}
 use Rattle.ec_judge.specs.declared.carried.Kept.{Kept}
-use Rattle.ec_judge.specs.Carried.{op_of, ops_of, is_among, IsUncovered, IsUntouched, IsFlagged}
+use Rattle.ec_judge.specs.declared.carried.Touches.{Touches}
+use Rattle.ec_judge.specs.declared.carried.Start.{Start}
+use Rattle.ec_judge.specs.Carried.{op_of, ops_of, is_among, IsUncovered, IsUntouched, is_touched, is_covered, IsFlagged}
 use Rattle.ec_judge.specs.Faults.{AreUncovered, AreUntouched}
 use Rattle.ec_judge.proofs.Numbers.{all-member}
 
@@ -127,34 +130,34 @@ one-number c b n k e =
     go false d r = absurd (true≢false (sym r))
 
 -- the marked operations of a list that are all of kept numbers
-module _ (base : Base) (past : History) (c b : ℕ) (ns : List ℕ) (ks : List Kept) (flags : Each (IsFlagged base past) ks) where
+module _ (base : Base) (past : History) (c b : ℕ) (ns : List ℕ) (ss : List Start) (ts : Table Touches) (ks : List Kept) (flags : Each (IsFlagged base past ss ts) ks) where
   abbrev Uncovered : ℕ → ℕ → ℕ → Type 0
   Uncovered d f n = Throughout (λ h e. ¬ (Covers base h e d f n)) [] past
 
   abbrev Untouched : ℕ → ℕ → ℕ → Type 0
   Untouched d f n = Throughout (λ h e. T (leaves base (kept base h) d (filter (is_one_of d f (n ∷ [])) (kept base h)) e)) [] past
 
-  covered-marks : (ks : List Kept) → Each (IsFlagged base past) ks → Each (IsMarked (λ k. k.covered) (IsUncovered base past) c b ns) ks
+  covered-marks : (ks : List Kept) → Each (IsFlagged base past ss ts) ks → Each (IsMarked (λ k. is_covered ss k) (IsUncovered base past) c b ns) ks
   covered-marks [] f = tt
   covered-marks (k ∷ ks) f = (f.0.covered, covered-marks ks f.1)
 
-  touched-marks : (ks : List Kept) → Each (IsFlagged base past) ks → Each (IsMarked (λ k. k.touched) (IsUntouched base past) c b ns) ks
+  touched-marks : (ks : List Kept) → Each (IsFlagged base past ss ts) ks → Each (IsMarked (λ k. is_touched ts k) (IsUntouched base past) c b ns) ks
   touched-marks [] f = tt
   touched-marks (k ∷ ks) f = (f.0.touched, touched-marks ks f.1)
 
   number-kept : T (list_all (λ n. list_any (λ k. is_among c b (n ∷ []) k) ks) ns) → (n : ℕ) → T (member n ns) → T (list_any (λ k. is_among c b (n ∷ []) k) ks)
   number-kept a n m = all-member (λ n. list_any (λ k. is_among c b (n ∷ []) k) ks) ns n a m
 
-  pub uncovered-yes : T (list_all (λ n. list_any (λ k. is_among c b (n ∷ []) k) ks) ns) → list_all (λ k. not (k.covered && is_among c b ns k)) ks ≡ true → AreUncovered base past c b ns
+  pub uncovered-yes : T (list_all (λ n. list_any (λ k. is_among c b (n ∷ []) k) ks) ns) → list_all (λ k. not (is_covered ss k && is_among c b ns k)) ks ≡ true → AreUncovered base past c b ns
   uncovered-yes a u = all-of (λ n h e. ¬ (Covers base h e c b n)) ns [] past (each-member (λ n. Uncovered c b n) ns (λ n m.
-      let found = unmarked-number (λ k. k.covered) (IsUncovered base past) c b ns ks (covered-marks ks flags) (holds u) n m (number-kept a n m) in
+      let found = unmarked-number (λ k. is_covered ss k) (IsUncovered base past) c b ns ks (covered-marks ks flags) (holds u) n m (number-kept a n m) in
       let is = one-number c b n found.0 found.2 in
       subst (λ x. Uncovered c b x) is.2 (subst (λ x. Uncovered c x (found.0).number) is.1 (subst (λ x. Uncovered x (found.0).boot (found.0).number) is.0 found.1))))
 
-  pub uncovered-no : list_all (λ k. not (k.covered && is_among c b ns k)) ks ≡ false → ¬ (AreUncovered base past c b ns)
+  pub uncovered-no : list_all (λ k. not (is_covered ss k && is_among c b ns k)) ks ≡ false → ¬ (AreUncovered base past c b ns)
   uncovered-no u all =
-      let none : T (list_all (λ k. not (k.covered && is_among c b ns k)) ks) = all-unmarked (λ k. k.covered) (IsUncovered base past) c b ns ks (covered-marks ks flags) (λ k t.
-      let is = number-in (λ k. k.covered) (IsUncovered base past) c b ns k t in
+      let none : T (list_all (λ k. not (is_covered ss k && is_among c b ns k)) ks) = all-unmarked (λ k. is_covered ss k) (IsUncovered base past) c b ns ks (covered-marks ks flags) (λ k t.
+      let is = number-in (λ k. is_covered ss k) (IsUncovered base past) c b ns k t in
       subst (λ x. Uncovered x k.boot k.number) (sym is.0) (subst (λ x. Uncovered c x k.number) (sym is.1) (one-of (λ n h e. ¬ (Covers base h e c b n)) ns k.number [] past is.2 all))) in
       true≢false (sym (is-true _ none) ∙ u)
 
@@ -222,15 +225,15 @@ module _ (base : Base) (past : History) (c b : ℕ) (ns : List ℕ) (ks : List K
   through-map P Q f g [] t = tt
   through-map P Q f g (e ∷ h) t = (f g e t.0, through-map P Q f (g ++ e ∷ []) h t.1)
 
-  pub untouched-yes : T (list_all (λ n. list_any (λ k. is_among c b (n ∷ []) k) ks) ns) → list_all (λ k. not (k.touched && is_among c b ns k)) ks ≡ true → AreUntouched base past c b ns
+  pub untouched-yes : T (list_all (λ n. list_any (λ k. is_among c b (n ∷ []) k) ks) ns) → list_all (λ k. not (is_touched ts k && is_among c b ns k)) ks ≡ true → AreUntouched base past c b ns
   untouched-yes a u = through-map _ _ (λ h e t. leaves-all h e t) [] past (all-of (λ n h e. T (leaves base (kept base h) c (filter (is_one_of c b (n ∷ [])) (kept base h)) e)) ns [] past (each-member (λ n. Untouched c b n) ns (λ n m.
-      let found = unmarked-number (λ k. k.touched) (IsUntouched base past) c b ns ks (touched-marks ks flags) (holds u) n m (number-kept a n m) in
+      let found = unmarked-number (λ k. is_touched ts k) (IsUntouched base past) c b ns ks (touched-marks ks flags) (holds u) n m (number-kept a n m) in
       let is = one-number c b n found.0 found.2 in
       subst (λ x. Untouched c b x) is.2 (subst (λ x. Untouched c x (found.0).number) is.1 (subst (λ x. Untouched x (found.0).boot (found.0).number) is.0 found.1)))))
 
-  pub untouched-no : list_all (λ k. not (k.touched && is_among c b ns k)) ks ≡ false → ¬ (AreUntouched base past c b ns)
+  pub untouched-no : list_all (λ k. not (is_touched ts k && is_among c b ns k)) ks ≡ false → ¬ (AreUntouched base past c b ns)
   untouched-no u all =
-      let none : T (list_all (λ k. not (k.touched && is_among c b ns k)) ks) = all-unmarked (λ k. k.touched) (IsUntouched base past) c b ns ks (touched-marks ks flags) (λ k t.
-      let is = number-in (λ k. k.touched) (IsUntouched base past) c b ns k t in
+      let none : T (list_all (λ k. not (is_touched ts k && is_among c b ns k)) ks) = all-unmarked (λ k. is_touched ts k) (IsUntouched base past) c b ns ks (touched-marks ks flags) (λ k t.
+      let is = number-in (λ k. is_touched ts k) (IsUntouched base past) c b ns k t in
       subst (λ x. Untouched x k.boot k.number) (sym is.0) (subst (λ x. Untouched c x k.number) (sym is.1) (through-map _ _ (λ h e t. leaves-one h e k.number is.2 t) [] past all))) in
       true≢false (sym (is-true _ none) ∙ u)

@@ -1,13 +1,14 @@
 -- What the judge carries from entry to entry. No public clause cites this module.
-use Rattle.std.specs.Prelude.{◌≡◌, ◌==◌, ◌+◌, ℕ, T, Bool, true, false, not, ◌&&◌, ◌||◌, map, List, [], ◌∷◌, ◌++◌, length, Option, Some, None, MatchBool, MatchOption, ⊤}
+use Rattle.std.specs.Prelude.{◌≡◌, ◌==◌, ◌+◌, ℕ, ◌<◌, T, Bool, true, false, not, ◌&&◌, ◌||◌, if◌then◌else◌, nat_lt, nat_le, map, List, [], ◌∷◌, ◌++◌, length, Option, Some, None, MatchBool, MatchOption, ⊤}
 use Rattle.std.specs.List.{filter, find, list_any, list_all}
+use Rattle.ec_base.specs.Tables.{Table, at}
 use Rattle.ec_volume.specs.Image.{is_gone}
-use Rattle.ec_volume.specs.Update.{member, operands, is_sound, first_unfit}
+use Rattle.ec_volume.specs.Update.{member, operands, has_operand, is_sound, first_unfit}
 use Rattle.ec_volume.specs.Volume.{Images, images, after, WellFormed}
 use Rattle.ec_volume.specs.declared.update.Update.{Update}
 use Rattle.ec_plain.specs.declared.call.Call.{Call}
 use Rattle.ec_plain.specs.declared.call.Outcome.{Outcome}
-use Rattle.ec_order.specs.Order.{Issued}
+use Rattle.ec_order.specs.Order.{Issued, needs}
 use Rattle.ec_history.specs.History.{Base, History, Op, Owed, Throughout, Each, Covers, updates, meets, same_start, of_start, is_one_of, kept, issued, owed}
 use Rattle.ec_history.specs.Legal.{leaves, is_op_of, is_closed, IsLegal, IsLegalNext, from_formatted}
 use Rattle.ec_history.specs.declared.entry.Entry.{Entry}
@@ -19,7 +20,10 @@ use Rattle.ec_judge.specs.declared.carried.Kept.{Kept}
 use Rattle.ec_judge.specs.declared.carried.Issue.{Issue}
 use Rattle.ec_judge.specs.declared.carried.Issuer.{Issuer}
 use Rattle.ec_judge.specs.declared.carried.Start.{Start}
+use Rattle.ec_judge.specs.declared.carried.Touches.{Touches}
 use Rattle.ec_judge.specs.declared.carried.Judge.{Judge}
+use Rattle.ec_judge.specs.declared.covers.Asked.{Asked}
+use Rattle.ec_judge.specs.declared.covers.Asked.TheVariants as asks
 
 abbrev pub op_of : Kept → Op
 op_of k = record { clerk = k.clerk; boot = k.boot; number = k.number; place = k.place; update = k.update }
@@ -31,9 +35,19 @@ ops_of ks = map op_of ks
 abbrev pub is_among : ℕ → ℕ → List ℕ → Kept → Bool
 is_among c b ns k = is_one_of c b ns (op_of k)
 
--- the operation of a start that this one of its issue is
-abbrev pub op_at : ℕ → ℕ → Issue → Op
-op_at c b i = record { clerk = c; boot = b; number = i.number; place = i.place; update = i.update }
+abbrev pub issue_of : Op → Issue
+issue_of k = record { number = k.number; place = k.place; update = k.update }
+
+-- the operations of the start
+abbrev pub issues_in : ℕ → ℕ → List Op → List Issue
+issues_in c b ks = map issue_of (filter (of_start c b) ks)
+
+abbrev pub numbers_in : List Issue → List ℕ
+numbers_in is = map (λ i. i.number) is
+
+-- one of the operations has the number
+abbrev pub is_in : List Issue → ℕ → Bool
+is_in is n = member n (numbers_in is)
 
 abbrev pub is_start : ℕ → ℕ → Start → Bool
 is_start c b s = same_start c b s.clerk s.boot
@@ -46,15 +60,38 @@ abbrev pub owed_of : Option Start → Owed
 owed_of None = []
 owed_of (Some s) = s.owed.items
 
-abbrev pub issued_of : Option Start → List Issue
-issued_of None = []
-issued_of (Some s) = s.issued.items
+abbrev pub pending_of : Option Start → List Issue
+pending_of None = []
+pending_of (Some s) = s.pending.items
 
--- What is carried of a start: how many operations its entries had, what it owes, and what it issued.
+-- What is asked to be durable, and what it needs.
+
+abbrev pub is_asked : Asked → Issue → Bool
+is_asked asks.Nothing i = false
+is_asked (asks.On o begun) i = nat_le i.place begun && has_operand o i.update
+is_asked (asks.All begun) i = nat_le i.place begun
+
+-- One by one from the last to the first: those that pass the test, and those that a later one of them needs.
+abbrev pub taken : (Issue → Bool) → List Issue → List Issue
+taken p [] = []
+taken p (i ∷ is) = if p i || list_any (λ j. needs i.update j.update) (taken p is) then i ∷ taken p is else taken p is
+
+-- the others
+abbrev pub rest : (Issue → Bool) → List Issue → List Issue
+rest p [] = []
+rest p (i ∷ is) = if p i || list_any (λ j. needs i.update j.update) (taken p is) then rest p is else i ∷ rest p is
+
+-- with each operation whose number passes, all those pass that need it
+abbrev pub IsUpward : (ℕ → Bool) → List Issue → Type 0
+IsUpward g [] = ⊤
+IsUpward g (i ∷ is) = (T (g i.number) → Each (λ j. T (needs i.update j.update) → T (g j.number)) is) × IsUpward g is
+
+-- What is carried of a start: how many operations its entries had, what it owes, and which of its operations are pending: with each, those that need it.
 pub record IsStart (base : Base) (past : History) (c b : ℕ) (s : Option Start) : Type 0 where
   pub count : count_of s ≡ length (filter (is_op_of c b) past)
   pub owed : owed_of s ≡ owed base past c b
-  pub issued : map (op_at c b) (issued_of s) ≡ filter (of_start c b) (issued base past)
+  pub pending : pending_of s ≡ filter (λ i. is_in (pending_of s) i.number) (issues_in c b (issued base past))
+  pub upward : IsUpward (is_in (pending_of s)) (issues_in c b (issued base past))
 
 -- no entry covers the operation
 abbrev pub IsUncovered : Base → History → Op → Type 0
@@ -64,23 +101,40 @@ IsUncovered base past k = Throughout (λ h e. ¬ (Covers base h e k.clerk k.boot
 abbrev pub IsUntouched : Base → History → Op → Type 0
 IsUntouched base past k = Throughout (λ h e. T (leaves base (kept base h) k.clerk (filter (is_one_of k.clerk k.boot (k.number ∷ [])) (kept base h)) e)) [] past
 
-pub record IsFlagged (base : Base) (past : History) (k : Kept) : Type 0 where
-  pub covered : MatchBool k.covered (¬ (IsUncovered base past (op_of k))) (IsUncovered base past (op_of k))
-  pub touched : MatchBool k.touched (¬ (IsUntouched base past (op_of k))) (IsUntouched base past (op_of k))
+-- what is known of an object behind one more call that touched it, of the clerk c at the turn t
+abbrev pub touched_next : ℕ → ℕ → Option Touches → Touches
+touched_next c t None = record { clerk = c; last = t; other = 0 }
+touched_next c t (Some x) = record { clerk = c; last = t; other = if x.clerk == c then x.other else x.last }
+
+-- a call of another clerk than c touched the object behind the turn t
+abbrev pub is_since : ℕ → ℕ → Option Touches → Bool
+is_since c t None = false
+is_since c t (Some x) = nat_lt t (if x.clerk == c then x.other else x.last)
+
+-- a call of another clerk touched an operand of it since its turn
+abbrev pub is_touched : Table Touches → Kept → Bool
+is_touched ts k = list_any (λ o. is_since k.clerk k.turn (at o ts)) (operands k.update)
+
+-- the turns are below n
+abbrev pub AreBelow : ℕ → Option Touches → Type 0
+AreBelow n None = ⊤
+AreBelow n (Some x) = (x.last < n) × (x.other < n)
+
+-- the operation is pending no more
+abbrev pub is_covered : List Start → Kept → Bool
+is_covered ss k = not (is_in (pending_of (find (is_start k.clerk k.boot) ss)) k.number)
+
+pub record IsFlagged (base : Base) (past : History) (ss : List Start) (ts : Table Touches) (k : Kept) : Type 0 where
+  pub covered : MatchBool (is_covered ss k) (¬ (IsUncovered base past (op_of k))) (IsUncovered base past (op_of k))
+  pub touched : MatchBool (is_touched ts k) (¬ (IsUntouched base past (op_of k))) (IsUntouched base past (op_of k))
 
 pub record Carries (base : Base) (past : History) (j : Judge) : Type 0 where
   pub volume : (o : ℕ) → images j.volume o ≡ after base.volume (updates (kept base past)) o
   pub kept : ops_of j.kept.items ≡ kept base past
   pub starts : (c b : ℕ) → IsStart base past c b (find (is_start c b) j.starts.items)
-  pub flags : Each (IsFlagged base past) j.kept.items
-
--- the operation is one of these numbers of the start, and so covered
-abbrev pub covering : ℕ → ℕ → List ℕ → Kept → Kept
-covering c b ns k = record k { covered = k.covered || is_among c b ns k }
-
--- a call of the clerk touches these objects
-abbrev pub touching : ℕ → List ℕ → Kept → Kept
-touching c os k = record k { touched = k.touched || (not (k.clerk == c) && list_any (λ o. member o os) (operands k.update)) }
+  pub flags : Each (IsFlagged base past j.starts.items j.touches) j.kept.items
+  pub turns : Each (λ k. k.turn < length past) j.kept.items
+  pub touches : (o : ℕ) → AreBelow (length past) (at o j.touches)
 
 -- a start's operations by their numbers
 abbrev pub numbered : List Issue → Issued
@@ -100,7 +154,7 @@ issues_of p (Some n) (Some u) = record { number = n; place = p; update = u } ∷
 abbrev pub keeps_of : Issuer → Option ℕ → Option Update → List Kept
 keeps_of by None u = []
 keeps_of by (Some n) None = []
-keeps_of by (Some n) (Some u) = record { clerk = by.clerk; boot = by.boot; number = n; place = by.place; update = u; covered = false; touched = false } ∷ []
+keeps_of by (Some n) (Some u) = record { clerk = by.clerk; boot = by.boot; number = n; place = by.place; turn = by.turn; update = u } ∷ []
 
 -- an update that can be carried out, if any
 abbrev pub IsFitting : Option Update → Images → Type 0
@@ -112,26 +166,26 @@ IsFitting (Some u) v = T (is_sound u) × (first_unfit u v (operands u) ≡ None)
 abbrev pub are_kept : ℕ → ℕ → List ℕ → List Kept → Bool
 are_kept c b ns ks = list_all (λ n. list_any (λ k. is_among c b (n ∷ []) k) ks) ns
 
-abbrev pub are_uncovered : ℕ → ℕ → List ℕ → List Kept → Bool
-are_uncovered c b ns ks = list_all (λ k. not (k.covered && is_among c b ns k)) ks
+abbrev pub are_uncovered : ℕ → ℕ → List ℕ → List ℕ → List Kept → Bool
+are_uncovered c b ns pending ks = list_all (λ k. not (is_among c b ns k) || member k.number pending) ks
 
-abbrev pub are_untouched : ℕ → ℕ → List ℕ → List Kept → Bool
-are_untouched c b ns ks = list_all (λ k. not (k.touched && is_among c b ns k)) ks
+abbrev pub are_untouched : ℕ → ℕ → List ℕ → Table Touches → List Kept → Bool
+are_untouched c b ns ts ks = list_all (λ k. not (is_touched ts k && is_among c b ns k)) ks
 
 abbrev pub are_closed : ℕ → ℕ → List ℕ → List Kept → Bool
 are_closed c b ns ks = is_closed (is_one_of c b ns) (filter (of_start c b) (ops_of ks))
 
-abbrev pub BreaksMarks : ℕ → ℕ → List ℕ → List Kept → Rule → Type 0
-BreaksMarks c b ns ks rule.Named = are_kept c b ns ks ≡ false
-BreaksMarks c b ns ks rule.Covered = (are_kept c b ns ks ≡ true) × (are_uncovered c b ns ks ≡ false)
-BreaksMarks c b ns ks rule.Touched = (are_kept c b ns ks ≡ true) × (are_uncovered c b ns ks ≡ true) × (are_untouched c b ns ks ≡ false)
-BreaksMarks c b ns ks rule.Closed = (are_kept c b ns ks ≡ true) × (are_uncovered c b ns ks ≡ true) × (are_untouched c b ns ks ≡ true) × (are_closed c b ns ks ≡ false)
-BreaksMarks c b ns ks _ = ⊥
+abbrev pub BreaksMarks : ℕ → ℕ → List ℕ → List ℕ → Table Touches → List Kept → Rule → Type 0
+BreaksMarks c b ns pending ts ks rule.Named = are_kept c b ns ks ≡ false
+BreaksMarks c b ns pending ts ks rule.Covered = (are_kept c b ns ks ≡ true) × (are_uncovered c b ns pending ks ≡ false)
+BreaksMarks c b ns pending ts ks rule.Touched = (are_kept c b ns ks ≡ true) × (are_uncovered c b ns pending ks ≡ true) × (are_untouched c b ns ts ks ≡ false)
+BreaksMarks c b ns pending ts ks rule.Closed = (are_kept c b ns ks ≡ true) × (are_uncovered c b ns pending ks ≡ true) × (are_untouched c b ns ts ks ≡ true) × (are_closed c b ns ks ≡ false)
+BreaksMarks c b ns pending ts ks _ = ⊥
 
-pub record KeepsMarks (c b : ℕ) (ns : List ℕ) (ks : List Kept) : Type 0 where
+pub record KeepsMarks (c b : ℕ) (ns : List ℕ) (pending : List ℕ) (ts : Table Touches) (ks : List Kept) : Type 0 where
   pub kept : are_kept c b ns ks ≡ true
-  pub uncovered : are_uncovered c b ns ks ≡ true
-  pub untouched : are_untouched c b ns ks ≡ true
+  pub uncovered : are_uncovered c b ns pending ks ≡ true
+  pub untouched : are_untouched c b ns ts ks ≡ true
   pub closed : are_closed c b ns ks ≡ true
 
 -- What the judge does.
@@ -143,24 +197,24 @@ pub record IsReady (j : Judge) (e : ℕ × Entry) : Type 0 where
   pub bounded : T (is_bounded_entry e.1)
   pub sound : T (list_all is_sound (updates (ops_of j.kept.items)))
 
--- the entry is legal and carried, or this is the first rule that it breaks
-abbrev pub Judges : ℕ → Judge → Judge → ℕ × Entry → Option Rule → Type 0
-Judges most j j' e found =
-    (past : History) → Carries from_formatted past j → IsLegal from_formatted most past
+-- the entry of this turn is legal and carried, or this is the first rule that it breaks
+abbrev pub Judges : ℕ → ℕ → Judge → Judge → ℕ × Entry → Option Rule → Type 0
+Judges most turn j j' e found =
+    (past : History) → turn ≡ length past → Carries from_formatted past j → IsLegal from_formatted most past
     → MatchOption found (IsLegalNext from_formatted most past e × Carries from_formatted (past ++ e ∷ []) j') (λ r. BreaksEntry from_formatted most past e r)
 
 -- The start behind an answered call, and behind a loss with these pairs.
 
-pub record IsNoted (place : ℕ) (op : Option ℕ) (cl : Call) (out : Outcome) (old : Start) (s : Start) : Type 0 where
+pub record IsNoted (a : Asked) (place : ℕ) (op : Option ℕ) (cl : Call) (out : Outcome) (old : Start) (s : Start) : Type 0 where
   pub clerk : s.clerk ≡ old.clerk
   pub boot : s.boot ≡ old.boot
   pub count : s.count ≡ count_next old.count op
   pub owed : s.owed.items ≡ filter (λ q. not (meets out cl q)) old.owed.items
-  pub issued : s.issued.items ≡ old.issued.items ++ issues_of place op out.update
+  pub pending : s.pending.items ≡ rest (is_asked a) old.pending.items ++ issues_of place op out.update
 
 pub record IsOwing (pairs : Owed) (old : Start) (s : Start) : Type 0 where
   pub clerk : s.clerk ≡ old.clerk
   pub boot : s.boot ≡ old.boot
   pub count : s.count ≡ old.count
   pub owed : s.owed.items ≡ old.owed.items ++ pairs
-  pub issued : s.issued.items ≡ old.issued.items
+  pub pending : s.pending.items ≡ old.pending.items

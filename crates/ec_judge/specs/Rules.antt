@@ -1,7 +1,6 @@
 -- The rules of a call, by what its start has done and owes. No public clause cites this module.
-use Rattle.std.specs.Prelude.{◌≡◌, ◌+◌, ◌-◌, ℕ, ◌&&◌, map, nat_le, List, [], length, slice_get, Option, None, Some, ⊤}
+use Rattle.std.specs.Prelude.{◌≡◌, ◌+◌, ◌-◌, ℕ, List, length, slice_get, Option, None, Some, ⊤}
 use Rattle.std.specs.List.{filter}
-use Rattle.ec_volume.specs.Update.{has_operand}
 use Rattle.ec_volume.specs.Volume.{Images}
 use Rattle.ec_plain.specs.Walk.{walk, At, Not}
 use Rattle.ec_plain.specs.declared.call.Call.{Call}
@@ -14,7 +13,8 @@ use Rattle.ec_history.specs.declared.entry.Answer.{Answer}
 use Rattle.ec_history.specs.declared.entry.Answer.TheVariants as answer
 use Rattle.ec_history.specs.declared.rule.Rule.{Rule}
 use Rattle.ec_history.specs.declared.rule.Rule.TheVariants as rule
-use Rattle.ec_judge.specs.declared.carried.Issue.{Issue}
+use Rattle.ec_judge.specs.declared.covers.Asked.{Asked}
+use Rattle.ec_judge.specs.declared.covers.Asked.TheVariants as asks
 
 -- the number, if any, is the next one of a start that issued so many
 abbrev pub IsNumbered : ℕ → Option ℕ → Type 0
@@ -38,16 +38,14 @@ BreaksRule count dues most out a op rule.Room = IsNumbered count op × IsReporte
 BreaksRule count dues most out a op rule.Reply = IsNumbered count op × IsReported dues a × IsFull most out a × ¬ (IsReply out a op)
 BreaksRule count dues most out a op _ = ⊥
 
--- the operations of a start, in the order of issue, that a call on the volume asks to be durable
-abbrev pub asked_by : Images → List Issue → ℕ → Call → Answer → List ℕ
-asked_by v is begun (call.Fsync path) (answer.Reply reply.Ok) =
-    elim ((walk v path).to) [ At o ↦ map (λ i. i.number) (filter (λ i. nat_le i.place begun && has_operand o i.update) is) | Not r ↦ [] ]
-asked_by v is begun call.Sync (answer.Reply reply.Ok) = map (λ i. i.number) (filter (λ i. nat_le i.place begun) is)
-asked_by v is begun _ _ = []
+-- what a call on the volume, begun at a place, asks to be durable of its start's operations
+abbrev pub asked_on : Images → ℕ → Call → Answer → Asked
+asked_on v begun (call.Fsync path) (answer.Reply reply.Ok) = elim ((walk v path).to) [ At o ↦ asks.On o begun | Not r ↦ asks.Nothing ]
+asked_on v begun call.Sync (answer.Reply reply.Ok) = asks.All begun
+asked_on v begun _ _ = asks.Nothing
 
 -- the same, by the objects that the answered call touched
-abbrev pub asked_of : List ℕ → List Issue → ℕ → Call → Answer → List ℕ
-asked_of os is begun (call.Fsync path) (answer.Reply reply.Ok) =
-    elim (slice_get os (length os - 1)) [ Some o ↦ map (λ i. i.number) (filter (λ i. nat_le i.place begun && has_operand o i.update) is) | None ↦ [] ]
-asked_of os is begun call.Sync (answer.Reply reply.Ok) = map (λ i. i.number) (filter (λ i. nat_le i.place begun) is)
-asked_of os is begun _ _ = []
+abbrev pub asked_by_call : List ℕ → ℕ → Call → Answer → Asked
+asked_by_call os begun (call.Fsync path) (answer.Reply reply.Ok) = elim (slice_get os (length os - 1)) [ Some o ↦ asks.On o begun | None ↦ asks.Nothing ]
+asked_by_call os begun call.Sync (answer.Reply reply.Ok) = asks.All begun
+asked_by_call os begun _ _ = asks.Nothing

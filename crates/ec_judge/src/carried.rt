@@ -1,5 +1,5 @@
 // What the judge carries from entry to entry.
-use ec_base::{ClerkId, ObjId, OpNo};
+use ec_base::{ClerkId, ObjId, OpNo, SortedMap};
 use ec_volume::{Update, Volume};
 use std::alloc::Global;
 
@@ -11,11 +11,20 @@ pub struct Kept {
     pub number: OpNo,
     /// The place of its entry.
     pub place: u32,
+    /// The place of its entry among the entries, from 0.
+    pub turn: usize,
     pub update: Update,
-    /// Whether an answered `fsync` or `sync` covers it.
-    pub covered: bool,
-    /// Whether a call of another clerk touched an operand of it since.
-    pub touched: bool,
+}
+
+/// Which calls touched an object. Turns are places among the entries, from 0.
+#[derive(Clone, Copy, Drop)]
+pub struct Touches {
+    /// The clerk of the last one.
+    pub clerk: ClerkId,
+    /// The turn of the last one.
+    pub last: usize,
+    /// The turn of the last one of another clerk, or 0.
+    pub other: usize,
 }
 
 /// Whose entry stands where.
@@ -25,9 +34,11 @@ pub struct Issuer {
     pub boot: u64,
     /// The place of the entry.
     pub place: u32,
+    /// The place of the entry among the entries, from 0.
+    pub turn: usize,
 }
 
-/// An operation that a start issued.
+/// An operation that a start issued, and that no answered `fsync` or `sync` covers.
 #[derive(Drop)]
 pub struct Issue {
     pub number: OpNo,
@@ -45,8 +56,8 @@ pub struct Start {
     pub count: u64,
     /// Its lost operations that are to be reported, each with one of its operands.
     pub owed: Vec<(OpNo, ObjId)>,
-    /// All its operations, the lost ones too.
-    pub issued: Vec<Issue>,
+    /// Its operations that aren't covered, the lost ones too.
+    pub pending: Vec<Issue>,
 }
 
 /// What the entries so far come to.
@@ -57,4 +68,6 @@ pub struct Judge {
     pub volume: Volume,
     pub kept: Vec<Kept>,
     pub starts: Vec<Start>,
+    /// Of each object which calls touched it.
+    pub touches: SortedMap<ObjId, Touches>,
 }

@@ -79,7 +79,7 @@ fn judged(alloc: Global, entries: &[(u32, Entry)], most: u32) -> Result<Judge, H
     let mut judge = Judge::new(alloc)?;
     for at in 0..entries.len() {
         let entry = &entries[at];
-        if let Some(rule) = judge.judge(most, entry.0, &entry.1)? {
+        if let Some(rule) = judge.judge(most, at, entry.0, &entry.1)? {
             return Err(HistoryFault::At(entry.0, rule));
         }
     }

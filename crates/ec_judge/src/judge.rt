@@ -8,8 +8,9 @@ ghost use Rattle.ec_history.specs.declared.entry.Entry.TheVariants as entry;
 ghost use Rattle.ec_judge.specs.Carried.{Carries, IsReady, Judges, ops_of};
 
 use crate::carried::{Issuer, Judge};
-use crate::{calls, covers, losses, starts};
-use ec_base::{ClerkId, NoMemory, ObjId, OpNo};
+use crate::index::Numbers;
+use crate::{calls, covers, losses, starts, touches};
+use ec_base::{ClerkId, NoMemory, ObjId, OpNo, SortedMap};
 use ec_history::{Answer, Entry, Rule};
 use ec_plain::{Call, Outcome, plain};
 use ec_volume::Volume;
@@ -25,14 +26,21 @@ impl Judge {
             volume: Volume::formatted(alloc)?,
             kept: Vec::new(alloc),
             starts: Vec::new(alloc),
+            touches: SortedMap::new(alloc),
         })
     }
 
-    /// The first rule that the entry breaks; else it is carried.
-    pub fn judge(&mut self, most: u32, place: u32, entry: &Entry) -> Result<Option<Rule>, NoMemory>
+    /// The first rule that the entry breaks; else it is carried. It stands behind so many others.
+    pub fn judge(
+        &mut self,
+        most: u32,
+        turn: usize,
+        place: u32,
+        entry: &Entry,
+    ) -> Result<Option<Rule>, NoMemory>
         requires place { place < 2 ^ 31 }
         requires ready { IsReady self.old (place, entry.now) }
-        ensures { IfOk result (λ found. Judges most self.old self.new (place, entry.now) found) }
+        ensures { IfOk result (λ found. Judges most turn self.old self.new (place, entry.now) found) }
     {
         match entry {
             Entry::Call {
@@ -48,6 +56,7 @@ impl Judge {
                     clerk: *clerk,
                     boot: *boot,
                     place,
+                    turn,
                 };
                 self.judge_call(most, &issuer, *begun, call, answer, op)
             }
@@ -66,7 +75,7 @@ impl Judge {
     ) -> Result<Option<Rule>, NoMemory>
         requires place { issuer.now.place < 2 ^ 31 }
         requires ready { (l : ℕ) → IsReady self.old (issuer.now.place, entry.Call issuer.now.clerk issuer.now.boot l begun call.now answer.now op.now) }
-        ensures { IfOk result (λ found. (l : ℕ) → Judges most self.old self.new (issuer.now.place, entry.Call issuer.now.clerk issuer.now.boot l begun call.now answer.now op.now) found) }
+        ensures { IfOk result (λ found. (l : ℕ) → Judges most issuer.now.turn self.old self.new (issuer.now.place, entry.Call issuer.now.clerk issuer.now.boot l begun call.now answer.now op.now) found) }
     {
         let Some(fresh) = ObjId::new(issuer.place + 1) else {
             unreachable!();
@@ -77,11 +86,20 @@ impl Judge {
         if let Some(rule) = calls::broken(self.alloc, most, start, call, &outcome, answer, op)? {
             return Ok(Some(rule));
         }
-        let issued = &start.issued;
-        let ops = covers::covered(self.alloc, issued, begun, call, &outcome, answer, op)?;
-        covers::mark_all(&mut self.kept, issuer.clerk, issuer.boot, &ops);
-        losses::touch_all(&mut self.kept, issuer.clerk, outcome.touched.as_slice());
-        starts::note_at(&mut self.starts, at, issuer.place, op, call, &outcome)?;
+        let touched = outcome.touched.as_slice();
+        let asked = covers::wanted(begun, call, touched, answer);
+        touches::touch_all(&mut self.touches, issuer.clerk, issuer.turn, touched)?;
+        let place = issuer.place;
+        starts::note_at(
+            self.alloc,
+            &mut self.starts,
+            at,
+            &asked,
+            place,
+            op,
+            call,
+            &outcome,
+        )?;
         let Outcome { update, .. } = outcome;
         starts::keep(&mut self.volume, &mut self.kept, issuer, op, update)?;
         Ok(None)
@@ -94,15 +112,39 @@ impl Judge {
         ops: &[OpNo],
     ) -> Result<Option<Rule>, NoMemory>
         requires { T (list_all is_sound (updates (ops_of self.old.kept.items))) }
-        ensures { IfOk result (λ found. (most p : ℕ) → Judges most self.old self.new (p, entry.Loss clerk boot ops.now) found) }
+        ensures { IfOk result (λ found. (most turn p : ℕ) → Judges most turn self.old self.new (p, entry.Loss clerk boot ops.now) found) }
     {
-        if let Some(rule) = losses::broken(self.alloc, &self.kept, clerk, boot, ops)? {
+        let ops = Numbers::of(self.alloc, Vec::from_slice(self.alloc, ops)?)?;
+        self.judge_lost(clerk, boot, &ops)
+    }
+
+    // The same, by an index of the lost operations.
+    fn judge_lost(
+        &mut self,
+        clerk: ClerkId,
+        boot: u64,
+        ops: &Numbers,
+    ) -> Result<Option<Rule>, NoMemory>
+        requires { T (list_all is_sound (updates (ops_of self.old.kept.items))) }
+        ensures { IfOk result (λ found. (most turn p : ℕ) → Judges most turn self.old self.new (p, entry.Loss clerk boot ops.now) found) }
+    {
+        let at = starts::index_of(self.alloc, &mut self.starts, clerk, boot)?;
+        let start = &self.starts[at];
+        let broken = losses::broken(
+            self.alloc,
+            &self.touches,
+            &start.pending,
+            &self.kept,
+            clerk,
+            boot,
+            ops,
+        )?;
+        if let Some(rule) = broken {
             return Ok(Some(rule));
         }
         let Some(volume) = losses::volume_without(self.alloc, &self.kept, clerk, boot, ops)? else {
             return Ok(Some(Rule::Fits));
         };
-        let at = starts::index_of(self.alloc, &mut self.starts, clerk, boot)?;
         losses::owe_at(
             self.alloc,
             &mut self.starts,

@@ -7,11 +7,13 @@ mod checking;
 mod covers;
 mod examples;
 mod fault;
+mod index;
 mod judge;
 mod laws;
 mod losses;
 mod replies;
 mod starts;
+mod touches;
 
 pub use checking::{check, kept, owed};
 pub use examples::each_rule_can_break;

@@ -5,11 +5,13 @@ ghost use Rattle.ec_volume.specs.Update.{member, operands, is_sound, first_unfit
 ghost use Rattle.ec_volume.specs.Volume.{images, formatted, after, Fits};
 ghost use Rattle.ec_order.specs.Order as order;
 ghost use Rattle.ec_history.specs.History.{updates, of_start, is_one_of, pairs_of};
-ghost use Rattle.ec_judge.specs.Carried.{ops_of, op_of, is_among, touching, are_kept, are_uncovered, are_untouched, are_closed, KeepsMarks, BreaksMarks, IsOwing};
+ghost use Rattle.ec_judge.specs.Carried.{ops_of, op_of, is_among, is_touched, numbers_in, are_kept, are_uncovered, are_untouched, are_closed, KeepsMarks, BreaksMarks, IsOwing};
 ghost use Rattle.ec_judge.specs.declared.carried.Start.{Start as StartOf};
 
-use crate::carried::{Kept, Start};
-use ec_base::{ClerkId, NoMemory, ObjId, OpNo};
+use crate::carried::{Issue, Kept, Start, Touches};
+use crate::index::Numbers;
+use crate::touches::is_touched;
+use ec_base::{ClerkId, NoMemory, ObjId, OpNo, SortedMap};
 use ec_chains::has_operand;
 use ec_history::Rule;
 use ec_order::is_overwrite;
@@ -19,20 +21,22 @@ use std::alloc::Global;
 /// The first rule that a loss of these operations breaks, but for what is left of the others.
 pub fn broken(
     alloc: Global,
+    touches: &SortedMap<ObjId, Touches>,
+    pending: &[Issue],
     kept: &[Kept],
     clerk: ClerkId,
     boot: u64,
-    ops: &[OpNo],
+    ops: &Numbers,
 ) -> Result<Option<Rule>, NoMemory>
-    ensures { IfOk result (λ found. MatchOption found (KeepsMarks clerk boot ops.now kept.now) (λ rule. BreaksMarks clerk boot ops.now kept.now rule)) }
+    ensures { IfOk result (λ found. MatchOption found (KeepsMarks clerk boot ops.now (numbers_in pending.now) touches.now kept.now) (λ rule. BreaksMarks clerk boot ops.now (numbers_in pending.now) touches.now kept.now rule)) }
 {
-    if !are_kept(kept, clerk, boot, ops) {
+    if !are_kept(alloc, kept, clerk, boot, ops)? {
         return Ok(Some(Rule::Named));
     }
-    if !are_uncovered(kept, clerk, boot, ops) {
+    if !are_uncovered(alloc, pending, kept, clerk, boot, ops)? {
         return Ok(Some(Rule::Covered));
     }
-    if !are_untouched(kept, clerk, boot, ops) {
+    if !are_untouched(alloc, touches, kept, clerk, boot, ops)? {
         return Ok(Some(Rule::Touched));
     }
     if !are_closed(alloc, kept, clerk, boot, ops)? {
@@ -42,39 +46,99 @@ pub fn broken(
 }
 
 // Whether the kept operation is one of these of the start.
-fn is_among(kept: &Kept, clerk: ClerkId, boot: u64, ops: &[OpNo]) -> bool
+fn is_among(kept: &Kept, clerk: ClerkId, boot: u64, ops: &Numbers) -> bool
     ensures { result ≡ is_among clerk boot ops.now kept.now }
 {
-    clerk == kept.clerk && boot == kept.boot && ops.contains(&kept.number)
+    clerk == kept.clerk && boot == kept.boot && ops.has(kept.number)
 }
 
 // Whether each of the operations is kept.
-fn are_kept(kept: &[Kept], clerk: ClerkId, boot: u64, ops: &[OpNo]) -> bool
-    ensures { result ≡ are_kept clerk boot ops.now kept.now }
+fn are_kept(
+    alloc: Global,
+    kept: &[Kept],
+    clerk: ClerkId,
+    boot: u64,
+    ops: &Numbers,
+) -> Result<bool, NoMemory>
+    ensures { IfOk result (λ are. are ≡ are_kept clerk boot ops.now kept.now) }
 {
-    ops.iter().all(|op| is_kept(kept, clerk, boot, *op))
+    let own = Numbers::of(alloc, numbers_of(alloc, kept, clerk, boot)?)?;
+    Ok(are_all_in(&own, ops))
 }
 
-fn is_kept(kept: &[Kept], clerk: ClerkId, boot: u64, op: OpNo) -> bool
-    ensures { result ≡ list_any (λ k. is_among clerk boot (op ∷ []) k) kept.now }
+// The numbers of the start's operations.
+fn numbers_of(
+    alloc: Global,
+    kept: &[Kept],
+    clerk: ClerkId,
+    boot: u64,
+) -> Result<Vec<OpNo>, NoMemory>
+    ensures { IfOk result (λ ops. ops.items ≡ map (λ k. k.number) (filter (λ k. of_start clerk boot (op_of k)) kept.now)) }
 {
-    kept.iter().any(|kept| is_among(kept, clerk, boot, &[op]))
+    let mut ops = Vec::new(alloc);
+    for kept in kept {
+        if clerk == kept.clerk && boot == kept.boot {
+            ops.push(kept.number)?;
+        }
+    }
+    Ok(ops)
+}
+
+fn numbers_in(alloc: Global, issues: &[Issue]) -> Result<Vec<OpNo>, NoMemory>
+    ensures { IfOk result (λ ops. ops.items ≡ numbers_in issues.now) }
+{
+    let mut ops = Vec::new(alloc);
+    for issue in issues {
+        ops.push(issue.number)?;
+    }
+    Ok(ops)
+}
+
+// Whether each of the operations is one of these.
+fn are_all_in(known: &Numbers, ops: &Numbers) -> bool
+    ensures { result ≡ list_all (λ n. member n known.now) ops.now }
+{
+    ops.items().iter().all(|op| known.has(*op))
 }
 
 // Whether none of the operations is covered.
-fn are_uncovered(kept: &[Kept], clerk: ClerkId, boot: u64, ops: &[OpNo]) -> bool
-    ensures { result ≡ are_uncovered clerk boot ops.now kept.now }
+fn are_uncovered(
+    alloc: Global,
+    pending: &[Issue],
+    kept: &[Kept],
+    clerk: ClerkId,
+    boot: u64,
+    ops: &Numbers,
+) -> Result<bool, NoMemory>
+    ensures { IfOk result (λ are. are ≡ are_uncovered clerk boot ops.now (numbers_in pending.now) kept.now) }
 {
-    kept.iter()
-        .all(|kept| !(kept.covered && is_among(kept, clerk, boot, ops)))
+    let pending = Numbers::of(alloc, numbers_in(alloc, pending)?)?;
+    Ok(are_pending(&pending, kept, clerk, boot, ops))
+}
+
+fn are_pending(pending: &Numbers, kept: &[Kept], clerk: ClerkId, boot: u64, ops: &Numbers) -> bool
+    ensures { result ≡ are_uncovered clerk boot ops.now pending.now kept.now }
+{
+    kept.iter().all(|kept| !is_among(kept, clerk, boot, ops) || pending.has(kept.number))
 }
 
 // Whether none of the operations was touched.
-fn are_untouched(kept: &[Kept], clerk: ClerkId, boot: u64, ops: &[OpNo]) -> bool
-    ensures { result ≡ are_untouched clerk boot ops.now kept.now }
+fn are_untouched(
+    alloc: Global,
+    touches: &SortedMap<ObjId, Touches>,
+    kept: &[Kept],
+    clerk: ClerkId,
+    boot: u64,
+    ops: &Numbers,
+) -> Result<bool, NoMemory>
+    ensures { IfOk result (λ are. are ≡ are_untouched clerk boot ops.now touches.now kept.now) }
 {
-    kept.iter()
-        .all(|kept| !(kept.touched && is_among(kept, clerk, boot, ops)))
+    for kept in kept {
+        if is_among(kept, clerk, boot, ops) && is_touched(alloc, touches, kept)? {
+            return Ok(false);
+        }
+    }
+    Ok(true)
 }
 
 // Whether no other operation of the start is ordered after one of these.
@@ -83,7 +147,7 @@ fn are_closed(
     kept: &[Kept],
     clerk: ClerkId,
     boot: u64,
-    ops: &[OpNo],
+    ops: &Numbers,
 ) -> Result<bool, NoMemory>
     ensures { IfOk result (λ closed. closed ≡ are_closed clerk boot ops.now kept.now) }
 {
@@ -111,7 +175,7 @@ fn is_last(
     later: &[Kept],
     clerk: ClerkId,
     boot: u64,
-    ops: &[OpNo],
+    ops: &Numbers,
     lost: &Update,
     objs: &[ObjId],
 ) -> bool
@@ -131,7 +195,7 @@ fn is_left(
     kept: &Kept,
     clerk: ClerkId,
     boot: u64,
-    ops: &[OpNo],
+    ops: &Numbers,
     lost: &Update,
     objs: &[ObjId],
 ) -> bool
@@ -163,7 +227,7 @@ pub fn volume_without(
     kept: &[Kept],
     clerk: ClerkId,
     boot: u64,
-    ops: &[OpNo],
+    ops: &Numbers,
 ) -> Result<Option<Volume>, NoMemory>
     requires { T (list_all is_sound (updates (ops_of kept.now))) }
     ensures { IfOk result (λ found. MatchOption found (¬ (Fits formatted (updates (filter (λ k. not (is_one_of clerk boot ops.now k)) (ops_of kept.now)))))
@@ -203,7 +267,7 @@ pub fn owe_at(
     kept: &[Kept],
     clerk: ClerkId,
     boot: u64,
-    ops: &[OpNo],
+    ops: &Numbers,
 ) -> Result<(), NoMemory>
     requires { at < length starts.old.items }
     ensures { OnOk result ((s : StartOf) × IsOwing (pairs_of (filter (is_one_of clerk boot ops.now) (ops_of kept.now))) (slice_index_or starts.old.items at s) s
@@ -219,13 +283,13 @@ fn owe(
     kept: &[Kept],
     clerk: ClerkId,
     boot: u64,
-    ops: &[OpNo],
+    ops: &Numbers,
 ) -> Result<(), NoMemory>
     ensures clerk { start.new.clerk ≡ start.old.clerk }
     ensures boot { start.new.boot ≡ start.old.boot }
     ensures count { start.new.count ≡ start.old.count }
     ensures owed { OnOk result (start.new.owed.items ≡ start.old.owed.items ++ pairs_of (filter (is_one_of clerk boot ops.now) (ops_of kept.now))) }
-    ensures issued { start.new.issued.items ≡ start.old.issued.items }
+    ensures pending { start.new.pending.items ≡ start.old.pending.items }
 {
     for lost in kept {
         if is_among(lost, clerk, boot, ops) {
@@ -249,37 +313,8 @@ fn push_pairs(owed: &mut Vec<(OpNo, ObjId)>, op: OpNo, objs: &[ObjId]) -> Result
 }
 
 /// Takes the lost operations out.
-pub fn forget(kept: &mut Vec<Kept>, clerk: ClerkId, boot: u64, ops: &[OpNo])
+pub fn forget(kept: &mut Vec<Kept>, clerk: ClerkId, boot: u64, ops: &Numbers)
     ensures { kept.new.items ≡ filter (λ k. not (is_among clerk boot ops.now k)) kept.old.items }
 {
     kept.retain(|kept| !is_among(kept, clerk, boot, ops));
-}
-
-/// Marks the kept operations of other clerks that a call of this one touched.
-pub fn touch_all(kept: &mut Vec<Kept>, clerk: ClerkId, objs: &[ObjId])
-    ensures { kept.new.items ≡ map (touching clerk objs.now) kept.old.items }
-{
-    touch(kept, clerk, objs);
-}
-
-fn touch(kept: &mut [Kept], clerk: ClerkId, objs: &[ObjId])
-    ensures { kept.new ≡ map (touching clerk objs.now) kept.old }
-{
-    for at in 0..kept.len() {
-        touch_one(&mut kept[at], clerk, objs);
-    }
-}
-
-fn touch_one(kept: &mut Kept, clerk: ClerkId, objs: &[ObjId])
-    ensures { kept.new ≡ touching clerk objs.now kept.old }
-{
-    if kept.clerk != clerk && !kept.touched && is_on_one(&kept.update, objs) {
-        kept.touched = true;
-    }
-}
-
-fn is_on_one(update: &Update, objs: &[ObjId]) -> bool
-    ensures { result ≡ list_any (λ o. member o objs.now) (operands update.now) }
-{
-    shares(objs, update)
 }

@@ -3,11 +3,12 @@ ghost use Rattle.std.specs.Prelude.{◌≡◌, ◌<◌, ◌++◌, ℕ, not, leng
 ghost use Rattle.std.specs.List.{filter, find, position_or_len};
 ghost use Rattle.ec_volume.specs.Volume.{images, after};
 ghost use Rattle.ec_history.specs.History.{meets, updates};
-ghost use Rattle.ec_judge.specs.Carried.{is_start, count_of, owed_of, issued_of, count_next, issues_of, keeps_of, ops_of, IsFitting, IsNoted};
+ghost use Rattle.ec_judge.specs.Carried.{is_start, count_of, owed_of, pending_of, is_asked, rest, count_next, issues_of, keeps_of, ops_of, IsFitting, IsNoted};
 ghost use Rattle.ec_judge.specs.declared.carried.Start.{Start as StartOf};
 
 use crate::calls;
 use crate::carried::{Issue, Issuer, Kept, Start};
+use crate::covers::{self, Asked};
 use ec_base::{ClerkId, Duplicate, NoMemory, ObjId, OpNo};
 use ec_plain::{Call, Outcome};
 use ec_volume::{ApplyFault, Update, Volume};
@@ -24,7 +25,7 @@ pub fn index_of(
     ensures within { IfOk result (λ at. at < length starts.new.items) }
     ensures count { OnOk result ((c b : ℕ) → count_of (find (is_start c b) starts.new.items) ≡ count_of (find (is_start c b) starts.old.items)) }
     ensures owed { OnOk result ((c b : ℕ) → owed_of (find (is_start c b) starts.new.items) ≡ owed_of (find (is_start c b) starts.old.items)) }
-    ensures issued { OnOk result ((c b : ℕ) → issued_of (find (is_start c b) starts.new.items) ≡ issued_of (find (is_start c b) starts.old.items)) }
+    ensures pending { OnOk result ((c b : ℕ) → pending_of (find (is_start c b) starts.new.items) ≡ pending_of (find (is_start c b) starts.old.items)) }
 {
     let at = place_of(starts, clerk, boot);
     if at == starts.len() {
@@ -33,7 +34,7 @@ pub fn index_of(
             boot,
             count: 0,
             owed: Vec::new(alloc),
-            issued: Vec::new(alloc),
+            pending: Vec::new(alloc),
         })?;
     }
     Ok(at)
@@ -57,25 +58,30 @@ fn place_of(starts: &[Start], clerk: ClerkId, boot: u64) -> usize
     starts.len()
 }
 
-/// A call of the start at this index was answered: what it met is reported, and its operation is
-/// issued.
+/// A call of the start at this index was answered: what it asks is covered, what it met is reported,
+/// and its operation is issued.
 pub fn note_at(
+    alloc: Global,
     starts: &mut Vec<Start>,
     at: usize,
+    asked: &Asked,
     place: u32,
     op: &Option<OpNo>,
     call: &Call,
     outcome: &Outcome,
 ) -> Result<(), NoMemory>
     requires { at < length starts.old.items }
-    ensures { OnOk result ((s : StartOf) × IsNoted place op.now call.now outcome.now (slice_index_or starts.old.items at s) s × (starts.new.items ≡ slice_set starts.old.items at s)) }
+    ensures { OnOk result ((s : StartOf) × IsNoted asked.now place op.now call.now outcome.now (slice_index_or starts.old.items at s) s × (starts.new.items ≡ slice_set starts.old.items at s)) }
 {
-    note(&mut starts[at], place, op, call, outcome)
+    note(alloc, &mut starts[at], asked, place, op, call, outcome)
 }
 
-// A call of the start was answered: what it met is reported, and its operation is issued.
+// A call of the start was answered: what it asks is covered, what it met is reported, and its
+// operation is issued.
 fn note(
+    alloc: Global,
     start: &mut Start,
+    asked: &Asked,
     place: u32,
     op: &Option<OpNo>,
     call: &Call,
@@ -85,13 +91,14 @@ fn note(
     ensures boot { start.new.boot ≡ start.old.boot }
     ensures count { OnOk result (start.new.count ≡ count_next start.old.count op.now) }
     ensures owed { OnOk result (start.new.owed.items ≡ filter (λ q. not (meets outcome.now call.now q)) start.old.owed.items) }
-    ensures issued { OnOk result (start.new.issued.items ≡ start.old.issued.items ++ issues_of place op.now outcome.now.update) }
+    ensures pending { OnOk result (start.new.pending.items ≡ rest (is_asked asked.now) start.old.pending.items ++ issues_of place op.now outcome.now.update) }
 {
     report(start, call, outcome);
+    covers::cover(alloc, &mut start.pending, asked)?;
     if let Some(number) = op {
         start.count = number.0;
         if let Some(update) = &outcome.update {
-            start.issued.push(Issue {
+            start.pending.push(Issue {
                 number: *number,
                 place,
                 update: update.duplicate()?,
@@ -107,7 +114,7 @@ fn report(start: &mut Start, call: &Call, outcome: &Outcome)
     ensures boot { start.new.boot ≡ start.old.boot }
     ensures count { start.new.count ≡ start.old.count }
     ensures owed { start.new.owed.items ≡ filter (λ q. not (meets outcome.now call.now q)) start.old.owed.items }
-    ensures issued { start.new.issued.items ≡ start.old.issued.items }
+    ensures pending { start.new.pending.items ≡ start.old.pending.items }
 {
     start.owed.retain(|pair| !calls::meets(call, outcome, pair));
 }
@@ -140,9 +147,8 @@ pub fn keep(
         boot: issuer.boot,
         number: *number,
         place: issuer.place,
+        turn: issuer.turn,
         update,
-        covered: false,
-        touched: false,
     })?;
     Ok(())
 }

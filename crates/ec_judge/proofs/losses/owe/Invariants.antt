@@ -10,5 +10,5 @@ invariant-loop-lost l = record {
   boot : l.start.boot ≡ l.fn.start.boot;
   count : l.start.count ≡ l.fn.start.count;
   owed : l.start.owed.items ≡ l.fn.start.owed.items ++ pairs_of (filter (is_one_of l.clerk l.boot l.ops) (ops_of (take l.lost-index l.kept)));
-  issued : l.start.issued.items ≡ l.fn.start.issued.items;
+  pending : l.start.pending.items ≡ l.fn.start.pending.items;
 }

@@ -11,6 +11,6 @@ returns c =
     let old = c.index_mut.ensures.value ∙ same-at c.args.starts.now.items c.args.at c.index_mut.result.now now c.requires in
     on-ok _ _ c.owe.result (λ owed. (
       now,
-      record { clerk = c.owe.ensures.clerk ∙ ap (λ t. t.clerk) old; boot = c.owe.ensures.boot ∙ ap (λ t. t.boot) old; count = c.owe.ensures.count ∙ ap (λ t. t.count) old; owed = owed ∙ ap (λ t. t.owed.items ++ pairs_of (filter (is_one_of c.args.clerk c.args.boot c.args.ops.now) (ops_of c.args.kept.now))) old; issued = c.owe.ensures.issued ∙ ap (λ t. t.issued.items) old },
+      record { clerk = c.owe.ensures.clerk ∙ ap (λ t. t.clerk) old; boot = c.owe.ensures.boot ∙ ap (λ t. t.boot) old; count = c.owe.ensures.count ∙ ap (λ t. t.count) old; owed = owed ∙ ap (λ t. t.owed.items ++ pairs_of (filter (is_one_of c.args.clerk c.args.boot c.args.ops.now) (ops_of c.args.kept.now))) old; pending = c.owe.ensures.pending ∙ ap (λ t. t.pending.items) old },
       refl,
     )) c.owe.ensures.owed

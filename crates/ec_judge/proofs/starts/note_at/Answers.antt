@@ -1,7 +1,7 @@
 use Rattle.std.proofs.Common.{refl, ap, ◌∙◌, ◌++◌, not}
 use Rattle.std.specs.List.{filter}
 use Rattle.ec_history.specs.History.{meets}
-use Rattle.ec_judge.specs.Carried.{count_next, issues_of}
+use Rattle.ec_judge.specs.Carried.{count_next, issues_of, rest, is_asked}
 use Rattle.ec_judge.proofs.Steps.{same-at, on-ok-all}
 use Rattle.ec_judge.proofs.starts.note_at.Goals as goal
 
@@ -10,14 +10,14 @@ returns c =
     let now = c.note.new.start in
     let o = c.args.outcome.now in
     let old = c.index_mut.ensures.value ∙ same-at c.args.starts.now.items c.args.at c.index_mut.result.now now c.requires in
-    on-ok-all _ _ _ _ c.note.result (λ count owed issued. (
+    on-ok-all _ _ _ _ c.note.result (λ count owed pending. (
       now,
       record {
         clerk = c.note.ensures.clerk ∙ ap (λ t. t.clerk) old;
         boot = c.note.ensures.boot ∙ ap (λ t. t.boot) old;
         count = count ∙ ap (λ t. count_next t.count c.args.op.now) old;
         owed = owed ∙ ap (λ t. filter (λ q. not (meets o c.args.call.now q)) t.owed.items) old;
-        issued = issued ∙ ap (λ t. t.issued.items ++ issues_of c.args.place c.args.op.now o.update) old;
+        pending = pending ∙ ap (λ t. rest (is_asked c.args.asked.now) t.pending.items ++ issues_of c.args.place c.args.op.now o.update) old;
       },
       refl,
-    )) c.note.ensures.count c.note.ensures.owed c.note.ensures.issued
+    )) c.note.ensures.count c.note.ensures.owed c.note.ensures.pending

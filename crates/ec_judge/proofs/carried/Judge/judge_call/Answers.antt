@@ -1,18 +1,17 @@
-use Rattle.std.proofs.Common.{◌++◌, sym, ap, ◌∙◌, map, not}
+use Rattle.std.proofs.Common.{◌++◌, sym, ap, ◌∙◌, not, cond, Some}
+use Rattle.ec_base.specs.Tables as Tables
 use Rattle.ec_volume.specs.Update.{member}
-use Rattle.ec_volume.specs.Volume.{images, after}
-use Rattle.ec_order.specs.Order.{closure}
+use Rattle.ec_volume.specs.Volume.{images}
 use Rattle.std.specs.List.{filter}
-use Rattle.ec_history.specs.History.{updates, kept, meets}
-use Rattle.ec_history.specs.Legal.{from_formatted}
-use Rattle.ec_judge.specs.Rules.{asked_by}
-use Rattle.ec_judge.specs.Carried.{numbered, covering, touching, keeps_of, count_next, issues_of}
-use Rattle.ec_judge.proofs.Volumes.{all-same}
+use Rattle.ec_history.specs.History.{meets}
+use Rattle.ec_judge.specs.Rules.{asked_by_call}
+use Rattle.ec_judge.specs.Carried.{is_start, touched_next, count_next, issues_of, is_asked, rest}
+use Rattle.ec_judge.proofs.AllStarts.{found-at}
 use Rattle.ec_judge.proofs.Steps.{out-fits, out-same, own-at, starts-now, is-own, same-at, call-broken, call-legal, call-carried}
 use Rattle.ec_judge.proofs.carried.Judge.judge_call.Goals as goal
 
 pub returns-in-Some-2 : goal.returns-in-Some-2
-returns-in-Some-2 c = λ l past h legal.
+returns-in-Some-2 c = λ l past turn h legal.
     let j = c.args.self.now in
     let by = c.args.issuer.now in
     let o = c.in_ok-outcome.outcome in
@@ -20,7 +19,7 @@ returns-in-Some-2 c = λ l past h legal.
     let at = c.in_ok-at.ensures in
     let s = c.index-start.result.now in
     let same = out-same past by.place c.args.call.now (images j.volume) c.in-Some.fresh o h.volume c.in-Some.ensures.some c.in_ok-outcome.ensures in
-    let own = own-at past j h ss at.count at.owed at.issued by.clerk by.boot c.in_ok-at.at s at.found at.within c.index-start.ensures in
+    let own = own-at past j h ss at.count at.owed at.pending by.clerk by.boot c.in_ok-at.at s at.found at.within c.index-start.ensures in
     call-broken c.args.most past by.place by.clerk by.boot c.args.call.now c.args.answer.now c.args.op.now s.count s.owed.items o own.count own.owed same c.in-Some-2.rule (rw c.in-Some-2.is at c.in_ok-rule.ensures)
 
 pub keep-requires : goal.keep-requires
@@ -29,7 +28,7 @@ keep-requires c =
     out-fits (images c.args.self.now.volume) c.args.call.now c.in-Some.fresh c.args.issuer.now.place c.in_ok-outcome.outcome c.in-Some.ensures.some c.in_ok-outcome.ensures ready.formed ready.gone ready.bounded
 
 pub returns : goal.returns
-returns c = λ l past h legal.
+returns c = λ l past turn h legal.
     let j = c.args.self.now in
     let by = c.args.issuer.now in
     let cl = c.args.call.now in
@@ -40,19 +39,18 @@ returns c = λ l past h legal.
     let at = c.in_ok-at.ensures in
     let s = c.index-start.result.now in
     let same = out-same past by.place cl (images j.volume) c.in-Some.fresh o h.volume c.in-Some.ensures.some c.in_ok-outcome.ensures in
-    let own = own-at past j h ss at.count at.owed at.issued by.clerk by.boot c.in_ok-at.at s at.found at.within c.index-start.ensures in
+    let own = own-at past j h ss at.count at.owed at.pending by.clerk by.boot c.in_ok-at.at s at.found at.within c.index-start.ensures in
     let fine = call-legal c.args.most past by.place by.clerk by.boot cl a op s.count s.owed.items o own.count own.owed same (rw c.in_default-2.is at c.in_ok-rule.ensures) in
-    let covered =
-    c.in_ok-ops.ensures (images j.volume) c.in-Some.fresh c.in_ok-outcome.ensures
-    ∙ ap (λ is. map (λ x. x.0) (closure (λ n. member n (asked_by (images j.volume) is c.args.begun cl a)) (numbered is))) c.deref.ensures.value
-    ∙ ap (λ v. map (λ x. x.0) (closure (λ n. member n (asked_by v s.issued.items c.args.begun cl a)) (numbered s.issued.items))) (all-same (images j.volume) (after from_formatted.volume (updates (kept from_formatted past))) h.volume) in
     let noted = c.in_ok-note_at.ensures in
     let old = same-at ss c.in_ok-at.at noted.0 s at.within ∙ sym c.index-start.ensures in
     let mine = is-own by.clerk by.boot ss c.in_ok-at.at s at.found at.within c.index-start.ensures in (
       fine,
-      call-carried c.args.most past by l c.args.begun cl a op j h legal _ ss c.in_ok-at.at s noted.0 c.in_ok-ops.ops.items o same fine (starts-now past j h ss at.count at.owed at.issued) at.found at.within own covered
+      call-carried c.args.most past by l c.args.begun cl a op j h legal _ ss c.in_ok-at.at s noted.0 c.wanted-asked.result o turn same fine (starts-now past j h ss at.count at.owed at.pending) at.found at.within own at.pending
+          (found-at (is_start by.clerk by.boot) ss c.in_ok-at.at s at.found at.within c.index-start.ensures)
+          (c.wanted-asked.ensures ∙ ap (λ os. asked_by_call os c.args.begun cl a) c.as_slice-touched.ensures)
           (noted.1.clerk ∙ ap (λ t. t.clerk) old ∙ mine.0) (noted.1.boot ∙ ap (λ t. t.boot) old ∙ mine.1) (noted.1.count ∙ ap (λ t. count_next t.count op) old) (noted.1.owed ∙ ap (λ t. filter (λ q. not (meets o cl q)) t.owed.items) old)
-          (noted.1.issued ∙ ap (λ t. t.issued.items ++ issues_of by.place op o.update) old) noted.2
-          (c.in_ok-keep.ensures.kept ∙ ap (λ ks. ks ++ keeps_of by op o.update) (c.touch_all.ensures ∙ ap (λ os. map (touching by.clerk os) c.mark_all.new.kept.items) c.as_slice.ensures ∙ ap (map (touching by.clerk o.touched)) (c.mark_all.ensures ∙ ap (λ ns. map (covering by.clerk by.boot ns) j.kept.items) c.deref-2.ensures.value)))
+          (noted.1.pending ∙ ap (λ t. rest (is_asked c.wanted-asked.result) t.pending.items ++ issues_of by.place op o.update) old) noted.2
+          c.in_ok-keep.ensures.kept
+          (λ x. c.in_ok-touch_all.ensures x ∙ ap (λ os. cond (member x os) (Some (touched_next by.clerk by.turn (Tables.at x j.touches))) (Tables.at x j.touches)) c.as_slice-touched.ensures)
           c.in_ok-keep.ensures.volume,
     )

@@ -1,0 +1,55 @@
+use Rattle.std.proofs.Common.{◌≡◌, refl, ◌++◌, ap, sym, subst, ◌∙◌, not}
+use Rattle.std.specs.List.{filter}
+use Rattle.ec_volume.specs.Volume.{images, after, Fits, formatted}
+use Rattle.ec_history.specs.History.{updates, is_one_of, pairs_of}
+use Rattle.ec_judge.specs.Carried.{ops_of, numbers_in, is_start, pending_of, KeepsMarks, BreaksMarks}
+use Rattle.ec_judge.proofs.AllStarts.{found-at}
+use Rattle.ec_judge.proofs.Steps.{own-at, starts-now, is-own, same-at, loss-broken, loss-unfit, loss-lawful, loss-carried}
+use Rattle.ec_judge.proofs.carried.Judge.judge_lost.Goals as goal
+
+pub returns-in-Some : goal.returns-in-Some
+returns-in-Some c = λ most turn p past at-turn h legal.
+    let ss = c.index_of.new.starts.items in
+    let at = c.in_ok-at.ensures in
+    let s = c.index-start.result.now in
+    let found = found-at (is_start c.args.clerk c.args.boot) ss c.in_ok-at.at s at.found at.within c.index-start.ensures in
+    let is = ap numbers_in (c.deref.ensures.value ∙ ap pending_of (sym found) ∙ at.pending c.args.clerk c.args.boot) in
+    loss-broken most past p c.args.clerk c.args.boot c.args.ops.now c.args.self.now h (numbers_in c.deref.result.now) is c.in-Some.rule
+    (subst (λ ks. BreaksMarks c.args.clerk c.args.boot c.args.ops.now (numbers_in c.deref.result.now) c.args.self.now.touches ks c.in-Some.rule) c.deref-2.ensures.value (rw c.in-Some.is at c.in_ok-broken.ensures))
+
+pub returns-in_default-2 : goal.returns-in_default-2
+returns-in_default-2 c = λ most turn p past at-turn h legal.
+    let ss = c.index_of.new.starts.items in
+    let at = c.in_ok-at.ensures in
+    let s = c.index-start.result.now in
+    let found = found-at (is_start c.args.clerk c.args.boot) ss c.in_ok-at.at s at.found at.within c.index-start.ensures in
+    let is = ap numbers_in (c.deref.ensures.value ∙ ap pending_of (sym found) ∙ at.pending c.args.clerk c.args.boot) in
+    loss-unfit most past p c.args.clerk c.args.boot c.args.ops.now c.args.self.now h (numbers_in c.deref.result.now) is
+    (subst (KeepsMarks c.args.clerk c.args.boot c.args.ops.now (numbers_in c.deref.result.now) c.args.self.now.touches) c.deref-2.ensures.value (rw c.in_default.is at c.in_ok-broken.ensures))
+    (subst (λ ks. ¬ (Fits formatted (updates (filter (λ k. not (is_one_of c.args.clerk c.args.boot c.args.ops.now k)) (ops_of ks))))) c.deref-3.ensures.value (rw c.in_default-2.is at c.in_ok-volume.ensures))
+
+pub returns : goal.returns
+returns c = λ most turn p past at-turn h legal.
+    let j = c.args.self.now in
+    let ns = c.args.ops.now in
+    let ss = c.index_of.new.starts.items in
+    let at = c.in_ok-at.ensures in
+    let s = c.index-start.result.now in
+    let found-start = found-at (is_start c.args.clerk c.args.boot) ss c.in_ok-at.at s at.found at.within c.index-start.ensures in
+    let is = ap numbers_in (c.deref.ensures.value ∙ ap pending_of (sym found-start) ∙ at.pending c.args.clerk c.args.boot) in
+    let owing = c.in_ok-owe_at.ensures in
+    let old = same-at ss c.in_ok-at.at owing.0 s at.within ∙ sym c.index-start.ensures in
+    let marks = subst (KeepsMarks c.args.clerk c.args.boot ns (numbers_in c.deref.result.now) j.touches) c.deref-2.ensures.value (rw c.in_default.is at c.in_ok-broken.ensures) in
+    let found = rw c.in-Some-2.is at c.in_ok-volume.ensures in
+    let mine = is-own c.args.clerk c.args.boot ss c.in_ok-at.at s at.found at.within c.index-start.ensures in (
+      loss-lawful most past p c.args.clerk c.args.boot ns j h (numbers_in c.deref.result.now) is marks (subst (λ ks. Fits formatted (updates (filter (λ k. not (is_one_of c.args.clerk c.args.boot ns k)) (ops_of ks)))) c.deref-3.ensures.value found.0),
+      loss-carried most past p c.args.clerk c.args.boot ns j h (numbers_in c.deref.result.now) is _ ss c.in_ok-at.at s owing.0 (starts-now past j h ss at.count at.owed at.pending) at.found at.within
+          (own-at past j h ss at.count at.owed at.pending c.args.clerk c.args.boot c.in_ok-at.at s at.found at.within c.index-start.ensures)
+          at.pending found-start
+          (owing.1.clerk ∙ ap (λ t. t.clerk) old ∙ mine.0) (owing.1.boot ∙ ap (λ t. t.boot) old ∙ mine.1) (owing.1.count ∙ ap (λ t. t.count) old)
+          (owing.1.owed ∙ ap (λ t. t.owed.items ++ pairs_of (filter (is_one_of c.args.clerk c.args.boot ns) (ops_of c.deref-4.result.now))) old ∙ ap (λ ks. s.owed.items ++ pairs_of (filter (is_one_of c.args.clerk c.args.boot ns) (ops_of ks))) c.deref-4.ensures.value)
+          (owing.1.pending ∙ ap (λ t. t.pending.items) old) owing.2
+          c.forget.ensures
+          refl
+          (λ x. subst (λ ks. images c.in-Some-2.volume x ≡ after formatted (updates (filter (λ k. not (is_one_of c.args.clerk c.args.boot ns k)) (ops_of ks))) x) c.deref-3.ensures.value (found.1 x)),
+    )
