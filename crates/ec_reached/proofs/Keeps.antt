@@ -1,0 +1,109 @@
+-- A whole run, where each step of a clerk keeps all facts.
+use Rattle.std.proofs.Common.{◌≡◌, refl, sym, ap, subst, ◌∙◌, inl, inr, ◌⊎◌, ◌<◌, ◌≤◌, ◌+◌, ℕ, T, Bool, true, false, List, [], ◌∷◌, ◌++◌, Option, Some, None}
+use Rattle.std.specs.Prelude.{is_some, Contains}
+use Rattle.std.specs.List.{list_any}
+use Rattle.ec_plain.specs.Bounds.{is_bounded}
+use Rattle.ec_plain.specs.declared.call.Call.{Call}
+use Rattle.ec_volume.specs.Volume.{Fits, Images, WellFormed, images}
+use Rattle.ec_history.specs.History.{kept, updates}
+use Rattle.ec_events.proofs.Answering.{shown-updates}
+use Rattle.ec_history.specs.Lines.{IsStored}
+use Rattle.ec_history.specs.Placing.{EachLine, place}
+use Rattle.ec_history.specs.declared.shown.Shown.{Shown}
+use Rattle.ec_history.specs.declared.shown.Shown.TheVariants as show
+use Rattle.ec_wire.specs.declared.msg.Msg.{Msg}
+use Rattle.ec_durable.specs.declared.record.Record.{Record}
+use Rattle.ec_protocol.specs.Clerk.{Doing, begin, push, resend, start, take as take_message}
+use Rattle.ec_protocol.specs.Drill.{Fates, Ran, Read, bound, close, run_from}
+use Rattle.ec_protocol.specs.Server.{Serving, end, take}
+use Rattle.ec_protocol.specs.Server as server
+use Rattle.ec_protocol.specs.World.{is_answer_to, stepped}
+use Rattle.ec_found.proofs.Founds.{steps-so}
+use Rattle.ec_protocol.specs.declared.clerk.Clerk.{Clerk}
+use Rattle.ec_protocol.specs.declared.server.Server.{Server}
+use Rattle.ec_protocol.specs.declared.world.World.{World}
+use Rattle.ec_coherence.specs.System.{System, Ghost, base_of}
+use Rattle.ec_coherence.specs.Stops.{RunsOn}
+use Rattle.ec_coherence.specs.Steps.{Stands, doing_in, serving_in}
+use Rattle.ec_commits.specs.Laws as commits
+use Rattle.ec_changes.specs.Laws.{crashed, lined, stopped}
+use Rattle.ec_commits.specs.Laws.{AllAgree}
+use Rattle.ec_found.specs.Doubts.{ComesFrom, DoubtAgrees, doubted}
+use Rattle.ec_found.proofs.Keeps.{doubts-hold, restarts-hold}
+use Rattle.ec_headline.specs.Headline.{FrontsAreLawful, InScript, ShowLawfully, joined}
+use Rattle.ec_headline.proofs.Stored.{show-lawfully}
+use Rattle.ec_steps.specs.Calls.{IsOf}
+use Rattle.ec_steps.specs.Drills.{AreFit, Closed, IsCallIn, IsUnspent}
+use Rattle.ec_steps.specs.Steps.{Holds, IsDone, IsNew, IsServed, IsStep, StepsKeep, begun, calling, in_call}
+use Rattle.ec_steps.specs.Ties.{called, waiting}
+use Rattle.ec_asked.specs.Laws.{IsFresh, RestsKeep, RunAsks}
+use Rattle.ec_asked.proofs.Drills.{asked-drills}
+use Rattle.ec_joins.proofs.Steps.{step-most}
+use Rattle.ec_whole.specs.Runs.{OfRun}
+use Rattle.ec_whole.proofs.Runs.{ClerksKeep}
+use Rattle.ec_whole.specs.Whole.{Whole}
+use Rattle.ec_whole.proofs.Lined.{calls-lined}
+use Rattle.ec_whole.proofs.Halts.{crashed-whole, doubted-whole, found-whole, nothing-whole, start-leaves, stopped-line-whole, stopped-whole, unsettled-whole, up-whole}
+use Rattle.ec_whole.proofs.Server.{ends-whole, most-stays, takes-whole}
+
+module _ (clerks : ClerksKeep Whole) (v : Images) (most : ℕ) where
+  abbrev F : System → Type 0
+  F = OfRun v most
+
+  -- a clerk's step leaves the volume at the beginning and the greatest number of objects
+  fixed : (g h : System) → h.origin ≡ g.origin → h.durable.max_objects ≡ g.durable.max_objects → F g → Whole h → F h
+  fixed g h q r f w = record { whole = w; origin = q ∙ f.origin; most_is = r ∙ f.most_is }
+
+  done-fixed : (g : System) (c b : ℕ) (d : Doing) (h : System) → h.origin ≡ g.origin → h.durable.max_objects ≡ g.durable.max_objects → F g → IsDone Whole h c b d → IsDone F h c b d
+  done-fixed g c b d h q r f (inl s) = inl s
+  done-fixed g c b d h q r f (inr (γ, shown, w)) = inr (γ, shown, fixed g (doing_in c b d γ h) q r f w)
+
+  in-call-fixed : (g : System) (c l : ℕ) (cl : Call) (k : Clerk) → ((in_call c l cl k g).origin ≡ g.origin) × ((in_call c l cl k g).durable.max_objects ≡ g.durable.max_objects)
+  in-call-fixed g c l cl k = go (list_any (is_answer_to (k.calls + 1)) (begin cl k).outs)
+    where
+      go : (z : Bool) → ((waiting c l cl z (called c (k.calls + 1) l cl g)).origin ≡ g.origin) × ((waiting c l cl z (called c (k.calls + 1) l cl g)).durable.max_objects ≡ g.durable.max_objects)
+      go true = (refl, refl)
+      go false = (refl, refl)
+
+  served-fixed : (g : System) (t : Serving) → F g → IsServed Whole g t → IsServed F g t
+  served-fixed g t f (inl s) = inl s
+  served-fixed g t f (inr (γ, st, w)) = inr (γ, st, fixed g (serving_in t γ g) refl (most-stays g t.rec t.server.durable (st.0).committed) f w)
+
+  stops-fixed : (g : System) (u : Server) → F g → g.server ≡ Some u → F (stopped g)
+  stops-fixed g u f up = fixed g (stopped g) refl refl f (stopped-whole g f.whole u up (subst (RunsOn g) up ((f.whole).all.0).stops.runs).1)
+
+  found-most : (h : System) → F h → h.server ≡ None → (r : Record) → h.unshown ≡ Some r → (stepped r h.durable).max_objects ≡ h.durable.max_objects
+  found-most h x d r p = step-most r h.durable (stepped r h.durable) (steps-so h (x.whole).all (x.whole).doubts d r p)
+
+  -- behind a stop with a record in doubt, and behind a restart
+  rest : RestsKeep F
+  rest = record {
+    in_doubt = λ h x. (x.whole).doubts;
+    doubts = λ h y x p s from now. fixed h (doubted h s) refl refl x (doubted-whole h x.whole y p s from now);
+    lines = λ h x. fixed h (lined h show.Stopped) refl refl x (stopped-line-whole h x.whole);
+    finds = λ h x d r p m now. fixed h _ refl (found-most h x d r p) x (found-whole h x.whole d r p now);
+    starts = λ h x d s e now. fixed h _ refl (ap (λ y. y.max_objects) (start-leaves (record (h.durable) { epoch = e }))) x (up-whole h x.whole d s e now);
+  }
+
+  abbrev agrees : (g : System) → F g → AllAgree g × DoubtAgrees g
+  agrees g f = ((f.whole).all, (f.whole).doubts)
+
+  pub keep : StepsKeep F
+  keep = record {
+    agrees = λ g f. (f.whole).all;
+    takes = λ g u f up c m p. served-fixed g (take c m u) f (takes-whole g u f.whole up c m p);
+    ends = λ g u f up c. served-fixed g (end c u) f (ends-whole g u f.whole up c);
+    stops = stops-fixed;
+    doubts = λ w g f st u up t is r q n. doubts-hold F agrees stops-fixed rest.doubts w g f st u up t is r q n;
+    restarts = λ w g f st down spare fate. restarts-hold F agrees rest.lines rest.finds rest.starts w g f st down spare fate;
+    messages = λ g c b k f run there m p. done-fixed g c b (take_message m k) g refl refl f (clerks.messages g c b k f.whole run there m p);
+    pushes = λ g c b k f run there n. done-fixed g c b (push n k) g refl refl f (clerks.pushes g c b k f.whole run there n);
+    resends = λ g c b k f run there. done-fixed g c b (resend k) g refl refl f (clerks.resends g c b k f.whole run there);
+    calls = λ g c b k f run there l cl new bounded. (let q = in-call-fixed g c l cl k in done-fixed g c b (begin cl k) (in_call c l cl k g) q.0 q.1 f (clerks.calls g c b k f.whole run there l cl new bounded));
+    starts = λ g c f idle within l cl new bounded spare. (let d = start c (g.boots c + 1) in let q = in-call-fixed (begun c g) c l cl d.clerk in
+        done-fixed g c (g.boots c + 1) (calling cl d.outs d.clerk) (in_call c l cl d.clerk (begun c g)) q.0 q.1 f (clerks.starts g c f.whole idle within l cl new bounded spare));
+    crashes = λ g f c. fixed g (crashed g c) refl refl f (crashed-whole g f.whole c);
+    nothing = λ g f. fixed g (lined g show.Nothing) refl refl f (nothing-whole g f.whole);
+    unsettled = λ g f. fixed g (lined g show.Unsettled) refl refl f (unsettled-whole g f.whole);
+  }
+

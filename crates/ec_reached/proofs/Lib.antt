@@ -1,0 +1,5 @@
+mod Slots
+mod Keeps
+pub mod Licences
+pub mod Worlds
+pub mod Entries
