@@ -1,5 +1,6 @@
 mod Slots
-mod Keeps
+mod Bounded
 pub mod Licences
 pub mod Worlds
 pub mod Entries
+pub mod Runs

@@ -5,7 +5,7 @@ use Rattle.ec_base.specs.Holds.{clash, rank}
 use Rattle.ec_base.specs.Tables.{at}
 use Rattle.ec_base.specs.declared.ids.Age.{Age}
 use Rattle.ec_base.specs.declared.ids.Hold.{Hold}
-use Rattle.ec_volume.specs.Volume.{Images, Fits, WellFormed, after}
+use Rattle.ec_volume.specs.Volume.{after}
 use Rattle.ec_history.specs.History.{Base, History, Op, kept, updates}
 use Rattle.ec_history.specs.Placing.{place}
 use Rattle.ec_history.specs.declared.shown.Shown.{Shown}
@@ -22,13 +22,12 @@ use Rattle.ec_coherence.specs.Steps.{Stands, found}
 use Rattle.ec_coherence.specs.Stops.{MayStep}
 use Rattle.ec_coherence.specs.Tokens.{Apart, eff, eff_hold, view}
 use Rattle.ec_coherence.proofs.ClerkIn.{was-in}
-use Rattle.ec_coherence.proofs.Formed.{volume-formed}
 use Rattle.ec_coherence.proofs.SlotLaws.{open-at}
 use Rattle.ec_coherence.proofs.Tables.{clash-below, clash-turn, none_some, same_some}
 use Rattle.ec_commits.specs.Laws.{AllAgree}
 use Rattle.ec_events.proofs.Answering.{shown-updates}
 use Rattle.ec_events.proofs.Touching.{token-of}
-use Rattle.ec_reached.specs.Coherent.{HasLicence, Holds, IsCoherent, IsFitting, left_by}
+use Rattle.ec_reached.specs.Coherent.{HasLicence, Holds, left_by}
 use Rattle.ec_reached.proofs.Slots.{open-before}
 
 -- two weaker modes don't conflict either
@@ -78,7 +77,7 @@ module _ (g : System) (all : AllAgree g) (w : World) (st : Stands w g) where
   allowed : (c x : ℕ) (h : Held) (o : Holds w c x h) → rank h.hold ≤ rank (eff_hold (eff (view g) (in-session c o.clerk o.licence).session x))
   allowed c x h o = let i = in-session c o.clerk o.licence in token-of g (all.0).tokens i.session x o.clerk i.there h o.held
 
-  no-conflict : (c d x : ℕ) (h k : Held) → c ≢ d → Holds w c x h → Holds w d x k → T (not (clash h.hold k.hold))
+  pub no-conflict : (c d x : ℕ) (h k : Held) → c ≢ d → Holds w c x h → Holds w d x k → T (not (clash h.hold k.hold))
   no-conflict c d x h k n a b =
       let i = in-session c a.clerk a.licence in
       let j = in-session d b.clerk b.licence in
@@ -89,16 +88,7 @@ module _ (g : System) (all : AllAgree g) (w : World) (st : Stands w g) where
   same-updates : updates (kept (base_of g) (place w.shown)) ≡ updates g.ghost.kept
   same-updates = ap (λ ss. updates (kept (base_of g) (place ss))) st.shown ∙ ap (λ h. updates (kept (base_of g) h)) (all.0).events.placed ∙ ap updates (all.0).events.keeps ∙ shown-updates g g.ghost.kept
 
-  held-image : (c x : ℕ) (h : Held) → Holds w c x h → h.image ≡ left_by (base_of g) (kept (base_of g) (place w.shown)) x
+  pub held-image : (c x : ℕ) (h : Held) → Holds w c x h → h.image ≡ left_by (base_of g) (kept (base_of g) (place w.shown)) x
   held-image c x h o =
       let i = in-session c o.clerk o.licence in
       (all.0).images.licences i.session x o.clerk i.there h o.held ∙ ap (λ z. after g.origin (updates (seen_ops z g.ghost.kept)) x) ((all.0).images.unfrozen i.session i.opened) ∙ ap (λ us. after g.origin us x) (sym same-updates)
-
-  pub coherent : IsCoherent (base_of g) w
-  coherent = record { apart = no-conflict; images = held-image }
-
-  pub fitting : IsFitting (base_of g) (kept (base_of g) (place w.shown))
-  fitting = record {
-    fits = subst (Fits g.origin) (sym same-updates) (all.0).images.fits;
-    formed = subst (λ us. WellFormed (after g.origin us)) (sym same-updates) (volume-formed g (all.0).images);
-  }

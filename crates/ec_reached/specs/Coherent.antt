@@ -6,6 +6,7 @@ use Rattle.ec_base.specs.Tables.{at}
 use Rattle.ec_volume.specs.Volume.{Images, Fits, WellFormed, after}
 use Rattle.ec_history.specs.History.{Base, History, Op, Throughout, kept, updates}
 use Rattle.ec_history.specs.Placing.{place}
+use Rattle.ec_renaming.specs.Renaming.{image_by}
 use Rattle.ec_sessions.specs.declared.slot.Slot.{Slot}
 use Rattle.ec_durable.specs.Durable.{slot}
 use Rattle.ec_cache.specs.declared.state.Held.{Held}
@@ -30,12 +31,12 @@ pub record Holds (w : World) (c x : ℕ) (h : Held) : Type 0 where
 abbrev pub left_by : Base → List Op → Images
 left_by base ks = after base.volume (updates ks)
 
--- Two things hold of a coherent world. On a base that gives new objects the ids that they have in the world, an id is read as itself.
-pub record IsCoherent (base : Base) (w : World) : Type 0 where
+-- Two things hold of a coherent world, on this base of histories and with ids of the world read so.
+pub record IsCoherent (base : Base) (read : ℕ → ℕ) (w : World) : Type 0 where
   -- no two licences hold conflicting tokens
   pub apart : (c d x : ℕ) (h k : Held) → c ≢ d → Holds w c x h → Holds w d x k → T (not (clash h.hold k.hold))
-  -- each image held is the object's image in what is kept
-  pub images : (c x : ℕ) (h : Held) → Holds w c x h → h.image ≡ left_by base (kept base (place w.shown)) x
+  -- each image held, with its ids so read, is the object's image in what is kept
+  pub images : (c x : ℕ) (h : Held) → Holds w c x h → image_by read h.image ≡ left_by base (kept base (place w.shown)) (read x)
 
 -- These operations fit the base in turn, and leave a well-formed volume.
 pub record IsFitting (base : Base) (ks : List Op) : Type 0 where
