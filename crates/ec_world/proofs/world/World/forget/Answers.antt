@@ -7,4 +7,4 @@ pub returns-clause-value : goal.returns-clause-value
 returns-clause-value c = sym (c.forget.ensures (view_of c.args.self.now))
 
 pub returns-clause-reached : goal.returns-clause-reached
-returns-clause-reached c = forgotten (view_of c.args.self.now) (view_of c.new.self) (returns-clause-value c)
+returns-clause-reached c = forgotten (view_of c.args.self.now) _ (returns-clause-value c)
