@@ -3,11 +3,11 @@ use Rattle.std.proofs.Common.{◌≡◌, refl, sym, ap, subst, ◌∙◌, inl, i
 use Rattle.std.proofs.lemmas.Bool.{eqb-true}
 use Rattle.ec_volume.specs.Image.{is_gone}
 use Rattle.ec_volume.specs.Update.{distinct, is_make, member}
-use Rattle.ec_volume.specs.Volume.{Images, WellFormed, after}
+use Rattle.ec_volume.specs.Volume.{Fits, Images, WellFormed, after}
 use Rattle.ec_volume.specs.declared.update.Update.{Update}
 use Rattle.ec_volume.specs.declared.update.Update.TheVariants.{Make, Drop, Move, Put, Len, Mode, Stamp, Order, Shift, Owner}
 use Rattle.ec_plain.specs.declared.call.Call.{Call}
-use Rattle.ec_history.specs.History.{Base, Each, History, Op, Throughout, issued, issued_by, issued_from, kept, kept_next, outcome, updates}
+use Rattle.ec_history.specs.History.{Base, Each, History, Op, Throughout, issued, issued_by, issued_from, kept, kept_next, of_start, outcome, updates, without}
 use Rattle.ec_history.specs.Legal.{IsLegal, is_making}
 use Rattle.ec_history.specs.Lines.{AreCovered, IsStored}
 use Rattle.ec_history.specs.Placing.{place}
@@ -26,7 +26,7 @@ use Rattle.ec_placing.specs.Placing.{Clear, IsNewId, MayChange, WouldMake, made_
 use Rattle.ec_placing.proofs.Clearing.{Unmade, clears}
 use Rattle.ec_placing.proofs.Names.{Good, Named, named, renames}
 use Rattle.ec_placing.proofs.Owing.{parts}
-use Rattle.ec_placing.proofs.Same.{covered-so, legal-so, stored-so}
+use Rattle.ec_placing.proofs.Same.{covered-so, fits-so, legal-so, stored-so}
 use Rattle.ec_placing.proofs.Swap.{alike, true-false, unlike}
 
 nil-cons : (p : ℕ) (ps : List ℕ) → [] ≡ p ∷ ps → ⊥
@@ -35,6 +35,15 @@ nil-cons p ps e = cc
 and_parts-T : (a b : Bool) → T (a && b) → T a × T b
 and_parts-T true b t = (tt, t)
 and_parts-T false b t = absurd t
+
+-- of none of a start's operations nothing is taken
+without-none : (c b : ℕ) (ks : List Op) → without c b [] ks ≡ ks
+without-none c b [] = refl
+without-none c b (k ∷ ks) = go (of_start c b k) ∙ ap (λ os. k ∷ os) (without-none c b ks)
+  where
+    go : (z : Bool) → cond (not (z && false)) (k ∷ without c b [] ks) (without c b [] ks) ≡ k ∷ without c b [] ks
+    go true = refl
+    go false = refl
 
 -- the places of operations that make an object
 abbrev pub made_places : List Op → List ℕ
@@ -250,6 +259,11 @@ module _ (v : Images) (f : ℕ → ℕ) where
 
       pub covered-there : AreCovered base ss → AreCovered target ss
       covered-there k = covered-as now target (renamed-agree m.r ren now target same) ss (covered-so v f (λ p. m.i (n + p)) ss changed k)
+
+      pub fits-there : Fits v (updates (kept base (place ss))) → Fits v (updates (kept target (place ss)))
+      fits-there k =
+          subst (λ ks. Fits v (updates ks)) (without-none 0 0 (kept target (place ss)))
+          ((renamed-agree m.r ren now target same).fits (place ss) 0 0 [] (subst (λ ks. Fits v (updates ks)) (sym (without-none 0 0 (kept now (place ss)))) (fits-so v f (λ p. m.i (n + p)) ss changed k)))
 
       pub stored-there : (w : Images) → IsStored base ss w → IsStored target ss w
       stored-there w k = stored-as now target (renamed-agree m.r ren now target same) ss w (stored-so v f (λ p. m.i (n + p)) ss changed w k)

@@ -265,5 +265,8 @@ module _ (v : Images) (f q : ℕ → ℕ) where
     pub covered-so : AreCovered base ss → AreCovered other ss
     covered-so h = along Full (IsCovered base ss) (IsCovered other ss) (covered-next ss) [] (place ss) all h
 
+    pub fits-so : Fits v (updates (kept base (place ss))) → Fits v (updates (kept other (place ss)))
+    fits-so h = subst (λ ks. Fits v (updates ks)) (sym (ends [] (place ss) begin t).kept) h
+
     pub stored-so : (w : Images) → IsStored base ss w → IsStored other ss w
     stored-so w h = subst (λ ks. Rattle.ec_volume.specs.Volume.HaveOneShape w (after v (updates (filter (λ k. member k.number (durable k.clerk k.boot ss)) ks)))) (sym (ends [] (place ss) begin t).kept) h

@@ -2,7 +2,7 @@
 use Rattle.std.specs.Prelude.{◌≡◌, ◌⊎◌, ◌+◌, ◌≤◌, ℕ, T, true, false, not, List, [], ◌∷◌, ◌++◌, length}
 use Rattle.ec_volume.specs.Image.{is_gone}
 use Rattle.ec_volume.specs.Update.{has_operand, is_make, member}
-use Rattle.ec_volume.specs.Volume.{Images, WellFormed, after}
+use Rattle.ec_volume.specs.Volume.{Fits, Images, WellFormed, after}
 use Rattle.ec_volume.specs.declared.update.Update.{Update}
 use Rattle.ec_volume.specs.declared.update.Update.TheVariants.{Make}
 use Rattle.ec_history.specs.History.{Base, Each, History, Op, Throughout, issued, issued_by, kept, outcome, updates}
@@ -47,12 +47,14 @@ IsNewId v f past e =
     let base : Base = record { volume = v; fresh = f } in
     WouldMake base past e → T (is_gone (v (f e.0))) × Each (λ o. member (f e.0) (made_ids o.update) ≡ false) (issued base past)
 
--- Where it's so at each entry, each id may be exchanged for the place of its call, above all ids of the volume.
+-- Where it's so at each entry, each id may be exchanged for the place of its call, above all ids of the volume: histories stay legal, what lines cover and store is
+-- the same, and what is kept fits as before.
 abbrev pub IdsArePlaces : Type 0
 IdsArePlaces = (v : Images) (f : ℕ → ℕ) (n : ℕ) (ss : List Shown) → WellFormed v → ((x : ℕ) → T (not (is_gone (v x))) → x ≤ n) → Throughout (IsNewId v f) [] (place ss)
     → ((most : ℕ) → IsLegal (record { volume = v; fresh = f }) most (place ss) → IsLegal (record { volume = v; fresh = λ p. n + p }) most (place ss))
     × (AreCovered (record { volume = v; fresh = f }) ss → AreCovered (record { volume = v; fresh = λ p. n + p }) ss)
     × ((w : Images) → IsStored (record { volume = v; fresh = f }) ss w → IsStored (record { volume = v; fresh = λ p. n + p }) ss w)
+    × (Fits v (updates (kept (record { volume = v; fresh = f }) (place ss))) → Fits v (updates (kept (record { volume = v; fresh = λ p. n + p }) (place ss))))
 
 -- One more line: where its entries come last, and the ids at the places so far are the same, the ids stay new if those of the line's entries are.
 abbrev pub NewIdsGrow : Type 0

@@ -16,7 +16,6 @@ use Rattle.ec_doings.specs.Names.{NamesAgree}
 use Rattle.ec_answers.specs.Zeros.{ZerosAgree}
 use Rattle.ec_answers.specs.Frees.{FreesAgree}
 use Rattle.ec_joins.specs.Cuts.{CutsAgree}
-use Rattle.ec_headline.specs.Laws.{TellsAll}
 use Rattle.ec_calls.specs.Waits.{HasLine, does_wait}
 use Rattle.ec_calls.proofs.Quiet.{begins-step, quiet-calls, quiet-lines}
 use Rattle.ec_calls.proofs.Quiets.{quiet-pushed}
@@ -30,9 +29,9 @@ use Rattle.ec_names.proofs.Changing.{clerks-keep}
 use Rattle.ec_frees.proofs.Stored.{stills-keep}
 use Rattle.ec_zeros.proofs.Behind.{steps-keep}
 use Rattle.ec_zeros.proofs.Parts.{have-no-zero}
-use Rattle.ec_whole.specs.Whole.{Whole}
+use Rattle.ec_whole.specs.Whole.{ShowsAll, Whole}
 use Rattle.ec_settles.specs.Laws.{IsLined}
-use Rattle.ec_settles.proofs.Carrying.{goes-lined, no-zero, same-tells}
+use Rattle.ec_settles.proofs.Carrying.{no-zero, same-shows, still-lined}
 
 module _ (g : System) (whole : Whole g) (c b : ℕ) (k : Clerk) (runs : g.running c ≡ Some b) (there : g.clerks c b ≡ Some k) where
   abbrev here : System
@@ -69,7 +68,7 @@ module _ (g : System) (whole : Whole g) (c b : ℕ) (k : Clerk) (runs : g.runnin
       cuts = brought CutsAgree whole.cuts;
     };
     lines = begun-lines;
-    tells = brought TellsAll whole.tells;
+    shows = brought ShowsAll whole.shows;
   }
     where
       by : (o : Option ℕ) → k.session ≡ o → (k.session ≡ None) ⊎ ((s : ℕ) × IsUnderWay g c b s (doing k) g.ghost)
@@ -88,14 +87,17 @@ module _ (g : System) (whole : Whole g) (c b : ℕ) (k : Clerk) (runs : g.runnin
     inside : (s : ℕ) → k.session ≡ Some s → IsLined g c b e g.ghost
     inside s p =
         let t = begins.trying in
-        goes-lined g c b s (doing k) e g.ghost t (keeps-push g c b s g.ghost n (doing k) (calling.begins g whole.all whole.orderly whole.names c b s k runs there p)) (quiet-pushed n (doing k))
+        still-lined g c b s (doing k) e g.ghost t (keeps-push g c b s g.ghost n (doing k) (calling.begins g whole.all whole.orderly whole.names c b s k runs there p)) (quiet-pushed n (doing k))
         (have-no-zero.same (doing k) e (have-no-zero.pushed n (doing k)) (no-zero g c b (doing k) g.ghost t))
         (stills-keep g c b (doing k) g.ghost t.frees e g.ghost refl refl refl refl refl (inl (refl, refl, refl)))
-        (calm-keeps g c b (doing k) e g.ghost (are-calm.rest (doing k) e refl refl) t.cuts) begins.lines begins.tells
+        (calm-keeps g c b (doing k) e g.ghost (are-calm.rest (doing k) e refl refl) t.cuts) begins.lines begins.shows (refl, refl, refl)
+
+    outside-now : k.session ≡ None → AllAgree (doing_in c b e g.ghost g)
+    outside-now none = outside-all g whole.all c b k now there none (record { id = refl; age = refl; session = refl; owed = refl; next = refl }) refl refl refl refl g.calls [] tt tt tt
 
     outside-stands : k.session ≡ None → ClerkStands g c b e g.ghost
     outside-stands none =
-        let all : AllAgree (doing_in c b e g.ghost g) = outside-all g whole.all c b k now there none (record { id = refl; age = refl; session = refl; owed = refl; next = refl }) refl refl refl refl g.calls [] tt tt tt in
+        let all = outside-now none in
         (record { runs = runs; shown = sym (append-nil g.ghost.shown); invariant = all.0 }, all.1, all.2, all.3)
 
     outside : k.session ≡ None → IsLined g c b e g.ghost
@@ -116,7 +118,7 @@ module _ (g : System) (whole : Whole g) (c b : ℕ) (k : Clerk) (runs : g.runnin
             cuts = calm-keeps g c b (doing k) e g.ghost (are-calm.rest (doing k) e refl refl) t.cuts;
           };
           lines = lines;
-          tells = same-tells g c b (doing k) e g.ghost begins.tells;
+          shows = same-shows g c b (doing k) e g.ghost t (outside-now none) (refl, refl, refl) begins.shows;
         }
 
     pub begins-pushed : IsLined g c b e g.ghost

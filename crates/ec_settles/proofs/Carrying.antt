@@ -1,5 +1,5 @@
 -- A step under way of a clerk in its session goes on with all facts, where the session's and the other ones do.
-use Rattle.std.proofs.Common.{◌≡◌, refl, sym, subst, ◌∙◌, inl, inr, ℕ}
+use Rattle.std.proofs.Common.{◌≡◌, refl, sym, subst, ◌∙◌, inl, inr, ℕ, [], append-nil}
 use Rattle.std.specs.Prelude.{Some}
 use Rattle.ec_history.specs.History.{Each}
 use Rattle.ec_protocol.specs.Clerk.{Doing}
@@ -13,7 +13,11 @@ use Rattle.ec_calls.specs.Waits.{AreInTurn, HasLine}
 use Rattle.ec_calls.proofs.Quiet.{quiet-calls, quiet-lines}
 use Rattle.ec_joins.specs.Cuts.{CutsAgree}
 use Rattle.ec_doings.specs.Laws.{IsInHand}
-use Rattle.ec_headline.specs.Laws.{TellsAll}
+use Rattle.ec_commits.specs.Laws.{AllAgree}
+use Rattle.ec_frees.specs.Moves.{IsStill}
+use Rattle.ec_fresh.specs.Fresh.{FreshAgrees}
+use Rattle.ec_fresh.proofs.Steps.{step-fresh}
+use Rattle.ec_whole.specs.Whole.{ShowsAll}
 use Rattle.ec_answers.specs.Frees.{FreesAgree}
 use Rattle.ec_answers.specs.Trying.{IsTrying}
 use Rattle.ec_answers.specs.Zeros.{HasNoZero}
@@ -31,9 +35,12 @@ in-hand g c b s d γ t session = elim t.place [
 pub no-zero : (g : System) (c b : ℕ) (d : Doing) (γ : Ghost) → IsTrying g c b d γ → HasNoZero d.clerk
 no-zero g c b d γ t = (t.zeros).clerks c b d.clerk (start-same c b d.clerk g.clerks)
 
--- lines tell the same
-pub same-tells : (g : System) (c b : ℕ) (d e : Doing) (γ : Ghost) → TellsAll (doing_in c b d γ g) → TellsAll (doing_in c b e γ g)
-same-tells g c b d e γ t = record { told = t.told; fronts = t.fronts }
+-- lines show the same, where the clerk goes on with the ids that it has
+pub same-shows : (g : System) (c b : ℕ) (d e : Doing) (γ : Ghost) → IsTrying g c b d γ → AllAgree (doing_in c b e γ g) → IsStill d.clerk e.clerk → ShowsAll (doing_in c b d γ g) → ShowsAll (doing_in c b e γ g)
+same-shows g c b d e γ t after still s = record {
+  tells = record { told = s.tells.told; fronts = s.tells.fronts };
+  fresh = step-fresh g c b d e γ γ (((t.stands).0).invariant, (t.stands).1, (t.stands).2, (t.stands).3) after t.names [] tt (sym (append-nil γ.shown)) refl refl refl (inl still) s.fresh;
+}
 
 module _ (g : System) (c b s : ℕ) (d e : Doing) (γ : Ghost) (t : IsTrying g c b d γ) (h : IsInHand g c b s e γ) (quiet : IsQuiet d e) (zero : HasNoZero e.clerk) (frees : FreesAgree (doing_in c b e γ g)) (cuts : CutsAgree (doing_in c b e γ g)) where
   pub goes-on : AreInTurn (doing_in c b e γ g) c e.clerk → IsTrying g c b e γ
@@ -49,5 +56,9 @@ module _ (g : System) (c b s : ℕ) (d e : Doing) (γ : Ghost) (t : IsTrying g c
     cuts = cuts;
   }
 
-  pub goes-lined : Each (HasLine (doing_in c b d γ g) c) d.clerk.waiting → TellsAll (doing_in c b d γ g) → IsLined g c b e γ
-  goes-lined lines tells = let now = quiet-lines g c b d e γ quiet lines in record { trying = goes-on (inl now); lines = now; tells = same-tells g c b d e γ tells }
+  pub goes-lined : Each (HasLine (doing_in c b d γ g) c) d.clerk.waiting → ShowsAll (doing_in c b d γ g) → FreshAgrees (doing_in c b e γ g) → IsLined g c b e γ
+  goes-lined lines s fresh = let now = quiet-lines g c b d e γ quiet lines in record { trying = goes-on (inl now); lines = now; shows = record { tells = record { told = s.tells.told; fronts = s.tells.fronts }; fresh = fresh } }
+
+  -- with the ids that it has
+  pub still-lined : Each (HasLine (doing_in c b d γ g) c) d.clerk.waiting → ShowsAll (doing_in c b d γ g) → IsStill d.clerk e.clerk → IsLined g c b e γ
+  still-lined lines s still = let st = (h.under_way).stands in goes-lined lines s (same-shows g c b d e γ t ((st.0).invariant, st.1, st.2, st.3) still s).fresh

@@ -67,7 +67,7 @@ module _ (g : System) (c b : ℕ) (γ : Ghost) (beside : Beside g c) where
         counts = steps-keep-counts g c b e γ st.0 beside.counts;
         fulls = fulls;
         doubts = doubts-stay g (doing_in c b e γ g) refl (λ m q. Contains-append_left g.pool (sends c e.outs) m q) beside.doubts;
-        tells = l.tells;
+        shows = l.shows;
       }
 
   -- behind the tries the tokens that are too many go back

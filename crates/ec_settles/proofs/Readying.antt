@@ -19,7 +19,6 @@ use Rattle.ec_doings.specs.Laws.{IsInHand}
 use Rattle.ec_doings.proofs.Evicting.{evicts}
 use Rattle.ec_doings.proofs.Pushes.{asks-pushes}
 use Rattle.ec_doings.proofs.Recalls.{answers}
-use Rattle.ec_headline.specs.Laws.{TellsAll}
 use Rattle.ec_frees.specs.Moves.{IsStill}
 use Rattle.ec_frees.proofs.Stilling.{are-still}
 use Rattle.ec_frees.proofs.Stored.{stills-keep}
@@ -27,8 +26,9 @@ use Rattle.ec_answers.specs.Frees.{FreesAgree}
 use Rattle.ec_answers.specs.Trying.{IsTrying}
 use Rattle.ec_answers.specs.Zeros.{HasNoZero}
 use Rattle.ec_zeros.proofs.Parts.{have-no-zero}
+use Rattle.ec_whole.specs.Whole.{ShowsAll}
 use Rattle.ec_settles.specs.Laws.{IsLined}
-use Rattle.ec_settles.proofs.Carrying.{goes-lined, goes-on, in-hand, no-zero}
+use Rattle.ec_settles.proofs.Carrying.{goes-on, in-hand, no-zero, same-shows, still-lined}
 
 -- two steps that leave the session and the ids
 still-then : (d e f : Doing) → IsStill d.clerk e.clerk → IsStill e.clerk f.clerk → IsStill d.clerk f.clerk
@@ -80,12 +80,19 @@ module _ (g : System) (c b : ℕ) (d : Doing) (γ : Ghost) (t : IsTrying g c b d
     ready-on : AreInTurn (doing_in c b e γ g) c e.clerk → IsTrying g c b e γ
     ready-on = goes-on g c b s d e γ t ready-hand ready-quiet ready-zero ready-frees ready-cuts
 
-    ready-lined : Each (HasLine (doing_in c b d γ g) c) d.clerk.waiting → TellsAll (doing_in c b d γ g) → IsLined g c b e γ
-    ready-lined = goes-lined g c b s d e γ t ready-hand ready-quiet ready-zero ready-frees ready-cuts
+    ready-still : IsStill d.clerk e.clerk
+    ready-still = still-then d (answer_recalls d) e (are-still.recalls d) (are-still.pushes (answer_recalls d))
 
-    evict-lined : Each (HasLine (doing_in c b d γ g) c) d.clerk.waiting → TellsAll (doing_in c b d γ g) → IsLined g c b (evict d) γ
-    evict-lined = goes-lined g c b s d (evict d) γ t (evicts g c b s d γ hand) (quiet-evict d) (have-no-zero.same d (evict d) (have-no-zero.evicts d) (no-zero g c b d γ t))
-        (stills-keep g c b d γ t.frees (evict d) γ refl refl refl refl refl (inl (are-still.evict d))) (calm-keeps g c b d (evict d) γ (are-calm.evicts d) t.cuts)
+    ready-lined : Each (HasLine (doing_in c b d γ g) c) d.clerk.waiting → ShowsAll (doing_in c b d γ g) → IsLined g c b e γ
+    ready-lined lines shows = still-lined g c b s d e γ t ready-hand ready-quiet ready-zero ready-frees ready-cuts lines shows ready-still
+
+    -- what lines show, where a call began
+    ready-shows : ShowsAll (doing_in c b d γ g) → ShowsAll (doing_in c b e γ g)
+    ready-shows shows = let st = (ready-hand.under_way).stands in same-shows g c b d e γ t ((st.0).invariant, st.1, st.2, st.3) ready-still shows
+
+    evict-lined : Each (HasLine (doing_in c b d γ g) c) d.clerk.waiting → ShowsAll (doing_in c b d γ g) → IsLined g c b (evict d) γ
+    evict-lined lines shows = still-lined g c b s d (evict d) γ t (evicts g c b s d γ hand) (quiet-evict d) (have-no-zero.same d (evict d) (have-no-zero.evicts d) (no-zero g c b d γ t))
+        (stills-keep g c b d γ t.frees (evict d) γ refl refl refl refl refl (inl (are-still.evict d))) (calm-keeps g c b d (evict d) γ (are-calm.evicts d) t.cuts) lines shows (are-still.evict d)
 
 module _ (g : System) (c b : ℕ) (d : Doing) (γ : Ghost) where
   pub prepares : IsLined g c b d γ → IsLined g c b (prepared d) γ
@@ -93,14 +100,21 @@ module _ (g : System) (c b : ℕ) (d : Doing) (γ : Ghost) where
     where
       by : (o : Option ℕ) → d.clerk.session ≡ o → IsLined g c b (prepared d) γ
       by None p = subst (λ e. IsLined g c b e γ) (sym (same-outside g c b d γ l.trying p)) l
-      by (Some s) p = subst (λ e. IsLined g c b e γ) (sym (same-inside g c b d γ l.trying s p)) (ready-lined g c b d γ l.trying s p l.lines l.tells)
+      by (Some s) p = subst (λ e. IsLined g c b e γ) (sym (same-inside g c b d γ l.trying s p)) (ready-lined g c b d γ l.trying s p l.lines l.shows)
 
   pub evicts-lined : IsLined g c b d γ → IsLined g c b (evict d) γ
   evicts-lined l = by d.clerk.session refl
     where
       by : (o : Option ℕ) → d.clerk.session ≡ o → IsLined g c b (evict d) γ
       by None p = subst (λ e. IsLined g c b e γ) (sym (none-evicted g c b d γ l.trying p)) l
-      by (Some s) p = evict-lined g c b d γ l.trying s p l.lines l.tells
+      by (Some s) p = evict-lined g c b d γ l.trying s p l.lines l.shows
+
+  pub prepares-shows : IsTrying g c b d γ → ShowsAll (doing_in c b d γ g) → ShowsAll (doing_in c b (prepared d) γ g)
+  prepares-shows t shows = by d.clerk.session refl
+    where
+      by : (o : Option ℕ) → d.clerk.session ≡ o → ShowsAll (doing_in c b (prepared d) γ g)
+      by None p = subst (λ e. ShowsAll (doing_in c b e γ g)) (sym (same-outside g c b d γ t p)) shows
+      by (Some s) p = subst (λ e. ShowsAll (doing_in c b e γ g)) (sym (same-inside g c b d γ t s p)) (ready-shows g c b d γ t s p shows)
 
   -- where a call began
   pub prepares-call : IsTrying g c b d γ → NoneReady d.clerk → IsTrying g c b (prepared d) γ × NoneReady (prepared d).clerk

@@ -30,7 +30,7 @@ use Rattle.ec_steps.specs.Steps.{IsDone}
 use Rattle.ec_whole.specs.Whole.{Whole}
 use Rattle.ec_settles.specs.Laws.{Beside, IsLined}
 use Rattle.ec_settles.proofs.Beginning.{begins}
-use Rattle.ec_settles.proofs.Carrying.{goes-lined, no-zero, same-tells}
+use Rattle.ec_settles.proofs.Carrying.{no-zero, same-shows, still-lined}
 use Rattle.ec_settles.proofs.Ending.{ends-whole}
 
 -- what another start had it has
@@ -56,12 +56,12 @@ module _ (g : System) (whole : Whole g) (c b : ℕ) (k : Clerk) (runs : g.runnin
   same-resend s p = ap (λ o. elim (is_some o) as (λ z. Doing) [ true ↦ e | false ↦ hello (doing k) ]) p
 
   inside : (s : ℕ) → k.session ≡ Some s → IsLined g c b (resend k) g.ghost
-  inside s p = subst (λ d. IsLined g c b d g.ghost) (sym (same-resend s p)) (goes-lined g c b s (doing k) e g.ghost t
+  inside s p = subst (λ d. IsLined g c b d g.ghost) (sym (same-resend s p)) (still-lined g c b s (doing k) e g.ghost t
       (subst (λ d. IsInHand g c b s d g.ghost) (same-resend s p) (calling.all-again g whole.all whole.orderly whole.names c b s k runs there p))
       (subst (λ d. IsQuiet (doing k) d) (same-resend s p) (quiet-resend k))
       (have-no-zero.same (doing k) e (have-no-zero.then (doing k) (claim (doing k)) e (have-no-zero.claims (doing k)) (have-no-zero.outstanding (claim (doing k)))) (no-zero g c b (doing k) g.ghost t))
       (stills-keep g c b (doing k) g.ghost t.frees e g.ghost refl refl refl refl refl (inl e-still))
-      (calm-keeps g c b (doing k) e g.ghost (are-calm.then (doing k) (claim (doing k)) e (are-calm.claims (doing k)) (are-calm.outstanding (claim (doing k)))) t.cuts) first.lines first.tells)
+      (calm-keeps g c b (doing k) e g.ghost (are-calm.then (doing k) (claim (doing k)) e (are-calm.claims (doing k)) (are-calm.outstanding (claim (doing k)))) t.cuts) first.lines first.shows e-still)
 
   -- without one
 
@@ -85,7 +85,7 @@ module _ (g : System) (whole : Whole g) (c b : ℕ) (k : Clerk) (runs : g.runnin
           cuts = hello-cuts g c b (doing k) g.ghost t.stands t.cuts;
         };
         lines = lines;
-        tells = same-tells g c b (doing k) h g.ghost first.tells;
+        shows = (let st = hello-stands g c b (doing k) g.ghost t.stands in same-shows g c b (doing k) h g.ghost t ((st.0).invariant, st.1, st.2, st.3) (refl, refl, refl) first.shows);
       }
 
   outside : k.session ≡ None → IsLined g c b (resend k) g.ghost

@@ -14,27 +14,26 @@ use Rattle.ec_doings.proofs.Spent.{spent-stays}
 use Rattle.ec_answers.specs.Frees.{FullsAgree}
 use Rattle.ec_answers.specs.Trying.{IsTrying}
 use Rattle.ec_coherence.proofs.Lists.{each-more}
-use Rattle.ec_headline.specs.Laws.{TellsAll}
 use Rattle.ec_zeros.specs.Fulls.{AreFullAt, IsFullAt}
 use Rattle.ec_zeros.proofs.Sent.{own-full, push-own, take-own}
 use Rattle.ec_steps.specs.Steps.{IsDone}
-use Rattle.ec_whole.specs.Whole.{Whole}
+use Rattle.ec_whole.specs.Whole.{ShowsAll, Whole}
 use Rattle.ec_settles.specs.Laws.{Beside, IsLined, TriesAll}
 use Rattle.ec_settles.proofs.Beginning.{begins, begins-pushed}
 use Rattle.ec_settles.proofs.Ending.{steps-end}
-use Rattle.ec_settles.proofs.Readying.{evicts-lined, nothing, prepares, prepares-call}
+use Rattle.ec_settles.proofs.Readying.{evicts-lined, nothing, prepares, prepares-call, prepares-shows}
 use Rattle.ec_settles.proofs.Resending.{beside-whole}
 
 module _ (g : System) (c b : ℕ) (tries : TriesAll g c b) (beside : Beside g c) where
   -- behind what comes before the tries
-  finishes : (d : Doing) (γ : Ghost) → IsTrying g c b d γ → NoneReady d.clerk → TellsAll (doing_in c b d γ g)
+  finishes : (d : Doing) (γ : Ghost) → IsTrying g c b d γ → NoneReady d.clerk → ShowsAll (doing_in c b d γ g)
       → ((δ : Ghost) → IsTrying g c b (try_all d) δ → (Each (HasLine (doing_in c b d γ g) c) d.clerk.waiting → Each (HasLine (doing_in c b (try_all d) δ g) c) (try_all d).clerk.waiting) → Each (HasLine (doing_in c b (try_all d) δ g) c) (try_all d).clerk.waiting)
       → ((δ : Ghost) → FullsAgree (doing_in c b (evict (try_all d)) δ g)) → IsDone Whole g c b (evict (try_all d))
-  finishes d γ t none tells lines fulls = elim (tries d γ t tells) [
+  finishes d γ t none shows lines fulls = elim (tries d γ t shows) [
     | inl s ↦ inl (spent-stays.evict (try_all d) s)
     | inr q ↦
         let rest = tries-rest d none in
-        let l : IsLined g c b (try_all d) q.0 = record { trying = q.1; lines = lines q.0 q.1 q.3; tells = q.2 } in
+        let l : IsLined g c b (try_all d) q.0 = record { trying = q.1; lines = lines q.0 q.1 q.3; shows = q.2 } in
         inr (q.0, ((((evicts-lined g c b (try_all d) q.0 l).trying).stands).0).shown, steps-end g c b q.0 beside (try_all d) l rest.1 rest.0 (fulls q.0))
   ]
 
@@ -42,14 +41,14 @@ module _ (g : System) (c b : ℕ) (tries : TriesAll g c b) (beside : Beside g c)
   pub settles : (d : Doing) (γ : Ghost) → IsLined g c b d γ → ((δ : Ghost) → FullsAgree (doing_in c b (settle d) δ g)) → IsDone Whole g c b (settle d)
   settles d γ l fulls =
       let p = prepares g c b d γ l in
-      finishes (prepared d) γ p.trying (settles-rest d (λ none. (nothing g c b d γ l.trying none).recalls)) p.tells (λ δ t f. f p.lines) fulls
+      finishes (prepared d) γ p.trying (settles-rest d (λ none. (nothing g c b d γ l.trying none).recalls)) p.shows (λ δ t f. f p.lines) fulls
 
   -- one in which a call began, where at its end each has its line
-  pub settles-call : (d : Doing) (γ : Ghost) → IsTrying g c b d γ → NoneReady d.clerk → TellsAll (doing_in c b d γ g)
+  pub settles-call : (d : Doing) (γ : Ghost) → IsTrying g c b d γ → NoneReady d.clerk → ShowsAll (doing_in c b d γ g)
       → ((δ : Ghost) → IsTrying g c b (try_all (prepared d)) δ → Each (HasLine (doing_in c b (try_all (prepared d)) δ g) c) (try_all (prepared d)).clerk.waiting) → ((δ : Ghost) → FullsAgree (doing_in c b (settle d) δ g)) → IsDone Whole g c b (settle d)
-  settles-call d γ t none tells lines fulls =
+  settles-call d γ t none shows lines fulls =
       let p = prepares-call g c b d γ t none in
-      finishes (prepared d) γ p.0 p.1 (record { told = tells.told; fronts = tells.fronts }) (λ δ u f. lines δ u) fulls
+      finishes (prepared d) γ p.0 p.1 (prepares-shows g c b d γ t shows) (λ δ u f. lines δ u) fulls
 
 -- Whole steps of a clerk in a state of which all facts hold.
 

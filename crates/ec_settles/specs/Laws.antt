@@ -16,17 +16,16 @@ use Rattle.ec_calls.specs.Waits.{HasLine, IsAtRest, NoneReady, does_wait}
 use Rattle.ec_doings.specs.Orderly.{OrderlyAgree}
 use Rattle.ec_joins.specs.Counts.{CountsAgree}
 use Rattle.ec_found.specs.Doubts.{DoubtAgrees}
-use Rattle.ec_headline.specs.Laws.{TellsAll}
 use Rattle.ec_answers.specs.Frees.{FullsAgree}
 use Rattle.ec_answers.specs.Trying.{IsTrying}
 use Rattle.ec_steps.specs.Steps.{IsDone}
-use Rattle.ec_whole.specs.Whole.{Whole}
+use Rattle.ec_whole.specs.Whole.{ShowsAll, Whole}
 
--- The step under way stands with all facts, each waiting call has its line, and the lines tell what they should.
+-- The step under way stands with all facts, each waiting call has its line, and the lines show what they should.
 pub record IsLined (g : System) (c b : ℕ) (d : Doing) (γ : Ghost) : Type 0 where
   pub trying : IsTrying g c b d γ
   pub lines : Each (HasLine (doing_in c b d γ g) c) d.clerk.waiting
-  pub tells : TellsAll (doing_in c b d γ g)
+  pub shows : ShowsAll (doing_in c b d γ g)
 
 -- so a step of a running clerk begins, also where an operation is pushed
 abbrev pub StepsBegin : Type 0
@@ -82,6 +81,6 @@ ResendsKeep = (g : System) → Whole g → (c b : ℕ) (k : Clerk) → g.running
 
 -- What is to be proved of the tries: the step stands behind them, unless a counter is spent, and each call has its line that had it before.
 abbrev pub TriesAll : System → ℕ → ℕ → Type 0
-TriesAll g c b = (d : Doing) (γ : Ghost) → IsTrying g c b d γ → TellsAll (doing_in c b d γ g)
+TriesAll g c b = (d : Doing) (γ : Ghost) → IsTrying g c b d γ → ShowsAll (doing_in c b d γ g)
     → T (is_some (try_all d).spent)
-    ⊎ ((δ : Ghost) × IsTrying g c b (try_all d) δ × TellsAll (doing_in c b (try_all d) δ g) × (Each (HasLine (doing_in c b d γ g) c) d.clerk.waiting → Each (HasLine (doing_in c b (try_all d) δ g) c) (try_all d).clerk.waiting))
+    ⊎ ((δ : Ghost) × IsTrying g c b (try_all d) δ × ShowsAll (doing_in c b (try_all d) δ g) × (Each (HasLine (doing_in c b d γ g) c) d.clerk.waiting → Each (HasLine (doing_in c b (try_all d) δ g) c) (try_all d).clerk.waiting))

@@ -1,5 +1,5 @@
 -- All facts where the server stops in a step, and where it is restarted, for each fate of the disk.
-use Rattle.std.proofs.Common.{◌≡◌, subst, ℕ, Option, Some, None}
+use Rattle.std.proofs.Common.{◌≡◌, subst, Some, None}
 use Rattle.ec_durable.specs.declared.record.Record.{Record}
 use Rattle.ec_protocol.specs.Server.{Serving, start}
 use Rattle.ec_protocol.specs.World.{Fate, committed, restart, stops_with, stops_without}

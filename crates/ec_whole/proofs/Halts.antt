@@ -1,6 +1,6 @@
 -- All facts behind stops, crashes and lines, and behind a restart.
-use Rattle.std.proofs.Common.{◌≡◌, refl, sym, ap, subst, ◌∙◌, inl, inr, ◌⊎◌, arith, ◌≤◌, ◌+◌, ℕ, zero, suc, T, Bool, true, false, length, List, [], ◌∷◌, ◌++◌, Option, Some, None, append-nil}
-use Rattle.std.specs.Prelude.{◌==◌, is_some, nat_le, Contains, Ok, Err, Result}
+use Rattle.std.proofs.Common.{◌≡◌, refl, sym, ap, subst, ◌∙◌, inl, arith, ◌≤◌, ◌+◌, ℕ, T, Bool, true, false, [], ◌∷◌, ◌++◌, Option, Some, None}
+use Rattle.std.specs.Prelude.{◌==◌, nat_le, Ok, Err, Result}
 use Rattle.ec_base.specs.Limits.{last_counter}
 use Rattle.ec_base.specs.declared.counter.Counter.TheVariants as counter
 use Rattle.ec_sessions.specs.Slots.{Slots}
@@ -23,7 +23,7 @@ use Rattle.ec_zeros.specs.Fulls.{AreFullAt, IsFullAt}
 use Rattle.ec_zeros.proofs.Served.{start-right}
 use Rattle.ec_coherence.proofs.Lists.{each-more}
 use Rattle.ec_whole.proofs.Follows.{Moves, next-grows, record-moves}
-use Rattle.ec_whole.proofs.Server.{few-lines, tells-on}
+use Rattle.ec_whole.proofs.Server.{few-lines, quiet-lines, tells-on}
 use Rattle.ec_whole.proofs.Stores.{frees-behind, names-behind}
 use Rattle.std.specs.List.{list_all}
 use Rattle.ec_calls.specs.Laws.{is_quiet}
@@ -51,8 +51,11 @@ use Rattle.ec_joins.proofs.Frames.{crash-counts, crash-cuts, lines-keep-counts, 
 use Rattle.ec_names.proofs.Frames.{names-read}
 use Rattle.ec_zeros.proofs.Behind.{records-keep, same-keeps}
 use Rattle.ec_found.specs.Doubts.{ComesFrom, ComesFromAny, DoubtAgrees, doubted}
-use Rattle.ec_headline.specs.Laws.{GoesBy, TellsAll}
+use Rattle.ec_headline.specs.Laws.{GoesBy}
 use Rattle.ec_headline.proofs.Lines.{line-tells}
+use Rattle.ec_fresh.specs.Creates.{IsQuiet}
+use Rattle.ec_fresh.specs.Fresh.{FreshAgrees}
+use Rattle.ec_fresh.proofs.Steps.{record-fresh}
 use Rattle.ec_whole.specs.Whole.{Whole}
 
 -- a line that says nothing of clerks
@@ -63,9 +66,15 @@ module _ (g : System) (w : Whole g) where
   goes-line : (h : System) (l : Shown) → h.origin ≡ g.origin → h.durable ≡ g.durable → h.ghost.shown ≡ g.ghost.shown ++ l ∷ [] → h.ghost.fresh ≡ g.ghost.fresh → GoesBy g h (l ∷ [])
   goes-line h l origin durable shown fresh = record { origin = origin; most = ap (λ d. d.max_objects) durable; shown = shown; fresh = λ p le. ap (at_or 0 p) fresh }
 
+  -- no ids are given, and a line is shown that is no answer
+  fresh-line : (h : System) (l : Shown) → AllAgree h → IsQuiet l → h.origin ≡ g.origin → h.first_boot ≡ g.first_boot → g.durable.next_id ≤ h.durable.next_id → h.ghost.shown ≡ g.ghost.shown ++ l ∷ [] → h.ghost.fresh ≡ g.ghost.fresh → h.clerks ≡ g.clerks
+      → h.ghost.grants ≡ g.ghost.grants → h.ghost.first ≡ g.ghost.first → FreshAgrees h
+  fresh-line h l now quiet origin first_boot next shown fresh clerks grants first = record-fresh g h w.all now w.names (l ∷ []) (record { quiet = quiet; origin = origin; first_boot = first_boot; next = next; shown = shown; fresh = fresh }) clerks
+      (λ s. inl (ap (λ f. f s) grants, ap (λ f. f s) first)) w.shows.fresh
+
   -- a line more
-  lined-whole : (l : Shown) → IsPlain l → T (list_all is_quiet (l ∷ [])) → AllAgree (lined g l) → Whole (lined g l)
-  lined-whole l plain quiet now = record {
+  lined-whole : (l : Shown) → IsQuiet l → IsPlain l → T (list_all is_quiet (l ∷ [])) → AllAgree (lined g l) → Whole (lined g l)
+  lined-whole l none plain quiet now = record {
     all = now;
     calls = calls-kept g g.durable g.server g.unshown g.pool (lined g l).ghost (w.all.0).events (now.0).events (l ∷ []) refl quiet w.calls;
     rest = rest-kept g g.durable g.server g.unshown g.pool (lined g l).ghost (w.all.0).events (now.0).events (l ∷ []) refl quiet w.rest;
@@ -77,23 +86,23 @@ module _ (g : System) (w : Whole g) where
     counts = lines-keep-counts g w.counts l (λ c q. ap (λ x. x.starts) (same c));
     fulls = w.fulls;
     doubts = w.doubts;
-    tells = line-tells g (lined g l) w.all now l (goes-line (lined g l) l refl refl refl refl) w.tells;
+    shows = record { tells = line-tells g (lined g l) w.all now l (goes-line (lined g l) l refl refl refl refl) w.shows.tells; fresh = fresh-line (lined g l) l now none refl refl (omega arith) refl refl refl refl refl };
   }
     where
       same : (c : ℕ) → watch c (g.ghost.shown ++ l ∷ []) ≡ watch c g.ghost.shown
       same c = watch-step c g.ghost.shown l ∙ plain c (watch c g.ghost.shown)
 
   pub nothing-whole : Whole (lined g show.Nothing)
-  nothing-whole = lined-whole show.Nothing (λ d x. refl) tt (nothing-stands g w.all)
+  nothing-whole = lined-whole show.Nothing tt (λ d x. refl) tt (nothing-stands g w.all)
 
   pub unsettled-whole : Whole (lined g show.Unsettled)
-  unsettled-whole = lined-whole show.Unsettled (λ d x. refl) tt (lines-stand g w.all show.Unsettled (λ d. refl) (λ past rest. refl) (λ d x. refl) (λ past. tt))
+  unsettled-whole = lined-whole show.Unsettled tt (λ d x. refl) tt (lines-stand g w.all show.Unsettled (λ d. refl) (λ past rest. refl) (λ d x. refl) (λ past. tt))
 
   pub started-whole : Whole (lined g show.Started)
-  started-whole = lined-whole show.Started (λ d x. refl) tt (started-stands g w.all)
+  started-whole = lined-whole show.Started tt (λ d x. refl) tt (started-stands g w.all)
 
   pub stopped-line-whole : Whole (lined g show.Stopped)
-  stopped-line-whole = lined-whole show.Stopped (λ d x. refl) tt (stopped-line-stands g w.all)
+  stopped-line-whole = lined-whole show.Stopped tt (λ d x. refl) tt (stopped-line-stands g w.all)
 
   -- the server stops, perhaps with a record in doubt
   module _ (v : Server) (up : g.server ≡ Some v) where
@@ -115,7 +124,7 @@ module _ (g : System) (w : Whole g) where
           counts = record { counted = λ c q. ap (λ x. x.starts) (same-watch c) ∙ w.counts.counted c q; above = w.counts.above };
           fulls = w.fulls;
           doubts = from;
-          tells = line-tells g h w.all now show.Stopped (goes-line h show.Stopped refl refl refl refl) w.tells;
+          shows = record { tells = line-tells g h w.all now show.Stopped (goes-line h show.Stopped refl refl refl refl) w.shows.tells; fresh = fresh-line h show.Stopped now tt refl refl (omega arith) refl refl refl refl refl };
         }
 
     pub stopped-whole : g.unshown ≡ None → Whole (stopped g)
@@ -141,7 +150,7 @@ module _ (g : System) (w : Whole g) where
         counts = crash-counts g w.all c w.counts;
         fulls = w.fulls;
         doubts = w.doubts;
-        tells = line-tells g h w.all now (show.Crashed c) (goes-line h (show.Crashed c) refl refl refl refl) w.tells;
+        shows = record { tells = line-tells g h w.all now (show.Crashed c) (goes-line h (show.Crashed c) refl refl refl refl) w.shows.tells; fresh = fresh-line h (show.Crashed c) now tt refl refl (omega arith) refl refl refl refl refl };
       }
 
 -- A restart.
@@ -237,7 +246,10 @@ module _ (g : System) (w : Whole g) (down : g.server ≡ None) where
       counts = records-counts none none-all d None g.pool (Some r) γ makes (record { counted = w.counts.counted; above = w.counts.above });
       fulls = subst (λ n. AreFullAt n g.pool) (sym (step-most r g.durable d steps)) w.fulls;
       doubts = tt;
-      tells = tells-on g h w.all here (record_lines g (Some r)) (few-lines g (Some r)) (record { origin = refl; most = step-most r g.durable d steps; shown = lines; fresh = λ p le. ap (at_or 0 p) moves.fresh }) w.tells;
+      shows = record {
+        tells = tells-on g h w.all here (record_lines g (Some r)) (few-lines g (Some r)) (record { origin = refl; most = step-most r g.durable d steps; shown = lines; fresh = λ p le. ap (at_or 0 p) moves.fresh }) w.shows.tells;
+        fresh = record-fresh g h w.all here w.names (record_lines g (Some r)) (record { quiet = quiet-lines g (Some r); origin = refl; first_boot = refl; next = next-grows none none-all (Some r) d steps; shown = lines; fresh = moves.fresh }) refl moves.given w.shows.fresh;
+      };
     }
 
     pub found-whole : Whole (with_found g r)
@@ -268,7 +280,10 @@ module _ (g : System) (w : Whole g) (down : g.server ≡ None) where
       fulls = let q = start-right g.durable.max_objects (record (g.durable) { epoch = e }) refl in
           subst (λ n. AreFullAt n (g.pool ++ t.sent)) (sym q.0) (each-more (λ x. IsFullAt g.durable.max_objects x.1) g.pool t.sent w.fulls q.1);
       doubts = subst (ComesFromAny up) (sym sure) tt;
-      tells = line-tells g up w.all now show.Started (record { origin = refl; most = ap (λ d. d.max_objects) same; shown = refl; fresh = λ p le. refl }) w.tells;
+      shows = record {
+        tells = line-tells g up w.all now show.Started (record { origin = refl; most = ap (λ d. d.max_objects) same; shown = refl; fresh = λ p le. refl }) w.shows.tells;
+        fresh = fresh-line g w up show.Started now tt refl refl (subst (λ d. g.durable.next_id ≤ d.next_id) (sym same) (omega arith)) refl refl refl refl refl;
+      };
     }
       where
         same-watch : (c : ℕ) → watch c (g.ghost.shown ++ show.Started ∷ []) ≡ watch c g.ghost.shown

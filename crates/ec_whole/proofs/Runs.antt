@@ -1,9 +1,10 @@
 -- A whole run, where each step of a clerk keeps all facts.
-use Rattle.std.proofs.Common.{◌≡◌, refl, sym, ap, subst, ◌∙◌, inl, inr, ◌⊎◌, ◌<◌, ◌≤◌, ◌+◌, ℕ, T, Bool, true, false, List, [], ◌∷◌, ◌++◌, Option, Some, None}
+use Rattle.std.proofs.Common.{◌≡◌, refl, sym, ap, subst, ◌∙◌, inl, inr, ◌<◌, ◌≤◌, ◌+◌, ℕ, not, T, Bool, true, false, List, [], ◌∷◌, Some, None}
 use Rattle.std.specs.Prelude.{is_some, Contains}
 use Rattle.std.specs.List.{list_any}
 use Rattle.ec_plain.specs.Bounds.{is_bounded}
 use Rattle.ec_plain.specs.declared.call.Call.{Call}
+use Rattle.ec_volume.specs.Image.{is_gone}
 use Rattle.ec_volume.specs.Volume.{Fits, Images, WellFormed, images}
 use Rattle.ec_history.specs.History.{kept, updates}
 use Rattle.ec_events.proofs.Answering.{shown-updates}
@@ -16,25 +17,24 @@ use Rattle.ec_durable.specs.declared.record.Record.{Record}
 use Rattle.ec_protocol.specs.Clerk.{Doing, begin, push, resend, start, take as take_message}
 use Rattle.ec_protocol.specs.Drill.{Fates, Ran, Read, bound, close, run_from}
 use Rattle.ec_protocol.specs.Server.{Serving, end, take}
-use Rattle.ec_protocol.specs.Server as server
 use Rattle.ec_protocol.specs.World.{is_answer_to, stepped}
 use Rattle.ec_found.proofs.Founds.{steps-so}
 use Rattle.ec_protocol.specs.declared.clerk.Clerk.{Clerk}
 use Rattle.ec_protocol.specs.declared.server.Server.{Server}
 use Rattle.ec_protocol.specs.declared.world.World.{World}
-use Rattle.ec_coherence.specs.System.{System, Ghost, base_of}
+use Rattle.ec_coherence.specs.System.{System, base_of}
 use Rattle.ec_coherence.specs.Stops.{RunsOn}
-use Rattle.ec_coherence.specs.Steps.{Stands, doing_in, serving_in}
-use Rattle.ec_commits.specs.Laws as commits
+use Rattle.ec_coherence.specs.Steps.{doing_in, serving_in}
 use Rattle.ec_changes.specs.Laws.{crashed, lined, stopped}
 use Rattle.ec_commits.specs.Laws.{AllAgree}
-use Rattle.ec_found.specs.Doubts.{ComesFrom, DoubtAgrees, doubted}
+use Rattle.ec_found.specs.Doubts.{DoubtAgrees, doubted}
 use Rattle.ec_found.proofs.Keeps.{doubts-hold, restarts-hold}
-use Rattle.ec_headline.specs.Headline.{FrontsAreLawful, InScript, ShowLawfully, joined}
+use Rattle.ec_headline.specs.Headline.{InScript, ShowLawfully, joined, placed_on}
 use Rattle.ec_headline.proofs.Stored.{show-lawfully}
+use Rattle.ec_places.proofs.Serving.{disk-there, fronts-there, kept-there}
 use Rattle.ec_steps.specs.Calls.{IsOf}
 use Rattle.ec_steps.specs.Drills.{AreFit, Closed, IsCallIn, IsUnspent}
-use Rattle.ec_steps.specs.Steps.{Holds, IsDone, IsNew, IsServed, IsStep, StepsKeep, begun, calling, in_call}
+use Rattle.ec_steps.specs.Steps.{Holds, IsDone, IsNew, IsServed, StepsKeep, begun, calling, in_call}
 use Rattle.ec_steps.specs.Ties.{called, waiting}
 use Rattle.ec_asked.specs.Laws.{IsFresh, RestsKeep, RunAsks}
 use Rattle.ec_asked.proofs.Drills.{asked-drills}
@@ -100,7 +100,7 @@ module _ (clerks : ClerksKeep Whole) (v : Images) (most : ℕ) where
   abbrev agrees : (g : System) → F g → AllAgree g × DoubtAgrees g
   agrees g f = ((f.whole).all, (f.whole).doubts)
 
-  keep : StepsKeep F
+  pub keep : StepsKeep F
   keep = record {
     agrees = λ g f. (f.whole).all;
     takes = λ g u f up c m p. served-fixed g (take c m u) f (takes-whole g u f.whole up c m p);
@@ -119,6 +119,18 @@ module _ (clerks : ClerksKeep Whole) (v : Images) (most : ℕ) where
     unsettled = λ g f. fixed g (lined g show.Unsettled) refl refl f (unsettled-whole g f.whole);
   }
 
+  -- What lines show is so with places as ids.
+  places-show : (g : System) → F g → (top : ℕ) → WellFormed v → ((x : ℕ) → T (not (is_gone (v x))) → x ≤ top)
+      → ShowLawfully (placed_on g.origin top) g.durable.max_objects g.ghost.shown (images g.durable.volume) × Fits g.origin (updates (kept (placed_on g.origin top) (place g.ghost.shown)))
+  places-show g f top formed above =
+      let fresh = (f.whole).shows.fresh in
+      let good = subst WellFormed (sym f.origin) formed in
+      let over = subst (λ o. (x : ℕ) → T (not (is_gone (o x))) → x ≤ top) (sym f.origin) above in
+      let s = show-lawfully g (f.whole).all (f.whole).shows.tells in (
+        record { fronts = fronts-there g top fresh good over g.durable.max_objects s.fronts; formed = s.formed; stored = disk-there g top fresh good over (images g.durable.volume) s.stored },
+        kept-there g top fresh good over (kept-fits g (f.whole).all),
+      )
+
   -- The end of a run.
   module _ (ls : List Read) (fs : List Fates) (w : World) (holds : Holds F w) (fresh : IsFresh holds.0) (no-calls : w.calls ≡ []) (no-lines : w.shown ≡ []) (fit : AreFit ls) where
     abbrev r : Ran
@@ -130,8 +142,9 @@ module _ (clerks : ClerksKeep Whole) (v : Images) (most : ℕ) where
     abbrev c : Closed F [] [] ls r
     c = q.closed
 
-    pub run-shows : RunShows v most ls r
-    run-shows = go (c.sofar).holds
+    -- with places above all ids of the volume
+    pub run-shows : (top : ℕ) → WellFormed v → ((x : ℕ) → T (not (is_gone (v x))) → x ≤ top) → RunShows v top most ls r
+    run-shows top formed above = go (c.sofar).holds
       where
         own : (ss : List Shown) → EachLine (IsOf (IsCallIn c.more)) ss → EachLine (InScript c.more) ss
         own [] e = tt
@@ -151,13 +164,14 @@ module _ (clerks : ClerksKeep Whole) (v : Images) (most : ℕ) where
         own (show.Limit n k ∷ ss) e = (tt, own ss e.1)
         own (show.Spent n ∷ ss) e = (tt, own ss e.1)
 
-        go : Holds F r.world → RunShows v most ls r
+        go : Holds F r.world → RunShows v top most ls r
         go (g, f, st) =
             let lines-are : g.ghost.shown ≡ joined r.pieces = sym st.shown ∙ (c.sofar).shown in
-            let shows : ShowLawfully (record { volume = v; fresh = (base_of g).fresh }) most (joined r.pieces) (images g.durable.volume) =
-            subst (λ ss. ShowLawfully (record { volume = v; fresh = (base_of g).fresh }) most ss (images g.durable.volume)) lines-are
-            (subst (λ m. ShowLawfully (record { volume = v; fresh = (base_of g).fresh }) m g.ghost.shown (images g.durable.volume)) f.most_is
-            (subst (λ o. ShowLawfully (record { volume = o; fresh = (base_of g).fresh }) g.durable.max_objects g.ghost.shown (images g.durable.volume)) f.origin (show-lawfully g (f.whole).all (f.whole).tells))) in
+            let there = places-show g f top formed above in
+            let shows : ShowLawfully (placed_on v top) most (joined r.pieces) (images g.durable.volume) =
+            subst (λ ss. ShowLawfully (placed_on v top) most ss (images g.durable.volume)) lines-are
+            (subst (λ m. ShowLawfully (placed_on v top) m g.ghost.shown (images g.durable.volume)) f.most_is
+            (subst (λ o. ShowLawfully (placed_on o top) g.durable.max_objects g.ghost.shown (images g.durable.volume)) f.origin there.0)) in
             let same : IsUnspent r.ending → g.durable ≡ r.world.durable = λ u. sym (st.up (subst (λ o. T (is_some o)) st.server (c.up u))) in
             record {
               lines = c.more;
@@ -166,10 +180,8 @@ module _ (clerks : ClerksKeep Whole) (v : Images) (most : ℕ) where
               own_calls = subst (EachLine (InScript c.more)) (c.sofar).shown (own r.world.shown ((c.sofar).of).shown);
               ends = q.asked;
               numbered = q.numbered;
-              fresh = (base_of g).fresh;
               fronts = shows.fronts;
-              fit = subst (λ ss. Fits v (updates (kept (record { volume = v; fresh = (base_of g).fresh }) (place ss)))) lines-are
-                  (subst (λ o. Fits o (updates (kept (record { volume = o; fresh = (base_of g).fresh }) (place g.ghost.shown)))) f.origin (kept-fits g (f.whole).all));
+              fit = subst (λ ss. Fits v (updates (kept (placed_on v top) (place ss)))) lines-are (subst (λ o. Fits o (updates (kept (placed_on o top) (place g.ghost.shown)))) f.origin there.1);
               formed = λ u. subst (λ d. WellFormed (images d.volume)) (same u) shows.formed;
-              stored = λ u. subst (λ d. IsStored (record { volume = v; fresh = (base_of g).fresh }) (joined r.pieces) (images d.volume)) (same u) shows.stored;
+              stored = λ u. subst (λ d. IsStored (placed_on v top) (joined r.pieces) (images d.volume)) (same u) shows.stored;
             }

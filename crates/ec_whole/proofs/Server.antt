@@ -1,25 +1,27 @@
 -- All facts behind each step of a running server.
-use Rattle.std.proofs.Common.{◌≡◌, refl, sym, ap, subst, ◌∙◌, inl, inr, ◌⊎◌, arith, ◌≤◌, ◌+◌, ℕ, zero, suc, T, Bool, true, false, length, List, [], ◌∷◌, ◌++◌, Option, Some, None, append-nil}
+use Rattle.std.proofs.Common.{◌≡◌, refl, sym, ap, subst, ◌∙◌, inl, inr, arith, ◌≤◌, ◌||◌, ℕ, suc, Bool, true, false, length, List, [], ◌∷◌, ◌++◌, Option, Some, None, append-nil}
 use Rattle.std.specs.Prelude.{is_some, Contains}
 use Rattle.ec_base.specs.Tables.{at_or}
+use Rattle.ec_history.specs.Placing.{watch}
 use Rattle.ec_history.specs.declared.shown.Shown.{Shown}
+use Rattle.ec_history.specs.declared.shown.Shown.TheVariants as show
 use Rattle.ec_sessions.specs.declared.slot.Slot.{Slot}
 use Rattle.ec_wire.specs.declared.msg.Msg.{Msg}
 use Rattle.ec_durable.specs.Durable.{slot}
 use Rattle.ec_durable.specs.declared.state.Durable.{Durable}
 use Rattle.ec_durable.specs.declared.record.Record.{Record}
 use Rattle.ec_durable.specs.declared.record.Record.TheVariants.{Batch, Open, End, Ids, Epoch}
-use Rattle.ec_protocol.specs.Server.{Serving, end, serving, take}
+use Rattle.ec_protocol.specs.Server.{Serving, end, take}
 use Rattle.ec_protocol.specs.declared.server.Server.{Server}
 use Rattle.ec_coherence.specs.System.{System, Ghost}
 use Rattle.ec_coherence.specs.Stops.{RunsOn}
-use Rattle.ec_coherence.specs.Steps.{Committed, open_session, end_lines, ended_line, record_lines, serving_in}
+use Rattle.ec_coherence.specs.Steps.{Committed, open_session, end_lines, ended_line, record_lines, runs, serving_in}
 use Rattle.ec_commits.specs.Laws.{AllAgree, Stands}
 use Rattle.ec_ends.specs.Ends.{show_end}
 use Rattle.ec_makes.specs.Makes.{IsMade, Makes, beginning}
 use Rattle.ec_makes.proofs.Takes.{end-stands, takes-any}
 use Rattle.ec_calls.proofs.Frames.{served-calls, served-rest}
-use Rattle.ec_joins.specs.Frames.{RecordMakes, behind}
+use Rattle.ec_joins.specs.Frames.{RecordMakes}
 use Rattle.ec_joins.proofs.Records.{records-counts, records-cuts}
 use Rattle.ec_joins.proofs.Steps.{step-most}
 use Rattle.ec_names.proofs.Serving.{servers-keep}
@@ -28,12 +30,14 @@ use Rattle.ec_zeros.specs.Fulls.{IsFullAt, AreFullAt}
 use Rattle.ec_zeros.proofs.Behind.{records-keep}
 use Rattle.ec_zeros.proofs.Served.{end-right, take-right}
 use Rattle.ec_coherence.proofs.Lists.{each-more}
-use Rattle.ec_found.specs.Doubts.{ComesFromAny, DoubtAgrees}
+use Rattle.ec_found.specs.Doubts.{ComesFromAny}
 use Rattle.ec_headline.specs.Laws.{GoesBy, TellsAll}
+use Rattle.ec_fresh.specs.Creates.{AreQuiet}
+use Rattle.ec_fresh.proofs.Steps.{record-fresh}
 use Rattle.ec_headline.proofs.Lines.{line-tells, quiet-tells}
 use Rattle.ec_steps.specs.Steps.{IsServed}
 use Rattle.ec_whole.specs.Whole.{Whole}
-use Rattle.ec_whole.proofs.Follows.{Moves, kept-each, next-grows, record-moves}
+use Rattle.ec_whole.proofs.Follows.{Moves, next-grows, record-moves}
 use Rattle.ec_whole.proofs.Stores.{frees-behind}
 
 -- At most one line is shown by a record.
@@ -55,6 +59,24 @@ few-lines g (Some (Open c age s)) = few-ends g c (slot g.durable c)
 few-lines g (Some (End c s)) = few-ends g c (slot g.durable c)
 few-lines g (Some (Ids c s got x)) = omega arith
 few-lines g (Some (Epoch e)) = omega arith
+
+-- none is an answer
+quiet-ends : (g : System) (c : ℕ) (o : Option Slot) → AreQuiet (end_lines g c o)
+quiet-ends g c None = tt
+quiet-ends g c (Some sl) = go sl.is_open (is_some ((watch c g.ghost.shown).open_start) || runs g c (sl.age).boot)
+  where
+    go : (x y : Bool) → AreQuiet (elim x as (λ z. List Shown) [ true ↦ elim y as (λ z. Shown) [ true ↦ show.Ended c ((watch c g.ghost.shown).undurable) | false ↦ show.Unseen c ] ∷ [] | false ↦ [] ])
+    go false y = tt
+    go true true = tt
+    go true false = tt
+
+pub quiet-lines : (g : System) (r : Option Record) → AreQuiet (record_lines g r)
+quiet-lines g None = tt
+quiet-lines g (Some (Batch c s b ops)) = tt
+quiet-lines g (Some (Open c age s)) = quiet-ends g c (slot g.durable c)
+quiet-lines g (Some (End c s)) = quiet-ends g c (slot g.durable c)
+quiet-lines g (Some (Ids c s got x)) = tt
+quiet-lines g (Some (Epoch e)) = tt
 
 -- the lines go on to tell behind at most one
 pub tells-on : (g h : System) → AllAgree g → AllAgree h → (ls : List Shown) → AreFew ls → GoesBy g h ls → TellsAll g → TellsAll h
@@ -118,7 +140,11 @@ module _ (g : System) (v : Server) (w : Whole g) (up : g.server ≡ Some v) wher
       counts = records-counts g w.all t.server.durable (Some t.server) (g.pool ++ t.sent) t.rec γ makes w.counts;
       fulls = full;
       doubts = subst (ComesFromAny h) (sym on.1) tt;
-      tells = tells-on g h w.all now (record_lines g t.rec) (few-lines g t.rec) goes w.tells;
+      shows = record {
+        tells = tells-on g h w.all now (record_lines g t.rec) (few-lines g t.rec) goes w.shows.tells;
+        fresh = record-fresh g h w.all now w.names (record_lines g t.rec)
+            (record { quiet = quiet-lines g t.rec; origin = refl; first_boot = refl; next = next-grows g w.all t.rec t.server.durable (st.0).committed; shown = (st.0).shown; fresh = moves.fresh }) refl moves.given w.shows.fresh;
+      };
     }
 
   pub takes-whole : (c : ℕ) (m : Msg) → Contains g.pool (c, m) → IsServed Whole g (take c m v)

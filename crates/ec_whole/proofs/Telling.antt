@@ -1,5 +1,5 @@
 -- The lines go on to tell what became of operations in a clerk's step.
-use Rattle.std.proofs.Common.{◌≡◌, refl, sym, ap, subst, ◌∙◌, inl, inr, ◌⊎◌, arith, ◌≤◌, ◌+◌, ℕ, Bool, true, false, ◌==◌, cond, length, List, [], ◌∷◌, ◌++◌, Option, Some, None}
+use Rattle.std.proofs.Common.{◌≡◌, refl, sym, ap, subst, ◌∙◌, inl, inr, arith, ◌≤◌, ◌+◌, ℕ, false, ◌==◌, cond, length, [], ◌∷◌, ◌++◌, Option, Some}
 use Rattle.ec_base.specs.Tables.{Table, at, at_or, or_else, put}
 use Rattle.ec_plain.specs.declared.call.Call.{Call}
 use Rattle.ec_history.specs.declared.entry.Answer.{Answer}
@@ -14,7 +14,7 @@ use Rattle.ec_changes.specs.Laws.{lined}
 use Rattle.ec_answers.specs.Trying.{Answers}
 use Rattle.ec_accounts.specs.Accounts.{LinesTell}
 use Rattle.ec_headline.specs.Headline.{FrontsAreLawful}
-use Rattle.ec_headline.specs.Laws.{GoesBy, TellsAll}
+use Rattle.ec_headline.specs.Laws.{TellsAll}
 use Rattle.ec_headline.proofs.Lines.{line-tells}
 
 module _ (g : System) (c b : ℕ) (d e : Doing) (γ : Ghost) where

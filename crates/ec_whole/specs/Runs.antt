@@ -1,12 +1,12 @@
 -- What a whole run shows, where all facts are kept.
-use Rattle.std.specs.Prelude.{◌≡◌, ◌<◌, ◌≤◌, ◌+◌, ℕ, T, List, [], length, take}
+use Rattle.std.specs.Prelude.{◌≡◌, ◌≤◌, ◌+◌, ℕ, List, [], length, take}
 use Rattle.ec_volume.specs.Volume.{Fits, Images, WellFormed, images}
 use Rattle.ec_history.specs.History.{kept, updates}
 use Rattle.ec_history.specs.Lines.{IsStored}
 use Rattle.ec_history.specs.Placing.{EachLine, place}
 use Rattle.ec_protocol.specs.Drill.{Ran, Read}
 use Rattle.ec_coherence.specs.System.{System}
-use Rattle.ec_headline.specs.Headline.{AreEndsAsked, ArePieces, FrontsAreLawful, InScript, Lines, joined}
+use Rattle.ec_headline.specs.Headline.{AreEndsAsked, ArePieces, FrontsAreLawful, InScript, Lines, joined, placed_on}
 use Rattle.ec_steps.specs.Drills.{IsUnspent, lines_in}
 use Rattle.ec_whole.specs.Whole.{Whole}
 
@@ -16,9 +16,9 @@ pub record OfRun (v : Images) (most : ℕ) (g : System) : Type 0 where
   pub origin : g.origin ≡ v
   pub most_is : g.durable.max_objects ≡ most
 
--- The run carried out the first lines of the script. On the volume at the beginning, with ids for new objects, the lines that it gave are lawful, each front of
--- them too; each answer is that of its line; no session ends unasked; and the disk's volume is what durable lines leave.
-pub record RunShows (v : Images) (most : ℕ) (ls : List Read) (r : Ran) : Type 0 where
+-- The run carried out the first lines of the script. On the volume at the beginning, where new objects have as ids the places of their calls' lines above this one,
+-- the lines that it gave are lawful, each front of them too; each answer is that of its line; no session ends unasked; and the disk's volume is what durable lines leave.
+pub record RunShows (v : Images) (top most : ℕ) (ls : List Read) (r : Ran) : Type 0 where
   pub lines : Lines
   pub front : lines ≡ take (length lines) (lines_in ls)
   pub counted : length r.pieces ≤ length lines + 2
@@ -27,9 +27,8 @@ pub record RunShows (v : Images) (most : ℕ) (ls : List Read) (r : Ran) : Type 
   pub ends : AreEndsAsked lines r.pieces
   -- the first line of each call stands in the piece of its number
   pub numbered : ArePieces 1 [] r.pieces
-  pub fresh : ℕ → ℕ
-  pub fronts : FrontsAreLawful (record { volume = v; fresh = fresh }) most (joined r.pieces)
-  -- at the end each update that is kept fits, so that no two objects have one id
-  pub fit : Fits v (updates (kept (record { volume = v; fresh = fresh }) (place (joined r.pieces))))
+  pub fronts : FrontsAreLawful (placed_on v top) most (joined r.pieces)
+  -- at the end each update that is kept fits
+  pub fit : Fits v (updates (kept (placed_on v top) (place (joined r.pieces))))
   pub formed : IsUnspent r.ending → WellFormed (images r.world.durable.volume)
-  pub stored : IsUnspent r.ending → IsStored (record { volume = v; fresh = fresh }) (joined r.pieces) (images r.world.durable.volume)
+  pub stored : IsUnspent r.ending → IsStored (placed_on v top) (joined r.pieces) (images r.world.durable.volume)

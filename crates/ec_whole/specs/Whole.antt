@@ -11,6 +11,12 @@ use Rattle.ec_answers.specs.Zeros.{ZerosAgree}
 use Rattle.ec_answers.specs.Frees.{FreesAgree, FullsAgree}
 use Rattle.ec_found.specs.Doubts.{DoubtAgrees}
 use Rattle.ec_headline.specs.Laws.{TellsAll}
+use Rattle.ec_fresh.specs.Fresh.{FreshAgrees}
+
+-- The lines tell what became of each operation, each front of them is lawful, and new objects have new ids.
+pub record ShowsAll (g : System) : Type 0 where
+  pub tells : TellsAll g
+  pub fresh : FreshAgrees g
 
 pub record Whole (g : System) : Type 0 where
   -- sessions, tokens, logs, images, the history and what lines show
@@ -30,5 +36,5 @@ pub record Whole (g : System) : Type 0 where
   -- refusals for want of room, and a record in doubt
   pub fulls : FullsAgree g
   pub doubts : DoubtAgrees g
-  -- the lines tell what became of each operation, and each front of them is lawful
-  pub tells : TellsAll g
+  -- lines
+  pub shows : ShowsAll g
