@@ -1,5 +1,5 @@
 -- A call of a running clerk begins: all facts stand behind the whole step.
-use Rattle.std.proofs.Common.{◌≡◌, refl, sym, ap, subst, ◌∙◌, inl, inr, ◌⊎◌, ◌+◌, ℕ, Bool, true, false, not, ◌||◌, ◌&&◌, ◌==◌, cond, T, List, [], ◌∷◌, ◌++◌, Option, Some, None, append-nil}
+use Rattle.std.proofs.Common.{◌≡◌, refl, sym, ap, subst, ◌∙◌, inl, inr, ◌⊎◌, arith, ◌+◌, ℕ, Bool, true, false, not, ◌||◌, ◌&&◌, ◌==◌, cond, T, List, [], ◌∷◌, ◌++◌, Option, Some, None, append-nil}
 use Rattle.std.specs.Prelude.{is_some, nat_le}
 use Rattle.std.specs.List.{list_any}
 use Rattle.std.proofs.lemmas.List.Folds.{list_any-append}
@@ -11,13 +11,14 @@ use Rattle.ec_history.specs.History.{Each}
 use Rattle.ec_history.specs.Placing.{is_numbered, watch, watch_next}
 use Rattle.ec_history.specs.Placing.{begun as begun-watch}
 use Rattle.ec_history.specs.declared.watch.Watch.{Watch}
+use Rattle.ec_history.specs.declared.shown.Shown.{Shown}
 use Rattle.ec_history.specs.declared.shown.Shown.TheVariants as show
 use Rattle.ec_laws.proofs.More.{watch-step}
 use Rattle.ec_protocol.specs.Clerk.{Doing, add_call, begin, doing, evict, settle, spend, try_all}
 use Rattle.ec_protocol.specs.World.{is_answer_to}
 use Rattle.ec_protocol.specs.declared.clerk.Clerk.{Clerk}
 use Rattle.ec_protocol.specs.declared.clerk.Waiting.{Waiting}
-use Rattle.ec_coherence.specs.System.{System, Ghost}
+use Rattle.ec_coherence.specs.System.{System, Ghost, with_start}
 use Rattle.ec_coherence.specs.Steps.{call_of, calls_after, doing_in, sends}
 use Rattle.ec_coherence.proofs.Lists.{each-more, each-turn}
 use Rattle.ec_coherence.proofs.Tables.{equal, none_some, same, same_some}
@@ -36,7 +37,9 @@ use Rattle.ec_doings.specs.Orderly.{IsOrderly, OrderlyAgree}
 use Rattle.ec_doings.specs.Names.{NamesAgree}
 use Rattle.ec_names.proofs.Changing.{clerks-keep}
 use Rattle.ec_frees.proofs.Stored.{stills-keep}
-use Rattle.ec_headline.specs.Laws.{TellsAll}
+use Rattle.ec_fresh.proofs.Steps.{start-fresh}
+use Rattle.ec_fresh.specs.Creates.{AreQuiet}
+use Rattle.ec_fresh.specs.Fresh.{FreshAgrees}
 use Rattle.ec_headline.proofs.Lines.{line-tells}
 use Rattle.ec_answers.specs.Frees.{FreesAgree, FullsAgree}
 use Rattle.ec_answers.specs.Trying.{IsTrying}
@@ -48,7 +51,7 @@ use Rattle.ec_begins.specs.Laws.{HasBegun}
 use Rattle.ec_begins.proofs.Called.{begun-cuts, has-begun}
 use Rattle.ec_steps.specs.Steps.{IsDone, IsNew, in_call}
 use Rattle.ec_steps.specs.Ties.{called, waiting}
-use Rattle.ec_whole.specs.Whole.{Whole}
+use Rattle.ec_whole.specs.Whole.{ShowsAll, Whole}
 use Rattle.ec_settles.specs.Laws.{Beside, IsLined, TriesAll}
 use Rattle.ec_settles.proofs.Beginning.{begins}
 use Rattle.ec_settles.proofs.Carrying.{no-zero}
@@ -172,9 +175,21 @@ module _ (g : System) (whole : Whole g) (c b : ℕ) (k : Clerk) (runs : g.runnin
   all-of : (z : Bool) → AllAgree (doing_in c b d (H z).ghost (H z))
   all-of z = let s = (begun z).stands in ((s.0).invariant, s.1, s.2, s.3)
 
-  tells : (z : Bool) → TellsAll (doing_in c b d (H z).ghost (H z))
-  tells true = record { told = (whole.tells).told; fronts = (whole.tells).fronts }
-  tells false = line-tells g (doing_in c b d (H false).ghost (H false)) whole.all (all-of false) (show.Waits l c cl) (record { origin = refl; most = refl; shown = refl; fresh = λ p le. refl }) whole.tells
+  -- the call's line is no answer, and nothing is given
+  fresh-so : (h : System) → AllAgree h → (ls : List Shown) → AreQuiet ls → h.origin ≡ g.origin → h.first_boot ≡ g.first_boot → h.durable.next_id ≡ g.durable.next_id → h.ghost.shown ≡ g.ghost.shown ++ ls → h.ghost.fresh ≡ g.ghost.fresh → h.clerks ≡ with_start c b d.clerk g.clerks
+      → h.ghost.grants ≡ g.ghost.grants → h.ghost.first ≡ g.ghost.first → FreshAgrees h
+  fresh-so h now ls quiet origin first_boot next shown fresh clerks grants first = start-fresh g h whole.all now whole.names ls (record { quiet = quiet; origin = origin; first_boot = first_boot; next = omega (arith, next); shown = shown; fresh = fresh }) c b d.clerk clerks grants first
+      (inl (k, there, (refl, refl), λ x m. m)) (whole.shows).fresh
+
+  shows : (z : Bool) → ShowsAll (doing_in c b d (H z).ghost (H z))
+  shows true = record {
+    tells = record { told = (whole.shows).tells.told; fronts = (whole.shows).tells.fronts };
+    fresh = fresh-so (doing_in c b d (H true).ghost (H true)) (all-of true) [] tt refl refl refl (sym (append-nil g.ghost.shown)) refl refl refl refl;
+  }
+  shows false = record {
+    tells = line-tells g (doing_in c b d (H false).ghost (H false)) whole.all (all-of false) (show.Waits l c cl) (record { origin = refl; most = refl; shown = refl; fresh = λ p le. refl }) (whole.shows).tells;
+    fresh = fresh-so (doing_in c b d (H false).ghost (H false)) (all-of false) (show.Waits l c cl ∷ []) tt refl refl refl refl refl refl refl refl;
+  }
 
   -- its calls under way have their lines, but for the new one
   old-lines : (m j : ℕ) (cj : Call) → call_of c m g.calls ≡ Some (j, cj) → is_shown g j ≡ true
@@ -213,7 +228,7 @@ module _ (g : System) (whole : Whole g) (c b : ℕ) (k : Clerk) (runs : g.runnin
   none = (whole.rest c b k runs there).recalls
 
   settled : (z : Bool) → list_any (is_answer_to n) (settle d).outs ≡ z → IsDone Whole (H z) c b (settle d)
-  settled z a = settles-call (H z) c b (tries (H z)) (beside g whole c l cl n b runs z) d (H z).ghost (trying z) none (tells z)
+  settled z a = settles-call (H z) c b (tries (H z)) (beside g whole c l cl n b runs z) d (H z).ghost (trying z) none (shows z)
       (λ δ u. lines-at-end (H z) c b (try_all (prepared d)) δ u (known z (try_all (prepared d)) a)) (fulls z)
 
   pub calls-whole : IsDone Whole (in_call c l cl k g) c b (begin cl k)

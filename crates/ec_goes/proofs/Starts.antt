@@ -40,7 +40,11 @@ use Rattle.ec_doings.specs.Names.{AreOnNamed, NamesAgree}
 use Rattle.ec_doings.proofs.Calling.{order-agrees, order-stays}
 use Rattle.ec_names.proofs.Changing.{clerks-keep}
 use Rattle.ec_frees.proofs.Stored.{clerks-keep-frees}
-use Rattle.ec_headline.specs.Laws.{TellsAll}
+use Rattle.ec_fresh.specs.Creates.{creates}
+use Rattle.ec_fresh.specs.Fresh.{FreshAgrees}
+use Rattle.ec_fresh.specs.Laws.{HasOld}
+use Rattle.ec_fresh.proofs.Answered.{answers-fresh}
+use Rattle.ec_fresh.proofs.Steps.{hidden-was, start-fresh, taken-was}
 use Rattle.ec_headline.proofs.Lines.{line-tells}
 use Rattle.ec_answers.specs.Frees.{FreesAgree, FullsAgree}
 use Rattle.ec_answers.specs.Trying.{IsTrying}
@@ -52,7 +56,7 @@ use Rattle.ec_begins.proofs.Answered.{first-answers}
 use Rattle.ec_begins.proofs.First.{first-begun, first-counts, first-cuts}
 use Rattle.ec_steps.specs.Steps.{IsDone, IsNew, begun, calling, in_call}
 use Rattle.ec_steps.specs.Ties.{called, waiting}
-use Rattle.ec_whole.specs.Whole.{Whole}
+use Rattle.ec_whole.specs.Whole.{ShowsAll, Whole}
 use Rattle.ec_settles.specs.Laws.{Beside, TriesAll}
 use Rattle.ec_settles.proofs.Settling.{settles-call}
 use Rattle.ec_goes.proofs.Calls.{shown-by}
@@ -123,8 +127,29 @@ module _ (g : System) (whole : Whole g) (c : ℕ) (down : g.running c ≡ None) 
     answered-frees : FreesAgree A
     answered-frees = clerks-keep-frees g whole.frees c b (answered_start c b) A.running A.boots A.calls A.pool γ refl refl refl kept-same refl (inr refl)
 
-    answered-tells : TellsAll A
-    answered-tells = line-tells g A whole.all all (show.Answered l c cl a None) (record { origin = refl; most = refl; shown = refl; fresh = λ p le. put-later (length g.ghost.shown) 0 p g.ghost.fresh le }) whole.tells
+    -- it has no ids
+    answered-old : HasOld g c b (answered_start c b)
+    answered-old = inr (λ s q. absurd (none_some q))
+
+    answered-fresh : FreshAgrees A
+    answered-fresh = answers-fresh g A c b l cl a None 0 whole.all all whole.names whole.zeros (record {
+      origin = refl;
+      first_boot = refl;
+      next = refl;
+      shown = refl;
+      fresh = refl;
+      own = inl refl;
+      gone = (whole.zeros).origin;
+      spent = λ cr t. absurd t;
+      taken = λ d f y t. taken-was c b (answered_start c b) g A refl refl refl answered-old d f y t;
+      hidden = λ d f y t. hidden-was c b (answered_start c b) g A refl refl refl answered-old d f y t;
+    }) (whole.shows).fresh
+
+    answered-shows : ShowsAll A
+    answered-shows = record {
+      tells = line-tells g A whole.all all (show.Answered l c cl a None) (record { origin = refl; most = refl; shown = refl; fresh = λ p le. put-later (length g.ghost.shown) 0 p g.ghost.fresh le }) (whole.shows).tells;
+      fresh = answered-fresh;
+    }
 
   abbrev C : System
   C = called c 1 l cl (begun c g)
@@ -154,7 +179,7 @@ module _ (g : System) (whole : Whole g) (c : ℕ) (down : g.running c ≡ None) 
         counts = r.5;
         fulls = fulls-greeted;
         doubts = doubts-stay g (behind_first g c l cl a) refl (λ m q. Contains-append_left g.pool (greeting ∷ []) m q) whole.doubts;
-        tells = answered-tells a r.2;
+        shows = answered-shows a r.2;
       } in
       subst (λ e. IsDone Whole C c b (record e { outs = greets ++ e.outs })) (sym r.1) (inr (first_ghost c l cl a g.ghost, answered-lines a, subst Whole (sym (answered-path a)) w))
 
@@ -200,10 +225,15 @@ module _ (g : System) (whole : Whole g) (c : ℕ) (down : g.running c ≡ None) 
         cuts = first-cuts g whole.all whole.calls whole.counts c small down l cl new bounded whole.cuts;
       }
 
-  tells : TellsAll (doing_in c b d σ S)
-  tells =
+  shows : ShowsAll (doing_in c b d σ S)
+  shows =
       let s = trying.stands in
-      line-tells g (doing_in c b d σ S) whole.all ((s.0).invariant, s.1, s.2, s.3) (show.Waits l c cl) (record { origin = refl; most = refl; shown = refl; fresh = λ p le. refl }) whole.tells
+      let all : AllAgree (doing_in c b d σ S) = ((s.0).invariant, s.1, s.2, s.3) in
+      record {
+        tells = line-tells g (doing_in c b d σ S) whole.all all (show.Waits l c cl) (record { origin = refl; most = refl; shown = refl; fresh = λ p le. refl }) (whole.shows).tells;
+        fresh = start-fresh g (doing_in c b d σ S) whole.all all whole.names (show.Waits l c cl ∷ []) (record { quiet = tt; origin = refl; first_boot = refl; next = omega arith; shown = refl; fresh = refl }) c b now (twice c b k now g.clerks) refl refl
+            (inr (λ t q. absurd (none_some q))) (whole.shows).fresh;
+      }
 
   beside : Beside S c
   beside = record {
@@ -240,7 +270,7 @@ module _ (g : System) (whole : Whole g) (c : ℕ) (down : g.running c ≡ None) 
     fulls δ = each-more (λ m. IsFullAt g.durable.max_objects m.1) (g.pool ++ greeting ∷ []) (sends c (settle d).outs) fulls-greeted (own-full c g.durable.max_objects (settle d).outs (settle-own d tt))
 
     settled : IsDone Whole S c b (settle d)
-    settled = settles-call S c b (tries S) beside d σ trying tt tells (λ δ u. lines-at-end S c b (try_all (prepared d)) δ u (known (try_all (prepared d)))) fulls
+    settled = settles-call S c b (tries S) beside d σ trying tt shows (λ δ u. lines-at-end S c b (try_all (prepared d)) δ u (known (try_all (prepared d)))) fulls
 
     abbrev W : System
     W = lined C (show.Waits l c cl)

@@ -10,26 +10,29 @@ use Rattle.ec_coherence.specs.System.{System, Ghost}
 use Rattle.ec_coherence.specs.Steps.{doing_in, sends}
 use Rattle.ec_coherence.proofs.Lists.{each-more}
 use Rattle.ec_coherence.proofs.Needs.{each-of}
-use Rattle.ec_headline.specs.Laws.{TellsAll}
 use Rattle.ec_answers.specs.Frees.{IsFull}
 use Rattle.ec_zeros.specs.Fulls.{IsFullAt}
 use Rattle.ec_zeros.proofs.Sent.{own-full, resend-own}
 use Rattle.ec_steps.specs.Steps.{IsDone}
-use Rattle.ec_whole.specs.Whole.{Whole}
+use Rattle.ec_whole.specs.Whole.{ShowsAll, Whole}
 use Rattle.ec_whole.proofs.Runs.{ClerksKeep}
 use Rattle.ec_settles.specs.Laws.{IsLined}
 use Rattle.ec_settles.proofs.Beginning.{begins}
 use Rattle.ec_settles.proofs.Resending.{resends-keep}
+use Rattle.ec_settles.proofs.Carrying.{same-shows}
 use Rattle.ec_settles.proofs.Settling as settling
 use Rattle.ec_taking.proofs.Taken.{messages-done}
-use Rattle.ec_tries.proofs.Tries.{answers-tell, tries-tell}
+use Rattle.ec_tries.proofs.Answering.{all-in}
+use Rattle.ec_tries.proofs.Tries.{answers-show, tries-show}
+use Rattle.ec_norooms.specs.Laws.{unasked}
+use Rattle.ec_norooms.proofs.Forgets.{forgets}
 use Rattle.ec_norooms.proofs.Refuses.{no-room}
 use Rattle.ec_goes.proofs.Calls.{calls-whole}
 use Rattle.ec_goes.proofs.Starts.{starts-whole}
 
 -- what goes on with them beside
 abbrev Q : System → ℕ → ℕ → Doing → Ghost → Type 0
-Q g c b d γ = TellsAll (doing_in c b d γ g)
+Q g c b d γ = ShowsAll (doing_in c b d γ g)
 
 module _ (g : System) (whole : Whole g) (c b : ℕ) (k : Clerk) (runs : g.running c ≡ Some b) (there : g.clerks c b ≡ Some k) where
   refused : (s e ask live reserved : ℕ) → Contains g.pool (c, NoRoom s e ask live reserved) → is_session ask k.asking ≡ true → IsDone Whole g c b (take (NoRoom s e ask live reserved) k)
@@ -44,31 +47,31 @@ module _ (g : System) (whole : Whole g) (c b : ℕ) (k : Clerk) (runs : g.runnin
           apart : false ≡ true → ⊥
           apart q = cc
       by (Some u) p =
-          let r = no-room g c b (Q g c b) (answers-tell g c b) live reserved (each-of (λ m. IsFull g m.1) g.pool (c, NoRoom s e ask live reserved) whole.fulls sent) (doing k) g.ghost
-          (record { trying = first.trying; lines = first.lines; also = first.tells }) u p (λ t. record { told = t.told; fronts = t.fronts }) ask in
-          settling.takes g whole c b k runs there (tries-tell g c b) (NoRoom s e ask live reserved) r.0 (record { trying = (r.1).trying; lines = (r.1).lines; tells = (r.1).also })
+          let r = no-room g c b (Q g c b) (answers-show g c b) live reserved (each-of (λ m. IsFull g m.1) g.pool (c, NoRoom s e ask live reserved) whole.fulls sent) (doing k) g.ghost
+          (record { trying = first.trying; lines = first.lines; also = first.shows }) u p (λ t. same-shows g c b (doing k) (unasked (doing k)) g.ghost first.trying (all-in g c b (unasked (doing k)) g.ghost (forgets g c b u (doing k) g.ghost first.trying p first.lines).0) (refl, refl, refl) t) ask in
+          settling.takes g whole c b k runs there (tries-show g c b) (NoRoom s e ask live reserved) r.0 (record { trying = (r.1).trying; lines = (r.1).lines; shows = (r.1).also })
 
   messages : (m : Msg) → Contains g.pool (c, m) → IsDone Whole g c b (take m k)
   messages (NoRoom s e ask live reserved) p = go (is_session ask k.asking) refl
     where
       go : (z : Bool) → is_session ask k.asking ≡ z → IsDone Whole g c b (take (NoRoom s e ask live reserved) k)
       go true q = refused s e ask live reserved p q
-      go false q = messages-done g whole c b k runs there (tries-tell g c b) (NoRoom s e ask live reserved) p q
-  messages (Hello a x) p = messages-done g whole c b k runs there (tries-tell g c b) (Hello a x) p tt
-  messages (Opened a s e) p = messages-done g whole c b k runs there (tries-tell g c b) (Opened a s e) p tt
-  messages (OldBoot a x) p = messages-done g whole c b k runs there (tries-tell g c b) (OldBoot a x) p tt
-  messages (Grant s e x n h i) p = messages-done g whole c b k runs there (tries-tell g c b) (Grant s e x n h i) p tt
-  messages (Recall s e x n h) p = messages-done g whole c b k runs there (tries-tell g c b) (Recall s e x n h) p tt
-  messages (Kept s e n) p = messages-done g whole c b k runs there (tries-tell g c b) (Kept s e n) p tt
-  messages (Ids s e got n x) p = messages-done g whole c b k runs there (tries-tell g c b) (Ids s e got n x) p tt
-  messages (Ended s low mask) p = messages-done g whole c b k runs there (tries-tell g c b) (Ended s low mask) p tt
-  messages (Restarted s e) p = messages-done g whole c b k runs there (tries-tell g c b) (Restarted s e) p tt
-  messages (Want s e x h n) p = messages-done g whole c b k runs there (tries-tell g c b) (Want s e x h n) p tt
-  messages (Back s e x n h) p = messages-done g whole c b k runs there (tries-tell g c b) (Back s e x n h) p tt
-  messages (Flush s e n ops) p = messages-done g whole c b k runs there (tries-tell g c b) (Flush s e n ops) p tt
-  messages (Room s e got ask) p = messages-done g whole c b k runs there (tries-tell g c b) (Room s e got ask) p tt
-  messages (Claim s e l) p = messages-done g whole c b k runs there (tries-tell g c b) (Claim s e l) p tt
-  messages (Bye s e) p = messages-done g whole c b k runs there (tries-tell g c b) (Bye s e) p tt
+      go false q = messages-done g whole c b k runs there (tries-show g c b) (NoRoom s e ask live reserved) p q
+  messages (Hello a x) p = messages-done g whole c b k runs there (tries-show g c b) (Hello a x) p tt
+  messages (Opened a s e) p = messages-done g whole c b k runs there (tries-show g c b) (Opened a s e) p tt
+  messages (OldBoot a x) p = messages-done g whole c b k runs there (tries-show g c b) (OldBoot a x) p tt
+  messages (Grant s e x n h i) p = messages-done g whole c b k runs there (tries-show g c b) (Grant s e x n h i) p tt
+  messages (Recall s e x n h) p = messages-done g whole c b k runs there (tries-show g c b) (Recall s e x n h) p tt
+  messages (Kept s e n) p = messages-done g whole c b k runs there (tries-show g c b) (Kept s e n) p tt
+  messages (Ids s e got n x) p = messages-done g whole c b k runs there (tries-show g c b) (Ids s e got n x) p tt
+  messages (Ended s low mask) p = messages-done g whole c b k runs there (tries-show g c b) (Ended s low mask) p tt
+  messages (Restarted s e) p = messages-done g whole c b k runs there (tries-show g c b) (Restarted s e) p tt
+  messages (Want s e x h n) p = messages-done g whole c b k runs there (tries-show g c b) (Want s e x h n) p tt
+  messages (Back s e x n h) p = messages-done g whole c b k runs there (tries-show g c b) (Back s e x n h) p tt
+  messages (Flush s e n ops) p = messages-done g whole c b k runs there (tries-show g c b) (Flush s e n ops) p tt
+  messages (Room s e got ask) p = messages-done g whole c b k runs there (tries-show g c b) (Room s e got ask) p tt
+  messages (Claim s e l) p = messages-done g whole c b k runs there (tries-show g c b) (Claim s e l) p tt
+  messages (Bye s e) p = messages-done g whole c b k runs there (tries-show g c b) (Bye s e) p tt
 
   resends : IsDone Whole g c b (resend k)
   resends = resends-keep g whole c b k runs there (each-more (λ m. IsFullAt g.durable.max_objects m.1) g.pool (sends c (resend k).outs) whole.fulls (own-full c g.durable.max_objects (resend k).outs (resend-own k)))
@@ -76,8 +79,8 @@ module _ (g : System) (whole : Whole g) (c b : ℕ) (k : Clerk) (runs : g.runnin
 pub clerks-keep-all : ClerksKeep Whole
 clerks-keep-all = record {
   messages = λ g c b k f run there m p. messages g f c b k run there m p;
-  pushes = λ g c b k f run there n. settling.pushes g f c b k run there (tries-tell g c b) n;
+  pushes = λ g c b k f run there n. settling.pushes g f c b k run there (tries-show g c b) n;
   resends = λ g c b k f run there. resends g f c b k run there;
-  calls = λ g c b k f run there l cl new bounded. calls-whole g f c b k run there (λ h. tries-tell h c b) l cl new bounded;
-  starts = λ g c f idle within l cl new bounded spare. starts-whole g f c idle within l cl new bounded (λ h. tries-tell h c (g.boots c + 1)) spare;
+  calls = λ g c b k f run there l cl new bounded. calls-whole g f c b k run there (λ h. tries-show h c b) l cl new bounded;
+  starts = λ g c f idle within l cl new bounded spare. starts-whole g f c idle within l cl new bounded (λ h. tries-show h c (g.boots c + 1)) spare;
 }

@@ -1,5 +1,5 @@
 -- Each run over a well-formed state shows what it should.
-use Rattle.std.proofs.Common.{◌≡◌, refl, List}
+use Rattle.std.proofs.Common.{◌≡◌, refl, ℕ, List}
 use Rattle.std.specs.Prelude.{length, Ok}
 use Rattle.ec_volume.specs.Volume.{images}
 use Rattle.ec_volume.specs.declared.image.Image.TheVariants.{Gone}
@@ -11,6 +11,7 @@ use Rattle.ec_protocol.specs.declared.world.World.{World}
 use Rattle.ec_found.specs.Olds.{opened_in}
 use Rattle.ec_found.proofs.Opens.{world-stands}
 use Rattle.ec_opening.proofs.Opens.{opened-whole}
+use Rattle.ec_headline.specs.Headline.{IsGreatest}
 use Rattle.ec_steps.specs.Drills.{AreFit}
 use Rattle.ec_whole.specs.Runs.{OfRun, RunShows}
 use Rattle.ec_whole.proofs.Runs.{run-shows}
@@ -20,7 +21,7 @@ module _ (d : Durable) (wf : WellFormed d) (sixteen : length d.sessions ≡ 16) 
   facts : OfRun (images d.volume) d.max_objects (opened_in d)
   facts = record { whole = opened-whole d wf sixteen zero; origin = refl; most_is = refl }
 
-  pub runs-show : let ran = run_from (bound ls) 1 ls fs w in RunShows (images d.volume) d.max_objects ls (close ran.ending ran)
-  runs-show =
+  pub runs-show : (top : ℕ) → IsGreatest (images d.volume) top → let ran = run_from (bound ls) 1 ls fs w in RunShows (images d.volume) top d.max_objects ls (close ran.ending ran)
+  runs-show top greatest =
       let st = world-stands d sixteen w opens in
-      run-shows clerks-keep-all (images d.volume) d.max_objects ls fs w (opened_in d, facts, st) (record { idle = λ c. refl; boots = λ c. refl; pool = refl; unshown = refl; shown = refl }) st.calls st.shown fit
+      run-shows clerks-keep-all (images d.volume) d.max_objects ls fs w (opened_in d, facts, st) (record { idle = λ c. refl; boots = λ c. refl; pool = refl; unshown = refl; shown = refl }) st.calls st.shown fit top wf.volume greatest.least

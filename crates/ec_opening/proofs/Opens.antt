@@ -18,6 +18,7 @@ use Rattle.ec_calls.proofs.Opening.{opening-calls, opening-rest}
 use Rattle.ec_doings.specs.Names.{AreOnNamed}
 use Rattle.ec_answers.specs.Zeros.{LeaveOut}
 use Rattle.ec_headline.proofs.Lines.{nothing-tells-all}
+use Rattle.ec_fresh.proofs.Begins.{begins-fresh}
 use Rattle.ec_whole.specs.Whole.{Whole}
 
 -- no clerk is in any session
@@ -82,5 +83,5 @@ opened-whole d wf sixteen gone = record {
   counts = record { counted = λ c q. less-itself _; above = λ c. omega arith };
   fulls = tt;
   doubts = tt;
-  tells = nothing-tells-all (opened_in d) refl;
+  shows = record { tells = nothing-tells-all (opened_in d) refl; fresh = begins-fresh (opened_in d) refl refl refl };
 }

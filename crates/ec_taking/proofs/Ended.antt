@@ -1,5 +1,5 @@
 -- A clerk leaves its session: the step under way goes on with all facts.
-use Rattle.std.proofs.Common.{◌≡◌, refl, sym, ap, subst, ◌∙◌, inl, inr, ◌⊎◌, ℕ, Bool, true, false, ◌==◌, ◌||◌, T, List, [], ◌∷◌, ◌++◌, Some}
+use Rattle.std.proofs.Common.{◌≡◌, refl, sym, ap, subst, ◌∙◌, inl, inr, ◌⊎◌, ℕ, Bool, true, false, ◌==◌, ◌||◌, T, List, [], ◌∷◌, ◌++◌, None, Some}
 use Rattle.std.specs.Prelude.{Contains, is_some, nat_le}
 use Rattle.std.specs.List.{list_any}
 use Rattle.std.proofs.lemmas.List.Folds.{list_any-append}
@@ -34,6 +34,7 @@ use Rattle.ec_joins.specs.Laws.{IsGoing, tell_loss}
 use Rattle.ec_joins.proofs.Wholes as wholes
 use Rattle.ec_commits.specs.Laws.{AllAgree}
 use Rattle.ec_changes.specs.Laws.{ClerkStands}
+use Rattle.ec_fresh.proofs.Steps.{step-fresh}
 use Rattle.ec_whole.specs.Whole.{Whole}
 use Rattle.ec_whole.proofs.Telling.{line-step-tells}
 use Rattle.ec_settles.specs.Laws.{IsLined}
@@ -108,7 +109,10 @@ module _ (g : System) (whole : Whole g) (c b : ℕ) (k : Clerk) (runs : g.runnin
     leaves-so = lined-so g c b k e δ z calls lines orderly (ended-keeps g c b d γ t.names w δ.shown)
         (steps-keep g c b d e γ δ (record { origin = refl; kept = refl; frozen = refl; next_id = refl; grants = refl; first = refl }) (have-no-zero.ended w d (no-zero g whole c b k runs at-start)) t.zeros)
         (ended-keeps-frees g c b d γ t.frees w δ.shown)
-        (line-step-tells g c b d e γ δ (show.Told c ns) (all-of d γ t.stands) (all-of e δ z.stands) refl (λ p le. refl) was.tells)
+        (record {
+          tells = line-step-tells g c b d e γ δ (show.Told c ns) (all-of d γ t.stands) (all-of e δ z.stands) refl (λ p le. refl) was.shows.tells;
+          fresh = step-fresh g c b d e γ δ (all-of d γ t.stands) (all-of e δ z.stands) t.names (show.Told c ns ∷ []) tt refl refl refl refl (inr (subst (λ x. x.clerk.session ≡ None) (sym is) refl)) was.shows.fresh;
+        })
 
   abbrev pub Ends : Type 0
   Ends = T (is_some e.spent) ⊎ IsLined g c b e δ

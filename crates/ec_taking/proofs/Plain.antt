@@ -36,9 +36,12 @@ use Rattle.ec_frees.specs.Moves.{IsStill}
 use Rattle.ec_frees.proofs.Stilling.{are-still, restarts-still}
 use Rattle.ec_frees.proofs.Stored.{stills-keep}
 use Rattle.ec_frees.proofs.StoredIds.{ids-keep-frees}
+use Rattle.ec_commits.specs.Laws.{AllAgree}
+use Rattle.ec_fresh.specs.Fresh.{FreshAgrees}
+use Rattle.ec_fresh.proofs.Ids.{ids-fresh}
 use Rattle.ec_whole.specs.Whole.{Whole}
 use Rattle.ec_settles.specs.Laws.{IsLined}
-use Rattle.ec_settles.proofs.Carrying.{goes-lined, in-hand}
+use Rattle.ec_settles.proofs.Carrying.{goes-lined, in-hand, same-shows}
 use Rattle.ec_taking.proofs.Same.{first, no-zero}
 
 module _ (g : System) (whole : Whole g) (c b : ℕ) (k : Clerk) (runs : g.running c ≡ Some b) (at-start : g.clerks c b ≡ Some k) (s : ℕ) (within : k.session ≡ Some s) where
@@ -57,6 +60,9 @@ module _ (g : System) (whole : Whole g) (c b : ℕ) (k : Clerk) (runs : g.runnin
   hand : IsInHand g c b s d γ
   hand = in-hand g c b s d γ t within
 
+  all-of : {e : Doing} → IsInHand g c b s e γ → AllAgree (doing_in c b e γ g)
+  all-of h = let st = (h.under_way).stands in ((st.0).invariant, st.1, st.2, st.3)
+
   own : HasNoZero k
   own = no-zero g whole c b k runs at-start
 
@@ -73,32 +79,41 @@ module _ (g : System) (whole : Whole g) (c b : ℕ) (k : Clerk) (runs : g.runnin
   its n e = equal n s (sym (ap (is_session n) within) ∙ e)
 
   -- all together
-  goes : (m : Msg) → T (is_calm m d) → IsInHand g c b s (taken m d) γ → HasNoZero (taken m d).clerk → FreesAgree (doing_in c b (taken m d) γ g) → CutsAgree (doing_in c b (taken m d) γ g) → IsLined g c b (taken m d) γ
-  goes m calm h zero frees cuts = goes-lined g c b s d (taken m d) γ t h (quiet-taken m d calm) zero frees cuts was.lines was.tells
+  goes : (m : Msg) → T (is_calm m d) → IsInHand g c b s (taken m d) γ → HasNoZero (taken m d).clerk → FreesAgree (doing_in c b (taken m d) γ g) → CutsAgree (doing_in c b (taken m d) γ g) → FreshAgrees (doing_in c b (taken m d) γ g) → IsLined g c b (taken m d) γ
+  goes m calm h zero frees cuts fresh = goes-lined g c b s d (taken m d) γ t h (quiet-taken m d calm) zero frees cuts was.lines was.shows fresh
 
   still-frees : (m : Msg) → IsStill k (taken m d).clerk → FreesAgree (doing_in c b (taken m d) γ g)
   still-frees m i = stills-keep g c b d γ t.frees (taken m d) γ refl refl refl refl refl (inl i)
+
+  still-fresh : (m : Msg) → IsInHand g c b s (taken m d) γ → IsStill k (taken m d).clerk → FreshAgrees (doing_in c b (taken m d) γ g)
+  still-fresh m h i = (same-shows g c b d (taken m d) γ t (all-of h) i was.shows).fresh
 
   calm-cuts : (m : Msg) → IsCalm d (taken m d) → CutsAgree (doing_in c b (taken m d) γ g)
   calm-cuts m i = calm-keeps g c b d (taken m d) γ i t.cuts
 
   pub takes-grant-so : (n e x m : ℕ) (h : Hold) (i : Image) → Contains g.pool (c, Grant n e x m h i) → IsLined g c b (taken (Grant n e x m h i) d) γ
-  takes-grant-so n e x m h i p = let f = with_cache (cache.take x h m i) in
-      goes (Grant n e x m h i) tt (takes-grant g c b s d γ hand n e x m h i (token-fits (Grant n e x m h i) p))
+  takes-grant-so n e x m h i p =
+      let f = with_cache (cache.take x h m i) in
+      let on = takes-grant g c b s d γ hand n e x m h i (token-fits (Grant n e x m h i) p) in
+      goes (Grant n e x m h i) tt on
       (have-no-zero.same d (taken (Grant n e x m h i) d) (have-no-zero.within n e f d (have-no-zero.grants x h m i d)) own)
       (still-frees (Grant n e x m h i) (are-still.grants (Grant n e x m h i) tt d))
-      (calm-cuts (Grant n e x m h i) (are-calm.within n e f d (are-calm.grants x h m i d)))
+      (calm-cuts (Grant n e x m h i) (are-calm.within n e f d (are-calm.grants x h m i d))) (still-fresh (Grant n e x m h i) on (are-still.grants (Grant n e x m h i) tt d))
 
   pub takes-recall-so : (n e x m : ℕ) (h : Hold) → Contains g.pool (c, Recall n e x m h) → IsLined g c b (taken (Recall n e x m h) d) γ
   takes-recall-so n e x m h p =
-      goes (Recall n e x m h) tt (takes-recall g c b s d γ hand n e x m h (sound (Recall n e x m h) p) (token-fits (Recall n e x m h) p))
+      let on = takes-recall g c b s d γ hand n e x m h (sound (Recall n e x m h) p) (token-fits (Recall n e x m h) p) in
+      goes (Recall n e x m h) tt on
       (have-no-zero.same d (taken (Recall n e x m h) d) (have-no-zero.within n e (take_recall x m h) d (have-no-zero.takes_recall x m h d)) own)
       (still-frees (Recall n e x m h) (are-still.takes_recall (Recall n e x m h) tt d))
-      (calm-cuts (Recall n e x m h) (are-calm.within n e (take_recall x m h) d (are-calm.takes_recall x m h d)))
+      (calm-cuts (Recall n e x m h) (are-calm.within n e (take_recall x m h) d (are-calm.takes_recall x m h d))) (still-fresh (Recall n e x m h) on (are-still.takes_recall (Recall n e x m h) tt d))
 
   pub takes-kept-so : (n e m : ℕ) → Contains g.pool (c, Kept n e m) → IsLined g c b (taken (Kept n e m) d) γ
-  takes-kept-so n e m p = goes (Kept n e m) tt (takes-kept g c b s d γ hand n e m (session-fits (Kept n e m) p)) (zero (is_session n k.session)) (still-frees (Kept n e m) (are-still.kept (Kept n e m) tt d)) (cuts (is_session n k.session) refl)
+  takes-kept-so n e m p = goes (Kept n e m) tt on (zero (is_session n k.session)) (still-frees (Kept n e m) (are-still.kept (Kept n e m) tt d)) (cuts (is_session n k.session) refl) (still-fresh (Kept n e m) on (are-still.kept (Kept n e m) tt d))
     where
+      on : IsInHand g c b s (taken (Kept n e m) d) γ
+      on = takes-kept g c b s d γ hand n e m (session-fits (Kept n e m) p)
+
       zero : (z : Bool) → HasNoZero (elim z as (λ y. Doing) [ true ↦ with_log (log.kept m) d | false ↦ d ]).clerk
       zero true = have-no-zero.kept_batch m d own
       zero false = own
@@ -109,11 +124,14 @@ module _ (g : System) (whole : Whole g) (c b : ℕ) (k : Clerk) (runs : g.runnin
 
   pub takes-ids-so : (n e got m x : ℕ) → Contains g.pool (c, Ids n e got m x) → IsLined g c b (taken (Ids n e got m x) d) γ
   takes-ids-so n e got m x p =
-      goes (Ids n e got m x) tt (takes-ids g c b s d γ hand n e got m x fits) (zero (is_session n k.session && (e == epoch d)) refl) (ids-keep-frees g c b s d γ hand t.frees (Ids n e got m x) tt fits)
-      (calm-cuts (Ids n e got m x) (are-calm.within n e (take_ids got m x) d (are-calm.takes_ids got m x d)))
+      goes (Ids n e got m x) tt on (zero (is_session n k.session && (e == epoch d)) refl) (ids-keep-frees g c b s d γ hand t.frees (Ids n e got m x) tt fits)
+      (calm-cuts (Ids n e got m x) (are-calm.within n e (take_ids got m x) d (are-calm.takes_ids got m x d))) (ids-fresh g c b s d γ hand was.shows.fresh (Ids n e got m x) tt fits (all-of on))
     where
       fits : Fits (view (doing_in c b d γ g)) (Ids n e got m x)
       fits = token-fits (Ids n e got m x) p
+
+      on : IsInHand g c b s (taken (Ids n e got m x) d) γ
+      on = takes-ids g c b s d γ hand n e got m x fits
 
       zero : (z : Bool) → (is_session n k.session && (e == epoch d)) ≡ z → HasNoZero (elim z as (λ y. Doing) [ true ↦ take_ids got m x d | false ↦ d ]).clerk
       zero true q = ids-have-none g c b s d γ hand.under_way t.zeros e got m x (subst (λ z. Fits (view (doing_in c b d γ g)) (Ids z e got m x)) (its n ((Rattle.std.proofs.lemmas.Bool.and_parts (is_session n k.session) (e == epoch d) q).0)) fits)
@@ -121,11 +139,14 @@ module _ (g : System) (whole : Whole g) (c b : ℕ) (k : Clerk) (runs : g.runnin
 
   pub takes-restarted-so : (n e : ℕ) → Contains g.pool (c, Restarted n e) → IsLined g c b (taken (Restarted n e) d) γ
   takes-restarted-so n e p =
-      goes (Restarted n e) tt (takes-restarted g c b s γ d hand n e (token-fits (Restarted n e) p))
+      goes (Restarted n e) tt on
       (have-no-zero.same d (taken (Restarted n e) d) (parts (has_session k) (is_session n k.session)) own)
       (still-frees (Restarted n e) (restarts-still d s within (Restarted n e) tt))
-      (calm-cuts (Restarted n e) (calm (has_session k) (is_session n k.session)))
+      (calm-cuts (Restarted n e) (calm (has_session k) (is_session n k.session))) (still-fresh (Restarted n e) on (restarts-still d s within (Restarted n e) tt))
     where
+      on : IsInHand g c b s (taken (Restarted n e) d) γ
+      on = takes-restarted g c b s γ d hand n e (token-fits (Restarted n e) p)
+
       parts : (z y : Bool) → SameParts d (elim z as (λ y. Doing) [ false ↦ hello d | true ↦ elim y as (λ y. Doing) [ true ↦ take_restarted e d | false ↦ d ] ])
       parts false y = have-no-zero.hellos d
       parts true true = have-no-zero.restarts e d

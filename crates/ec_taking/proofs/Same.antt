@@ -1,5 +1,5 @@
 -- A step under way goes on with all facts: where its clerk changes nothing, and where it takes a session.
-use Rattle.std.proofs.Common.{◌≡◌, refl, ap, subst, ◌∙◌, inl, arith, ℕ, true, false, not, ◌==◌, ◌&&◌, T, [], Some, None}
+use Rattle.std.proofs.Common.{◌≡◌, refl, sym, ap, subst, ◌∙◌, inl, arith, ℕ, true, false, not, ◌==◌, ◌&&◌, T, [], Some, None, append-nil}
 use Rattle.std.specs.Prelude.{Contains}
 use Rattle.ec_base.specs.declared.ids.Age.{Age}
 use Rattle.ec_history.specs.History.{Each}
@@ -14,6 +14,7 @@ use Rattle.ec_coherence.specs.Steps.{call_of, doing_in}
 use Rattle.ec_coherence.proofs.ClerkIn.{start-same}
 use Rattle.ec_coherence.proofs.Tables.{same}
 use Rattle.ec_commits.specs.Laws.{AllAgree}
+use Rattle.ec_changes.specs.Laws.{ClerkStands}
 use Rattle.ec_calls.specs.Calls.{Began, CallsAgree, IsOpenCall, StartCalls}
 use Rattle.ec_calls.specs.Waits.{HasLine}
 use Rattle.ec_calls.specs.Laws.{IsQuiet}
@@ -30,19 +31,22 @@ use Rattle.ec_frees.proofs.Stored.{opened-keeps-frees, stills-keep}
 use Rattle.ec_joins.specs.Laws.{IsGoing}
 use Rattle.ec_joins.proofs.Joined as joins
 use Rattle.ec_joins.proofs.Wholes as wholes
-use Rattle.ec_headline.specs.Laws.{TellsAll}
-use Rattle.ec_whole.specs.Whole.{Whole}
+use Rattle.ec_fresh.specs.Fresh.{FreshAgrees}
+use Rattle.ec_fresh.proofs.Ids.{opened-old}
+use Rattle.ec_fresh.proofs.Steps.{start-fresh, twice}
+use Rattle.ec_whole.specs.Whole.{ShowsAll, Whole}
 use Rattle.ec_whole.proofs.Telling.{quiet-step-tells}
 use Rattle.ec_settles.specs.Laws.{IsLined}
 use Rattle.ec_settles.proofs.Beginning.{begins}
+use Rattle.ec_settles.proofs.Carrying.{same-shows}
 
 same-ages : (a b : Age) → a ≡ b → same_age a b ≡ true
 same-ages a b e = ap (λ z. same_age z b) e ∙ ap (λ z. z && (b.round == b.round)) (same b.boot) ∙ same b.round
 
 -- All together.
 pub lined-so : (g : System) (c b : ℕ) (k : Clerk) (e : Doing) (δ : Ghost) → IsGoing g c b k e δ → CallsAgree (doing_in c b e δ g) → Each (HasLine (doing_in c b e δ g) c) e.clerk.waiting
-    → IsOrderly e.clerk → NamesAgree (doing_in c b e δ g) → ZerosAgree (doing_in c b e δ g) → FreesAgree (doing_in c b e δ g) → TellsAll (doing_in c b e δ g) → IsLined g c b e δ
-lined-so g c b k e δ z calls lines orderly names zeros frees tells = record {
+    → IsOrderly e.clerk → NamesAgree (doing_in c b e δ g) → ZerosAgree (doing_in c b e δ g) → FreesAgree (doing_in c b e δ g) → ShowsAll (doing_in c b e δ g) → IsLined g c b e δ
+lined-so g c b k e δ z calls lines orderly names zeros frees shows = record {
   trying = record {
     stands = z.stands;
     place = z.place;
@@ -55,7 +59,7 @@ lined-so g c b k e δ z calls lines orderly names zeros frees tells = record {
     cuts = z.cuts;
   };
   lines = lines;
-  tells = tells;
+  shows = shows;
 }
 
 -- Calls don't read which sessions were taken.
@@ -102,6 +106,9 @@ module _ (g : System) (whole : Whole g) (c b : ℕ) (k : Clerk) (runs : g.runnin
   pub no-zero : HasNoZero k
   no-zero = (t.zeros).clerks c b k there
 
+  all-of : {e : Doing} {δ : Ghost} → ClerkStands g c b e δ → AllAgree (doing_in c b e δ g)
+  all-of st = ((st.0).invariant, st.1, st.2, st.3)
+
   all-here : AllAgree (doing_in c b d γ g)
   all-here = ((t.stands.0).invariant, t.stands.1, t.stands.2, t.stands.3)
 
@@ -110,11 +117,14 @@ module _ (g : System) (whole : Whole g) (c b : ℕ) (k : Clerk) (runs : g.runnin
   hello-quiet : IsQuiet d (hello d)
   hello-quiet = record { waiting = refl; calls = refl; next = refl; first = refl; own = λ n x. x; outs = λ c calls. refl }
 
+  greeted : IsGoing g c b k (hello d) γ
+  greeted = wholes.greeted g whole.all whole.cuts c b k runs at-start
+
   pub greets : IsLined g c b (hello d) γ
-  greets = lined-so g c b k (hello d) γ (wholes.greeted g whole.all whole.cuts c b k runs at-start) (quiet-calls g c b d (hello d) γ hello-quiet t.calls) (quiet-lines g c b d (hello d) γ hello-quiet first.lines) t.orderly
+  greets = lined-so g c b k (hello d) γ greeted (quiet-calls g c b d (hello d) γ hello-quiet t.calls) (quiet-lines g c b d (hello d) γ hello-quiet first.lines) t.orderly
       (names-read (doing_in c b d γ g) (doing_in c b (hello d) γ g) t.names refl refl (grind arith) refl refl refl refl refl)
       (steps-keep g c b d (hello d) γ γ (record { origin = refl; kept = refl; frozen = refl; next_id = refl; grants = refl; first = refl }) no-zero t.zeros)
-      (stills-keep g c b d γ t.frees (hello d) γ refl refl refl refl refl (inl (refl, refl, refl))) (quiet-step-tells g c b d (hello d) γ γ refl refl first.tells)
+      (stills-keep g c b d γ t.frees (hello d) γ refl refl refl refl refl (inl (refl, refl, refl))) (same-shows g c b d (hello d) γ t (all-of greeted.stands) (refl, refl, refl) first.shows)
 
   -- It shows that its boot is old.
 
@@ -125,11 +135,14 @@ module _ (g : System) (whole : Whole g) (c b : ℕ) (k : Clerk) (runs : g.runnin
     old-quiet : IsQuiet d old
     old-quiet = record { waiting = refl; calls = refl; next = refl; first = refl; own = λ n x. x; outs = λ c calls. refl }
 
+    olds : IsGoing g c b k old γ
+    olds = wholes.shows-old g whole.all whole.cuts c b k runs at-start a
+
     pub shows-old : IsLined g c b old γ
-    shows-old = lined-so g c b k old γ (wholes.shows-old g whole.all whole.cuts c b k runs at-start a) (quiet-calls g c b d old γ old-quiet t.calls) (quiet-lines g c b d old γ old-quiet first.lines) t.orderly
+    shows-old = lined-so g c b k old γ olds (quiet-calls g c b d old γ old-quiet t.calls) (quiet-lines g c b d old γ old-quiet first.lines) t.orderly
         (names-read (doing_in c b d γ g) (doing_in c b old γ g) t.names refl refl (grind arith) refl refl refl refl refl)
         (steps-keep g c b d old γ γ (record { origin = refl; kept = refl; frozen = refl; next_id = refl; grants = refl; first = refl }) no-zero t.zeros)
-        (stills-keep g c b d γ t.frees old γ refl refl refl refl refl (inl (refl, refl, refl))) (quiet-step-tells g c b d old γ γ refl refl first.tells)
+        (stills-keep g c b d γ t.frees old γ refl refl refl refl refl (inl (refl, refl, refl))) (same-shows g c b d old γ t (all-of olds.stands) (refl, refl, refl) first.shows)
 
   -- It takes a session.
 
@@ -152,10 +165,18 @@ module _ (g : System) (whole : Whole g) (c b : ℕ) (k : Clerk) (runs : g.runnin
     orderly : IsOrderly takes.clerk
     orderly = record { keyed = (t.orderly).keyed; recalls = (t.orderly).recalls; asking = (t.orderly).asking; log = (t.orderly).log; sound = (t.orderly).sound; batches = (t.orderly).batches }
 
+    opened : IsGoing g c b k takes (take_session s γ)
+    opened = wholes.opens g whole.all whole.cuts c b k runs at-start without age s e sent own
+
+    -- it has none in store
+    fresh-now : FreshAgrees (doing_in c b takes (take_session s γ) g)
+    fresh-now = start-fresh (doing_in c b d γ g) (doing_in c b takes (take_session s γ) g) all-here (all-of opened.stands) t.names [] (record { quiet = tt; origin = refl; first_boot = refl; next = grind arith; shown = sym (append-nil γ.shown); fresh = refl }) c b takes.clerk
+        (twice g c b d takes γ (take_session s γ) takes.clerk) refl refl (opened-old g c b d γ all-here without s e untaken) first.shows.fresh
+
     pub opens : IsLined g c b takes (take_session s γ)
-    opens = lined-so g c b k takes (take_session s γ) (wholes.opens g whole.all whole.cuts c b k runs at-start without age s e sent own) (taken-calls g c b takes γ s (quiet-calls g c b d takes γ quiet t.calls))
+    opens = lined-so g c b k takes (take_session s γ) opened (taken-calls g c b takes γ s (quiet-calls g c b d takes γ quiet t.calls))
         (quiet-lines g c b d takes γ quiet first.lines) orderly
         (subst (λ z. NamesAgree (doing_in c b (elim z as (λ y. Doing) [ true ↦ takes | false ↦ d ]) (take_session s γ) g)) test (opened-keeps g c b d γ t.names all-here without age s e untaken))
         (steps-keep g c b d takes γ (take_session s γ) (record { origin = refl; kept = refl; frozen = refl; next_id = refl; grants = refl; first = refl }) (record { ids = no-zero.ids; undurable = no-zero.undurable; owed = no-zero.owed }) t.zeros)
         (subst (λ z. FreesAgree (doing_in c b (elim z as (λ y. Doing) [ true ↦ takes | false ↦ d ]) (take_session s γ) g)) test (opened-keeps-frees g c b d γ t.frees all-here without age s e untaken))
-        (quiet-step-tells g c b d takes γ (take_session s γ) refl refl first.tells)
+        (record { tells = quiet-step-tells g c b d takes γ (take_session s γ) refl refl first.shows.tells; fresh = fresh-now })

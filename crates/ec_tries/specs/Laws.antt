@@ -3,7 +3,7 @@ use Rattle.std.specs.Prelude.{ℕ}
 use Rattle.ec_protocol.specs.Clerk.{Doing}
 use Rattle.ec_coherence.specs.System.{System, Ghost}
 use Rattle.ec_coherence.specs.Steps.{doing_in}
-use Rattle.ec_headline.specs.Laws.{TellsAll}
+use Rattle.ec_whole.specs.Whole.{ShowsAll}
 use Rattle.ec_settles.specs.Laws.{TriesAll}
 use Rattle.ec_norooms.specs.Laws.{OneAnswers}
 
@@ -12,8 +12,8 @@ abbrev pub EachTries : Type 0
 EachTries = (g : System) (c b : ℕ) → TriesAll g c b
 
 -- and behind a single answer
-abbrev pub Tells : System → ℕ → ℕ → Doing → Ghost → Type 0
-Tells g c b d γ = TellsAll (doing_in c b d γ g)
+abbrev pub Shows : System → ℕ → ℕ → Doing → Ghost → Type 0
+Shows g c b d γ = ShowsAll (doing_in c b d γ g)
 
 abbrev pub EachAnswers : Type 0
-EachAnswers = (g : System) (c b : ℕ) → OneAnswers g c b (Tells g c b)
+EachAnswers = (g : System) (c b : ℕ) → OneAnswers g c b (Shows g c b)
