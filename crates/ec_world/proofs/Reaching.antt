@@ -1,5 +1,5 @@
 -- Worlds of runs lead to such worlds.
-use Rattle.std.proofs.Common.{◌≡◌, refl, sym, ap, subst, ◌∙◌, ℕ, List, None, Result, Ok, Err}
+use Rattle.std.proofs.Common.{◌≡◌, refl, sym, ap, subst, ◌∙◌, ℕ, List, [], ◌∷◌, ◌++◌, None, Result, Ok, Err}
 use Rattle.std.proofs.Math.Logic.{∥∥₁_map}
 use Rattle.std.specs.Prelude.{IfOk, OnOk}
 use Rattle.ec_disk.specs.Disk.{Counts}
@@ -40,6 +40,5 @@ opened (Err f) tells gives most is = tt
 pub forgotten : (old new : State) → new ≡ forget old → Stays old new
 forgotten old new q d r = subst (Reached d) (sym q) (forgets old r)
 
-pub unsettled : {A E : Type 0} (result : Result A E) (old new : State) → OnOk result (new ≡ (show_line Unsettled (moving old)).world) → OnOk result (Stays old new)
-unsettled (Ok a) old new q = λ d r. subst (Reached d) (sym q) (unsettles old r)
-unsettled (Err f) old new q = tt
+pub unsettled : (old : State) (lines : List Shown) → lines ≡ old.shown ++ Unsettled ∷ [] → Stays old (record old { shown = lines })
+unsettled old lines q d r = subst (λ ls. Reached d (record old { shown = ls })) (sym q) (unsettles old r)
