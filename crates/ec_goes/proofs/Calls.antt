@@ -1,5 +1,5 @@
 -- A call of a running clerk begins: all facts stand behind the whole step.
-use Rattle.std.proofs.Common.{◌≡◌, refl, sym, ap, subst, ◌∙◌, inl, inr, ◌⊎◌, arith, ◌+◌, ℕ, Bool, true, false, not, ◌||◌, ◌&&◌, ◌==◌, cond, T, List, [], ◌∷◌, ◌++◌, Option, Some, None, append-nil}
+use Rattle.std.proofs.Common.{◌≡◌, refl, sym, ap, subst, ◌∙◌, inl, inr, ◌⊎◌, arith, ◌+◌, ℕ, Bool, true, false, ◌||◌, ◌&&◌, ◌==◌, cond, T, List, [], ◌∷◌, ◌++◌, Some, None, append-nil}
 use Rattle.std.specs.Prelude.{is_some, nat_le}
 use Rattle.std.specs.List.{list_any}
 use Rattle.std.proofs.lemmas.List.Folds.{list_any-append}
@@ -24,27 +24,25 @@ use Rattle.ec_coherence.proofs.Lists.{each-more, each-turn}
 use Rattle.ec_coherence.proofs.Tables.{equal, none_some, same, same_some}
 use Rattle.ec_commits.specs.Laws.{AllAgree}
 use Rattle.ec_changes.specs.Laws.{lined}
-use Rattle.ec_calls.specs.Calls.{CallsAgree, has_number, is_shown}
+use Rattle.ec_calls.specs.Calls.{has_number, is_shown}
 use Rattle.ec_calls.specs.Laws.{prepared}
 use Rattle.ec_calls.specs.Waits.{HasLine, IsAtRest, NoneReady, does_wait}
 use Rattle.ec_calls.proofs.Begin.{call-put}
 use Rattle.ec_calls.proofs.Quiets.{quiet-evict}
 use Rattle.ec_joins.specs.Counts.{CountsAgree}
 use Rattle.ec_joins.proofs.Frames.{lines-keep-counts}
-use Rattle.ec_found.specs.Doubts.{DoubtAgrees}
 use Rattle.ec_found.proofs.From.{doubts-stay}
-use Rattle.ec_doings.specs.Orderly.{IsOrderly, OrderlyAgree}
-use Rattle.ec_doings.specs.Names.{NamesAgree}
+use Rattle.ec_doings.specs.Orderly.{IsOrderly}
 use Rattle.ec_names.proofs.Changing.{clerks-keep}
 use Rattle.ec_frees.proofs.Stored.{stills-keep}
 use Rattle.ec_fresh.proofs.Steps.{start-fresh}
 use Rattle.ec_fresh.specs.Creates.{AreQuiet}
 use Rattle.ec_fresh.specs.Fresh.{FreshAgrees}
 use Rattle.ec_headline.proofs.Lines.{line-tells}
-use Rattle.ec_answers.specs.Frees.{FreesAgree, FullsAgree}
+use Rattle.ec_answers.specs.Frees.{FullsAgree}
 use Rattle.ec_answers.specs.Trying.{IsTrying}
 use Rattle.ec_answers.specs.Zeros.{HasNoZero, ZerosAgree}
-use Rattle.ec_zeros.specs.Fulls.{AreFullAt, IsFullAt}
+use Rattle.ec_zeros.specs.Fulls.{IsFullAt}
 use Rattle.ec_zeros.proofs.Behind.{steps-keep}
 use Rattle.ec_zeros.proofs.Sent.{own-full, settle-own}
 use Rattle.ec_begins.specs.Laws.{HasBegun}

@@ -1,6 +1,6 @@
 -- The first call of a clerk's next start begins: all facts stand behind the whole step.
-use Rattle.std.proofs.Common.{◌≡◌, refl, sym, ap, subst, ◌∙◌, inl, inr, ◌⊎◌, arith, ◌<◌, ◌≤◌, ◌+◌, ℕ, Bool, true, false, not, ◌||◌, ◌&&◌, ◌==◌, cond, length, T, List, [], ◌∷◌, ◌++◌, Option, Some, None, append_assoc, append-nil}
-use Rattle.std.specs.Prelude.{Contains, is_some, nat_le, nat_lt}
+use Rattle.std.proofs.Common.{◌≡◌, refl, sym, ap, subst, ◌∙◌, inl, inr, ◌⊎◌, arith, ◌<◌, ◌≤◌, ◌+◌, ℕ, Bool, true, false, ◌||◌, ◌&&◌, ◌==◌, cond, length, T, List, [], ◌∷◌, ◌++◌, Option, Some, None, append_assoc, append-nil}
+use Rattle.std.specs.Prelude.{is_some, nat_le, nat_lt}
 use Rattle.std.specs.List.{list_any}
 use Rattle.std.proofs.lemmas.List.Elements.{Contains-append_left}
 use Rattle.std.proofs.lemmas.List.Folds.{list_any-append}
@@ -21,11 +21,11 @@ use Rattle.ec_protocol.specs.World.{is_answer_to}
 use Rattle.ec_protocol.specs.declared.clerk.Clerk.{Clerk}
 use Rattle.ec_protocol.specs.declared.clerk.Out.{Out}
 use Rattle.ec_protocol.specs.declared.clerk.Out.TheVariants as out
-use Rattle.ec_coherence.specs.System.{System, Ghost, at_session, with_start}
+use Rattle.ec_coherence.specs.System.{System, Ghost, with_start}
 use Rattle.ec_coherence.specs.ChangeLaws.{Calls}
 use Rattle.ec_coherence.specs.Steps.{call_of, calls_after, doing_in, less_call, out_lines, sends}
 use Rattle.ec_coherence.proofs.Lists.{each-more, each-turn}
-use Rattle.ec_coherence.proofs.Tables.{at-put, equal, none_some, same, same_some}
+use Rattle.ec_coherence.proofs.Tables.{at-put, none_some, same, same_some}
 use Rattle.ec_commits.specs.Laws.{AllAgree}
 use Rattle.ec_changes.specs.Laws.{lined}
 use Rattle.ec_calls.specs.Calls.{is_shown}
@@ -40,7 +40,6 @@ use Rattle.ec_doings.specs.Names.{AreOnNamed, NamesAgree}
 use Rattle.ec_doings.proofs.Calling.{order-agrees, order-stays}
 use Rattle.ec_names.proofs.Changing.{clerks-keep}
 use Rattle.ec_frees.proofs.Stored.{clerks-keep-frees}
-use Rattle.ec_fresh.specs.Creates.{creates}
 use Rattle.ec_fresh.specs.Fresh.{FreshAgrees}
 use Rattle.ec_fresh.specs.Laws.{HasOld}
 use Rattle.ec_fresh.proofs.Answered.{answers-fresh}
@@ -49,7 +48,7 @@ use Rattle.ec_headline.proofs.Lines.{line-tells}
 use Rattle.ec_answers.specs.Frees.{FreesAgree, FullsAgree}
 use Rattle.ec_answers.specs.Trying.{IsTrying}
 use Rattle.ec_answers.specs.Zeros.{HasNoZero, ZerosAgree}
-use Rattle.ec_zeros.specs.Fulls.{AreFullAt, IsFullAt}
+use Rattle.ec_zeros.specs.Fulls.{IsFullAt}
 use Rattle.ec_zeros.proofs.Sent.{own-full, settle-own}
 use Rattle.ec_begins.specs.Laws.{answered_start, behind_first, first_call, first_ghost}
 use Rattle.ec_begins.proofs.Answered.{first-answers}

@@ -1,5 +1,4 @@
 -- At the end of a step each waiting call has its line.
-use Rattle.std.proofs.Common.{◌≡◌}
 use Rattle.ec_goes.proofs.steps_end_with_their_lines.Goals as goal
 use Rattle.ec_goes.proofs.Lines.{lines-at-end}
 

@@ -1,5 +1,4 @@
 -- Each run is lawful.
-use Rattle.std.proofs.Common.{◌≡◌}
 use Rattle.ec_lawful.proofs.runs_are_lawful.Goals as goal
 use Rattle.ec_lawful.proofs.Shows.{runs-show}
 
