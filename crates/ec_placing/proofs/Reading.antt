@@ -1,5 +1,5 @@
 -- Objects are read by the places of the calls that made them.
-use Rattle.std.proofs.Common.{◌≡◌, refl, sym, ap, subst, ◌∙◌, ◌≤◌, ◌+◌, not, ℕ, Bool, true, false, cond, T, List, [], ◌∷◌, ◌++◌, map, Option, Some, None}
+use Rattle.std.proofs.Common.{◌≡◌, refl, sym, ap, subst, ◌∙◌, ◌≤◌, ◌+◌, not, ℕ, Bool, true, false, cond, T, List, [], ◌∷◌, Option, Some, None}
 use Rattle.ec_volume.specs.Image.{is_gone}
 use Rattle.ec_volume.specs.Update.{is_make}
 use Rattle.ec_volume.specs.Volume.{Images, WellFormed, after}
@@ -13,7 +13,7 @@ use Rattle.ec_history.specs.declared.entry.Entry.TheVariants as entry
 use Rattle.ec_history.specs.declared.shown.Shown.{Shown}
 use Rattle.ec_formed.proofs.Fresh.{plain-makes}
 use Rattle.ec_laws.proofs.Numbers.{each-append}
-use Rattle.ec_renaming.specs.Renaming.{image_by, op_by, update_by}
+use Rattle.ec_renaming.specs.Renaming.{image_by}
 use Rattle.ec_renaming.proofs.Kept.{kept-at, updates-by}
 use Rattle.ec_renaming.proofs.Shapes.{after-by}
 use Rattle.ec_placing.specs.Placing.{IsNewId, IsReading, made_ids}

@@ -81,4 +81,4 @@ pub record IsReading (v : Images) (f : ℕ → ℕ) (n : ℕ) (h : History) (r :
 abbrev pub NewIdsAreRead : Type 0
 NewIdsAreRead = (v : Images) (f : ℕ → ℕ) (n : ℕ) (ss : List Shown) → WellFormed v → ((x : ℕ) → T (not (is_gone (v x))) → x ≤ n) → Throughout (IsNewId v f) [] (place ss)
     → (r : ℕ → ℕ) × IsReading v f n (place ss) r
-        × ((x : ℕ) → after v (updates (kept (record { volume = v; fresh = λ p. n + p }) (place ss))) (r x) ≡ image_by r (after v (updates (kept (record { volume = v; fresh = f }) (place ss))) x))
+    × ((x : ℕ) → after v (updates (kept (record { volume = v; fresh = λ p. n + p }) (place ss))) (r x) ≡ image_by r (after v (updates (kept (record { volume = v; fresh = f }) (place ss))) x))

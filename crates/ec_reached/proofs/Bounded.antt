@@ -6,7 +6,6 @@ use Rattle.ec_plain.specs.Bounds.{is_bounded}
 use Rattle.ec_plain.specs.declared.call.Call.{Call}
 use Rattle.ec_history.specs.History.{History}
 use Rattle.ec_history.specs.Placing.{EachLine, call_entry, is_call_of, is_end_of, is_running, late, line_entries, owner, place, place_from, watch}
-use Rattle.ec_history.specs.declared.entry.Entry.{Entry}
 use Rattle.ec_history.specs.declared.shown.Shown.{Shown}
 use Rattle.ec_history.specs.declared.shown.Shown.TheVariants as show
 use Rattle.ec_formed.specs.Bases.{is_bounded_entry}

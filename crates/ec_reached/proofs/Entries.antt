@@ -1,7 +1,6 @@
 -- What a legal history keeps at each entry.
-use Rattle.std.proofs.Common.{◌≡◌, ◌≤◌, ℕ, T, map, length, List, [], ◌∷◌, ◌++◌}
+use Rattle.std.proofs.Common.{◌≤◌, ℕ, T, map, length, List, [], ◌∷◌, ◌++◌}
 use Rattle.std.specs.List.{list_all}
-use Rattle.ec_volume.specs.Volume.{Fits}
 use Rattle.ec_history.specs.History.{Base, History, Op, Throughout, kept}
 use Rattle.ec_history.specs.Legal.{IsLegal}
 use Rattle.ec_history.specs.Placing.{place}

@@ -1,26 +1,23 @@
 -- What clerks hold under their licences, where all facts hold.
-use Rattle.std.proofs.Common.{◌≡◌, ◌≢◌, refl, sym, ap, subst, ◌∙◌, ◌<◌, ◌≤◌, ℕ, T, not, Option, Some, None, List}
-use Rattle.std.specs.Prelude.{Result, Ok, Err}
+use Rattle.std.proofs.Common.{◌≡◌, ◌≢◌, refl, sym, ap, subst, ◌∙◌, ◌<◌, ◌≤◌, ℕ, T, not, Option, Some, None}
+use Rattle.std.specs.Prelude.{Ok, Err}
 use Rattle.ec_base.specs.Holds.{clash, rank}
 use Rattle.ec_base.specs.Tables.{at}
-use Rattle.ec_base.specs.declared.ids.Age.{Age}
 use Rattle.ec_base.specs.declared.ids.Hold.{Hold}
 use Rattle.ec_volume.specs.Volume.{after}
-use Rattle.ec_history.specs.History.{Base, History, Op, kept, updates}
+use Rattle.ec_history.specs.History.{kept, updates}
 use Rattle.ec_history.specs.Placing.{place}
-use Rattle.ec_history.specs.declared.shown.Shown.{Shown}
 use Rattle.ec_sessions.specs.declared.slot.Slot.{Slot}
-use Rattle.ec_durable.specs.Durable.{slot, step}
+use Rattle.ec_durable.specs.Durable.{slot}
 use Rattle.ec_durable.specs.declared.state.Durable.{Durable}
 use Rattle.ec_durable.specs.declared.record.Record.{Record}
-use Rattle.ec_durable.specs.declared.record.RecordFault.{RecordFault}
 use Rattle.ec_cache.specs.declared.state.Held.{Held}
 use Rattle.ec_protocol.specs.declared.clerk.Clerk.{Clerk}
 use Rattle.ec_protocol.specs.declared.world.World.{World}
 use Rattle.ec_coherence.specs.System.{System, base_of, clerk_in, is_open, seen_ops}
 use Rattle.ec_coherence.specs.Steps.{Stands, found}
 use Rattle.ec_coherence.specs.Stops.{MayStep}
-use Rattle.ec_coherence.specs.Tokens.{Apart, eff, eff_hold, view}
+use Rattle.ec_coherence.specs.Tokens.{eff, eff_hold, view}
 use Rattle.ec_coherence.proofs.ClerkIn.{was-in}
 use Rattle.ec_coherence.proofs.SlotLaws.{open-at}
 use Rattle.ec_coherence.proofs.Tables.{clash-below, clash-turn, none_some, same_some}

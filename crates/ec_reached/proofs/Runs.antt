@@ -1,5 +1,5 @@
 -- Behind each line of a script the world is in order.
-use Rattle.std.proofs.Common.{◌≡◌, refl, sym, ap, subst, ◌∙◌, ◌-◌, ℕ, zero, suc, T, List, [], ◌∷◌, Option, Some, None}
+use Rattle.std.proofs.Common.{◌≡◌, sym, ap, subst, ◌∙◌, ◌-◌, ℕ, zero, suc, T, List, [], ◌∷◌, Some}
 use Rattle.std.specs.Prelude.{length, slice_get, take, Ok, ⊤}
 use Rattle.ec_volume.specs.Volume.{images}
 use Rattle.ec_volume.specs.declared.image.Image.TheVariants.{Gone}

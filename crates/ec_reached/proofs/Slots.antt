@@ -1,9 +1,7 @@
 -- A slot in which a session is open behind a record: it was open before, or the session is new.
-use Rattle.std.proofs.Common.{◌≡◌, refl, sym, ap, subst, ◌∙◌, inl, inr, ◌⊎◌, arith, ◌<◌, ◌+◌, ◌&&◌, ℕ, zero, suc, T, Bool, true, false, cond, List, [], ◌∷◌, Option, Some, None}
+use Rattle.std.proofs.Common.{◌≡◌, refl, sym, ap, subst, ◌∙◌, inl, inr, ◌⊎◌, arith, ◌<◌, ◌+◌, ℕ, zero, suc, T, Bool, true, false, cond, List, [], ◌∷◌, Option, Some, None}
 use Rattle.std.specs.Prelude.{◌==◌, nat_lt, Result, Ok, Err}
-use Rattle.ec_base.specs.Ages.{is_older}
 use Rattle.ec_base.specs.Limits.{last_counter}
-use Rattle.ec_base.specs.declared.ids.Age.{Age}
 use Rattle.ec_volume.specs.declared.update.Update.{Update}
 use Rattle.ec_sessions.specs.Limits.{ids_per_grant}
 use Rattle.ec_sessions.specs.Slots as slots
@@ -16,7 +14,7 @@ use Rattle.ec_durable.specs.declared.record.Record.TheVariants.{Batch, Open, End
 use Rattle.ec_durable.specs.declared.record.RecordFault.{RecordFault}
 use Rattle.ec_durable.specs.declared.record.RecordFault.TheVariants as fault
 use Rattle.ec_coherence.proofs.Lists.{and_first}
-use Rattle.ec_coherence.proofs.Tables.{equal, holds, is-true, none_some, same_some}
+use Rattle.ec_coherence.proofs.Tables.{equal, holds, is-true, same_some}
 
 same-ok : {x y : Durable} → ◌≡◌ {A = Result Durable RecordFault} (Ok x) (Ok y) → x ≡ y
 same-ok {x} {y} e = ap (λ r. elim r [ Ok z ↦ z | Err f ↦ x ]) e

@@ -1,9 +1,8 @@
 -- Each world that is reached is in order.
-use Rattle.std.proofs.Common.{◌≡◌, refl, sym, ap, subst, ◌∙◌, ◌≤◌, ◌+◌, ℕ, T, not, [], append-nil}
+use Rattle.std.proofs.Common.{◌≡◌, refl, sym, ap, subst, ◌∙◌, ℕ, [], append-nil}
 use Rattle.std.specs.Prelude.{length, Ok}
-use Rattle.ec_volume.specs.Image.{is_gone}
 use Rattle.ec_volume.specs.Volume as volume
-use Rattle.ec_volume.specs.Volume.{Images, images}
+use Rattle.ec_volume.specs.Volume.{images}
 use Rattle.ec_volume.specs.declared.image.Image.TheVariants.{Gone}
 use Rattle.ec_history.specs.History.{Throughout}
 use Rattle.ec_history.specs.Placing.{EachLine, place}

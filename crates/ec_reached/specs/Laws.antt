@@ -3,7 +3,7 @@ use Rattle.std.specs.Prelude.{◌≡◌, ℕ, T, List, length, take, Ok}
 use Rattle.std.specs.List.{list_all}
 use Rattle.ec_volume.specs.Volume.{images}
 use Rattle.ec_volume.specs.declared.image.Image.TheVariants.{Gone}
-use Rattle.ec_history.specs.History.{Base, History}
+use Rattle.ec_history.specs.History.{Base}
 use Rattle.ec_history.specs.Legal.{IsLegal}
 use Rattle.ec_history.specs.Placing.{place}
 use Rattle.ec_history.specs.declared.shown.Shown.{Shown}

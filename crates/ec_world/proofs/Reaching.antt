@@ -5,14 +5,12 @@ use Rattle.std.specs.Prelude.{IfOk, OnOk}
 use Rattle.ec_disk.specs.Disk.{Counts}
 use Rattle.ec_history.specs.declared.shown.Shown.{Shown}
 use Rattle.ec_history.specs.declared.shown.Shown.TheVariants.{Unsettled}
-use Rattle.ec_volume.specs.Volume.{images}
 use Rattle.ec_durable.specs.declared.state.Durable.{Durable}
-use Rattle.ec_protocol.specs.World.{Fate, Moving, forget, happen, moving, open_world, show_line}
+use Rattle.ec_protocol.specs.World.{Fate, Moving, forget, happen, open_world}
 use Rattle.ec_protocol.specs.declared.world.Event.{Event}
 use Rattle.ec_protocol.specs.declared.world.World.{World as State}
 use Rattle.ec_protocol.specs.declared.world.WorldFault.{WorldFault}
-use Rattle.ec_steps.specs.Steps.{MayHappen}
-use Rattle.ec_reached.specs.Reached.{IsInOrder, Reached, opens, happens, forgets, unsettles}
+use Rattle.ec_reached.specs.Reached.{Reached, opens, happens, forgets, unsettles}
 use Rattle.ec_reached.proofs.Worlds.{reached-in-order}
 use Rattle.ec_world.specs.Reaching.{IsReached, Leads, LeadsKnown, Stays}
 use Rattle.ec_world.specs.Steps.{FateOf, IsTold, IsWhole, Opens}
