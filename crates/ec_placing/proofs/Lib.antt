@@ -7,3 +7,4 @@ pub mod Names
 pub mod Placed
 pub mod Grown
 pub mod Inserted
+pub mod Reading

@@ -233,25 +233,25 @@ module _ (v : Images) (f : ℕ → ℕ) where
       least : Each (λ p. 1 ≤ p) (firsts (place ss))
       least = each-map (λ p. (1 ≤ p) × (p ≤ Rattle.std.specs.Prelude.length ss)) (λ p. 1 ≤ p) (λ p k. k.0) (firsts (place ss)) (places-within ss)
 
-      abbrev ps : List ℕ
+      abbrev pub ps : List ℕ
       ps = made_places (issued base (place ss))
 
-      m : Named v f n ps
+      pub m : Named v f n ps
       m = named v f n top ps (goods [] (place ss) t least (places-distinct ss)).0
 
-      abbrev now : Base
+      abbrev pub now : Base
       now = record { volume = v; fresh = λ p. m.i (n + p) }
 
-      abbrev target : Base
+      abbrev pub target : Base
       target = record { volume = v; fresh = λ p. n + p }
 
-      changed : Throughout (MayChange v f (λ p. m.i (n + p))) [] (place ss)
+      pub changed : Throughout (MayChange v f (λ p. m.i (n + p))) [] (place ss)
       changed = all-change formed top ps m [] (place ss) t least (places-distinct ss) tt m.made
 
-      ren : IsRenaming m.r
+      pub ren : IsRenaming m.r
       ren = renames v f n formed ps m
 
-      same : AreRenamed m.r now target
+      pub same : AreRenamed m.r now target
       same = record { volume = kept-by m.r ren v formed m.live; fresh = λ p. sym (m.back (n + p)) }
 
       pub legal-there : (most : ℕ) → IsLegal base most (place ss) → IsLegal target most (place ss)

@@ -256,6 +256,9 @@ module _ (v : Images) (f q : ℕ → ℕ) where
     all : Throughout Full [] (place ss)
     all = full [] (place ss) begin tt t
 
+    pub kept-so : kept other (place ss) ≡ kept base (place ss)
+    kept-so = (ends [] (place ss) begin t).kept
+
     pub legal-so : (most : ℕ) → IsLegal base most (place ss) → IsLegal other most (place ss)
     legal-so most h = along Full (IsLegalNext base most) (IsLegalNext other most) (legal-next most) [] (place ss) all h
 

@@ -2,7 +2,7 @@
 use Rattle.std.specs.Prelude.{◌≡◌, ◌⊎◌, ◌+◌, ◌≤◌, ℕ, T, true, false, not, List, [], ◌∷◌, ◌++◌, length}
 use Rattle.ec_volume.specs.Image.{is_gone}
 use Rattle.ec_volume.specs.Update.{has_operand, is_make, member}
-use Rattle.ec_volume.specs.Volume.{Fits, Images, WellFormed}
+use Rattle.ec_volume.specs.Volume.{Fits, Images, WellFormed, after}
 use Rattle.ec_volume.specs.declared.update.Update.{Update}
 use Rattle.ec_volume.specs.declared.update.Update.TheVariants.{Make}
 use Rattle.ec_history.specs.History.{Base, Each, History, Op, Throughout, issued, issued_by, kept, outcome, updates}
@@ -12,6 +12,7 @@ use Rattle.ec_history.specs.Placing.{place}
 use Rattle.ec_history.specs.declared.entry.Entry.{Entry}
 use Rattle.ec_history.specs.declared.entry.Entry.TheVariants as entry
 use Rattle.ec_history.specs.declared.shown.Shown.{Shown}
+use Rattle.ec_renaming.specs.Renaming.{IsRenaming, image_by}
 
 -- none of these operations has the id as an operand
 abbrev pub Clear : ℕ → List Op → Type 0
@@ -68,3 +69,16 @@ NewIdsBesideLate = (v : Images) (f : ℕ → ℕ) (h : History) (e : ℕ × Entr
     → Throughout (IsNewId v f) [] (h ++ (at, entry.Loss c b ns) ∷ more) → IsNewId v f h e
     → Throughout (λ past d. WouldMake base past d → Each (λ o. member (f d.0) (made_ids o.update) ≡ false) (issued_by base (kept base h) e)) (h ++ (at, entry.Loss c b ns) ∷ []) more
     → Throughout (IsNewId v f) [] (h ++ e ∷ (at, entry.Loss c b ms) ∷ more)
+
+-- How ids may be read: two ids as two, and the root and each id of the volume as itself; the id with which an operation of the history made an object is read as the place
+-- of its call, above all ids of the volume.
+pub record IsReading (v : Images) (f : ℕ → ℕ) (n : ℕ) (h : History) (r : ℕ → ℕ) : Type 0 where
+  pub renames : IsRenaming r
+  pub own : (x : ℕ) → T (not (is_gone (v x))) → r x ≡ x
+  pub made : Each (λ o. Each (λ x. r x ≡ n + o.place) (made_ids o.update)) (issued (record { volume = v; fresh = f }) h)
+
+-- Where the ids of a history are new, there is such a reading, and each object of what is kept, with its ids so read, is that of what is kept with places as ids.
+abbrev pub NewIdsAreRead : Type 0
+NewIdsAreRead = (v : Images) (f : ℕ → ℕ) (n : ℕ) (ss : List Shown) → WellFormed v → ((x : ℕ) → T (not (is_gone (v x))) → x ≤ n) → Throughout (IsNewId v f) [] (place ss)
+    → (r : ℕ → ℕ) × IsReading v f n (place ss) r
+    × ((x : ℕ) → after v (updates (kept (record { volume = v; fresh = λ p. n + p }) (place ss))) (r x) ≡ image_by r (after v (updates (kept (record { volume = v; fresh = f }) (place ss))) x))

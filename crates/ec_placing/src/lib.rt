@@ -2,7 +2,7 @@
 //! function has an empty body, and its contract is a law.
 #![tactic(auto)]
 
-ghost use Rattle.ec_placing.specs.Placing.{IdlesMayChange, IdsArePlaces, NewIdsBesideLate, NewIdsGrow};
+ghost use Rattle.ec_placing.specs.Placing.{IdlesMayChange, IdsArePlaces, NewIdsAreRead, NewIdsBesideLate, NewIdsGrow};
 
 /// The ids at the places of calls that make no object may be changed for other ones that no operation has.
 pub fn idle_ids_may_change()
@@ -23,4 +23,9 @@ pub fn new_ids_grow()
 /// So they do behind a late answer, whose entry comes in before the loss.
 pub fn new_ids_stay_behind_late_answers()
     ensures { NewIdsBesideLate }
+{}
+
+/// Ids may be read as places, and then each object of what is kept is that of what is kept with places as ids.
+pub fn new_ids_are_read()
+    ensures { NewIdsAreRead }
 {}

@@ -100,7 +100,7 @@ module _ (clerks : ClerksKeep Whole) (v : Images) (most : ℕ) where
   abbrev agrees : (g : System) → F g → AllAgree g × DoubtAgrees g
   agrees g f = ((f.whole).all, (f.whole).doubts)
 
-  keep : StepsKeep F
+  pub keep : StepsKeep F
   keep = record {
     agrees = λ g f. (f.whole).all;
     takes = λ g u f up c m p. served-fixed g (take c m u) f (takes-whole g u f.whole up c m p);

@@ -27,3 +27,4 @@ pub mod Telling
 pub mod Under
 pub mod Unread
 pub mod FromOne
+mod Reaching

@@ -7,6 +7,7 @@ pub mod Marking
 pub mod Marks
 pub mod Noted
 pub mod Opening
+pub mod Reaching
 pub mod Running
 pub mod Sending
 pub mod Serving

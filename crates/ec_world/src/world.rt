@@ -7,6 +7,7 @@ ghost use Rattle.ec_history.specs.declared.shown.Shown.TheVariants as shown;
 ghost use Rattle.ec_protocol.specs.World as machine;
 ghost use Rattle.ec_protocol.specs.declared.world.WorldFault.TheVariants as fault;
 ghost use Rattle.ec_world.specs.Worlds.{view_of, IsInStep, Keeps};
+ghost use Rattle.ec_world.specs.Reaching.{IsReached, LeadsKnown, Stays};
 ghost use Rattle.ec_world.specs.Steps.{Opens, Unopened, FateOf, IsTold, Refuses, CountsOf, IsLeft};
 
 use crate::lines::Lines;
@@ -62,6 +63,7 @@ impl World {
         requires limit { max_objects ≤ most_max_objects }
         requires not_armed { (D.counts disk.old).armed ≡ None }
         ensures ok { IfOk result (λ w. (d : Durable) × Opens D.tells (D.view disk.old).gives max_objects d × (machine.open_world d ≡ Ok (view_of w))) }
+        ensures reached { IfOk result (λ w. (d : Durable) × Opens D.tells (D.view disk.old).gives max_objects d × IsReached d (view_of w)) }
         ensures in_step { IfOk result (λ w. IsInStep D.tells (D.view disk.new) w) }
         ensures err { IfErr result (λ fault. Unopened fault D.tells (D.view disk.old).gives (D.view disk.new).gives (D.view disk.new).may_leave max_objects) }
         ensures counts { Counted (D.counts disk.old) (D.counts disk.new) (IsErrOf result fault.DiskFailed) ⊥ }
@@ -89,6 +91,7 @@ impl World {
     ) -> Result<Vec<Shown>, WorldFault>
         requires { IsInStep D.tells (D.view disk.old) self.old }
         ensures ok { IfOk result (λ shown. (fate : machine.Fate) × FateOf fate (D.counts disk.old) (D.counts disk.new) × (IsTold fate D.tells → machine.happen fate event (view_of self.old) ≡ record { world = view_of self.new; shown = shown.items; fault = None })) }
+        ensures reached { OnOk result (LeadsKnown D.tells (D.counts disk.old) (D.counts disk.new) (view_of self.old) event (view_of self.new)) }
         ensures in_step { OnOk result (IsInStep D.tells (D.view disk.new) self.new) }
         ensures err { IfErr result (λ fault. Refuses fault (machine.happen machine.runs event (view_of self.old)) (view_of self.old) (view_of self.new) (IsInStep D.tells (D.view disk.new) self.new)) }
         ensures counts { CountsOf event (D.counts disk.old) (D.counts disk.new) (IsErrOf result fault.DiskFailed) }
@@ -126,6 +129,7 @@ impl World {
     /// Keeps the messages that are pending or among the last 4,096 ones. It takes no memory.
     pub fn forget(&mut self)
         ensures value { view_of self.new ≡ machine.forget (view_of self.old) }
+        ensures reached { Stays (view_of self.old) (view_of self.new) }
         ensures same { Keeps self.old self.new }
     {
         self.pool.forget();
@@ -135,6 +139,7 @@ impl World {
     pub fn show_unsettled(&mut self, alloc: Global) -> Result<Shown, NoMemory>
         ensures line { IfOk result (λ line. line ≡ shown.Unsettled) }
         ensures value { OnOk result (view_of self.new ≡ (machine.show_line shown.Unsettled (machine.moving (view_of self.old))).world) }
+        ensures reached { OnOk result (Stays (view_of self.old) (view_of self.new)) }
         ensures same { Keeps self.old self.new }
     {
         self.lines.note(alloc, &Shown::Unsettled)?;

@@ -6,6 +6,7 @@ use Rattle.ec_world.specs.Faults.{of_step}
 use Rattle.ec_world.specs.Laws.{in_step_stands}
 use Rattle.ec_world.specs.Steps.{under, Fated, Refuses, IsLeft}
 use Rattle.ec_world.specs.Worlds.{view_of, IsInStep}
+use Rattle.ec_world.proofs.Reaching.{leads_known}
 use Rattle.ec_world.proofs.Stepped.{answer_ok, answer_in_step, answer_err, answer_counts, answer_left}
 use Rattle.ec_world.proofs.world.World.step.Goals as goal
 
@@ -20,6 +21,11 @@ returns-clause-ok g c =
     let from : State → Type 0 = λ v. OnOk c.happen-done.result (Fated tells before behind (λ fate. machine.happen fate c.args.event v) (under c.happen-done.new.self)) in
     answer_ok c.happen-done.result c.answer.result tells before behind (λ fate. machine.happen fate c.args.event (view_of c.args.self.now)) c.happen-done.new.self c.answer.new.self
     (subst from c.begin_step.ensures.value c.happen-done.ensures.ok) c.answer.ensures.ok c.answer.ensures.view
+
+pub returns-clause-reached : goal.returns-clause-reached
+returns-clause-reached g c =
+    leads_known c.answer.result (λ lines. lines.items) g.D.Disk.tells (g.D.Disk.counts c.args.disk.now) (g.D.Disk.counts c.happen-done.new.disk) c.args.event (view_of c.args.self.now) c.answer.new.self
+    (returns-clause-ok g c)
 
 pub returns-clause-in_step : goal.returns-clause-in_step
 returns-clause-in_step g c =

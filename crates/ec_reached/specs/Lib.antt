@@ -1,0 +1,3 @@
+pub mod Coherent
+pub mod Reached
+pub mod Laws
