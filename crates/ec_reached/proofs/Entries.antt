@@ -25,7 +25,7 @@ turned P Q f past (e ∷ h) t = (f past e t.0, turned P Q f (past ++ e ∷ []) h
 
 module _ (base : Base) (most : ℕ) (ss : List Shown) (is : IsBase base) (bounded : T (list_all (λ e. is_bounded_entry e.1) (place ss))) (legal : IsLegal base most (place ss)) where
   leaves : (ks : List Op) → LeaveWellFormed base ks → IsFitting base ks
-  leaves ks l = record { fits = l.fits; formed = l.formed }
+  leaves ks l = record { fits = l.fits; formed = l.formed; reached = l.reached }
 
   lines : AreAtLines (place ss)
   lines = record {
@@ -36,7 +36,7 @@ module _ (base : Base) (most : ℕ) (ss : List Shown) (is : IsBase base) (bounde
 
   pub are-fitting : AreFitting base (place ss)
   are-fitting = record {
-    before = before-each (λ x. IsFitting base (kept base x)) [] (place ss) (record { fits = λ o. tt; formed = is.formed })
+    before = before-each (λ x. IsFitting base (kept base x)) [] (place ss) (record { fits = λ o. tt; formed = is.formed; reached = λ r. r })
         (turned (λ x e. LeaveWellFormed base (kept base (x ++ e ∷ []))) (λ x e. IsFitting base (kept base (x ++ e ∷ []))) (λ x e l. leaves (kept base (x ++ e ∷ [])) l) [] (place ss)
         (throughout kept-formed kept-reached call-sound call-fits kept-held base is most (place ss) lines legal));
     behind = leaves (kept base (place ss)) (placed kept-formed kept-reached call-sound call-fits kept-held base is most ss bounded legal);

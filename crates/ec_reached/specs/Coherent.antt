@@ -3,7 +3,7 @@
 use Rattle.std.specs.Prelude.{◌≡◌, ◌≢◌, ℕ, T, not, List, [], Some}
 use Rattle.ec_base.specs.Holds.{clash}
 use Rattle.ec_base.specs.Tables.{at}
-use Rattle.ec_volume.specs.Volume.{Images, Fits, WellFormed, after}
+use Rattle.ec_volume.specs.Volume.{AllReached, Images, Fits, WellFormed, after}
 use Rattle.ec_history.specs.History.{Base, History, Op, Throughout, kept, updates}
 use Rattle.ec_history.specs.Placing.{place}
 use Rattle.ec_renaming.specs.Renaming.{image_by}
@@ -38,10 +38,12 @@ pub record IsCoherent (base : Base) (read : ℕ → ℕ) (w : World) : Type 0 wh
   -- each image held, with its ids so read, is the object's image in what is kept
   pub images : (c x : ℕ) (h : Held) → Holds w c x h → image_by read h.image ≡ left_by base (kept base (place w.shown)) (read x)
 
--- These operations fit the base in turn, and leave a well-formed volume.
+-- These operations fit the base in turn, and leave a well-formed volume; in it each live object is reached from the root by names, where each one of the
+-- base is.
 pub record IsFitting (base : Base) (ks : List Op) : Type 0 where
   pub fits : Fits base.volume (updates ks)
   pub formed : WellFormed (left_by base ks)
+  pub reached : AllReached base.volume → AllReached (left_by base ks)
 
 -- So it is with what is kept at each entry of a history, before the entry, and behind the last one: and so behind each loss.
 pub record AreFitting (base : Base) (h : History) : Type 0 where
