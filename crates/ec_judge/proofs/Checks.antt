@@ -73,6 +73,7 @@ ready most past e j lines h legal =
       gone = subst (λ v. T (is_gone (v (1 + e.0)))) same (gone kept-formed kept-reached call-sound call-fits kept-held from_formatted base-formatted most past e lines legal);
       bounded = all-last past e lines.bounded;
       sound = subst (λ ks. T (list_all is_sound (updates ks))) (sym h.kept) w.sound;
+      firm = h.firm;
     }
 
 -- The entries up to a place.

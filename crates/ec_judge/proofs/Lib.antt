@@ -10,5 +10,6 @@ pub mod Pending
 pub mod Indexes
 pub mod Volumes
 pub mod Loops
+pub mod Prefixes
 pub mod Steps
 pub mod Checks

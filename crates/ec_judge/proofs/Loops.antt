@@ -7,7 +7,7 @@ use Rattle.std.proofs.lemmas.List.{take_more, take-append-drop}
 use Rattle.std.proofs.lemmas.List.Elements.{filter-append}
 use Rattle.std.proofs.lemmas.List.Folds.{list_all-append}
 use Rattle.ec_volume.specs.Update.{member, operands, is_sound, first_unfit}
-use Rattle.ec_volume.specs.Volume.{Images, after, Fits}
+use Rattle.ec_volume.specs.Volume.{Images, formatted, after, Fits}
 use Rattle.ec_order.specs.Order.{before}
 use Rattle.ec_volume.specs.declared.update.Update.{Update}
 use Rattle.ec_plain.specs.declared.call.Call.{Call}
@@ -18,7 +18,7 @@ use Rattle.ec_laws.proofs.Removed.{left, right}
 use Rattle.ec_judge.specs.declared.carried.Kept.{Kept}
 use Rattle.ec_judge.proofs.Volumes.{fits-more, after-more, unfit-not}
 use Rattle.ec_judge.specs.Rules.{due_of}
-use Rattle.ec_judge.specs.Carried.{op_of, ops_of}
+use Rattle.ec_judge.specs.Carried.{op_of, ops_of, IsFront}
 
 -- Two lists with a common number.
 
@@ -215,11 +215,7 @@ module _ (ks : List Kept) (i : ℕ) (k : Kept) (within : i < length ks) (is : k 
         ∙ ap (λ x. x && is_closed inside behind) f)
 
 -- One step of the volume without some operations.
-pub record IsFront (base : Images) (q : Op → Bool) (ks : List Kept) (n : ℕ) (v : Images) : Type 0 where
-  pub fits : Fits base (updates (filter q (ops_of (take n ks))))
-  pub same : (o : ℕ) → v o ≡ after base (updates (filter q (ops_of (take n ks)))) o
-
-module _ (base : Images) (q : Op → Bool) (ks : List Kept) (i : ℕ) (k : Kept) (within : i < length ks) (is : k ≡ get_or ks i k) where
+module _ (q : Op → Bool) (ks : List Kept) (i : ℕ) (k : Kept) (within : i < length ks) (is : k ≡ get_or ks i k) where
   updates-more : (js : List Op) (j : Op) → updates (js ++ j ∷ []) ≡ updates js ++ j.update ∷ []
   updates-more [] j = refl
   updates-more (x ∷ js) j = ap (λ l. x.update ∷ l) (updates-more js j)
@@ -228,25 +224,25 @@ module _ (base : Images) (q : Op → Bool) (ks : List Kept) (i : ℕ) (k : Kept)
   updates-append [] hs = refl
   updates-append (x ∷ js) hs = ap (λ l. x.update ∷ l) (updates-append js hs)
 
-  pub front-skips : (v : Images) → IsFront base q ks i v → q (op_of k) ≡ false → IsFront base q ks (i + 1) v
+  pub front-skips : (v : Images) → IsFront q ks i v → q (op_of k) ≡ false → IsFront q ks (i + 1) v
   front-skips v f e =
       let same : filter q (ops_of (take (i + 1) ks)) ≡ filter q (ops_of (take i ks)) = part-front ks i k within is q ∙ ap (λ x. filter q (ops_of (take i ks)) ++ cond x (op_of k ∷ []) []) e ∙ append-nil _ in
-      record { fits = subst (λ l. Fits base (updates l)) (sym same) f.fits; same = λ o. f.same o ∙ ap (λ l. after base (updates l) o) (sym same) }
+      record { fits = subst (λ l. Fits formatted (updates l)) (sym same) f.fits; same = λ o. f.same o ∙ ap (λ l. after formatted (updates l) o) (sym same) }
 
-  pub front-takes : (v w : Images) → IsFront base q ks i v → q (op_of k) ≡ true → first_unfit k.update v (operands k.update) ≡ None → ((o : ℕ) → w o ≡ after v (k.update ∷ []) o) → IsFront base q ks (i + 1) w
+  pub front-takes : (v w : Images) → IsFront q ks i v → q (op_of k) ≡ true → first_unfit k.update v (operands k.update) ≡ None → ((o : ℕ) → w o ≡ after v (k.update ∷ []) o) → IsFront q ks (i + 1) w
   front-takes v w f e none step =
       let us : List Update = updates (filter q (ops_of (take i ks))) in
       let same : updates (filter q (ops_of (take (i + 1) ks))) ≡ us ++ k.update ∷ [] =
       ap updates (part-front ks i k within is q ∙ ap (λ x. filter q (ops_of (take i ks)) ++ cond x (op_of k ∷ []) []) e) ∙ updates-more (filter q (ops_of (take i ks))) (op_of k) in
-      record { fits = subst (Fits base) (sym same) (fits-more base us k.update v f.same f.fits none); same = λ o. after-more base us k.update v w f.same step o ∙ ap (λ l. after base l o) (sym same) }
+      record { fits = subst (Fits formatted) (sym same) (fits-more formatted us k.update v f.same f.fits none); same = λ o. after-more formatted us k.update v w f.same step o ∙ ap (λ l. after formatted l o) (sym same) }
 
-  pub front-unfit : (v : Images) (o : ℕ) → IsFront base q ks i v → q (op_of k) ≡ true → first_unfit k.update v (operands k.update) ≡ Some o → ¬ (Fits base (updates (filter q (ops_of ks))))
+  pub front-unfit : (v : Images) (o : ℕ) → IsFront q ks i v → q (op_of k) ≡ true → first_unfit k.update v (operands k.update) ≡ Some o → ¬ (Fits formatted (updates (filter q (ops_of ks))))
   front-unfit v o f e some all =
       let us : List Update = updates (filter q (ops_of (take i ks))) in
       let rest : List Op = filter q (ops_of (drop (i + 1) ks)) in
       let same : updates (filter q (ops_of ks)) ≡ us ++ k.update ∷ updates rest =
       ap updates (part-all ks i k within is q ∙ ap (λ x. filter q (ops_of (take i ks)) ++ cond x (op_of k ∷ rest) rest) e) ∙ updates-append (filter q (ops_of (take i ks))) (op_of k ∷ rest) in
-      unfit-not base us (updates rest) k.update v o f.same some (subst (Fits base) same all)
+      unfit-not formatted us (updates rest) k.update v o f.same some (subst (Fits formatted) same all)
 
 pub not-true : (x : Bool) → not x ≡ true → x ≡ false
 not-true true e = sym e

@@ -41,7 +41,7 @@ use Rattle.ec_judge.specs.declared.carried.Issue.{Issue}
 use Rattle.ec_judge.specs.declared.covers.Asked.{Asked}
 use Rattle.ec_judge.specs.Rules.{IsNumbered, KeepsRules, BreaksRule, due_of, asked_on, asked_by_call}
 use Rattle.ec_judge.specs.Carried as Carried
-use Rattle.ec_judge.specs.Carried.{op_of, ops_of, issue_of, issues_in, numbers_in, is_in, is_asked, taken, rest, is_among, is_start, count_of, owed_of, pending_of, is_covered, numbered, IsUpward, IsStart, IsFlagged, IsUncovered, IsUntouched, Carries, touched_next, is_touched, AreBelow, count_next, issues_of, keeps_of, IsFitting, are_kept, are_uncovered, are_closed, BreaksMarks, KeepsMarks}
+use Rattle.ec_judge.specs.Carried.{op_of, ops_of, issue_of, issues_in, numbers_in, is_in, is_asked, taken, rest, is_among, is_start, count_of, owed_of, pending_of, is_covered, numbered, IsUpward, IsStart, IsFlagged, IsUncovered, IsUntouched, IsFirm, Carries, touched_next, is_touched, AreBelow, count_next, issues_of, keeps_of, IsFitting, are_kept, are_uncovered, are_closed, BreaksMarks, KeepsMarks}
 use Rattle.ec_judge.proofs.Numbers.{each-kept, only, unlost, kept-only, kept-unlost, issue-sorted, new-uncovered, new-untouched}
 use Rattle.ec_judge.proofs.Flags.{flag-step, through-more, through-front, through-last, touched-one, covered-one}
 use Rattle.ec_judge.proofs.Asked.{asks-same, asked-same, issue-same}
@@ -50,6 +50,7 @@ use Rattle.std.specs.Prelude.{Result, Ok, Err, IfOk, OnOk}
 use Rattle.std.proofs.lemmas.List.Sums.{passes_at_first}
 use Rattle.ec_judge.proofs.AllStarts.{found-at, start-same, own-issued, lost-issued, pending-set, own-count, own-met, own-lost, starts-next}
 use Rattle.ec_judge.proofs.Volumes.{all-same, first-fits}
+use Rattle.ec_judge.proofs.Prefixes.{firm-more}
 use Rattle.ec_judge.proofs.Lost.{kept-same, uncovered-yes, uncovered-no, untouched-yes, untouched-no}
 
 abbrev F : Base
@@ -299,9 +300,9 @@ module _ (most : ℕ) (past : History) (by : Issuer) (l g : ℕ) (cl : Call) (a 
       → s'.clerk ≡ by.clerk → s'.boot ≡ by.boot → s'.count ≡ count_next s.count op → s'.owed.items ≡ filter (λ q. not (meets o cl q)) s.owed.items → s'.pending.items ≡ rest (is_asked w) s.pending.items ++ issues_of by.place op o.update
       → j'.starts.items ≡ set ss at s' → j'.kept.items ≡ j.kept.items ++ keeps_of by op o.update
       → ((x : ℕ) → Tables.at x j'.touches ≡ cond (member x o.touched) (Some (touched_next by.clerk by.turn (Tables.at x j.touches))) (Tables.at x j.touches))
-      → ((x : ℕ) → images j'.volume x ≡ after (images j.volume) (updates (ops_of (keeps_of by op o.update))) x)
+      → ((x : ℕ) → images j'.volume x ≡ after (images j.volume) (updates (ops_of (keeps_of by op o.update))) x) → j'.firm ≡ j.firm
       → Carries F (past ++ e ∷ []) j'
-  call-carried j' ss at s s' w o turn same legal-call starts at-is within own pending-same found w-is sc sb count-of owed-of pending-is starts-are kept-are touches-are volume-is =
+  call-carried j' ss at s s' w o turn same legal-call starts at-is within own pending-same found w-is sc sb count-of owed-of pending-is starts-are kept-are touches-are volume-is firm-is =
       let seen : (x : ℕ) → Tables.at x j'.touches ≡ cond (member x out.touched) (Some (touched_next by.clerk by.turn (Tables.at x j.touches))) (Tables.at x j.touches) =
       λ x. touches-are x ∙ ap (λ z. cond (member x z.touched) (Some (touched_next by.clerk by.turn (Tables.at x j.touches))) (Tables.at x j.touches)) same in
       let step : kept F (past ++ e ∷ []) ≡ kept F past ++ issued_by F (kept F past) e = kept-step F past e in
@@ -341,6 +342,7 @@ module _ (most : ℕ) (past : History) (by : Issuer) (l g : ℕ) (cl : Call) (a 
         turns = subst (λ n. Each (λ k. k.turn < n) j'.kept.items) (length-more past e) (subst (Each (λ k. k.turn < length past + 1)) (sym kept-are) (each-append (λ k. k.turn < length past + 1) j.kept.items (keeps_of by op o.update)
             (turns-more (length past) j.kept.items h.turns) (turns-new (length past) by op o.update turn)));
         touches = λ x. subst (λ n. AreBelow n (Tables.at x j'.touches)) (length-more past e) (below-next by.clerk by.turn out.touched j.touches j'.touches seen (length past) x turn (h.touches x));
+        firm = subst (IsFirm j'.kept.items) (sym firm-is) (subst (λ ks. IsFirm ks j.firm) (sym kept-are) (firm-more j.kept.items (keeps_of by op o.update) j.firm h.firm));
       }
 
 -- The rules of a loss.
@@ -459,9 +461,9 @@ module _ (most : ℕ) (past : History) (p c b : ℕ) (ns : List ℕ) (j : Judge)
       → ((c b : ℕ) → pending_of (find (is_start c b) ss) ≡ pending_of (find (is_start c b) j.starts.items)) → find (is_start c b) ss ≡ Some s
       → s'.clerk ≡ c → s'.boot ≡ b → s'.count ≡ s.count → s'.owed.items ≡ s.owed.items ++ pairs_of (filter (is_one_of c b ns) (ops_of j.kept.items)) → s'.pending.items ≡ s.pending.items
       → j'.starts.items ≡ set ss at s' → j'.kept.items ≡ filter (λ k. not (is_among c b ns k)) j.kept.items → j'.touches ≡ j.touches
-      → ((x : ℕ) → images j'.volume x ≡ after formatted (updates (without c b ns (ops_of j.kept.items))) x)
+      → ((x : ℕ) → images j'.volume x ≡ after formatted (updates (without c b ns (ops_of j.kept.items))) x) → IsFirm (filter (λ k. not (is_among c b ns k)) j.kept.items) j'.firm
       → Carries F (past ++ lost ∷ []) j'
-  loss-carried j' ss at s s' starts at-is within own pending-same found sc sb count-of owed-of pending-is starts-are kept-are touches-are volume-is =
+  loss-carried j' ss at s s' starts at-is within own pending-same found sc sb count-of owed-of pending-is starts-are kept-are touches-are volume-is firm-is =
       let step : kept F (past ++ lost ∷ []) ≡ without c b ns (kept F past) = kept-step F past lost in
       let as-before : (d f : ℕ) → pending_of (find (is_start d f) j'.starts.items) ≡ pending_of (find (is_start d f) j.starts.items) =
       λ d f. ap (λ ts. pending_of (find (is_start d f) ts)) starts-are ∙ pending-set c b ss at s' at-is within sc sb d f ∙ unchanged c b d f ss s s' found pending-is ∙ pending-same d f in
@@ -478,6 +480,7 @@ module _ (most : ℕ) (past : History) (p c b : ℕ) (ns : List ℕ) (j : Judge)
             (subst (Each (IsFlagged F (past ++ lost ∷ []) j'.starts.items j.touches)) (sym kept-are) (each-kept (IsFlagged F past j.starts.items j.touches) (IsFlagged F (past ++ lost ∷ []) j'.starts.items j.touches) (λ k. not (is_among c b ns k)) (λ k e f. loss-flag j'.starts.items as-before k f) j.kept.items h.flags));
         turns = subst (λ n. Each (λ k. k.turn < n) j'.kept.items) (length-more past lost) (subst (Each (λ k. k.turn < length past + 1)) (sym kept-are) (each-kept (λ k. k.turn < length past + 1) (λ k. k.turn < length past + 1) (λ k. not (is_among c b ns k)) (λ k e f. f) j.kept.items (turns-more (length past) j.kept.items h.turns)));
         touches = λ x. subst (λ n. AreBelow n (Tables.at x j'.touches)) (length-more past lost) (subst (λ ts. AreBelow (length past + 1) (Tables.at x ts)) (sym touches-are) (below-more (length past) (Tables.at x j.touches) (h.touches x)));
+        firm = subst (λ ks. IsFirm ks j'.firm) (sym kept-are) firm-is;
       }
 
 -- What is known of the start at an index.

@@ -1,10 +1,10 @@
 -- What the judge carries from entry to entry. No public clause cites this module.
-use Rattle.std.specs.Prelude.{◌≡◌, ◌==◌, ◌+◌, ℕ, ◌<◌, T, Bool, true, false, not, ◌&&◌, ◌||◌, if◌then◌else◌, nat_lt, nat_le, map, List, [], ◌∷◌, ◌++◌, length, Option, Some, None, MatchBool, MatchOption, ⊤}
+use Rattle.std.specs.Prelude.{◌≡◌, ◌==◌, ◌+◌, ℕ, ◌<◌, ◌≤◌, T, Bool, true, false, not, ◌&&◌, ◌||◌, if◌then◌else◌, nat_lt, nat_le, map, List, [], ◌∷◌, ◌++◌, length, take, Option, Some, None, MatchBool, MatchOption, ⊤}
 use Rattle.std.specs.List.{filter, find, list_any, list_all}
 use Rattle.ec_base.specs.Tables.{Table, at}
 use Rattle.ec_volume.specs.Image.{is_gone}
 use Rattle.ec_volume.specs.Update.{member, operands, has_operand, is_sound, first_unfit}
-use Rattle.ec_volume.specs.Volume.{Images, images, after, WellFormed}
+use Rattle.ec_volume.specs.Volume.{Images, images, after, formatted, Fits, WellFormed}
 use Rattle.ec_volume.specs.declared.update.Update.{Update}
 use Rattle.ec_plain.specs.declared.call.Call.{Call}
 use Rattle.ec_plain.specs.declared.call.Outcome.{Outcome}
@@ -21,6 +21,7 @@ use Rattle.ec_judge.specs.declared.carried.Issue.{Issue}
 use Rattle.ec_judge.specs.declared.carried.Issuer.{Issuer}
 use Rattle.ec_judge.specs.declared.carried.Start.{Start}
 use Rattle.ec_judge.specs.declared.carried.Touches.{Touches}
+use Rattle.ec_judge.specs.declared.carried.Firm.{Firm}
 use Rattle.ec_judge.specs.declared.carried.Judge.{Judge}
 use Rattle.ec_judge.specs.declared.covers.Asked.{Asked}
 use Rattle.ec_judge.specs.declared.covers.Asked.TheVariants as asks
@@ -128,6 +129,22 @@ pub record IsFlagged (base : Base) (past : History) (ss : List Start) (ts : Tabl
   pub covered : MatchBool (is_covered ss k) (¬ (IsUncovered base past (op_of k))) (IsUncovered base past (op_of k))
   pub touched : MatchBool (is_touched ts k) (¬ (IsUntouched base past (op_of k))) (IsUntouched base past (op_of k))
 
+-- the volume behind those of the first operations that pass, where they fit
+pub record IsFront (q : Op → Bool) (ks : List Kept) (n : ℕ) (v : Images) : Type 0 where
+  pub fits : Fits formatted (updates (filter q (ops_of (take n ks))))
+  pub same : (o : ℕ) → v o ≡ after formatted (updates (filter q (ops_of (take n ks)))) o
+
+-- the volume behind the first operations
+pub record IsFirm (ks : List Kept) (f : Firm) : Type 0 where
+  pub within : f.count ≤ length ks
+  pub front : IsFront (λ k. true) ks f.count (images f.volume)
+
+-- the same, and none of the first operations is lost
+pub record IsBehind (c b : ℕ) (ns : List ℕ) (ks : List Kept) (f : Firm) : Type 0 where
+  pub within : f.count ≤ length ks
+  pub front : IsFront (λ k. not (is_one_of c b ns k)) ks f.count (images f.volume)
+  pub unlost : list_any (is_among c b ns) (take f.count ks) ≡ false
+
 pub record Carries (base : Base) (past : History) (j : Judge) : Type 0 where
   pub volume : (o : ℕ) → images j.volume o ≡ after base.volume (updates (kept base past)) o
   pub kept : ops_of j.kept.items ≡ kept base past
@@ -135,6 +152,7 @@ pub record Carries (base : Base) (past : History) (j : Judge) : Type 0 where
   pub flags : Each (IsFlagged base past j.starts.items j.touches) j.kept.items
   pub turns : Each (λ k. k.turn < length past) j.kept.items
   pub touches : (o : ℕ) → AreBelow (length past) (at o j.touches)
+  pub firm : IsFirm j.kept.items j.firm
 
 -- a start's operations by their numbers
 abbrev pub numbered : List Issue → Issued
@@ -196,6 +214,7 @@ pub record IsReady (j : Judge) (e : ℕ × Entry) : Type 0 where
   pub gone : T (is_gone (images j.volume (1 + e.0)))
   pub bounded : T (is_bounded_entry e.1)
   pub sound : T (list_all is_sound (updates (ops_of j.kept.items)))
+  pub firm : IsFirm j.kept.items j.firm
 
 -- the entry of this turn is legal and carried, or this is the first rule that it breaks
 abbrev pub Judges : ℕ → ℕ → Judge → Judge → ℕ × Entry → Option Rule → Type 0

@@ -60,6 +60,13 @@ pub struct Start {
     pub pending: Vec<Issue>,
 }
 
+/// The volume behind the first so many kept operations. A loss hardly names one of these.
+#[derive(Drop)]
+pub struct Firm {
+    pub volume: Volume,
+    pub count: usize,
+}
+
 /// What the entries so far come to.
 #[derive(Drop)]
 pub struct Judge {
@@ -67,6 +74,7 @@ pub struct Judge {
     /// The volume behind the kept operations.
     pub volume: Volume,
     pub kept: Vec<Kept>,
+    pub firm: Firm,
     pub starts: Vec<Start>,
     /// Of each object which calls touched it.
     pub touches: SortedMap<ObjId, Touches>,

@@ -5,11 +5,11 @@ ghost use Rattle.ec_volume.specs.Update.{is_sound};
 ghost use Rattle.ec_history.specs.History.{updates};
 ghost use Rattle.ec_history.specs.Legal.{from_formatted};
 ghost use Rattle.ec_history.specs.declared.entry.Entry.TheVariants as entry;
-ghost use Rattle.ec_judge.specs.Carried.{Carries, IsReady, Judges, ops_of};
+ghost use Rattle.ec_judge.specs.Carried.{Carries, IsFirm, IsReady, Judges, ops_of};
 
 use crate::carried::{Issuer, Judge};
 use crate::index::Numbers;
-use crate::{calls, covers, losses, starts, touches};
+use crate::{calls, covers, losses, rebuilt, starts, touches};
 use ec_base::{ClerkId, NoMemory, ObjId, OpNo, SortedMap};
 use ec_history::{Answer, Entry, Rule};
 use ec_plain::{Call, Outcome, plain};
@@ -25,6 +25,7 @@ impl Judge {
             alloc,
             volume: Volume::formatted(alloc)?,
             kept: Vec::new(alloc),
+            firm: rebuilt::nothing(alloc)?,
             starts: Vec::new(alloc),
             touches: SortedMap::new(alloc),
         })
@@ -111,7 +112,8 @@ impl Judge {
         boot: u64,
         ops: &[OpNo],
     ) -> Result<Option<Rule>, NoMemory>
-        requires { T (list_all is_sound (updates (ops_of self.old.kept.items))) }
+        requires sound { T (list_all is_sound (updates (ops_of self.old.kept.items))) }
+        requires firm { IsFirm self.old.kept.items self.old.firm }
         ensures { IfOk result (λ found. (most turn p : ℕ) → Judges most turn self.old self.new (p, entry.Loss clerk boot ops.now) found) }
     {
         let ops = Numbers::of(self.alloc, Vec::from_slice(self.alloc, ops)?)?;
@@ -125,7 +127,8 @@ impl Judge {
         boot: u64,
         ops: &Numbers,
     ) -> Result<Option<Rule>, NoMemory>
-        requires { T (list_all is_sound (updates (ops_of self.old.kept.items))) }
+        requires sound { T (list_all is_sound (updates (ops_of self.old.kept.items))) }
+        requires firm { IsFirm self.old.kept.items self.old.firm }
         ensures { IfOk result (λ found. (most turn p : ℕ) → Judges most turn self.old self.new (p, entry.Loss clerk boot ops.now) found) }
     {
         let at = starts::index_of(self.alloc, &mut self.starts, clerk, boot)?;
@@ -142,7 +145,15 @@ impl Judge {
         if let Some(rule) = broken {
             return Ok(Some(rule));
         }
-        let Some(volume) = losses::volume_without(self.alloc, &self.kept, clerk, boot, ops)? else {
+        let rebuilt = rebuilt::volume_without(
+            self.alloc,
+            &mut self.firm,
+            &self.kept,
+            clerk,
+            boot,
+            ops,
+        )?;
+        let Some(volume) = rebuilt else {
             return Ok(Some(Rule::Fits));
         };
         losses::owe_at(

@@ -11,6 +11,7 @@ mod index;
 mod judge;
 mod laws;
 mod losses;
+mod rebuilt;
 mod replies;
 mod starts;
 mod touches;

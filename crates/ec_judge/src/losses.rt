@@ -1,10 +1,9 @@
 // The rules of a loss.
 ghost use Rattle.std.specs.Prelude.{◌≡◌, ℕ, T, ◌||◌, ◌&&◌, ◌++◌, ◌∷◌, [], ◌<◌, ◌+◌, not, map, drop, length, slice_index_or, slice_set, Some, None, IfOk, OnOk, MatchBool, MatchOption};
 ghost use Rattle.std.specs.List.{filter, list_any, list_all};
-ghost use Rattle.ec_volume.specs.Update.{member, operands, is_sound, first_unfit};
-ghost use Rattle.ec_volume.specs.Volume.{images, formatted, after, Fits};
+ghost use Rattle.ec_volume.specs.Update.{member, operands};
 ghost use Rattle.ec_order.specs.Order as order;
-ghost use Rattle.ec_history.specs.History.{updates, of_start, is_one_of, pairs_of};
+ghost use Rattle.ec_history.specs.History.{of_start, is_one_of, pairs_of};
 ghost use Rattle.ec_judge.specs.Carried.{ops_of, op_of, is_among, is_touched, numbers_in, are_kept, are_uncovered, are_untouched, are_closed, KeepsMarks, BreaksMarks, IsOwing};
 ghost use Rattle.ec_judge.specs.declared.carried.Start.{Start as StartOf};
 
@@ -15,7 +14,7 @@ use ec_base::{ClerkId, NoMemory, ObjId, OpNo, SortedMap};
 use ec_chains::has_operand;
 use ec_history::Rule;
 use ec_order::is_overwrite;
-use ec_volume::{ApplyFault, Update, Volume, operands};
+use ec_volume::{Update, operands};
 use std::alloc::Global;
 
 /// The first rule that a loss of these operations breaks, but for what is left of the others.
@@ -45,8 +44,8 @@ pub fn broken(
     Ok(None)
 }
 
-// Whether the kept operation is one of these of the start.
-fn is_among(kept: &Kept, clerk: ClerkId, boot: u64, ops: &Numbers) -> bool
+/// Whether the kept operation is one of these of the start.
+pub fn is_among(kept: &Kept, clerk: ClerkId, boot: u64, ops: &Numbers) -> bool
     ensures { result ≡ is_among clerk boot ops.now kept.now }
 {
     clerk == kept.clerk && boot == kept.boot && ops.has(kept.number)
@@ -219,44 +218,6 @@ fn shares(objs: &[ObjId], update: &Update) -> bool
     ensures { result ≡ list_any (λ o. member o (operands update.now)) objs.now }
 {
     objs.iter().any(|obj| has_operand(update, *obj))
-}
-
-/// The volume without the operations, or `None` where the others don't fit.
-pub fn volume_without(
-    alloc: Global,
-    kept: &[Kept],
-    clerk: ClerkId,
-    boot: u64,
-    ops: &Numbers,
-) -> Result<Option<Volume>, NoMemory>
-    requires { T (list_all is_sound (updates (ops_of kept.now))) }
-    ensures { IfOk result (λ found. MatchOption found (¬ (Fits formatted (updates (filter (λ k. not (is_one_of clerk boot ops.now k)) (ops_of kept.now)))))
-        (λ volume. Fits formatted (updates (filter (λ k. not (is_one_of clerk boot ops.now k)) (ops_of kept.now)))
-        × ((o : ℕ) → images volume o ≡ after formatted (updates (filter (λ k. not (is_one_of clerk boot ops.now k)) (ops_of kept.now))) o))) }
-{
-    let mut volume = Volume::formatted(alloc)?;
-    for kept in kept {
-        if is_among(kept, clerk, boot, ops) {
-            continue;
-        }
-        if !carry_out(&mut volume, &kept.update)? {
-            return Ok(None);
-        }
-    }
-    Ok(Some(volume))
-}
-
-// Carries the update out, if it fits.
-fn carry_out(volume: &mut Volume, update: &Update) -> Result<bool, NoMemory>
-    requires { T (is_sound update.now) }
-    ensures { IfOk result (λ fits. MatchBool fits ((first_unfit update.now (images volume.old) (operands update.now) ≡ None)
-        × ((o : ℕ) → images volume.new o ≡ after (images volume.old) (update.now ∷ []) o)) ((o : ℕ) × (first_unfit update.now (images volume.old) (operands update.now) ≡ Some o))) }
-{
-    match volume.apply(update) {
-        Ok(()) => Ok(true),
-        Err(ApplyFault::Unfit(_)) => Ok(false),
-        Err(ApplyFault::NoMemory) => Err(NoMemory),
-    }
 }
 
 /// Adds the pairs of the lost operations to what the start at this index owes.

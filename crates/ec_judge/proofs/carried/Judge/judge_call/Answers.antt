@@ -1,4 +1,4 @@
-use Rattle.std.proofs.Common.{◌++◌, sym, ap, ◌∙◌, not, cond, Some}
+use Rattle.std.proofs.Common.{refl, ◌++◌, sym, ap, ◌∙◌, not, cond, Some}
 use Rattle.ec_base.specs.Tables as Tables
 use Rattle.ec_volume.specs.Update.{member}
 use Rattle.ec_volume.specs.Volume.{images}
@@ -52,5 +52,5 @@ returns c = λ l past turn h legal.
           (noted.1.pending ∙ ap (λ t. rest (is_asked c.wanted-asked.result) t.pending.items ++ issues_of by.place op o.update) old) noted.2
           c.in_ok-keep.ensures.kept
           (λ x. c.in_ok-touch_all.ensures x ∙ ap (λ os. cond (member x os) (Some (touched_next by.clerk by.turn (Tables.at x j.touches))) (Tables.at x j.touches)) c.as_slice-touched.ensures)
-          c.in_ok-keep.ensures.volume,
+          c.in_ok-keep.ensures.volume refl,
     )

@@ -2,7 +2,7 @@ use Rattle.std.proofs.Common.{◌≡◌, refl, ◌++◌, ap, sym, subst, ◌∙�
 use Rattle.std.specs.List.{filter}
 use Rattle.ec_volume.specs.Volume.{images, after, Fits, formatted}
 use Rattle.ec_history.specs.History.{updates, is_one_of, pairs_of}
-use Rattle.ec_judge.specs.Carried.{ops_of, numbers_in, is_start, pending_of, KeepsMarks, BreaksMarks}
+use Rattle.ec_judge.specs.Carried.{ops_of, is_among, IsFirm, numbers_in, is_start, pending_of, KeepsMarks, BreaksMarks}
 use Rattle.ec_judge.proofs.AllStarts.{found-at}
 use Rattle.ec_judge.proofs.Steps.{own-at, starts-now, is-own, same-at, loss-broken, loss-unfit, loss-lawful, loss-carried}
 use Rattle.ec_judge.proofs.carried.Judge.judge_lost.Goals as goal
@@ -17,8 +17,8 @@ returns-in-Some c = λ most turn p past at-turn h legal.
     loss-broken most past p c.args.clerk c.args.boot c.args.ops.now c.args.self.now h (numbers_in c.deref.result.now) is c.in-Some.rule
     (subst (λ ks. BreaksMarks c.args.clerk c.args.boot c.args.ops.now (numbers_in c.deref.result.now) c.args.self.now.touches ks c.in-Some.rule) c.deref-2.ensures.value (rw c.in-Some.is at c.in_ok-broken.ensures))
 
-pub returns-in_default-2 : goal.returns-in_default-2
-returns-in_default-2 c = λ most turn p past at-turn h legal.
+pub returns-in_default-rebuilt : goal.returns-in_default-rebuilt
+returns-in_default-rebuilt c = λ most turn p past at-turn h legal.
     let ss = c.index_of.new.starts.items in
     let at = c.in_ok-at.ensures in
     let s = c.index-start.result.now in
@@ -26,7 +26,7 @@ returns-in_default-2 c = λ most turn p past at-turn h legal.
     let is = ap numbers_in (c.deref.ensures.value ∙ ap pending_of (sym found) ∙ at.pending c.args.clerk c.args.boot) in
     loss-unfit most past p c.args.clerk c.args.boot c.args.ops.now c.args.self.now h (numbers_in c.deref.result.now) is
     (subst (KeepsMarks c.args.clerk c.args.boot c.args.ops.now (numbers_in c.deref.result.now) c.args.self.now.touches) c.deref-2.ensures.value (rw c.in_default.is at c.in_ok-broken.ensures))
-    (subst (λ ks. ¬ (Fits formatted (updates (filter (λ k. not (is_one_of c.args.clerk c.args.boot c.args.ops.now k)) (ops_of ks))))) c.deref-3.ensures.value (rw c.in_default-2.is at c.in_ok-volume.ensures))
+    (subst (λ ks. ¬ (Fits formatted (updates (filter (λ k. not (is_one_of c.args.clerk c.args.boot c.args.ops.now k)) (ops_of ks))))) c.deref-3.ensures.value (rw c.in_default-rebuilt.is at c.in_ok-rebuilt.ensures.volume))
 
 pub returns : goal.returns
 returns c = λ most turn p past at-turn h legal.
@@ -40,7 +40,7 @@ returns c = λ most turn p past at-turn h legal.
     let owing = c.in_ok-owe_at.ensures in
     let old = same-at ss c.in_ok-at.at owing.0 s at.within ∙ sym c.index-start.ensures in
     let marks = subst (KeepsMarks c.args.clerk c.args.boot ns (numbers_in c.deref.result.now) j.touches) c.deref-2.ensures.value (rw c.in_default.is at c.in_ok-broken.ensures) in
-    let found = rw c.in-Some-2.is at c.in_ok-volume.ensures in
+    let found = rw c.in-Some-rebuilt.is at c.in_ok-rebuilt.ensures.volume in
     let mine = is-own c.args.clerk c.args.boot ss c.in_ok-at.at s at.found at.within c.index-start.ensures in (
       loss-lawful most past p c.args.clerk c.args.boot ns j h (numbers_in c.deref.result.now) is marks (subst (λ ks. Fits formatted (updates (filter (λ k. not (is_one_of c.args.clerk c.args.boot ns k)) (ops_of ks)))) c.deref-3.ensures.value found.0),
       loss-carried most past p c.args.clerk c.args.boot ns j h (numbers_in c.deref.result.now) is _ ss c.in_ok-at.at s owing.0 (starts-now past j h ss at.count at.owed at.pending) at.found at.within
@@ -51,5 +51,6 @@ returns c = λ most turn p past at-turn h legal.
           (owing.1.pending ∙ ap (λ t. t.pending.items) old) owing.2
           c.forget.ensures
           refl
-          (λ x. subst (λ ks. images c.in-Some-2.volume x ≡ after formatted (updates (filter (λ k. not (is_one_of c.args.clerk c.args.boot ns k)) (ops_of ks))) x) c.deref-3.ensures.value (found.1 x)),
+          (λ x. subst (λ ks. images c.in-Some-rebuilt.volume x ≡ after formatted (updates (filter (λ k. not (is_one_of c.args.clerk c.args.boot ns k)) (ops_of ks))) x) c.deref-3.ensures.value (found.1 x))
+          (subst (λ ks. IsFirm (filter (λ k. not (is_among c.args.clerk c.args.boot ns k)) ks) c.volume_without.new.firm) c.deref-3.ensures.value (rw c.in-Some-rebuilt.is at c.in_ok-rebuilt.ensures.firm)),
     )
