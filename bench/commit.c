@@ -2,7 +2,8 @@
    sync, the gate, a sync.
    commit FILE RECORDS: appends records of 2,000 bytes to a journal in a new file, as ec_bench does with the words FILE RECORDS 0.
    commit FILE RECORDS BODY: the same for bodies of so many bytes, in the journal of a new file that is as long as a new store's.
-   commit FILE read SLOTS: reads what the opening of a store reads, whose images stand in the first so many slots. */
+   commit FILE read SLOTS: reads what the opening of a store reads, whose images stand in the first so many slots, into one buffer.
+   commit FILE keep SLOTS: the same, and keeps the bytes of each slot in memory of their own. */
 #include <fcntl.h>
 #include <stdio.h>
 #include <stdlib.h>
@@ -37,16 +38,18 @@ static void append_all(int file, off_t at, long count, size_t body) {
     printf("%ld records\n", count);
 }
 
-static void read_all(int file, long slots) {
+static void read_all(int file, long slots, int is_kept) {
     unsigned char *bytes = malloc(JOURNAL);
     check(bytes != NULL, "memory");
     unsigned long sum = 0;
     check(pread(file, bytes, 16, 0) == 16, "read");
     check(pread(file, bytes, TABLE, JOURNAL_AT + JOURNAL) == TABLE, "read");
     for (long i = 0; i < slots; i++) {
-        ssize_t count = pread(file, bytes, SLOT, SLOTS_AT + (off_t)i * SLOT);
+        unsigned char *slot = is_kept ? malloc(SLOT) : bytes;
+        check(slot != NULL, "memory");
+        ssize_t count = pread(file, slot, SLOT, SLOTS_AT + (off_t)i * SLOT);
         check(count > 0, "read");
-        sum += bytes[count - 1];
+        sum += slot[count - 1];
     }
     check(pread(file, bytes, JOURNAL, JOURNAL_AT) == JOURNAL, "read");
     printf("%lu\n", sum);
@@ -54,13 +57,14 @@ static void read_all(int file, long slots) {
 
 int main(int argc, char **argv) {
     if (argc != 3 && argc != 4) {
-        fprintf(stderr, "usage: commit FILE RECORDS [BODY], or commit FILE read SLOTS\n");
+        fprintf(stderr, "usage: commit FILE RECORDS [BODY], or commit FILE read|keep SLOTS\n");
         return 2;
     }
-    if (strcmp(argv[2], "read") == 0) {
+    int is_kept = strcmp(argv[2], "keep") == 0;
+    if (is_kept || strcmp(argv[2], "read") == 0) {
         int file = open(argv[1], O_RDONLY);
         check(file >= 0, "open");
-        read_all(file, argc == 4 ? atol(argv[3]) : 0);
+        read_all(file, argc == 4 ? atol(argv[3]) : 0, is_kept);
         return 0;
     }
     long count = atol(argv[2]);

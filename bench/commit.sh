@@ -1,7 +1,7 @@
 #!/bin/sh
 # Times, over real files: appends of 2,000 bytes to a journal beside a C program with the same writes and two syncs an append; commits of
 # 64 small updates to a store beside that program and beside SQLite (its log written ahead, full syncs); and the opening of a full volume
-# beside reading its bytes, from the disk and from memory. It prints rates and ratios. The programs run by turns; each time is the least of
+# beside a C program that reads the same bytes, from the disk and from memory. It prints rates and ratios. The programs run by turns; each time is the least of
 # its runs, of which a busy disk needs more than five.
 # Usage: bench/commit.sh PROGRAM [FOLDER] [RECORDS] [RUNS]   (the ec_bench program; `rt run` in crates/ec_bench builds it; FOLDER is on the disk to be measured)
 set -eu
@@ -47,6 +47,9 @@ for run in $(seq "$runs"); do
     forget "$folder/full.img"
     timed read "$folder/commit" "$folder/full.img" read "$objects"
     timed read_again "$folder/commit" "$folder/full.img" read "$objects"
+    forget "$folder/full.img"
+    timed keep "$folder/commit" "$folder/full.img" keep "$objects"
+    timed keep_again "$folder/commit" "$folder/full.img" keep "$objects"
 done > "$folder/times"
 cmp -n $((records * 2005)) "$folder/journal.img" "$folder/c.img"
 awk -v records="$records" '
@@ -58,6 +61,6 @@ awk -v records="$records" '
         printf "store:  %.3f s, %.0f commits a second\n", least["store"], records / least["store"]
         printf "C:      %.3f s, ratio %.2f (at least 0.85)\n", least["two_syncs"], least["two_syncs"] / least["store"]
         printf "SQLite: %.3f s, ratio %.2f (at least 2.5)\n", least["sqlite"], least["sqlite"] / least["store"]
-        printf "from the disk: opening %.3f s, reading %.3f s, ratio %.2f (at most 1.5)\n", least["open"], least["read"], least["open"] / least["read"]
-        printf "from memory:   opening %.3f s, reading %.3f s, ratio %.2f\n", least["open_again"], least["read_again"], least["open_again"] / least["read_again"]
+        printf "opening from the disk: %.3f s; the bytes read and kept: %.3f s, ratio %.2f (at most 1.5); only read: %.3f s, ratio %.2f\n", least["open"], least["keep"], least["open"] / least["keep"], least["read"], least["open"] / least["read"]
+        printf "opening from memory:   %.3f s; the bytes read and kept: %.3f s, ratio %.2f; only read: %.3f s, ratio %.2f\n", least["open_again"], least["keep_again"], least["open_again"] / least["keep_again"], least["read_again"], least["open_again"] / least["read_again"]
     }' "$folder/times"

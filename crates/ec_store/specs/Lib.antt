@@ -6,4 +6,5 @@ pub mod Placing
 pub mod Plan
 pub mod Reading
 pub mod Replay
+pub mod Stepping
 pub mod Store

@@ -6,6 +6,7 @@ mod opening;
 mod plan;
 mod reading;
 mod replay;
+mod stepping;
 mod store;
 
 pub use fault::StoreFault;

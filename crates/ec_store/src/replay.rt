@@ -14,6 +14,7 @@ ghost use Rattle.ec_store.specs.declared.fault.StoreFault.TheVariants as fault;
 
 use crate::fault::StoreFault;
 use crate::plan::touched;
+use crate::stepping::step;
 use ec_base::{List, ObjId};
 use ec_codes::CodeFault;
 use ec_durable::{Durable, RecordFault, decode};
@@ -72,7 +73,7 @@ fn replay_one(
         Err(found) => return Err(undecoded(gate, found)),
     };
     let operands = touched(alloc, &change)?;
-    if let Err(refused) = state.step(&change) {
+    if let Err(refused) = step(alloc, state, &change, operands.as_slice()) {
         return Err(unstepped(gate, refused));
     }
     ids.extend_from_slice(operands.as_slice())?;

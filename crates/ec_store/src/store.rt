@@ -17,6 +17,7 @@ ghost use Rattle.ec_store.specs.declared.fault.StoreFault.TheVariants as fault;
 use crate::fault::{StoreFault, done, of_disk};
 use crate::opening::{Opened, read_back};
 use crate::plan::{Plan, lay_out, numbers, touched};
+use crate::stepping::step;
 use ec_base::{Duplicate, NoMemory, ObjId, SortedMap};
 use ec_disk::Disk;
 use ec_durable::{Durable, Record, encode};
@@ -291,7 +292,7 @@ impl Store {
         ensures kept { OnOk result ((o slot : ℕ) → at o self.old.kept ≡ Some slot → is_gone (images (view_of self.old).volume o) ≡ false → member o (touched change.now) ≡ false → at o self.new.kept ≡ Some slot) }
     {
         let alloc = *self.kept.allocator();
-        self.state.step(change)?;
+        step(alloc, &mut self.state, change, ids)?;
         append(&mut self.selected, alloc, disk, body)?;
         forget(&mut self.kept, ids);
         Ok(())
@@ -337,7 +338,7 @@ impl Store {
         ensures kept { OnOk result ((o slot : ℕ) → at o self.old.kept ≡ Some slot → is_gone (images (view_of self.old).volume o) ≡ false → member o (touched change.now) ≡ false → at o self.new.kept ≡ Some slot) }
     {
         let alloc = *self.kept.allocator();
-        self.state.step(change)?;
+        step(alloc, &mut self.state, change, ids)?;
         done(
             self.selected
                 .checkpoint(disk, plan.pieces.as_slice(), plan.table.as_slice()),

@@ -23,9 +23,9 @@ returns-in-Err-step-clause-bad c p is =
     (u.0, not_stepped c.args.body.now c.args.state.now c.in-Ok.change c.in-Err-step.refused c.in-Ok.ensures.exact u.1 c.in-Err-step.ensures.refused)
 
 pub returns-clause-formed : goal.returns-clause-formed
-returns-clause-formed c = step_well c.in-Ok.change c.args.state.now c.step.new.self c.requires.formed c.in-Ok.ensures.sound.1 (search rules)
+returns-clause-formed c = step_well c.in-Ok.change c.args.state.now c.step.new.state c.requires.formed c.in-Ok.ensures.sound.1 (search rules)
 
 pub returns-clause-spares : goal.returns-clause-spares
 returns-clause-spares c o out =
     let m = operands_more o c.args.ids.now.items c.in_ok-operands.operands.items c.extend_from_slice.new.self.items (search rules) out in
-    (m.0, step_images c.in-Ok.change c.args.state.now c.step.new.self o c.in-Ok.ensures.sound.1 (ap (λ (l : List ℕ). member o l) (sym c.in_ok-operands.ensures) ∙ m.1) (search rules))
+    (m.0, step_images c.in-Ok.change c.args.state.now c.step.new.state o c.in-Ok.ensures.sound.1 (ap (λ (l : List ℕ). member o l) (sym c.in_ok-operands.ensures) ∙ m.1) (search rules))

@@ -17,6 +17,7 @@ use Rattle.ec_store.proofs.Images.{step_most}
 use Rattle.ec_store.proofs.Placing.{placed_keeps}
 use Rattle.ec_store.proofs.Holding.{leaves_none, held_stands, append_leaves, append_holds, fewer_places, still_formed}
 use Rattle.ec_store.proofs.Planning.{pieces_stand_apart, new_places_are, plan_leaves_either, plan_holds}
+use Rattle.ec_store.proofs.Trying.{left_is}
 use Rattle.ec_store.proofs.store.Store.turn_and_add.Goals as goal
 
 pub step-requires-clause-sound : goal.step-requires-clause-sound
@@ -46,9 +47,9 @@ invariant_of-self-in-Break-branch-2 g c =
     let s = c.args.self.now in
     let sound = sound_steps c.args.change.now c.requires.sound in
     record {
-      formed = still_formed c.args.change.now s.state c.step.new.self s.order s.formed sound c.in_ok-step.ensures.ok;
-      order = step_kept c.args.change.now s.state c.step.new.self s.order sound c.in_ok-step.ensures.ok;
-      places = subst (λ m. ArePlaces m s.named.items s.kept) (sym (step_most c.args.change.now s.state c.step.new.self c.in_ok-step.ensures.ok)) s.places;
+      formed = still_formed c.args.change.now s.state c.step.new.state s.order s.formed sound c.in_ok-step.ensures.ok;
+      order = step_kept c.args.change.now s.state c.step.new.state s.order sound c.in_ok-step.ensures.ok;
+      places = subst (λ m. ArePlaces m s.named.items s.kept) (sym (step_most c.args.change.now s.state c.step.new.state c.in_ok-step.ensures.ok)) s.places;
     }
 
 pub invariant_of-self-in-Break-branch-3 : goal.invariant_of-self-in-Break-branch-3
@@ -59,9 +60,9 @@ invariant_of-self-in-Break-branch-3 g c =
     let fewer : (o slot : ℕ) → at o p.kept ≡ Some slot → at o s.kept ≡ Some slot = λ o slot found. (left_kept o slot (member o c.args.ids.now) (at o p.kept) (at o s.kept) (p.left o) found).0 in
     let are = fewer_places s.state.max_objects s.named.items s.kept p.kept s.places fewer in
     record {
-      formed = still_formed c.args.change.now s.state c.step.new.self s.order s.formed sound c.in_ok-step.ensures.ok;
-      order = step_kept c.args.change.now s.state c.step.new.self s.order sound c.in_ok-step.ensures.ok;
-      places = subst (λ m. ArePlaces m c.args.plan.named.items c.args.plan.kept) (sym (step_most c.args.change.now s.state c.step.new.self c.in_ok-step.ensures.ok)) (new_places_are s.state s.named.items p.kept s.order are c.args.plan p.is);
+      formed = still_formed c.args.change.now s.state c.step.new.state s.order s.formed sound c.in_ok-step.ensures.ok;
+      order = step_kept c.args.change.now s.state c.step.new.state s.order sound c.in_ok-step.ensures.ok;
+      places = subst (λ m. ArePlaces m c.args.plan.named.items c.args.plan.kept) (sym (step_most c.args.change.now s.state c.step.new.state c.in_ok-step.ensures.ok)) (new_places_are s.state s.named.items p.kept s.order are c.args.plan p.is);
     }
 
 pub invariant_of-self-2 : goal.invariant_of-self-2
@@ -72,9 +73,9 @@ invariant_of-self-2 g c =
     let fewer : (o slot : ℕ) → at o p.kept ≡ Some slot → at o s.kept ≡ Some slot = λ o slot found. (left_kept o slot (member o c.args.ids.now) (at o p.kept) (at o s.kept) (p.left o) found).0 in
     let are = fewer_places s.state.max_objects s.named.items s.kept p.kept s.places fewer in
     record {
-      formed = still_formed c.args.change.now s.state c.step.new.self s.order s.formed sound c.in_ok-step.ensures.ok;
-      order = step_kept c.args.change.now s.state c.step.new.self s.order sound c.in_ok-step.ensures.ok;
-      places = subst (λ m. ArePlaces m c.args.plan.named.items c.forget.new.kept) (sym (step_most c.args.change.now s.state c.step.new.self c.in_ok-step.ensures.ok))
+      formed = still_formed c.args.change.now s.state c.step.new.state s.order s.formed sound c.in_ok-step.ensures.ok;
+      order = step_kept c.args.change.now s.state c.step.new.state s.order sound c.in_ok-step.ensures.ok;
+      places = subst (λ m. ArePlaces m c.args.plan.named.items c.forget.new.kept) (sym (step_most c.args.change.now s.state c.step.new.state c.in_ok-step.ensures.ok))
           (fewer_places s.state.max_objects c.args.plan.named.items c.args.plan.kept c.forget.new.kept (new_places_are s.state s.named.items p.kept s.order are c.args.plan p.is)
           (λ o slot found. (left_kept o slot (member o c.args.ids.now) (at o c.forget.new.kept) (at o c.args.plan.kept) (c.forget.ensures o) found).0));
     }
@@ -102,7 +103,7 @@ returns-in_err-append-clause-any_moment g c told held =
     let there = plan_holds s.state s.named.items p.kept s.order are c.args.plan p.is Two p.spelled p.fits old s.selected s.kept fewer held mid c.checkpoint.new.self (λ l m follows on. c.checkpoint.ensures.done told c.in_ok-done.ensures.ok l m (subst (λ t. Follows (other (side_now s.selected)) t (pieces_of c.as_slice.result.now) l m) (sym c.as_slice-2.ensures.value) (subst (λ ps. Follows (other (side_now s.selected)) c.args.plan.table.items (pieces_of ps) l m) (sym c.as_slice.ensures.value) follows)) on) in
     leaves_then (StandsForEither c.args.change.now s.state) old mid new
     (plan_leaves_either s.state s.named.items p.kept s.order are c.args.plan p.is Two p.spelled p.fits old s.selected s.kept fewer held c.args.change.now mid (λ l m follows on. c.checkpoint.ensures.any_moment told l m (subst (λ t. Follows (other (side_now s.selected)) t (pieces_of c.as_slice.result.now) l m) (sym c.as_slice-2.ensures.value) (subst (λ ps. Follows (other (side_now s.selected)) c.args.plan.table.items (pieces_of ps) l m) (sym c.as_slice.ensures.value) follows)) on))
-    (append_leaves c.args.change.now c.args.body.now c.requires.fits c.requires.spelled sound s.state c.step.new.self c.in_ok-step.ensures.ok mid new c.checkpoint.new.self c.args.plan.named.items c.args.plan.kept there (c.append.ensures.any_moment told))
+    (append_leaves c.args.change.now c.args.body.now c.requires.fits c.requires.spelled sound s.state c.step.new.state c.in_ok-step.ensures.ok mid new c.checkpoint.new.self c.args.plan.named.items c.args.plan.kept there (c.append.ensures.any_moment told))
 
 pub returns-clause-any_moment : goal.returns-clause-any_moment
 returns-clause-any_moment g c told held =
@@ -117,7 +118,7 @@ returns-clause-any_moment g c told held =
     let there = plan_holds s.state s.named.items p.kept s.order are c.args.plan p.is Two p.spelled p.fits old s.selected s.kept fewer held mid c.checkpoint.new.self (λ l m follows on. c.checkpoint.ensures.done told c.in_ok-done.ensures.ok l m (subst (λ t. Follows (other (side_now s.selected)) t (pieces_of c.as_slice.result.now) l m) (sym c.as_slice-2.ensures.value) (subst (λ ps. Follows (other (side_now s.selected)) c.args.plan.table.items (pieces_of ps) l m) (sym c.as_slice.ensures.value) follows)) on) in
     leaves_then (StandsForEither c.args.change.now s.state) old mid new
     (plan_leaves_either s.state s.named.items p.kept s.order are c.args.plan p.is Two p.spelled p.fits old s.selected s.kept fewer held c.args.change.now mid (λ l m follows on. c.checkpoint.ensures.any_moment told l m (subst (λ t. Follows (other (side_now s.selected)) t (pieces_of c.as_slice.result.now) l m) (sym c.as_slice-2.ensures.value) (subst (λ ps. Follows (other (side_now s.selected)) c.args.plan.table.items (pieces_of ps) l m) (sym c.as_slice.ensures.value) follows)) on))
-    (append_leaves c.args.change.now c.args.body.now c.requires.fits c.requires.spelled sound s.state c.step.new.self c.in_ok-step.ensures.ok mid new c.checkpoint.new.self c.args.plan.named.items c.args.plan.kept there (c.append.ensures.any_moment told))
+    (append_leaves c.args.change.now c.args.body.now c.requires.fits c.requires.spelled sound s.state c.step.new.state c.in_ok-step.ensures.ok mid new c.checkpoint.new.self c.args.plan.named.items c.args.plan.kept there (c.append.ensures.any_moment told))
 
 pub returns-clause-ok : goal.returns-clause-ok
 returns-clause-ok g c told held =
@@ -130,7 +131,7 @@ returns-clause-ok g c told held =
     let mid = g.D.Disk.view c.checkpoint.new.disk in
     let new = g.D.Disk.view c.append.new.disk in
     let there = plan_holds s.state s.named.items p.kept s.order are c.args.plan p.is Two p.spelled p.fits old s.selected s.kept fewer held mid c.checkpoint.new.self (λ l m follows on. c.checkpoint.ensures.done told c.in_ok-done.ensures.ok l m (subst (λ t. Follows (other (side_now s.selected)) t (pieces_of c.as_slice.result.now) l m) (sym c.as_slice-2.ensures.value) (subst (λ ps. Follows (other (side_now s.selected)) c.args.plan.table.items (pieces_of ps) l m) (sym c.as_slice.ensures.value) follows)) on) in
-    append_holds c.args.change.now c.args.body.now c.requires.fits c.requires.spelled sound s.state c.step.new.self c.in_ok-step.ensures.ok mid new c.checkpoint.new.self c.args.plan.named.items c.args.plan.kept there c.append.new.selected c.forget.new.kept (c.in_ok-append.ensures.ok told)
+    append_holds c.args.change.now c.args.body.now c.requires.fits c.requires.spelled sound s.state c.step.new.state c.in_ok-step.ensures.ok mid new c.checkpoint.new.self c.args.plan.named.items c.args.plan.kept there c.append.new.selected c.forget.new.kept (c.in_ok-append.ensures.ok told)
     (λ o slot found. let left = left_kept o slot (member o c.args.ids.now) (at o c.forget.new.kept) (at o c.args.plan.kept) (c.forget.ensures o) found in (left.0, ap (λ (l : List ℕ). member o l) (sym c.requires.ids) ∙ left.1))
 
 pub returns-clause-kept : goal.returns-clause-kept
@@ -141,3 +142,9 @@ returns-clause-kept g c o slot found live out =
     let was = keeps_left slot (member o c.args.ids.now) (at o p.kept) (at o s.kept) (p.left o) found spared in
     let placed_there = placed_keeps p.kept s.state.volume (free_below (2 * s.state.max_objects) s.named.items) o slot was live in
     keeps_left slot (member o c.args.ids.now) (at o c.forget.new.kept) (at o c.args.plan.kept) (c.forget.ensures o) (ap (λ (l : List (ℕ × ℕ)). at o l) p.is.places ∙ placed_there) spared
+
+pub invariant_of-self : goal.invariant_of-self
+invariant_of-self g c =
+    let s = c.args.self.now in
+    let is = left_is s.named.items s.kept s.state c.step.new.state (s.formed, s.order, s.places) c.in_err-step.ensures.err in
+    record { formed = is.0; order = is.1; places = is.2 }
