@@ -1,6 +1,5 @@
 -- The lines that a drill wrote are lawful, where those of each run of the machine are.
-use Rattle.std.proofs.Common.{◌≡◌, ◌≤◌, ◌⊎◌, ◌+◌, ℕ, zero, suc, T, List, [], ◌∷◌, ◌++◌, length, take, drop, Result, Ok, Err, refl, sym, ap, subst, ◌∙◌, inl, inr, arith, append_assoc, append-nil}
-use Rattle.std.specs.Prelude.{⊤}
+use Rattle.std.proofs.Common.{◌≡◌, ◌≤◌, ◌⊎◌, ℕ, zero, suc, List, [], ◌∷◌, ◌++◌, length, take, drop, Result, Ok, Err, refl, sym, ap, subst, ◌∙◌, inl, inr, arith, append_assoc, append-nil}
 use Rattle.std.specs.List.{filter}
 use Rattle.std.proofs.Math.Logic.{∥∥₁_map}
 use Rattle.ec_base.specs.declared.counter.Counter.{Counter}
@@ -14,17 +13,17 @@ use Rattle.ec_durable.specs.declared.state.Durable.{Durable}
 use Rattle.ec_protocol.specs.World.{open_world}
 use Rattle.ec_protocol.specs.Drill.{Read, Fates, Ran, Ending, IsSpent, Done, BadLine, TooMany, bound, close, drill, drill_in, joined, last_line, run_from, status}
 use Rattle.ec_protocol.specs.declared.world.World.{World}
-use Rattle.ec_headline.specs.Headline.{AreLawful, FrontsAreLawful}
+use Rattle.ec_headline.specs.Headline.{AreLawful, FrontsAreLawful, IsGreatest}
 use Rattle.ec_headline.specs.Headline as headline
 use Rattle.ec_steps.specs.Drills.{AreFit, IsUnspent}
 use Rattle.ec_whole.specs.Runs.{RunShows}
 use Rattle.ec_lawful.proofs.Shows.{runs-show}
-use Rattle.ec_world.specs.Steps.{IsWhole}
-use Rattle.ec_drill.specs.Drill.{Outside, Drilled, IsCut, IsCutClean, IsToldAll, RanWhole, RanInPart, end_of, state_after}
+use Rattle.ec_drill.specs.Drill.{Outside, Drilled, IsCut, IsCutClean, RanWhole, RanInPart, end_of, state_after}
 use Rattle.ec_drill.specs.declared.status.Status.{Status}
 use Rattle.ec_drill.specs.declared.status.Status.TheVariants as own
 use Rattle.ec_promise.specs.Promise.{AreLawfulOn, AreStoredOn, AreWholeOn, CutIsLawful, DrillsAreLawful, CleanIsLawful, IsLawful, PartIsLawful, SpentIsLawful, WholeIsLawful, base_on}
 use Rattle.ec_promise.proofs.Fit.{fit_script}
+use Rattle.ec_promise.proofs.Greatest.{greatest-id}
 
 -- Lists.
 
@@ -54,8 +53,8 @@ each-front P [] rest each = tt
 each-front P (x ∷ xs) rest each = (each.0, each-front P xs rest each.1)
 
 -- fronts of a front
-fronts-front : (state : Durable) (ids : ℕ → ℕ) (xs rest : List Shown) → FrontsAreLawful (base_on state ids) state.max_objects (xs ++ rest) → FrontsAreLawful (base_on state ids) state.max_objects xs
-fronts-front state ids xs rest lawful front more e = lawful front (more ++ rest) (sym (append_assoc front more rest) ∙ ap (λ (ls : List Shown). ls ++ rest) e)
+fronts-front : (state : Durable) (top : ℕ) (xs rest : List Shown) → FrontsAreLawful (base_on state top) state.max_objects (xs ++ rest) → FrontsAreLawful (base_on state top) state.max_objects xs
+fronts-front state top xs rest lawful front more e = lawful front (more ++ rest) (sym (append_assoc front more rest) ∙ ap (λ (ls : List Shown). ls ++ rest) e)
 
 -- the same pieces
 same-joined : (pieces : List (List Shown)) → headline.joined pieces ≡ joined pieces
@@ -73,7 +72,7 @@ lawful-front : (reads : List Read) (state : Durable) (all xs more : List Shown) 
 lawful-front reads state all xs more a e = go (cut-front xs more a.told a.last (e ∙ a.written) a.at_most_one)
   where
     go : ((rest : List Shown) × (xs ++ rest ≡ a.told)) ⊎ (xs ≡ a.told ++ a.last) → AreLawfulOn reads state xs
-    go (inr q) = record { told = a.told; last = a.last; written = q; at_most_one = a.at_most_one; lines = a.lines; front = a.front; own_calls = a.own_calls; ids = a.ids; fronts = a.fronts }
+    go (inr q) = record { told = a.told; last = a.last; written = q; at_most_one = a.at_most_one; lines = a.lines; front = a.front; own_calls = a.own_calls; top = a.top; greatest = a.greatest; fronts = a.fronts }
     go (inl (rest, q)) = record {
       told = xs;
       last = [];
@@ -82,8 +81,9 @@ lawful-front reads state all xs more a e = go (cut-front xs more a.told a.last (
       lines = a.lines;
       front = a.front;
       own_calls = each-front (headline.InScript a.lines) xs rest (subst (EachLine (headline.InScript a.lines)) (sym q) a.own_calls);
-      ids = a.ids;
-      fronts = fronts-front state a.ids xs rest (subst (FrontsAreLawful (base_on state a.ids) state.max_objects) (sym q) a.fronts);
+      top = a.top;
+      greatest = a.greatest;
+      fronts = fronts-front state a.top xs rest (subst (FrontsAreLawful (base_on state a.top) state.max_objects) (sym q) a.fronts);
     }
 
 -- Each run of the machine shows what is lawful.
@@ -93,6 +93,10 @@ no-ends c zero = omega arith
 no-ends c (suc k) = omega arith
 
 module _ (reads : List Read) (fates : List Fates) (d : Durable) (wf : WellFormed d) (sixteen : length d.sessions ≡ 16) (zero : images d.volume 0 ≡ Gone) (fit : AreFit reads) where
+  -- the greatest id of its volume
+  highest : (n : ℕ) × IsGreatest (images d.volume) n
+  highest = greatest-id d wf
+
   -- nothing is told but that a counter is spent
   unopened-lines : (n : Counter) → AreLawfulOn reads d (show.Spent n ∷ [])
   unopened-lines n = record {
@@ -103,8 +107,9 @@ module _ (reads : List Read) (fates : List Fates) (d : Durable) (wf : WellFormed
     lines = [];
     front = refl;
     own_calls = tt;
-    ids = λ place. 0;
-    fronts = λ front rest e. subst (AreLawful (base_on d (λ place. 0)) d.max_objects) (sym (none front rest e)) record { placed = tt; history = tt; fsync = tt };
+    top = highest.0;
+    greatest = highest.1;
+    fronts = λ front rest e. subst (AreLawful (base_on d highest.0) d.max_objects) (sym (none front rest e)) record { placed = tt; history = tt; fsync = tt };
   }
     where
       none : (xs ys : List Shown) → xs ++ ys ≡ [] → xs ≡ []
@@ -127,8 +132,8 @@ module _ (reads : List Read) (fates : List Fates) (d : Durable) (wf : WellFormed
     abbrev ran : Ran
     ran = run_from (bound reads) 1 reads fates w
 
-    shows : RunShows (images d.volume) d.max_objects reads (close ran.ending ran)
-    shows = runs-show d wf sixteen zero w o reads fates fit
+    shows : RunShows (images d.volume) highest.0 d.max_objects reads (close ran.ending ran)
+    shows = runs-show d wf sixteen zero w o reads fates fit highest.0 highest.1
 
     opened-lines : AreLawfulOn reads d (joined (close ran.ending ran).pieces ++ last_line (close ran.ending ran).ending)
     opened-lines = record {
@@ -139,7 +144,8 @@ module _ (reads : List Read) (fates : List Fates) (d : Durable) (wf : WellFormed
       lines = shows.lines;
       front = shows.front;
       own_calls = shows.own_calls;
-      ids = shows.fresh;
+      top = highest.0;
+      greatest = highest.1;
       fronts = shows.fronts;
     }
 

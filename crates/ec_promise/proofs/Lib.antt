@@ -1,2 +1,3 @@
+pub mod Greatest
 pub mod Fit
 pub mod Lawful

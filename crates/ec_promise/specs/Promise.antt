@@ -1,6 +1,6 @@
 -- What a drill promises of the lines that it wrote: they stand in one legal history of one uncached volume. It's told by the lines, the script and the
 -- volumes of the disk alone.
-use Rattle.std.specs.Prelude.{◌≡◌, ◌≤◌, ◌+◌, ◌⊎◌, ℕ, List, [], ◌++◌, length, take, ⊤}
+use Rattle.std.specs.Prelude.{◌≡◌, ◌≤◌, ◌+◌, ℕ, List, [], ◌++◌, length, take, ⊤}
 use Rattle.std.proofs.Common.{inl, inr}
 use Rattle.ec_volume.specs.Volume.{Fits, WellFormed, images}
 use Rattle.ec_history.specs.History.{Base, kept, updates}
@@ -12,15 +12,15 @@ use Rattle.ec_volume.specs.declared.image.Image.TheVariants.{Gone}
 use Rattle.ec_durable.specs.WellFormed as states
 use Rattle.ec_durable.specs.declared.state.Durable.{Durable}
 use Rattle.ec_protocol.specs.Drill.{Read, Fates, drill}
-use Rattle.ec_headline.specs.Headline.{AreEndsAsked, ArePieces, FrontsAreLawful, InScript, Lines, Pieces, joined}
+use Rattle.ec_headline.specs.Headline.{AreEndsAsked, ArePieces, FrontsAreLawful, InScript, IsGreatest, Lines, Pieces, joined, placed_on}
 use Rattle.ec_steps.specs.Drills.{AreFit, lines_in}
 use Rattle.ec_drill.specs.Drill.{Outside, Drilled, IsCut, IsCutClean, IsToldAll, RanWhole, RanInPart, state_after}
 use Rattle.ec_drill.specs.declared.status.Status.{Status}
 use Rattle.ec_drill.specs.declared.status.Status.TheVariants as status
 
--- histories on the volume of this state, in which the object made by the call of a line has the id at its place
-abbrev pub base_on : Durable → (ℕ → ℕ) → Base
-base_on state ids = record { volume = images state.volume; fresh = ids }
+-- histories on the volume of this state, in which a new object has the id that is this one plus the place of its call's line
+abbrev pub base_on : Durable → ℕ → Base
+base_on state top = placed_on (images state.volume) top
 
 -- a well-formed state, with a slot for each clerk, whose objects have ids from 1
 pub record WholeState (d : Durable) : Type 0 where
@@ -39,9 +39,11 @@ pub record AreLawfulOn (reads : List Read) (state : Durable) (shown : List Shown
   pub lines : Lines
   pub front : lines ≡ take (length lines) (lines_in reads)
   pub own_calls : EachLine (InScript lines) told
-  -- each front of them has a history, which is legal on the volume at the beginning; what an fsync covers was durable; new objects have ids of their own
-  pub ids : ℕ → ℕ
-  pub fronts : FrontsAreLawful (base_on state ids) state.max_objects told
+  -- each front of them has a history, which is legal on the volume at the beginning; what an fsync covers was durable; a new object has the id that is the
+  -- greatest one of the volume plus the place of its call's line
+  pub top : ℕ
+  pub greatest : IsGreatest (images state.volume) top
+  pub fronts : FrontsAreLawful (base_on state top) state.max_objects told
 
 -- Those of a run that ended by itself, in pieces: one for each line carried out, and perhaps one for the line that ended it, and for the restart at the end.
 pub record AreWholeOn (reads : List Read) (state : Durable) (shown : List Shown) : Type 0 where
@@ -54,13 +56,13 @@ pub record AreWholeOn (reads : List Read) (state : Durable) (shown : List Shown)
   -- no session ends but by a crash or an end: up to each line no more of a clerk's sessions ended than such lines were carried out
   pub ends : AreEndsAsked lawful.lines pieces
   -- at the end each update that is kept fits in turn
-  pub fit : Fits (images state.volume) (updates (kept (base_on state lawful.ids) (place lawful.told)))
+  pub fit : Fits (images state.volume) (updates (kept (base_on state lawful.top) (place lawful.told)))
 
 -- And the volume on the disk behind the run is well formed, and has the shape that the operations leave which durable lines name, in the history's order.
 pub record AreStoredOn (reads : List Read) (state end : Durable) (shown : List Shown) : Type 0 where
   pub whole : AreWholeOn reads state shown
   pub formed : WellFormed (images end.volume)
-  pub stored : IsStored (base_on state whole.lawful.ids) whole.lawful.told (images end.volume)
+  pub stored : IsStored (base_on state whole.lawful.top) whole.lawful.told (images end.volume)
 
 -- Where it's known what the disk did: of a run that ended by itself, also of one that a spent counter ended, and of one that was cut off.
 abbrev pub WholeIsLawful : (most number : ℕ) (w : Outside) → RanWhole most number w → Type 0
