@@ -1,6 +1,5 @@
 -- The lines that a drill wrote are lawful, where those of each run of the machine are.
-use Rattle.std.proofs.Common.{◌≡◌, ◌≤◌, ◌⊎◌, ◌+◌, ℕ, zero, suc, T, List, [], ◌∷◌, ◌++◌, length, take, drop, Result, Ok, Err, refl, sym, ap, subst, ◌∙◌, inl, inr, arith, append_assoc, append-nil}
-use Rattle.std.specs.Prelude.{⊤}
+use Rattle.std.proofs.Common.{◌≡◌, ◌≤◌, ◌⊎◌, ℕ, zero, suc, List, [], ◌∷◌, ◌++◌, length, take, drop, Result, Ok, Err, refl, sym, ap, subst, ◌∙◌, inl, inr, arith, append_assoc, append-nil}
 use Rattle.std.specs.List.{filter}
 use Rattle.std.proofs.Math.Logic.{∥∥₁_map}
 use Rattle.ec_base.specs.declared.counter.Counter.{Counter}
@@ -19,8 +18,7 @@ use Rattle.ec_headline.specs.Headline as headline
 use Rattle.ec_steps.specs.Drills.{AreFit, IsUnspent}
 use Rattle.ec_whole.specs.Runs.{RunShows}
 use Rattle.ec_lawful.proofs.Shows.{runs-show}
-use Rattle.ec_world.specs.Steps.{IsWhole}
-use Rattle.ec_drill.specs.Drill.{Outside, Drilled, IsCut, IsCutClean, IsToldAll, RanWhole, RanInPart, end_of, state_after}
+use Rattle.ec_drill.specs.Drill.{Outside, Drilled, IsCut, IsCutClean, RanWhole, RanInPart, end_of, state_after}
 use Rattle.ec_drill.specs.declared.status.Status.{Status}
 use Rattle.ec_drill.specs.declared.status.Status.TheVariants as own
 use Rattle.ec_promise.specs.Promise.{AreLawfulOn, AreStoredOn, AreWholeOn, CutIsLawful, DrillsAreLawful, CleanIsLawful, IsLawful, PartIsLawful, SpentIsLawful, WholeIsLawful, base_on}

@@ -1,6 +1,6 @@
 -- What a drill promises of the lines that it wrote: they stand in one legal history of one uncached volume. It's told by the lines, the script and the
 -- volumes of the disk alone.
-use Rattle.std.specs.Prelude.{◌≡◌, ◌≤◌, ◌+◌, ◌⊎◌, ℕ, List, [], ◌++◌, length, take, ⊤}
+use Rattle.std.specs.Prelude.{◌≡◌, ◌≤◌, ◌+◌, ℕ, List, [], ◌++◌, length, take, ⊤}
 use Rattle.std.proofs.Common.{inl, inr}
 use Rattle.ec_volume.specs.Volume.{Fits, WellFormed, images}
 use Rattle.ec_history.specs.History.{Base, kept, updates}
