@@ -1,14 +1,12 @@
 -- A script that was read is one that a run may begin on: its calls are of clerks that there are, and within their bounds.
-use Rattle.std.proofs.Common.{◌≡◌, ◌<◌, ℕ, T, List, [], ◌∷◌, subst, sym, inl, inr}
-use Rattle.ec_plain.specs.Bounds.{is_bounded}
+use Rattle.std.proofs.Common.{ℕ, List, [], ◌∷◌, subst, sym, inl, inr}
 use Rattle.ec_words.specs.Words.{words_of}
 use Rattle.ec_words.specs.Rows.{Word}
 use Rattle.ec_words.specs.declared.name.Keyword.{Keyword}
 use Rattle.ec_words.specs.declared.name.Keyword.TheVariants as keyword
 use Rattle.ec_words.proofs.Bounded.{call_bounded}
-use Rattle.ec_script.specs.Grammar.{IsLine, IsHead, Head, Begun, Spells, Says}
+use Rattle.ec_script.specs.Grammar.{IsLine, Spells, Says}
 use Rattle.ec_script.specs.declared.line.Line.{Line}
-use Rattle.ec_script.specs.declared.line.Line.TheVariants as line
 use Rattle.ec_protocol.specs.Drill.{Read, reads, unfit}
 use Rattle.ec_drill.specs.Script.{IsRead, AreRead, machine_line}
 use Rattle.ec_steps.specs.Drills.{IsFit, AreFit}

@@ -1,6 +1,5 @@
 -- The lines that a drill wrote are lawful, where those of each run of the machine are.
-use Rattle.std.proofs.Common.{◌≡◌, ◌≤◌, ◌⊎◌, ◌+◌, ℕ, zero, suc, T, List, [], ◌∷◌, ◌++◌, length, take, drop, Result, Ok, Err, refl, sym, ap, subst, ◌∙◌, inl, inr, arith, append_assoc, append-nil}
-use Rattle.std.specs.Prelude.{⊤}
+use Rattle.std.proofs.Common.{◌≡◌, ◌≤◌, ◌⊎◌, ℕ, zero, suc, List, [], ◌∷◌, ◌++◌, length, take, drop, Result, Ok, Err, refl, sym, ap, subst, ◌∙◌, inl, inr, arith, append_assoc, append-nil}
 use Rattle.std.specs.List.{filter}
 use Rattle.std.proofs.Math.Logic.{∥∥₁_map}
 use Rattle.ec_base.specs.declared.counter.Counter.{Counter}
@@ -19,10 +18,10 @@ use Rattle.ec_headline.specs.Headline as headline
 use Rattle.ec_steps.specs.Drills.{AreFit, IsUnspent}
 use Rattle.ec_whole.specs.Runs.{RunShows}
 use Rattle.ec_lawful.proofs.Shows.{runs-show}
-use Rattle.ec_world.specs.Steps.{IsWhole}
-use Rattle.ec_drill.specs.Drill.{Outside, Drilled, IsCut, IsCutClean, IsToldAll, RanWhole, RanInPart, end_of, state_after}
+use Rattle.ec_drill.specs.Drill.{Outside, Drilled, IsCut, IsCutClean, RanWhole, RanInPart, end_of, state_after}
 use Rattle.ec_drill.specs.declared.status.Status.{Status}
 use Rattle.ec_drill.specs.declared.status.Status.TheVariants as own
+use Rattle.ec_reached.proofs.Runs.{run-in-order}
 use Rattle.ec_promise.specs.Promise.{AreLawfulOn, AreStoredOn, AreWholeOn, CutIsLawful, DrillsAreLawful, CleanIsLawful, IsLawful, PartIsLawful, SpentIsLawful, WholeIsLawful, base_on}
 use Rattle.ec_promise.proofs.Fit.{fit_script}
 use Rattle.ec_promise.proofs.Greatest.{greatest-id}
@@ -191,27 +190,34 @@ module _ (reads : List Read) (fates : List Fates) (d : Durable) (wf : WellFormed
 
 pub machine-lawful : DrillsAreLawful
 machine-lawful reads fates d is fit =
-    (all-lawful reads fates d is.formed is.slots is.from_one fit, λ not. all-stored reads fates d is.formed is.slots is.from_one fit (drill reads fates d).1 refl not)
+    (all-lawful reads fates d is.formed is.slots is.from_one fit, λ not. all-stored reads fates d is.formed is.slots is.from_one fit (drill reads fates d).1 refl not, λ w o n. run-in-order d is.formed is.slots is.from_one w o reads fates fit n)
 
 -- The same of what a drill did.
 
 whole-lawful : (most number : ℕ) (w : Outside) (r : RanWhole most number w) → (number ≡ 15 → ⊥) → WholeIsLawful most number w r
 whole-lawful most number w r not told =
     let is = (r.opens).whole in
-    ∥∥₁_map is.formed (λ wf. subst (AreStoredOn r.reads r.state (state_after r.reads r.fates r.state)) (r.lines told)
-    (all-stored r.reads r.fates r.state wf is.slots is.from_one (fit_script _ r.reads (r.given).read) number (r.status told) not))
+    let fit = fit_script _ r.reads (r.given).read in
+    ∥∥₁_map is.formed (λ wf. (
+      subst (AreStoredOn r.reads r.state (state_after r.reads r.fates r.state)) (r.lines told) (all-stored r.reads r.fates r.state wf is.slots is.from_one fit number (r.status told) not),
+      λ v o n. run-in-order r.state wf is.slots is.from_one v o r.reads r.fates fit n,
+    ))
 
 spent-lawful : (most number : ℕ) (w : Outside) (r : RanWhole most number w) → SpentIsLawful most number w r
 spent-lawful most number w r told =
     let is = (r.opens).whole in
-    ∥∥₁_map is.formed (λ wf. subst (AreWholeOn r.reads r.state) (r.lines told) (all-lawful r.reads r.fates r.state wf is.slots is.from_one (fit_script _ r.reads (r.given).read)))
+    let fit = fit_script _ r.reads (r.given).read in
+    ∥∥₁_map is.formed (λ wf. (subst (AreWholeOn r.reads r.state) (r.lines told) (all-lawful r.reads r.fates r.state wf is.slots is.from_one fit), λ v o n. run-in-order r.state wf is.slots is.from_one v o r.reads r.fates fit n))
 
 part-lawful : (most : ℕ) (w : Outside) (last : List ℕ) (r : RanInPart most w last) → PartIsLawful most w last r
 part-lawful most w last r told =
     let is = (r.opens).whole in
     let f = r.front told in
-    ∥∥₁_map is.formed (λ wf. lawful-front r.reads r.state (drill r.reads r.fates r.state).0 r.shown (r.unwritten ++ f.0)
-    (all-lawful r.reads r.fates r.state wf is.slots is.from_one (fit_script _ r.reads (r.given).read)).lawful (sym f.1))
+    let fit = fit_script _ r.reads (r.given).read in
+    ∥∥₁_map is.formed (λ wf. (
+      lawful-front r.reads r.state (drill r.reads r.fates r.state).0 r.shown (r.unwritten ++ f.0) (all-lawful r.reads r.fates r.state wf is.slots is.from_one fit).lawful (sym f.1),
+      λ v o n. run-in-order r.state wf is.slots is.from_one v o r.reads r.fates fit n,
+    ))
 
 cut-lawful : (most : ℕ) (w : Outside) (c : IsCut most w) → CutIsLawful most w c
 cut-lawful most w (inl part) = part-lawful most w part.0 part.1

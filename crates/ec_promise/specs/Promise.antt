@@ -1,6 +1,6 @@
 -- What a drill promises of the lines that it wrote: they stand in one legal history of one uncached volume. It's told by the lines, the script and the
 -- volumes of the disk alone.
-use Rattle.std.specs.Prelude.{◌≡◌, ◌≤◌, ◌+◌, ◌⊎◌, ℕ, List, [], ◌++◌, length, take, ⊤}
+use Rattle.std.specs.Prelude.{◌≡◌, ◌≤◌, ◌+◌, ℕ, List, [], ◌++◌, length, take, Ok, ⊤}
 use Rattle.std.proofs.Common.{inl, inr}
 use Rattle.ec_volume.specs.Volume.{Fits, WellFormed, images}
 use Rattle.ec_history.specs.History.{Base, kept, updates}
@@ -11,9 +11,12 @@ use Rattle.ec_base.specs.Limits.{clerk_count}
 use Rattle.ec_volume.specs.declared.image.Image.TheVariants.{Gone}
 use Rattle.ec_durable.specs.WellFormed as states
 use Rattle.ec_durable.specs.declared.state.Durable.{Durable}
-use Rattle.ec_protocol.specs.Drill.{Read, Fates, drill}
+use Rattle.ec_protocol.specs.Drill.{Read, Fates, bound, drill, run_from}
+use Rattle.ec_protocol.specs.World.{open_world}
+use Rattle.ec_protocol.specs.declared.world.World.{World}
 use Rattle.ec_headline.specs.Headline.{AreEndsAsked, ArePieces, FrontsAreLawful, InScript, IsGreatest, Lines, Pieces, joined, placed_on}
 use Rattle.ec_steps.specs.Drills.{AreFit, lines_in}
+use Rattle.ec_reached.specs.Reached.{IsInOrder}
 use Rattle.ec_drill.specs.Drill.{Outside, Drilled, IsCut, IsCutClean, IsToldAll, RanWhole, RanInPart, state_after}
 use Rattle.ec_drill.specs.declared.status.Status.{Status}
 use Rattle.ec_drill.specs.declared.status.Status.TheVariants as status
@@ -64,15 +67,19 @@ pub record AreStoredOn (reads : List Read) (state end : Durable) (shown : List S
   pub formed : WellFormed (images end.volume)
   pub stored : IsStored (base_on state whole.lawful.top) whole.lawful.told (images end.volume)
 
+-- On the way the world of the run was in order behind each of the first lines, and so between any two: coherent, with lawful lines, and with what is kept fitting.
+abbrev pub AreInOrder : List Read → List Fates → Durable → Type 0
+AreInOrder reads fates state = (w : World) → open_world state ≡ Ok w → (n : ℕ) → IsInOrder (images state.volume) state.max_objects (run_from (bound reads) 1 (take n reads) fates w).world
+
 -- Where it's known what the disk did: of a run that ended by itself, also of one that a spent counter ended, and of one that was cut off.
 abbrev pub WholeIsLawful : (most number : ℕ) (w : Outside) → RanWhole most number w → Type 0
-WholeIsLawful most number w r = IsToldAll w → ∥ AreStoredOn r.reads r.state (state_after r.reads r.fates r.state) r.shown ∥₁
+WholeIsLawful most number w r = IsToldAll w → ∥ AreStoredOn r.reads r.state (state_after r.reads r.fates r.state) r.shown × AreInOrder r.reads r.fates r.state ∥₁
 
 abbrev pub SpentIsLawful : (most number : ℕ) (w : Outside) → RanWhole most number w → Type 0
-SpentIsLawful most number w r = IsToldAll w → ∥ AreWholeOn r.reads r.state r.shown ∥₁
+SpentIsLawful most number w r = IsToldAll w → ∥ AreWholeOn r.reads r.state r.shown × AreInOrder r.reads r.fates r.state ∥₁
 
 abbrev pub PartIsLawful : (most : ℕ) (w : Outside) (last : List ℕ) → RanInPart most w last → Type 0
-PartIsLawful most w last r = IsToldAll w → ∥ AreLawfulOn r.reads r.state r.shown ∥₁
+PartIsLawful most w last r = IsToldAll w → ∥ AreLawfulOn r.reads r.state r.shown × AreInOrder r.reads r.fates r.state ∥₁
 
 abbrev pub CutIsLawful : (most : ℕ) (w : Outside) → IsCut most w → Type 0
 CutIsLawful most w (inl part) = PartIsLawful most w part.0 part.1
@@ -100,4 +107,4 @@ IsLawful most status.BadDisk w d = ⊤
 -- Of the machine: the lines of each drill over a script, on a disk that stands for a well-formed state, are lawful, and stored where no spent counter ended it.
 abbrev pub DrillsAreLawful : Type 0
 DrillsAreLawful = (reads : List Read) (fates : List Fates) (d : Durable) → WholeState d → AreFit reads
-    → AreWholeOn reads d (drill reads fates d).0 × (((drill reads fates d).1 ≡ 15 → ⊥) → AreStoredOn reads d (state_after reads fates d) (drill reads fates d).0)
+    → AreWholeOn reads d (drill reads fates d).0 × (((drill reads fates d).1 ≡ 15 → ⊥) → AreStoredOn reads d (state_after reads fates d) (drill reads fates d).0) × AreInOrder reads fates d
