@@ -1,5 +1,5 @@
 -- How a step ends, for the answers of the node's functions.
-use Rattle.std.proofs.Common.{◌≡◌, ℕ, List, [], ◌∷◌, ◌++◌, ◌⊎◌, Bool, true, false, map, take, Option, None, Some, Result, Ok, Err, MatchBool, IfSome, ap, ◌∙◌, sym, subst, inl, inr}
+use Rattle.std.proofs.Common.{◌≡◌, ℕ, List, [], ◌⊎◌, Bool, true, false, map, take, Option, None, Some, MatchBool, IfSome, ap, ◌∙◌, subst, inl, inr}
 use Rattle.ec_base.specs.declared.ids.Age.{Age}
 use Rattle.ec_protocol.specs.declared.clerk.Out.{Out}
 use Rattle.ec_link.specs.declared.link.Sent.{Sent}
@@ -7,7 +7,7 @@ use Rattle.ec_link.specs.Links.{added}
 use Rattle.ec_clerknode.specs.declared.fault.NodeFault.{NodeFault}
 use Rattle.ec_clerknode.specs.Run.{encoded, sends}
 use Rattle.ec_clerknode.specs.declared.fault.NodeFault.TheVariants as fault
-use Rattle.ec_clerknode.specs.Closed.{IsMark, Stops, EndsAs}
+use Rattle.ec_clerknode.specs.Closed.{IsMark, Stops}
 
 pub kept_or : {X : Type 0} (r : Bool) (new more : List X) → MatchBool r (new ≡ more) (new ≡ []) → (new ≡ more) ⊎ (new ≡ [])
 kept_or true new more h = inl h

@@ -5,3 +5,5 @@ pub mod Ends
 pub mod Acts
 pub mod Nodes
 pub mod Turns
+pub mod LaneCalls
+pub mod LanePasses

@@ -1,5 +1,5 @@
 -- Beginnings of a list, what stands at a place, and steps by the number of their pass.
-use Rattle.std.proofs.Common.{◌≡◌, ◌≤◌, ◌⊎◌, ℕ, zero, suc, Bool, true, false, cond, List, [], ◌∷◌, ◌++◌, length, Option, Some, slice_get, refl, ap, sym, ◌∙◌, subst, inl, inr, ⊎_elim, arith, append_assoc, length-append}
+use Rattle.std.proofs.Common.{◌≡◌, ◌≤◌, ◌⊎◌, ℕ, zero, suc, Bool, true, false, cond, List, [], ◌∷◌, ◌++◌, length, Option, Some, slice_get, refl, ap, sym, ◌∙◌, inl, inr, ⊎_elim, arith, append_assoc, length-append}
 use mathlib.Core.List.{IsPrefix}
 use Rattle.ec_lock.specs.Steps.{Member, Distinct, is_number, of}
 

@@ -6,10 +6,9 @@ use Rattle.std.proofs.lemmas.List.Elements.{All-nil}
 use Rattle.ec_base.specs.declared.ids.Age.{Age}
 use Rattle.ec_log.specs.declared.state.Asked.{Asked}
 use Rattle.ec_plain.specs.declared.call.Call.{Call}
-use Rattle.ec_protocol.specs.declared.clerk.Clerk.{Clerk}
 use Rattle.ec_protocol.specs.declared.clerk.Flushed.{Flushed}
 use Rattle.ec_link.specs.Links.{Heard, added}
-use Rattle.ec_lock.specs.Passes.{first, front, numbers, raised, answered, IsPassOf, Same, Marked}
+use Rattle.ec_lock.specs.Passes.{first, front, raised, IsPassOf, Same, Marked}
 use Rattle.ec_lock.specs.Steps.{of}
 use Rattle.ec_lock.specs.declared.types.Pass.{Pass}
 use Rattle.ec_lock.specs.declared.types.TracedLock.{TracedLock}
@@ -22,7 +21,7 @@ use Rattle.ec_clerknode.specs.Folded.{answer_to}
 use Rattle.ec_clerknode.specs.Run.{Reply, told_by, heard_by, said_by, nets, call_of, calls, marks, mark_of_deed, mark_of_end, Among, IsRun, leads, highest, old_boot}
 use Rattle.ec_clerknode.specs.Node.{Since, By, AnsweredAt, AnsweredFrom}
 use Rattle.ec_clerknode.specs.Closed.{More, Caused, Fails, Begun, Works, Flushes, ReadsFlushes, Started, Waited}
-use Rattle.ec_clerknode.specs.Turns.{number_of, calls_by, Replied, Failed, Worked, Goes, Stays, Turned, Pending, Starts, Waits, PickedLast, Asks, FlushTurned, Finished}
+use Rattle.ec_clerknode.specs.Turns.{number_of, calls_by, Replied, Failed, Worked, Stays, Turned, Pending, Starts, Waits, PickedLast, Asks, FlushTurned, Finished}
 use Rattle.ec_clerknode.proofs.Lists.{prefix_trans, prefix_length, prefix_get, get_last, of-append}
 use Rattle.ec_clerknode.proofs.Each.{each-append}
 use Rattle.ec_clerknode.proofs.Told.{added-nil}
@@ -172,7 +171,7 @@ module _ {L : Type 0} where
             (
               calls_then (own_step.1 ∷ []) more ∙ ap (λ l. calls_by pass before ++ l) (append-nil (call_of own_step.1.deed) ∙ one),
               omega arith,
-              (own_step.1, own_step.0, ap (slice_get after) place ∙ (ap (λ l. slice_get l (length v.trace.items)) long ∙ get_last v.trace.items own_step.1), own_step.3, own_step.2),
+              (own_step.1, own_step.0, ap (slice_get after) place ∙ (ap (λ l. slice_get l (length v.trace.items)) long ∙ get_last v.trace.items own_step.1), own_step.3, own_step.2, more.1.0),
             ),
             sym boot_is ∙ b.0.0,
             subst (λ l. IfSome r.2 (λ a. AnsweredFrom l r.1 r.0 a)) is (b.2 first sv),
@@ -253,7 +252,7 @@ module _ {L : Type 0} where
 -- a call that waits, over further turns
 module _ (pass mine : ℕ) (call : Call) (before now after : List Step) (number place : ℕ) (same : mine ≡ pass) (begins : IsPrefix before now) (goes : IsPrefix now after) (p : Pending pass call before now number place) where
   still_pending : calls_by mine after ≡ calls_by mine now → Pending pass call before after number place
-  still_pending e = (ap (λ n. calls_by n after) (sym same) ∙ (e ∙ (ap (λ n. calls_by n now) same ∙ p.0)), p.1, (p.2.0, p.2.1, prefix_get now after place p.2.0 goes p.2.2, p.2.3, p.2.4))
+  still_pending e = (ap (λ n. calls_by n after) (sym same) ∙ (e ∙ (ap (λ n. calls_by n now) same ∙ p.0)), p.1, (p.2.0, p.2.1, prefix_get now after place p.2.0 goes p.2.2, p.2.3, p.2.4, p.2.5))
 
   pub pending_ok : {A : Type 0} (r : A × Option Reply) → Waits mine now after number place (Ok r) → Pending pass call before after number place
   pending_ok r w = still_pending w.0.0

@@ -4,3 +4,5 @@ pub mod Node
 pub mod Closed
 pub mod Floors
 pub mod Turns
+pub mod Lanes
+pub mod Jobs

@@ -1,5 +1,5 @@
 -- What the value behind the lock says of its list of steps.
-use Rattle.std.specs.Prelude.{◌≡◌, ℕ, ◌+◌, ◌≤◌, false, List, [], ◌∷◌, ◌++◌, length, Option, Some, slice_get}
+use Rattle.std.specs.Prelude.{◌≡◌, ℕ, ◌+◌, ◌≤◌, false, List, [], ◌∷◌, length, Option, Some, slice_get}
 use Rattle.std.specs.List.{All}
 use Rattle.ec_link.specs.Links.{Heard, added}
 use Rattle.ec_clerknode.specs.declared.step.Step.{Step}

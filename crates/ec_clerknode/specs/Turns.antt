@@ -46,14 +46,14 @@ module _ {L : Type 0} where
     pub marked : Marked old (highest (front new))
     pub raises : highest (front new) ≤ raised new
 
--- the step at this place began the call with this number
-abbrev pub BeganAt : List Step → ℕ → Call → ℕ → Type 0
-BeganAt steps at call number = (s : Step) × (shot : Snapshot Call) × (slice_get steps at ≡ Some s) × (s.deed ≡ Began shot number) × (shot.value ≡ call)
+-- the step at this place is the pass's, and began the call with this number
+abbrev pub BeganAt : ℕ → List Step → ℕ → Call → ℕ → Type 0
+BeganAt pass steps at call number = (s : Step) × (shot : Snapshot Call) × (slice_get steps at ≡ Some s) × (s.deed ≡ Began shot number) × (shot.value ≡ call) × (s.pass ≡ pass)
 
 -- behind the old front stand the call and its answer, and the pass has begun nothing else
 abbrev pub Replied : ℕ → Call → List Step → List Step → Reply → Type 0
 Replied pass call before after reply = (calls_by pass after ≡ calls_by pass before ++ call ∷ [])
-    × ((number : ℕ) × (at : ℕ) × (from : ℕ) × (length before ≤ at) × (at ≤ from) × BeganAt after at call number × AnsweredAt after from number reply)
+    × ((number : ℕ) × (at : ℕ) × (from : ℕ) × (length before ≤ at) × (at ≤ from) × BeganAt pass after at call number × AnsweredAt after from number reply)
     × (old_boot after ≡ None)
 
 -- these calls were begun or none, and the fault has its cause behind the old front, in steps of this pass
@@ -90,7 +90,7 @@ Asks c pass asked before after (Err f) = FlushTurned c pass asked before after (
 
 -- a call is begun behind the old front, at this place and with this number
 abbrev pub Pending : ℕ → Call → List Step → List Step → ℕ → ℕ → Type 0
-Pending pass call before after number place = (calls_by pass after ≡ calls_by pass before ++ call ∷ []) × (length before ≤ place) × BeganAt after place call number
+Pending pass call before after number place = (calls_by pass after ≡ calls_by pass before ++ call ∷ []) × (length before ≤ place) × BeganAt pass after place call number
 
 abbrev pub Starts : ℕ → Call → List Step → List Step → Result (ℕ × ℕ × Option Reply) NodeFault → Type 0
 Starts pass call before after (Ok r) = Pending pass call before after r.0 r.1 × (old_boot after ≡ None) × IfSome r.2 (λ a. AnsweredFrom after r.1 r.0 a)

@@ -1,11 +1,14 @@
-//! A clerk and its link behind a lock, which several threads share.
+//! A clerk and its link behind a lock, which several threads share, and lanes of calls that run over it.
 #![tactic(auto)]
 
 mod act;
 mod clerk;
 mod fault;
 mod hear;
+mod jobs;
 mod kept;
+mod lane;
+mod lanes;
 mod node;
 mod passes;
 mod shared;
@@ -13,6 +16,8 @@ mod state;
 mod step;
 
 pub use fault::NodeFault;
+pub use lane::{Gate, Reply};
+pub use lanes::{run_lane_ops, run_lanes};
 pub use shared::SharedClerk;
 pub use state::Node;
 pub use step::{Deed, Step};

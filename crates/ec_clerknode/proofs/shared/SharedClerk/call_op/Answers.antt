@@ -1,4 +1,4 @@
-use Rattle.std.proofs.Common.{◌+◌, Ok, ◌∙◌, subst, rules}
+use Rattle.std.proofs.Common.{◌+◌, Ok, subst, rules}
 use Rattle.ec_lock.specs.Passes.{front}
 use Rattle.ec_clerknode.specs.Turns.{Waits}
 use Rattle.ec_clerknode.proofs.Turns.{turned_both, pending_ok, replied, failed_later}

@@ -1,6 +1,5 @@
 use Rattle.std.proofs.Common.{◌+◌, sym, ap, ◌∙◌, subst}
 use mathlib.Core.List.{IsPrefix}
-use Rattle.ec_lock.specs.Passes.{first, front}
 use Rattle.ec_lock.specs.Steps.{of}
 use Rattle.ec_clerknode.specs.Run.{old_boot}
 use Rattle.ec_clerknode.specs.Turns.{number_of}

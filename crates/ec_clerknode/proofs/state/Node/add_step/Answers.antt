@@ -1,8 +1,5 @@
-use Rattle.std.proofs.Common.{◌≡◌, ◌⊎◌, [], ◌++◌, map, refl, sym, ap, ◌∙◌, subst, rules}
+use Rattle.std.proofs.Common.{refl, rules}
 use Rattle.ec_clerknode.specs.declared.step.Step.{Step}
-use Rattle.ec_clerknode.specs.Node.{kept_at}
-use Rattle.ec_clerknode.specs.Run.{answers}
-use Rattle.ec_clerknode.proofs.Ends.{kept_or, got_said}
 use Rattle.ec_clerknode.proofs.state.Node.add_step.Goals as goal
 
 pub returns : goal.returns

@@ -1,4 +1,4 @@
-use Rattle.std.proofs.Common.{◌+◌, ◌∙◌, refl, arith}
+use Rattle.std.proofs.Common.{◌+◌, refl, arith}
 use Rattle.ec_clerknode.proofs.Acts.{left}
 use Rattle.ec_clerknode.proofs.Nodes.{follows_alone, down}
 use Rattle.ec_clerknode.proofs.state.Node.bye.Goals as goal

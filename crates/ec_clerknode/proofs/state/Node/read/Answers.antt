@@ -1,7 +1,6 @@
-use Rattle.std.proofs.Common.{◌+◌, ◌≤◌, None, Some, ◌∙◌, ap, subst, arith}
-use Rattle.ec_link.specs.Links.{added, fault_of, close_of}
+use Rattle.std.proofs.Common.{◌+◌, None, Some, ◌∙◌, ap, subst}
+use Rattle.ec_link.specs.Links.{added}
 use Rattle.ec_clerknode.specs.Closed.{Hears}
-use Rattle.ec_clerknode.specs.Run.{net_of}
 use Rattle.ec_clerknode.proofs.Nodes.{follows, read_none, down, counts_more, counts_up}
 use Rattle.ec_clerknode.proofs.state.Node.read.Goals as goal
 

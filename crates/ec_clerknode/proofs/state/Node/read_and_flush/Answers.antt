@@ -1,4 +1,4 @@
-use Rattle.std.proofs.Common.{◌+◌, rules}
+use Rattle.std.proofs.Common.{rules}
 use Rattle.ec_clerknode.proofs.Turns.{fails_both}
 use Rattle.ec_clerknode.proofs.state.Node.read_and_flush.Goals as goal
 

@@ -1,4 +1,4 @@
-use Rattle.std.proofs.Common.{◌+◌, refl, sym, subst}
+use Rattle.std.proofs.Common.{◌+◌, refl}
 use Rattle.ec_clerknode.proofs.Nodes.{begun_same, answer_then}
 use Rattle.ec_clerknode.proofs.state.Node.start_call.Goals as goal
 
