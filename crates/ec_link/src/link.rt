@@ -1,5 +1,5 @@
 // One end of a link, with its counts and, where it tells them, the bodies that it gave and got.
-ghost use Rattle.std.specs.Prelude.{◌≡◌, ℕ, ◌+◌, ◌≤◌, List, Option};
+ghost use Rattle.std.specs.Prelude.{◌≡◌, ℕ, ◌+◌, ◌≤◌, Bool, List, Option};
 ghost use Rattle.ec_frame.specs.Frames.{IsBody};
 ghost use Rattle.ec_link.specs.declared.link.Sent.TheVariants as sent;
 ghost use Rattle.ec_link.specs.Links.{Heard, failed, fault_of, close_of, heard, carried, added, Reads};
@@ -52,6 +52,9 @@ pub trait Link {
     // The bytes that were read from the other end and are not given yet.
     ghost held: { Self → List ℕ };
 
+    // Whether it keeps back nothing of what it got.
+    ghost clear: { Self → Bool };
+
     /// Hands a body of at most 1,048,576 bytes to the other end.
     fn send<R: Wait + Clock>(&mut self, rt: &R, body: &[u8]) -> Sent
         ensures faults { faults self.old + failed result ≤ faults self.new }
@@ -68,6 +71,11 @@ pub trait Link {
         ensures given { given self.new ≡ added (given self.old) (heard result) }
         ensures got { got self.new ≡ got self.old }
         ensures read { Reads (held self.old) (held self.new) result };
+
+    /// Whether it keeps back nothing of what it got, so that a further body has room. Where the other end takes nothing, a link may keep back
+    /// what it gets, and a `recv` hands on what is taken then.
+    fn is_clear(&self) -> bool
+        ensures { result ≡ clear self.now };
 
     /// What threads wait on for this link. It rings whenever `recv` may have something new.
     fn bell<R: Around>(&mut self, rt: &R) -> Result<Self::Bell, NetFault>

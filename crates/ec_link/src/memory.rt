@@ -201,7 +201,7 @@ impl MemLink {
 impl Link for MemLink {
     type Bell = MemBell;
 
-    ghost use Rattle.std.specs.Prelude.{Some};
+    ghost use Rattle.std.specs.Prelude.{Some, true};
     ghost use Rattle.ec_link.specs.Happenings.{faults_in, closes_in, given_in, got_in};
 
     ghost faults = { λ link. faults_in link.happened };
@@ -213,6 +213,8 @@ impl Link for MemLink {
     ghost got = { λ link. Some (got_in link.happened) };
 
     ghost held = { λ link. link.frames.left };
+
+    ghost clear = { λ link. true };
 
     fn send<R: Wait + Clock>(&mut self, rt: &R, body: &[u8]) -> Sent {
         if self.fails_now() {
@@ -236,6 +238,11 @@ impl Link for MemLink {
             }
         }
         unreachable!()
+    }
+
+    // The other end's line has room for all.
+    fn is_clear(&self) -> bool {
+        true
     }
 
     fn bell<R: Around>(&mut self, _rt: &R) -> Result<MemBell, NetFault> {

@@ -224,6 +224,7 @@ impl Link for TcpLink {
 
     ghost use Rattle.std.specs.Prelude.{Some};
     ghost use Rattle.ec_link.specs.Happenings.{faults_in, closes_in, given_in, got_in};
+    ghost use Rattle.ec_link.specs.Tcp.{has_sent_all};
 
     ghost faults = { λ link. faults_in link.happened };
 
@@ -234,6 +235,8 @@ impl Link for TcpLink {
     ghost got = { λ link. Some (got_in link.happened) };
 
     ghost held = { λ link. link.frames.left };
+
+    ghost clear = { has_sent_all };
 
     fn send<R: Wait + Clock>(&mut self, rt: &R, body: &[u8]) -> Sent {
         match frame(self.alloc, body) {
@@ -254,6 +257,10 @@ impl Link for TcpLink {
             }
         }
         unreachable!()
+    }
+
+    fn is_clear(&self) -> bool {
+        self.unsent.is_empty()
     }
 
     fn bell<R: Around>(&mut self, rt: &R) -> Result<TcpBell, NetFault> {

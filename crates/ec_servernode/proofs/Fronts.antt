@@ -1,0 +1,75 @@
+-- Passes of the lock, the value that it's made with, and what is handed back.
+use Rattle.std.proofs.Common.{◌≡◌, ℕ, ◌<◌, ◌⊎◌, false, List, [], length, Some, None, sym, refl, ap, ◌∙◌, subst, ⊎_elim, arith}
+use mathlib.Core.List.{IsPrefix}
+use Rattle.ec_base.specs.Limits.{clerk_count}
+use Rattle.ec_disk.specs.Disk.{Counts}
+use Rattle.ec_durable.specs.declared.state.Durable.{Durable}
+use Rattle.ec_durable.specs.declared.record.Record.{Record}
+use Rattle.ec_server.specs.Servers.{StandsOn}
+use Rattle.ec_lock.specs.Passes.{first, front, IsPassOf, Reached, Same}
+use Rattle.ec_lock.specs.Steps.{of}
+use Rattle.ec_lock.specs.declared.types.Pass.{Pass}
+use Rattle.ec_lock.specs.declared.types.TracedLock.{TracedLock}
+use Rattle.ec_servernode.specs.declared.step.Step.{Step}
+use Rattle.ec_servernode.specs.declared.state.Node.{Node}
+use Rattle.ec_servernode.specs.Run.{number_of, last_hello, clerk_by, leads, records, halted, box_from, owner, IsRun}
+use Rattle.ec_servernode.specs.Node.{queue_at, owner_at, Chain, CountsUp, state_of, Since}
+use Rattle.ec_servernode.specs.Turns.{More, RunsFrom, IsServerPass, Finished}
+use Rattle.ec_servernode.proofs.Lists.{prefix_trans}
+use Rattle.ec_servernode.proofs.Runs.{no_run}
+use Rattle.ec_servernode.proofs.Counts.{no_halt_up}
+
+pub goes : {K : Type 0} (pass : ℕ) (before after : List Step) (v w : Node K) → IsPrefix before v.trace.items → (more : List Step) × More pass v w more → after ≡ w.trace.items → IsPrefix before after
+goes pass before after v w later m is = subst (IsPrefix before) (sym is) (prefix_trans before v.trace.items w.trace.items later (m.0, sym m.1.0))
+
+pub same_both : {V S : Type 0} (a b c : Pass V S) → Same a b → Same b c → Same a c
+same_both a b c p q = (q.0 ∙ p.0, q.1 ∙ p.1, q.2 ∙ p.2, q.3 ∙ p.3)
+
+pub either : {A : Type 0} (P : A → Type 0) (f g h : A) → (h ≡ f) ⊎ (h ≡ g) → P f → P g → P h
+either P f g h e p q = ⊎_elim (λ (x : h ≡ f). subst P (sym x) p) (λ (x : h ≡ g). subst P (sym x) q) e
+
+module _ {K : Type 0} (kept : K → Durable) (lock : TracedLock (Node K) Step) where
+  -- a pass whose front has grown by steps of others
+  pub still : (old new : Pass (Node K) Step) (clerk : ℕ) → IsServerPass kept lock old clerk → IsPassOf lock new → new.number ≡ old.number → RunsFrom kept (first lock) (front new) → of number_of old.number (front old) ≡ of number_of old.number (front new)
+      → IsServerPass kept lock new clerk
+  still old new clerk p is number run own = record {
+    is_pass = is;
+    run = run;
+    clerk_is = p.clerk_is ∙ (ap (last_hello 0) own ∙ ap (λ n. clerk_by n (front new)) (sym number));
+    below = p.below;
+  }
+
+  -- a pass that has made no step
+  pub begins_as : (new : Pass (Node K) Step) (clerk : ℕ) (steps : List Step) → IsPassOf lock new → front new ≡ steps → RunsFrom kept (first lock) steps → of number_of new.number steps ≡ [] → clerk ≡ 0 → IsServerPass kept lock new clerk
+  begins_as new clerk steps is list run none e = record {
+    is_pass = is;
+    run = subst (RunsFrom kept (first lock)) (sym list) run;
+    clerk_is = e ∙ sym (ap (clerk_by new.number) list ∙ ap (last_hello 0) none);
+    below = subst (λ n. n < clerk_count) (sym e) (omega arith);
+  }
+
+module _ {K : Type 0} (kept : K → Durable) (counts : K → Counts) (did : K → Record → K → Type 0) where
+  pub reached_run : (start : Node K) (steps : List Step) → Reached (λ (n : Node K). n.trace.items) (Since kept counts did) start steps → RunsFrom kept start steps
+  reached_run start steps r = subst (RunsFrom kept start) r.2 r.1.run
+
+  -- the value that a lock is made with
+  pub begins : (n : Node K) → n.trace.items ≡ [] → n.steps ≡ 0 → n.halt ≡ None → StandsOn (kept n.keeper) n.server → length n.boxes.items ≡ clerk_count → ((c : ℕ) → owner_at n.boxes.items c ≡ None) → Since kept counts did n n
+  begins n list steps halt stands sized owners = record {
+    run = subst (IsRun (state_of kept n) (queue_at n.boxes.items)) (sym list) (no_run (state_of kept n) (queue_at n.boxes.items));
+    counted = steps ∙ sym (ap length list);
+    leads_to = λ up. ap (leads (state_of kept n)) list;
+    stands = stands;
+    chain = λ up. subst (λ l. Chain did (records l) n.keeper n.keeper) (sym list) refl;
+    sized = sized;
+    boxes = λ up c le. sym (ap (box_from c (queue_at n.boxes.items c)) list);
+    owners = λ up c le. owners c ∙ sym (ap (owner c) list);
+    halt_is = halt ∙ sym (ap halted list);
+    counted_up = subst (λ h. CountsUp h (counts n.keeper) (counts n.keeper)) (sym (ap halted list)) (no_halt_up (counts n.keeper));
+  }
+
+  module _ (start v : Node K) (steps : List Step) (is : steps ≡ v.trace.items) (s : Since kept counts did start v) where
+    pub finished_none : Finished kept counts did start steps None v.keeper
+    finished_none = subst (λ l. CountsUp (halted l) (counts start.keeper) (counts v.keeper)) (sym is) s.counted_up
+
+    pub finished_some : v.broken ≡ false → Finished kept counts did start steps (Some v.server) v.keeper
+    finished_some up = (ap (leads (state_of kept start)) is ∙ s.leads_to up, subst (λ l. Chain did (records l) start.keeper v.keeper) (sym is) (s.chain up), finished_none)

@@ -1,0 +1,228 @@
+-- From one turn at the lock to what the pass knows.
+use Rattle.std.proofs.Common.{◌≡◌, ℕ, ◌+◌, ◌≤◌, ◌<◌, ◌⊎◌, Bool, true, false, List, [], ◌∷◌, ◌++◌, Option, Some, None, Result, Ok, Err, MatchResult, IfOk, IfErr, sym, refl, ap, ◌∙◌, subst, inl, inr, ⊎_elim, arith, append_assoc, append-nil}
+use mathlib.Core.List.{IsPrefix}
+use Rattle.ec_base.specs.Limits.{clerk_count}
+use Rattle.ec_disk.specs.Disk.{Counts}
+use Rattle.ec_wire.specs.Codes.{said, msg_code, Answers}
+use Rattle.ec_wire.specs.declared.msg.Msg.{Msg}
+use Rattle.ec_wire.specs.declared.fault.WireFault.{WireFault}
+use Rattle.ec_wire.specs.declared.fault.WireFault.TheVariants as wire
+use Rattle.ec_durable.specs.declared.state.Durable.{Durable}
+use Rattle.ec_durable.specs.declared.record.Record.{Record}
+use Rattle.ec_link.specs.declared.link.Got.TheVariants as got
+use Rattle.ec_link.specs.Links.{Heard, Reads, added}
+use Rattle.ec_lock.specs.Passes.{first, front, IsPassOf}
+use Rattle.ec_lock.specs.Steps.{of}
+use Rattle.ec_lock.specs.declared.types.Pass.{Pass}
+use Rattle.ec_lock.specs.declared.types.TracedLock.{TracedLock}
+use Rattle.ec_servernode.specs.declared.step.Halt.{Halt}
+use Rattle.ec_servernode.specs.declared.step.Step.{Step}
+use Rattle.ec_servernode.specs.declared.state.Node.{Node}
+use Rattle.ec_servernode.specs.declared.fault.ServeFault.{ServeFault}
+use Rattle.ec_servernode.specs.declared.fault.ServeFault.TheVariants as fault
+use Rattle.ec_servernode.specs.declared.shared.Turned.{Turned}
+use Rattle.ec_servernode.specs.declared.shared.Turned.TheVariants as turned
+use Rattle.ec_servernode.specs.Run.{number_of, is_for, first_of, owner, box_from, halted, last_hello, clerk_by, sender}
+use Rattle.ec_servernode.specs.Node.{queue_at, owner_at, Since}
+use Rattle.ec_servernode.specs.Turns.{More, Takes, Gives, turned_of, peer_of, Adds, HearFails, TakesMessage, Looked, Hears, HasNone, HasNext, NextFails, GivesNext, GaveBody, GaveNone, ServeFails, Serves, RunsFrom, IsServerPass}
+use Rattle.ec_servernode.proofs.Lists.{of-append, of_others, none_more}
+
+-- only steps of the pass were added
+pub takes_more : {K A : Type 0} (pass : ℕ) (bytes : List ℕ) (v w : Node K) (r : Result A ServeFault) → Takes pass bytes v w r → (more : List Step) × More pass v w more
+takes_more pass bytes v w (Ok told) t = (t.0.0 ∷ [], t.0.1)
+takes_more pass bytes v w (Err fault.DiskFailed) t = (t.0 ∷ [], t.1)
+takes_more pass bytes v w (Err fault.DiskStopped) t = (t.0 ∷ [], t.1)
+takes_more pass bytes v w (Err (fault.Spent n)) t = (t.0 ∷ [], t.1)
+takes_more pass bytes v w (Err fault.Down) t = ([], t.0)
+takes_more pass bytes v w (Err fault.NoMemory) t = ([], t)
+takes_more pass bytes v w (Err fault.Net) t = absurd t
+takes_more pass bytes v w (Err (fault.Peer p)) t = absurd t
+takes_more pass bytes v w (Err (fault.Long n)) t = absurd t
+
+pub gives_more : {K L : Type 0} (faults : L → ℕ) (got_by : L → Option (List (List ℕ))) (pass clerk : ℕ) (v w : Node K) (before after : L) (r : Result Bool ServeFault) → Gives faults got_by pass clerk v w before after r → (more : List Step) × More pass v w more
+gives_more faults got_by pass clerk v w before after (Ok true) t = (t.0 ∷ [], t.2)
+gives_more faults got_by pass clerk v w before after (Ok false) t = ([], t.0)
+gives_more faults got_by pass clerk v w before after (Err fault.Net) t = ([], t.0.0)
+gives_more faults got_by pass clerk v w before after (Err fault.Down) t = ([], t.0.0)
+gives_more faults got_by pass clerk v w before after (Err fault.NoMemory) t = ([], t.0)
+gives_more faults got_by pass clerk v w before after (Err fault.DiskFailed) t = absurd t.0
+gives_more faults got_by pass clerk v w before after (Err fault.DiskStopped) t = absurd t.0
+gives_more faults got_by pass clerk v w before after (Err (fault.Spent n)) t = absurd t.0
+gives_more faults got_by pass clerk v w before after (Err (fault.Peer p)) t = absurd t.0
+gives_more faults got_by pass clerk v w before after (Err (fault.Long n)) t = absurd t.0
+
+pub own_only : {K : Type 0} (pass mine : ℕ) (before : List Step) (v w : Node K) → before ≡ v.trace.items → mine ≡ pass → (more : List Step) × More pass v w more → (n : ℕ) → ¬ (n ≡ mine) → of number_of n before ≡ of number_of n w.trace.items
+own_only pass mine before v w e same m n ne =
+    ap (of number_of n) e ∙ sym (ap (of number_of n) m.1.0 ∙ (of-append number_of n v.trace.items m.0 ∙ (ap (λ l. of number_of n v.trace.items ++ l) (of_others pass n m.0 m.1.1 (λ x. ne (x ∙ sym same))) ∙ append-nil (of number_of n v.trace.items))))
+
+pub grown : {K : Type 0} (pass : ℕ) (before : List Step) (v w : Node K) → before ≡ v.trace.items → (more : List Step) × More pass v w more → IsPrefix before w.trace.items
+grown pass before v w e m = (m.0, ap (λ l. l ++ m.0) e ∙ sym m.1.0)
+
+pub none_added : (pass : ℕ) (steps : List Step) → Adds pass steps steps []
+none_added pass steps = ([], append-nil steps, refl, tt)
+
+pub adds_longer : (pass : ℕ) (before after own : List Step) → Adds pass before after own → IsPrefix before after
+adds_longer pass before after own a = (a.0 ++ own, a.1)
+
+module _ {K : Type 0} (pass : ℕ) (before after : List Step) (v w : Node K) (later : IsPrefix before v.trace.items) (own : of number_of pass before ≡ of number_of pass v.trace.items) (is : w.trace.items ≡ after)
+    (halt_is : w.halt ≡ halted w.trace.items) where
+  adds : (more : List Step) → More pass v w more → Adds pass before after more
+  adds more m = (
+    later.0,
+    sym (append_assoc before later.0 more) ∙ (ap (λ l. l ++ more) later.1 ∙ (sym m.0 ∙ is)),
+    none_more number_of pass before later.0 v.trace.items later.1 own,
+    m.1,
+  )
+
+  halted_is : (h : Option Halt) → w.halt ≡ h → halted after ≡ h
+  halted_is h e = sym (halt_is ∙ ap halted is) ∙ e
+
+  -- nothing was done
+  pub looked_up : {A : Type 0} (otherwise : Result A ServeFault) → w.trace.items ≡ v.trace.items → w.halt ≡ None → Looked pass before after otherwise otherwise
+  looked_up otherwise same e = (adds [] (same ∙ sym (append-nil v.trace.items), tt), inl (refl, halted_is None e))
+
+  pub looked_down : {A : Type 0} (h : Halt) (otherwise : Result A ServeFault) → w.trace.items ≡ v.trace.items → w.halt ≡ Some h → Looked pass before after otherwise (Err fault.Down)
+  looked_down h otherwise same e = (adds [] (same ∙ sym (append-nil v.trace.items), tt), inr (refl, (h, halted_is (Some h) e)))
+
+  pub takes : {A : Type 0} (bytes : List ℕ) (r : Result A ServeFault) → Takes pass bytes v w r → TakesMessage pass bytes before after r
+  takes bytes (Ok told) t = ((t.0.0, adds (t.0.0 ∷ []) t.0.1, t.0.2), halted_is None t.1)
+  takes bytes (Err fault.DiskFailed) t = (t.0, adds (t.0 ∷ []) t.1, t.2)
+  takes bytes (Err fault.DiskStopped) t = (t.0, adds (t.0 ∷ []) t.1, t.2)
+  takes bytes (Err (fault.Spent n)) t = (t.0, adds (t.0 ∷ []) t.1, t.2)
+  takes bytes (Err fault.Down) t = (adds [] t.0, (t.1.0, halted_is (Some t.1.0) t.1.1))
+  takes bytes (Err fault.NoMemory) t = adds [] t
+  takes bytes (Err fault.Net) t = absurd t
+  takes bytes (Err (fault.Peer p)) t = absurd t
+  takes bytes (Err (fault.Long n)) t = absurd t
+
+  module _ {L : Type 0} (faults : L → ℕ) (got_by : L → Option (List (List ℕ))) (boxes : ℕ → List Msg) (clerk : ℕ) (below : clerk < clerk_count)
+      (boxes_are : w.broken ≡ false → (c : ℕ) → c < clerk_count → queue_at w.boxes.items c ≡ box_from c (boxes c) w.trace.items)
+      (owners_are : w.broken ≡ false → (c : ℕ) → c < clerk_count → owner_at w.boxes.items c ≡ owner c w.trace.items) (link mid : L) where
+    has_none : w.broken ≡ false → (queue_at w.boxes.items clerk ≡ []) ⊎ (is_for pass (owner_at w.boxes.items clerk) ≡ false) → HasNone boxes pass clerk after
+    has_none up h =
+        ⊎_elim (λ (e : queue_at w.boxes.items clerk ≡ []). inl (sym (boxes_are up clerk below ∙ ap (box_from clerk (boxes clerk)) is) ∙ e))
+        (λ (e : is_for pass (owner_at w.boxes.items clerk) ≡ false). inr (sym (ap (is_for pass) (owners_are up clerk below ∙ ap (owner clerk) is)) ∙ e)) h
+
+    has_next : w.broken ≡ false → is_for pass (owner_at w.boxes.items clerk) ≡ true → (m : Msg) × (first_of (queue_at w.boxes.items clerk) ≡ Some m) → HasNext boxes pass clerk after
+    has_next up mine next = (
+      sym (ap (is_for pass) (owners_are up clerk below ∙ ap (owner clerk) is)) ∙ mine,
+      (next.0, sym (ap first_of (boxes_are up clerk below ∙ ap (box_from clerk (boxes clerk)) is)) ∙ next.1),
+    )
+
+    gave_next : Gives faults got_by pass clerk v w link mid (Ok true) → GivesNext faults got_by boxes pass clerk before after link mid (Ok turned.Gave)
+    gave_next t = ((t.0, t.1, adds (t.0 ∷ []) t.2, t.3, t.4), halted_is None t.5)
+
+    gave_none : Gives faults got_by pass clerk v w link mid (Ok false) → GivesNext faults got_by boxes pass clerk before after link mid (Ok turned.Idle)
+    gave_none t = (adds [] t.0, has_none t.3 t.4, t.1, halted_is None t.2)
+
+    gave_not : (f : ServeFault) → Gives faults got_by pass clerk v w link mid (Err f) → GivesNext faults got_by boxes pass clerk before after link mid (Err f)
+    gave_not fault.Net t = ((adds [] t.0.0, t.0.1, has_next t.0.3 t.0.4 t.0.5, halted_is None t.0.2), t.1)
+    gave_not fault.Down t = ((adds [] t.0.0, (t.0.1.0, halted_is (Some t.0.1.0) t.0.1.1)), t.1)
+    gave_not fault.NoMemory t = (adds [] t.0, t.1)
+    gave_not fault.DiskFailed t = absurd t.0
+    gave_not fault.DiskStopped t = absurd t.0
+    gave_not (fault.Spent n) t = absurd t.0
+    gave_not (fault.Peer p) t = absurd t.0
+    gave_not (fault.Long n) t = absurd t.0
+
+    pub gives : (r : Result Bool ServeFault) → Gives faults got_by pass clerk v w link mid r → GivesNext faults got_by boxes pass clerk before after link mid (turned_of r)
+    gives (Ok true) t = gave_next t
+    gives (Ok false) t = gave_none t
+    gives (Err f) t = gave_not f t
+
+-- a body that is no message
+pub refused : (pass : ℕ) (bytes : List ℕ) (why : WireFault) (old new : List Step) (r : Result Turned ServeFault) → Answers (Err why) (said bytes) → Looked pass old new (Err (peer_of why)) r → Hears pass bytes old new r
+refused pass bytes why old new r is h =
+    ⊎_elim (λ (e : (r ≡ Err (peer_of why)) × (halted new ≡ None)). subst (Hears pass bytes old new) (sym e.0) (by why is h.0 e.1))
+    (λ (e : (r ≡ Err fault.Down) × ((why : Halt) × (halted new ≡ Some why))). subst (Hears pass bytes old new) (sym e.0) (h.0, e.1)) h.1
+  where
+    by : (w : WireFault) → Answers (Err w) (said bytes) → Adds pass old new [] → halted new ≡ None → HearFails pass bytes old new (peer_of w)
+    by wire.NoMemory is a none = a
+    by (wire.Short p) is a none = (a, is, none)
+    by (wire.Kind b) is a none = (a, is, none)
+    by (wire.Field p) is a none = (a, is, none)
+    by (wire.Trailing p) is a none = (a, is, none)
+
+pub peer_else : (w : WireFault) → (w ≡ wire.NoMemory → ⊥) → fault.Peer w ≡ peer_of w
+peer_else wire.NoMemory never = absurd (never refl)
+peer_else (wire.Short p) never = refl
+peer_else (wire.Kind b) never = refl
+peer_else (wire.Field p) never = refl
+peer_else (wire.Trailing p) never = refl
+
+-- What the link gave, and what was done with it.
+module _ {L : Type 0} (faults closes : L → ℕ) (given : L → Option (List Heard)) (got_by : L → Option (List (List ℕ))) (held : L → List ℕ) (clear : L → Bool) (boxes : ℕ → List Msg) (pass clerk : ℕ) (old new : List Step) (before after : L) where
+  hear_fails : (bytes : List ℕ) → GaveBody faults closes given got_by held before after bytes → (f : ServeFault) → HearFails pass bytes old new f → ServeFails faults closes given got_by held boxes pass clerk old new before after f
+  hear_fails bytes g (fault.Peer why) h = (h.0, (bytes, g, h.1), h.2)
+  hear_fails bytes g fault.DiskFailed h = (h.0, bytes, h.1, h.2, g)
+  hear_fails bytes g fault.DiskStopped h = (h.0, bytes, h.1, h.2, g)
+  hear_fails bytes g (fault.Spent n) h = (h.0, bytes, h.1, h.2, g)
+  hear_fails bytes g fault.Down h = (h.0, h.1, g.1)
+  hear_fails bytes g fault.NoMemory h = (h, g.1)
+  hear_fails bytes g fault.Net h = absurd h
+  hear_fails bytes g (fault.Long n) h = absurd h
+
+  pub heard_body : (bytes : List ℕ) (r : Result Turned ServeFault) → GaveBody faults closes given got_by held before after bytes → Hears pass bytes old new r → Serves faults closes given got_by held clear boxes pass clerk old new before after r
+  heard_body bytes (Ok (turned.Took told)) g h = ((h.0.0, bytes, h.0.1, h.0.2, g), h.1)
+  heard_body bytes (Ok turned.Gave) g h = absurd h
+  heard_body bytes (Ok turned.Idle) g h = absurd h
+  heard_body bytes (Ok turned.Busy) g h = absurd h
+  heard_body bytes (Ok turned.Closed) g h = absurd h
+  heard_body bytes (Err f) g h = hear_fails bytes g f h
+
+  pub looked : (otherwise r : Result Turned ServeFault) → got_by after ≡ got_by before → (Adds pass old new [] → halted new ≡ None → Serves faults closes given got_by held clear boxes pass clerk old new before after otherwise) → Looked pass old new otherwise r
+      → Serves faults closes given got_by held clear boxes pass clerk old new before after r
+  looked otherwise r same then h =
+      ⊎_elim (λ (e : (r ≡ otherwise) × (halted new ≡ None)). subst (Serves faults closes given got_by held clear boxes pass clerk old new before after) (sym e.0) (then h.0 e.1))
+      (λ (e : (r ≡ Err fault.Down) × ((why : Halt) × (halted new ≡ Some why))). subst (Serves faults closes given got_by held clear boxes pass clerk old new before after) (sym e.0) (h.0, e.1, same)) h.1
+
+  module _ (mid : L) (none : given mid ≡ added (given before) []) (reads : Reads (held before) (held mid) got.Nothing) (got_same : got_by mid ≡ got_by before) (faults_up : faults before ≤ faults mid)
+      (given_same : given after ≡ given mid) (held_same : held after ≡ held mid) where
+    is_none : GaveNone faults closes given got_by held before after
+    is_none = (given_same ∙ none, subst (λ l. Reads (held before) l got.Nothing) (sym held_same) reads)
+
+    next_fails : (f : ServeFault) → NextFails faults got_by boxes pass clerk old new mid after f × (got_by after ≡ got_by mid) → ServeFails faults closes given got_by held boxes pass clerk old new before after f
+    next_fails fault.Net h = let more = h.0.1 in (h.0.0, omega arith, h.1 ∙ got_same, inr (is_none, h.0.2), h.0.3)
+    next_fails fault.Down h = (h.0.0, h.0.1, h.1 ∙ got_same)
+    next_fails fault.NoMemory h = (h.0, h.1 ∙ got_same)
+    next_fails fault.DiskFailed h = absurd h.0
+    next_fails fault.DiskStopped h = absurd h.0
+    next_fails (fault.Spent n) h = absurd h.0
+    next_fails (fault.Peer p) h = absurd h.0
+    next_fails (fault.Long n) h = absurd h.0
+
+    pub heard_none : (r : Result Turned ServeFault) → GivesNext faults got_by boxes pass clerk old new mid after r → Serves faults closes given got_by held clear boxes pass clerk old new before after r
+    heard_none (Ok turned.Gave) h = ((h.0.0, h.0.1, h.0.2, h.0.3, h.0.4 ∙ ap (λ o. added o (msg_code.spell h.0.1 ∷ [])) got_same), is_none, h.1)
+    heard_none (Ok turned.Idle) h = (h.0, h.1, is_none, h.2 ∙ got_same, h.3)
+    heard_none (Ok (turned.Took told)) h = absurd h
+    heard_none (Ok turned.Busy) h = absurd h
+    heard_none (Ok turned.Closed) h = absurd h
+    heard_none (Err f) h = next_fails f h
+
+module _ {K : Type 0} (kept : K → Durable) (counts : K → Counts) (did : K → Record → K → Type 0) (lock : TracedLock (Node K) Step) where
+  -- a pass behind a turn
+  pub pass_is : (old new : Pass (Node K) Step) (clerk now : ℕ) (v w : Node K) → IsServerPass kept lock old clerk → IsPassOf lock new → new.number ≡ old.number → front new ≡ w.trace.items → of number_of old.number (front old) ≡ of number_of old.number v.trace.items
+      → Since kept counts did (first lock) w → now < clerk_count → (clerk ≡ clerk_by old.number v.trace.items → now ≡ clerk_by old.number w.trace.items) → IsServerPass kept lock new now
+  pass_is old new clerk now v w p is number list own since below next = record {
+    is_pass = is;
+    run = subst (RunsFrom kept (first lock)) (sym list) since.run;
+    clerk_is = next (p.clerk_is ∙ ap (last_hello 0) own) ∙ (ap (λ n. clerk_by n w.trace.items) (sym number) ∙ ap (clerk_by new.number) (sym list));
+    below = below;
+  }
+
+  pub since_of : (v : Node K) → Since kept counts did (first lock) v → (start : Node K) × Since kept counts did start v
+  since_of v s = (first lock, s)
+
+  -- the clerk of a message, by what the pass knows
+  pub from_is : (old : Pass (Node K) Step) (clerk from : ℕ) (m : Msg) (v : Node K) → IsServerPass kept lock old clerk → of number_of old.number (front old) ≡ of number_of old.number v.trace.items → from ≡ sender m clerk → from ≡ sender m (clerk_by old.number v.trace.items)
+  from_is old clerk from m v p own e = e ∙ ap (sender m) (p.clerk_is ∙ ap (last_hello 0) own)
+
+pub behind : {A : Type 0} (told : Result A ServeFault) (now from clerk before after : ℕ) → MatchResult told (λ _. now ≡ from) (λ _. now ≡ clerk) → IfOk told (λ _. after ≡ from) → IfErr told (λ _. after ≡ before) → clerk ≡ before → now ≡ after
+behind (Ok t) now from clerk before after m ok err e = m ∙ sym ok
+behind (Err f) now from clerk before after m ok err e = m ∙ (e ∙ sym err)
+
+pub grows : (a b n : ℕ) → a + n ≤ b → a ≤ b
+grows a b n h = omega arith
+
+pub grows_both : (a b m n : ℕ) → a + n ≤ b → b ≤ m → a ≤ m
+grows_both a b m n h up = omega arith

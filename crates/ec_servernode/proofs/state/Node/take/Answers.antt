@@ -1,0 +1,66 @@
+use Rattle.std.proofs.Common.{true, refl, sym, ◌∙◌, rules}
+use Rattle.ec_servernode.specs.declared.step.Deed.TheVariants.{Halted}
+use Rattle.ec_servernode.specs.declared.step.Step.{Step}
+use Rattle.ec_servernode.proofs.Nodes.{took, stopped, broke, halting}
+use Rattle.ec_servernode.proofs.Ends.{no_fault_up, same_clerk, next_clerk, no_more, grew_takes, stop_fails, check_takes}
+use Rattle.ec_servernode.proofs.state.Node.take.Goals as goal
+
+pub take-requires-clause-stands : goal.take-requires-clause-stands
+take-requires-clause-stands g c = c.requires.since.1.stands
+
+pub took-requires-clause-sized : goal.took-requires-clause-sized
+took-requires-clause-sized g c = c.requires.since.1.sized
+
+pub returns-in_err-check-clause-keeps : goal.returns-in_err-check-clause-keeps
+returns-in_err-check-clause-keeps g c first s = s
+
+pub returns-in_err-check-clause-takes : goal.returns-in_err-check-clause-takes
+returns-in_err-check-clause-takes g c =
+    let b = check_takes c.args.pass c.args.body.value.items c.args.self.now c.in_err-check.field-0.0 c.in_err-check.ensures.err in
+    search (rules, b)
+
+pub returns-in-Ok-clause-keeps : goal.returns-in-Ok-clause-keeps
+returns-in-Ok-clause-keeps g c =
+    took g.K.Keeper.kept g.K.Keeper.counts g.K.Keeper.did c.args.pass c.args.from c.args.body c.args.msg.now c.in-Ok.served c.args.self.now c.took.new.self c.take.new.server c.take.new.keeper
+    (record {
+      up = c.in_ok-check.ensures.ok.1;
+      none = c.in_ok-check.ensures.ok.0;
+      said_so = c.requires.said;
+      from = c.requires.from;
+      does = c.in-Ok.ensures.ok;
+      did_so = c.in-Ok.ensures.did;
+      counted = no_fault_up _ _ _ _ c.take.ensures.counts;
+      stands = c.take.ensures.stands;
+    })
+    c.took.ensures
+
+pub returns-in-Ok-clause-takes : goal.returns-in-Ok-clause-takes
+returns-in-Ok-clause-takes g c =
+    grew_takes c.args.pass c.args.from c.args.body c.args.msg.now c.in-Ok.served c.args.self.now c.took.new.self c.take.new.server c.take.new.keeper c.took.result c.in_ok-check.ensures.ok.0 c.took.ensures
+
+pub returns-in-Ok-clause-clerk : goal.returns-in-Ok-clause-clerk
+returns-in-Ok-clause-clerk g c = next_clerk c.args.pass c.args.from c.args.body c.args.msg.now c.in-Ok.served c.args.self.now c.took.new.self c.take.new.server c.take.new.keeper c.took.ensures c.requires.from
+
+pub returns-in-Some-clause-keeps : goal.returns-in-Some-clause-keeps
+returns-in-Some-clause-keeps g c =
+    stopped g.K.Keeper.kept g.K.Keeper.counts g.K.Keeper.did c.args.pass c.args.from c.args.body c.args.msg.now c.of.result c.in-Some.halt c.args.self.now c.stop.new.self c.take.new.server c.take.new.keeper c.of.ensures
+    (halting g.K.Keeper.kept g.K.Keeper.counts g.K.Keeper.did c.args.pass c.args.from c.args.body c.args.msg.now c.in-Err.fault c.in-Some.halt c.args.self.now c.take.new.server c.take.new.keeper c.take.result c.in_ok-check.ensures.ok.1 c.in_ok-check.ensures.ok.0
+    c.requires.said c.requires.from c.in-Err.is (sym c.halt_of.ensures ∙ c.in-Some.is) c.in-Err.ensures.err c.take.ensures.counts c.take.ensures.stands)
+    c.stop.ensures.stops
+
+pub returns-in-Some-clause-takes : goal.returns-in-Some-clause-takes
+returns-in-Some-clause-takes g c =
+    stop_fails c.args.pass c.args.from c.args.body c.of.result c.in-Some.halt c.args.self.now c.stop.new.self c.take.new.server c.take.new.keeper c.stop.result c.stop.ensures.result c.stop.ensures.stops
+
+pub returns-in-Some-clause-same_clerk : goal.returns-in-Some-clause-same_clerk
+returns-in-Some-clause-same_clerk g c =
+    let x : Step = record { pass = c.args.pass; deed = Halted c.args.from c.args.body c.of.result c.in-Some.halt } in
+    same_clerk c.args.pass c.args.self.now.trace.items c.stop.new.self.trace.items x c.stop.ensures.stops.list refl refl
+
+pub returns-in-None-clause-keeps : goal.returns-in-None-clause-keeps
+returns-in-None-clause-keeps g c =
+    broke g.K.Keeper.kept g.K.Keeper.counts g.K.Keeper.did c.args.self.now (record c.args.self.now { server = c.take.new.server; keeper = c.take.new.keeper; broken = true }) c.take.new.server c.take.new.keeper c.in_ok-check.ensures.ok.0
+    (no_fault_up _ _ _ _ c.take.ensures.counts) c.take.ensures.stands refl
+
+pub returns-in-None-clause-takes : goal.returns-in-None-clause-takes
+returns-in-None-clause-takes g c = no_more c.args.pass c.args.self.now (record c.args.self.now { server = c.take.new.server; keeper = c.take.new.keeper; broken = true }) refl

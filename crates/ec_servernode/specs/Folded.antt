@@ -1,0 +1,9 @@
+-- The server's step, by the function of the protocol. It stays folded: what stands above needs no more than that it's a function.
+use Rattle.std.specs.Prelude.{ℕ}
+use Rattle.ec_wire.specs.declared.msg.Msg.{Msg}
+use Rattle.ec_protocol.specs.Server as protocol
+use Rattle.ec_protocol.specs.Server.{Serving}
+use Rattle.ec_protocol.specs.declared.server.Server.{Server}
+
+unfoldable pub taken : ℕ → Msg → Server → Serving
+taken c m s = protocol.take c m s

@@ -1,0 +1,6 @@
+pub mod Folded
+pub mod Run
+pub mod Node
+pub mod Steps
+pub mod Turns
+pub mod Floors

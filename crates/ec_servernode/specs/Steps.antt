@@ -1,0 +1,55 @@
+-- What the parts of a turn make of the value.
+use Rattle.std.specs.Prelude.{◌≡◌, ℕ, ◌+◌, ◌<◌, Bool, true, false, not, [], ◌∷◌, ◌++◌, length, Option, Some, None, Vec}
+use Rattle.std.specs.declared.alloc.Global.{Global}
+use Rattle.std.specs.declared.snapshot.Snapshot.{Snapshot}
+use Rattle.ec_base.specs.Limits.{clerk_count}
+use Rattle.ec_wire.specs.declared.msg.Msg.{Msg}
+use Rattle.ec_protocol.specs.Server.{Serving}
+use Rattle.ec_protocol.specs.declared.server.Server.{Server}
+use Rattle.ec_protocol.specs.declared.server.Served.{Served}
+use Rattle.ec_server.specs.declared.fault.ServerFault.{ServerFault}
+use Rattle.ec_server.specs.declared.fault.ServerFault.TheVariants.{DiskFailed, DiskStopped, Spent, NoMemory}
+use Rattle.ec_servernode.specs.declared.step.Halt.{Halt}
+use Rattle.ec_servernode.specs.declared.step.Halt.TheVariants as halt
+use Rattle.ec_servernode.specs.declared.step.Deed.TheVariants.{Took, Halted}
+use Rattle.ec_servernode.specs.declared.state.Node.{Node}
+use Rattle.ec_servernode.specs.Run.{hello_in, owner_now, put_all, for_clerk}
+use Rattle.ec_servernode.specs.Node.{queue_at, owner_at}
+
+-- a spent counter is the machine's, and leaves all as it was
+abbrev pub Refuses : {K : Type 0} → ServerFault → Serving → Server → Server → K → K → Type 0
+Refuses (Spent n) done old new keeper kept = (done.spent ≡ Some n) × (new ≡ old) × (kept ≡ keeper)
+Refuses DiskFailed done old new keeper kept = Unit {0}
+Refuses DiskStopped done old new keeper kept = Unit {0}
+Refuses NoMemory done old new keeper kept = Unit {0}
+
+abbrev pub halt_in : ServerFault → Option Halt
+halt_in DiskFailed = Some halt.DiskFailed
+halt_in DiskStopped = Some halt.DiskStopped
+halt_in (Spent n) = Some (halt.Spent n)
+halt_in NoMemory = None
+
+abbrev pub spends : Halt → Bool
+spends halt.DiskFailed = false
+spends halt.DiskStopped = false
+spends (halt.Spent n) = true
+
+-- A message was taken, its step added, and what is sent went to the outboxes, unless memory was wanting for it.
+pub record Grew {K : Type 0} (pass c : ℕ) (bytes : Snapshot (Vec ℕ Global)) (m : Msg) (served : Served) (old new : Node K) : Type 0 where
+  pub shot : Snapshot Msg
+  pub copy : Snapshot Served
+  pub shot_is : shot.value ≡ m
+  pub copy_is : copy.value ≡ served
+  pub list : new.trace.items ≡ old.trace.items ++ (record { pass = pass; deed = Took c bytes shot copy }) ∷ []
+  pub steps : new.steps ≡ old.steps + 1
+  pub server : new.server ≡ old.server
+  pub keeper : new.keeper ≡ old.keeper
+  pub halt_is : new.halt ≡ old.halt
+  pub sized : length new.boxes.items ≡ clerk_count
+  pub posted : new.broken ≡ false → (k : ℕ) → queue_at new.boxes.items k ≡ put_all (queue_at old.boxes.items k) (for_clerk k served.sent)
+  pub owners : (k : ℕ) → k < clerk_count → owner_at new.boxes.items k ≡ owner_now k (hello_in m) pass (owner_at old.boxes.items k)
+
+-- the server halts
+pub record Stops {K : Type 0} (pass c : ℕ) (bytes : Snapshot (Vec ℕ Global)) (m : Snapshot Msg) (h : Halt) (old new : Node K) : Type 0 where
+  pub list : new.trace.items ≡ old.trace.items ++ (record { pass = pass; deed = Halted c bytes m h }) ∷ []
+  pub others : new ≡ record old { trace = new.trace; steps = old.steps + 1; halt = Some h; broken = not (spends h) }

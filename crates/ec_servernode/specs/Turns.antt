@@ -1,0 +1,213 @@
+-- What a turn with a link adds to the list, and what its pass knows then.
+use Rattle.std.specs.Prelude.{◌≡◌, ℕ, ◌+◌, ◌≤◌, ◌<◌, ◌⊎◌, Bool, true, false, List, [], ◌∷◌, ◌++◌, Option, Some, None, Result, Ok, Err}
+use Rattle.ec_base.specs.Limits.{clerk_count}
+use Rattle.ec_disk.specs.Disk.{Counts}
+use Rattle.ec_wire.specs.declared.msg.Msg.{Msg}
+use Rattle.ec_wire.specs.Codes.{said, msg_code}
+use Rattle.ec_wire.specs.declared.fault.WireFault.{WireFault}
+use Rattle.ec_wire.specs.declared.fault.WireFault.TheVariants as wire
+use Rattle.ec_durable.specs.declared.state.Durable.{Durable}
+use Rattle.ec_durable.specs.declared.record.Record.{Record}
+use Rattle.ec_server.specs.Servers.{standing}
+use Rattle.ec_server.specs.declared.server.Server.{Server}
+use Rattle.ec_link.specs.declared.link.Got.TheVariants as got
+use Rattle.ec_frame.specs.Frames.{Begins}
+use Rattle.ec_link.specs.Links.{Heard, Reads, added, body, long}
+use Rattle.ec_lock.specs.Passes.{first, front, note_view, IsPassOf, IsNoteOf}
+use Rattle.ec_lock.specs.Steps.{of}
+use Rattle.ec_lock.specs.declared.types.Pass.{Pass}
+use Rattle.ec_lock.specs.declared.types.Note.{Note}
+use Rattle.ec_lock.specs.declared.types.TracedLock.{TracedLock}
+use Rattle.ec_servernode.specs.declared.step.Halt.{Halt}
+use Rattle.ec_servernode.specs.declared.step.Halt.TheVariants as halt
+use Rattle.ec_servernode.specs.declared.step.Deed.{Deed}
+use Rattle.ec_servernode.specs.declared.step.Deed.TheVariants.{Took, Gave, Halted}
+use Rattle.ec_servernode.specs.declared.step.Step.{Step}
+use Rattle.ec_servernode.specs.declared.state.Node.{Node}
+use Rattle.ec_servernode.specs.declared.fault.ServeFault.{ServeFault}
+use Rattle.ec_servernode.specs.declared.fault.ServeFault.TheVariants as fault
+use Rattle.ec_servernode.specs.declared.shared.Turned.{Turned}
+use Rattle.ec_servernode.specs.declared.shared.Turned.TheVariants as turned
+use Rattle.ec_servernode.specs.Run.{IsRun, By, number_of, clerk_by, is_for, first_of, owner, box_from, halted, leads, records}
+use Rattle.ec_servernode.specs.Node.{queue_at, owner_at, state_of, Chain, CountsUp}
+
+abbrev pub fault_of : Halt → ServeFault
+fault_of halt.DiskFailed = fault.DiskFailed
+fault_of halt.DiskStopped = fault.DiskStopped
+fault_of (halt.Spent n) = fault.Spent n
+
+-- Deeds of one kind.
+
+-- a message was taken that came in this body
+abbrev pub IsTaking : List ℕ → Deed → Type 0
+IsTaking bytes (Took c b m served) = b.value.items ≡ bytes
+IsTaking bytes (Gave c m) = ⊥
+IsTaking bytes (Halted c b m h) = ⊥
+
+-- this message of the clerk's outbox was sent
+abbrev pub IsGiving : ℕ → Msg → Deed → Type 0
+IsGiving clerk msg (Took c b m served) = ⊥
+IsGiving clerk msg (Gave c m) = (c ≡ clerk) × (m.value ≡ msg)
+IsGiving clerk msg (Halted c b m h) = ⊥
+
+-- the taking of this body ended so
+abbrev pub IsHalting : List ℕ → Halt → Deed → Type 0
+IsHalting bytes why (Took c b m served) = ⊥
+IsHalting bytes why (Gave c m) = ⊥
+IsHalting bytes why (Halted c b m h) = (b.value.items ≡ bytes) × (h ≡ why)
+
+-- Turns.
+
+-- the list has grown by these steps of this pass
+abbrev pub More : {K : Type 0} → ℕ → Node K → Node K → List Step → Type 0
+More pass old new more = (new.trace.items ≡ old.trace.items ++ more) × By pass more
+
+-- a step that halts the server was added, or the server was down before, or memory was wanting
+abbrev pub TakeFails : {K : Type 0} → ℕ → List ℕ → Node K → Node K → ServeFault → Type 0
+TakeFails pass bytes old new fault.DiskFailed = (x : Step) × More pass old new (x ∷ []) × IsHalting bytes halt.DiskFailed x.deed
+TakeFails pass bytes old new fault.DiskStopped = (x : Step) × More pass old new (x ∷ []) × IsHalting bytes halt.DiskStopped x.deed
+TakeFails pass bytes old new (fault.Spent n) = (x : Step) × More pass old new (x ∷ []) × IsHalting bytes (halt.Spent n) x.deed
+TakeFails pass bytes old new fault.Down = More pass old new [] × ((h : Halt) × (new.halt ≡ Some h))
+TakeFails pass bytes old new fault.NoMemory = More pass old new []
+TakeFails pass bytes old new _ = ⊥
+
+-- the message of this body was taken
+abbrev pub Takes : {K A : Type 0} → ℕ → List ℕ → Node K → Node K → Result A ServeFault → Type 0
+Takes pass bytes old new (Ok told) = ((x : Step) × More pass old new (x ∷ []) × IsTaking bytes x.deed) × (new.halt ≡ None)
+Takes pass bytes old new (Err f) = TakeFails pass bytes old new f
+
+-- a link failed by a send, so there was something for it
+abbrev pub GiveFails : {K : Type 0} → ℕ → ℕ → Node K → Node K → ℕ → ℕ → ServeFault → Type 0
+GiveFails pass clerk old new before after fault.Net = More pass old new [] × (before + 1 ≤ after) × (new.halt ≡ None) × (new.broken ≡ false) × (is_for pass (owner_at new.boxes.items clerk) ≡ true)
+    × ((m : Msg) × (first_of (queue_at new.boxes.items clerk) ≡ Some m))
+GiveFails pass clerk old new before after fault.Down = More pass old new [] × ((h : Halt) × (new.halt ≡ Some h))
+GiveFails pass clerk old new before after fault.NoMemory = More pass old new []
+GiveFails pass clerk old new before after _ = ⊥
+
+module _ {L : Type 0} (faults : L → ℕ) (got_by : L → Option (List (List ℕ))) where
+  -- The first message of the clerk's outbox was sent. Where it's false there is none for this pass.
+  abbrev pub Gives : {K : Type 0} → ℕ → ℕ → Node K → Node K → L → L → Result Bool ServeFault → Type 0
+  Gives pass clerk old new before after (Ok true) = (x : Step) × (msg : Msg) × More pass old new (x ∷ []) × IsGiving clerk msg x.deed × (got_by after ≡ added (got_by before) (msg_code.spell msg ∷ [])) × (new.halt ≡ None)
+  Gives pass clerk old new before after (Ok false) = More pass old new [] × (got_by after ≡ got_by before) × (new.halt ≡ None) × (new.broken ≡ false)
+      × ((queue_at new.boxes.items clerk ≡ []) ⊎ (is_for pass (owner_at new.boxes.items clerk) ≡ false))
+  Gives pass clerk old new before after (Err f) = GiveFails pass clerk old new (faults before) (faults after) f × (got_by after ≡ got_by before)
+
+abbrev pub turned_of : Result Bool ServeFault → Result Turned ServeFault
+turned_of (Ok true) = Ok turned.Gave
+turned_of (Ok false) = Ok turned.Idle
+turned_of (Err f) = Err f
+
+-- why a body is no message
+abbrev pub peer_of : WireFault → ServeFault
+peer_of wire.NoMemory = fault.NoMemory
+peer_of (wire.Short p) = fault.Peer (wire.Short p)
+peer_of (wire.Kind b) = fault.Peer (wire.Kind b)
+peer_of (wire.Field p) = fault.Peer (wire.Field p)
+peer_of (wire.Trailing p) = fault.Peer (wire.Trailing p)
+
+-- What a pass knows.
+
+-- behind the front before stand steps of other passes, and then these of this pass
+abbrev pub Adds : ℕ → List Step → List Step → List Step → Type 0
+Adds pass before after own = (theirs : List Step) × (before ++ (theirs ++ own) ≡ after) × (of number_of pass theirs ≡ []) × By pass own
+
+abbrev pub HearFails : ℕ → List ℕ → List Step → List Step → ServeFault → Type 0
+HearFails pass bytes old new (fault.Peer why) = Adds pass old new [] × (said bytes ≡ Err why) × (halted new ≡ None)
+HearFails pass bytes old new fault.DiskFailed = (x : Step) × Adds pass old new (x ∷ []) × IsHalting bytes halt.DiskFailed x.deed
+HearFails pass bytes old new fault.DiskStopped = (x : Step) × Adds pass old new (x ∷ []) × IsHalting bytes halt.DiskStopped x.deed
+HearFails pass bytes old new (fault.Spent n) = (x : Step) × Adds pass old new (x ∷ []) × IsHalting bytes (halt.Spent n) x.deed
+HearFails pass bytes old new fault.Down = Adds pass old new [] × ((h : Halt) × (halted new ≡ Some h))
+HearFails pass bytes old new fault.NoMemory = Adds pass old new []
+HearFails pass bytes old new _ = ⊥
+
+-- the message of this body was taken
+abbrev pub TakesMessage : {A : Type 0} → ℕ → List ℕ → List Step → List Step → Result A ServeFault → Type 0
+TakesMessage pass bytes old new (Ok told) = ((x : Step) × Adds pass old new (x ∷ []) × IsTaking bytes x.deed) × (halted new ≡ None)
+TakesMessage pass bytes old new (Err f) = HearFails pass bytes old new f
+
+abbrev pub Hears : ℕ → List ℕ → List Step → List Step → Result Turned ServeFault → Type 0
+Hears pass bytes old new (Ok (turned.Took told)) = ((x : Step) × Adds pass old new (x ∷ []) × IsTaking bytes x.deed) × (halted new ≡ None)
+Hears pass bytes old new (Ok _) = ⊥
+Hears pass bytes old new (Err f) = HearFails pass bytes old new f
+
+-- The server did nothing: what the turn answers, unless the server is down.
+abbrev pub Looked : {A : Type 0} → ℕ → List Step → List Step → Result A ServeFault → Result A ServeFault → Type 0
+Looked pass old new otherwise result = Adds pass old new [] × (((result ≡ otherwise) × (halted new ≡ None)) ⊎ ((result ≡ Err fault.Down) × ((h : Halt) × (halted new ≡ Some h))))
+
+-- the clerk's outbox has nothing for this pass
+abbrev pub HasNone : (ℕ → List Msg) → ℕ → ℕ → List Step → Type 0
+HasNone boxes pass clerk steps = (box_from clerk (boxes clerk) steps ≡ []) ⊎ (is_for pass (owner clerk steps) ≡ false)
+
+-- it has something for it
+abbrev pub HasNext : (ℕ → List Msg) → ℕ → ℕ → List Step → Type 0
+HasNext boxes pass clerk steps = (is_for pass (owner clerk steps) ≡ true) × ((m : Msg) × (first_of (box_from clerk (boxes clerk) steps) ≡ Some m))
+
+module _ {L : Type 0} (faults : L → ℕ) (got_by : L → Option (List (List ℕ))) where
+  abbrev pub NextFails : (ℕ → List Msg) → ℕ → ℕ → List Step → List Step → L → L → ServeFault → Type 0
+  NextFails boxes pass clerk old new before after fault.Net = Adds pass old new [] × (faults before + 1 ≤ faults after) × HasNext boxes pass clerk new × (halted new ≡ None)
+  NextFails boxes pass clerk old new before after fault.Down = Adds pass old new [] × ((h : Halt) × (halted new ≡ Some h))
+  NextFails boxes pass clerk old new before after fault.NoMemory = Adds pass old new []
+  NextFails boxes pass clerk old new before after _ = ⊥
+
+  -- the first message of the clerk's outbox was sent
+  abbrev pub GivesNext : (ℕ → List Msg) → ℕ → ℕ → List Step → List Step → L → L → Result Turned ServeFault → Type 0
+  GivesNext boxes pass clerk old new before after (Ok turned.Gave) = ((x : Step) × (msg : Msg) × Adds pass old new (x ∷ []) × IsGiving clerk msg x.deed × (got_by after ≡ added (got_by before) (msg_code.spell msg ∷ []))) × (halted new ≡ None)
+  GivesNext boxes pass clerk old new before after (Ok turned.Idle) = Adds pass old new [] × HasNone boxes pass clerk new × (got_by after ≡ got_by before) × (halted new ≡ None)
+  GivesNext boxes pass clerk old new before after (Ok _) = ⊥
+  GivesNext boxes pass clerk old new before after (Err f) = NextFails boxes pass clerk old new before after f × (got_by after ≡ got_by before)
+
+module _ {L : Type 0} (faults closes : L → ℕ) (given : L → Option (List Heard)) (got_by : L → Option (List (List ℕ))) (held : L → List ℕ) where
+  -- the link gave this body, which is the next one in its bytes
+  abbrev pub GaveBody : L → L → List ℕ → Type 0
+  GaveBody before after bytes = (given after ≡ added (given before) (body bytes ∷ [])) × (got_by after ≡ got_by before) × ((more : List ℕ) × Begins (held before ++ more) bytes (held after))
+
+  -- the link gave nothing
+  abbrev pub GaveNone : L → L → Type 0
+  GaveNone before after = (given after ≡ added (given before) []) × Reads (held before) (held after) got.Nothing
+
+  -- the read failed
+  abbrev pub ReadFailed : L → L → Type 0
+  ReadFailed before after = (given after ≡ added (given before) []) × Reads (held before) (held after) got.Failed
+
+  abbrev pub ServeFails : (ℕ → List Msg) → ℕ → ℕ → List Step → List Step → L → L → ServeFault → Type 0
+  ServeFails boxes pass clerk old new before after fault.Net = Adds pass old new [] × (faults before + 1 ≤ faults after) × (got_by after ≡ got_by before)
+      × (ReadFailed before after ⊎ (GaveNone before after × HasNext boxes pass clerk new)) × (halted new ≡ None)
+  ServeFails boxes pass clerk old new before after (fault.Peer why) = Adds pass old new [] × ((bytes : List ℕ) × GaveBody before after bytes × (said bytes ≡ Err why)) × (halted new ≡ None)
+  ServeFails boxes pass clerk old new before after (fault.Long n) = Adds pass old new [] × (given after ≡ added (given before) (long n ∷ [])) × (got_by after ≡ got_by before) × (halted new ≡ None)
+  ServeFails boxes pass clerk old new before after fault.DiskFailed = (x : Step) × (bytes : List ℕ) × Adds pass old new (x ∷ []) × IsHalting bytes halt.DiskFailed x.deed × GaveBody before after bytes
+  ServeFails boxes pass clerk old new before after fault.DiskStopped = (x : Step) × (bytes : List ℕ) × Adds pass old new (x ∷ []) × IsHalting bytes halt.DiskStopped x.deed × GaveBody before after bytes
+  ServeFails boxes pass clerk old new before after (fault.Spent n) = (x : Step) × (bytes : List ℕ) × Adds pass old new (x ∷ []) × IsHalting bytes (halt.Spent n) x.deed × GaveBody before after bytes
+  ServeFails boxes pass clerk old new before after fault.Down = Adds pass old new [] × ((h : Halt) × (halted new ≡ Some h)) × (got_by after ≡ got_by before)
+  ServeFails boxes pass clerk old new before after fault.NoMemory = Adds pass old new [] × (got_by after ≡ got_by before)
+
+  -- What the answer says of the steps added and of the link: a message taken is what the body says that the link gave, and a message given is the one that it got.
+  abbrev pub Serves : (L → Bool) → (ℕ → List Msg) → ℕ → ℕ → List Step → List Step → L → L → Result Turned ServeFault → Type 0
+  Serves clear boxes pass clerk old new before after (Ok (turned.Took told)) = ((x : Step) × (bytes : List ℕ) × Adds pass old new (x ∷ []) × IsTaking bytes x.deed × GaveBody before after bytes) × (halted new ≡ None)
+  Serves clear boxes pass clerk old new before after (Ok turned.Gave) = ((x : Step) × (msg : Msg) × Adds pass old new (x ∷ []) × IsGiving clerk msg x.deed × (got_by after ≡ added (got_by before) (msg_code.spell msg ∷ []))) × GaveNone before after × (halted new ≡ None)
+  Serves clear boxes pass clerk old new before after (Ok turned.Idle) = Adds pass old new [] × HasNone boxes pass clerk new × GaveNone before after × (got_by after ≡ got_by before) × (halted new ≡ None)
+  Serves clear boxes pass clerk old new before after (Ok turned.Busy) = Adds pass old new [] × (clear after ≡ false) × GaveNone before after × (got_by after ≡ got_by before) × (halted new ≡ None)
+  Serves clear boxes pass clerk old new before after (Ok turned.Closed) = Adds pass old new [] × (closes before + 1 ≤ closes after) × (given after ≡ added (given before) []) × (got_by after ≡ got_by before) × (halted new ≡ None)
+  Serves clear boxes pass clerk old new before after (Err f) = ServeFails boxes pass clerk old new before after f
+
+module _ {K : Type 0} (kept : K → Durable) where
+  -- where the runs of this lock begin
+  abbrev pub RunsFrom : Node K → List Step → Type 0
+  RunsFrom first steps = IsRun (state_of kept first) (queue_at first.boxes.items) steps
+
+  -- What is told of a pass: it's one of the lock's, whose front is a server run, and the clerk of its link is this one.
+  pub record IsServerPass (lock : TracedLock (Node K) Step) (pass : Pass (Node K) Step) (clerk : ℕ) : Type 0 where
+    pub is_pass : IsPassOf lock pass
+    pub run : RunsFrom (first lock) (front pass)
+    pub clerk_is : clerk ≡ clerk_by pass.number (front pass)
+    pub below : clerk < clerk_count
+
+  -- a note of the lock, whose front is a server run
+  abbrev pub IsServerNote : TracedLock (Node K) Step → Note (Node K) Step → Type 0
+  IsServerNote lock note = IsNoteOf lock note × RunsFrom (first lock) (note_view note).front
+
+-- What is handed back, by the whole list. There is no server where memory was wanting or the disk failed in a step; else the keeper is the one at first, with all records
+-- committed.
+abbrev pub Finished : {K : Type 0} → (K → Durable) → (K → Counts) → (K → Record → K → Type 0) → Node K → List Step → Option Server → K → Type 0
+Finished kept counts did first steps None keeper = CountsUp (halted steps) (counts first.keeper) (counts keeper)
+Finished kept counts did first steps (Some server) keeper = (leads (state_of kept first) steps ≡ standing (kept keeper) server) × Chain did (records steps) first.keeper keeper
+    × CountsUp (halted steps) (counts first.keeper) (counts keeper)

@@ -1,0 +1,137 @@
+// The outboxes of the clerks.
+ghost use Rattle.std.specs.Prelude.{◌≡◌, ◌==◌, ℕ, ◌<◌, ◌⊎◌, [], ◌∷◌, ◌++◌, Bool, true, false, cond, List, drop, length, IsTrue, IfSome, IfNone, Some, Option};
+ghost use Rattle.ec_base.specs.Limits.{clerk_count};
+ghost use Rattle.ec_servernode.specs.Node.{queue_at, owner_at};
+ghost use Rattle.ec_servernode.specs.Run.{put, put_all, for_clerk, is_for, first_of, hello_in, owner_now};
+
+use crate::state::{Outbox, Told};
+use ec_base::{CLERK_COUNT, ClerkId};
+use ec_wire::Msg;
+use std::alloc::Global;
+use std::collections::VecDeque;
+
+// An outbox holds so many messages.
+const MOST_MESSAGES: usize = 4_096;
+
+impl Outbox {
+    /// With nothing in it, for any pass.
+    fn new(alloc: Global) -> Outbox
+        ensures { (result.msgs.items ≡ []) × (result.owner ≡ None) }
+    {
+        Outbox {
+            msgs: VecDeque::new(alloc),
+            owner: None,
+        }
+    }
+
+    /// Puts a message last, where there is room for it. False for want of memory.
+    fn put(&mut self, msg: Msg) -> bool
+        ensures put { IsTrue result → self.new.msgs.items ≡ put self.old.msgs.items msg }
+        ensures owner { self.new.owner ≡ self.old.owner }
+    {
+        if self.msgs.len() >= MOST_MESSAGES {
+            return true;
+        }
+        self.msgs.push_back(msg).is_ok()
+    }
+}
+
+// An outbox for each clerk, with nothing in it. `None` for want of memory.
+fn new_boxes(alloc: Global) -> Option<Vec<Outbox>>
+    ensures sized { IfSome result (λ boxes. length boxes.items ≡ clerk_count) }
+    ensures empty { IfSome result (λ boxes. (c : ℕ) → (queue_at boxes.items c ≡ []) × (owner_at boxes.items c ≡ None)) }
+{
+    let mut boxes = Vec::with_capacity(alloc, CLERK_COUNT as usize).ok()?;
+    for _ in 0..CLERK_COUNT {
+        if !add_box(&mut boxes, Outbox::new(alloc)) {
+            return None;
+        }
+    }
+    Some(boxes)
+}
+
+// Adds an outbox. False for want of memory.
+fn add_box(boxes: &mut Vec<Outbox>, outbox: Outbox) -> bool
+    ensures { IsTrue result → boxes.new.items ≡ boxes.old.items ++ outbox ∷ [] }
+{
+    boxes.push(outbox).is_ok()
+}
+
+// Puts a message last in the clerk's outbox. False for want of memory.
+fn post(boxes: &mut Vec<Outbox>, clerk: ClerkId, msg: Msg) -> bool
+    requires { length boxes.old.items ≡ clerk_count }
+    ensures sized { length boxes.new.items ≡ clerk_count }
+    ensures put { IsTrue result → (c : ℕ) → queue_at boxes.new.items c ≡ put_all (queue_at boxes.old.items c) (for_clerk c ((clerk, msg) ∷ [])) }
+    ensures owners { (c : ℕ) → owner_at boxes.new.items c ≡ owner_at boxes.old.items c }
+{
+    boxes[clerk.get() as usize].put(msg)
+}
+
+/// Puts each message last in its clerk's outbox, where there is room for it. `None` for want of memory.
+pub fn post_all(boxes: &mut Vec<Outbox>, sent: Vec<(ClerkId, Msg)>) -> Option<Told>
+    requires { length boxes.old.items ≡ clerk_count }
+    ensures sized { length boxes.new.items ≡ clerk_count }
+    ensures put { IfSome result (λ _. (c : ℕ) → queue_at boxes.new.items c ≡ put_all (queue_at boxes.old.items c) (for_clerk c sent.items)) }
+    ensures owners { (c : ℕ) → owner_at boxes.new.items c ≡ owner_at boxes.old.items c }
+{
+    let mut sent = sent;
+    let mut told = Told::nobody();
+    // the next one is taken from the end
+    sent.reverse();
+    'sent: while let Some(one) = sent.pop() {
+        let (clerk, msg) = one;
+        if !post(boxes, clerk, msg) {
+            return None;
+        }
+        told = told.and(clerk);
+    }
+    Some(told)
+}
+
+/// An outbox for each clerk, with the first messages to it, for any pass. `None` for want of memory.
+pub fn filled_boxes(alloc: Global, sent: Vec<(ClerkId, Msg)>) -> Option<Vec<Outbox>>
+    ensures sized { IfSome result (λ boxes. length boxes.items ≡ clerk_count) }
+    ensures filled { IfSome result (λ boxes. (c : ℕ) → queue_at boxes.items c ≡ put_all [] (for_clerk c sent.items)) }
+    ensures owners { IfSome result (λ boxes. (c : ℕ) → owner_at boxes.items c ≡ None) }
+{
+    let mut boxes = new_boxes(alloc)?;
+    post_all(&mut boxes, sent)?;
+    Some(boxes)
+}
+
+/// A Hello makes its clerk's outbox this pass's.
+pub fn own(boxes: &mut Vec<Outbox>, msg: &Msg, pass: u64)
+    requires { length boxes.old.items ≡ clerk_count }
+    ensures sized { length boxes.new.items ≡ clerk_count }
+    ensures same { (c : ℕ) → queue_at boxes.new.items c ≡ queue_at boxes.old.items c }
+    ensures owners { (c : ℕ) → c < clerk_count → owner_at boxes.new.items c ≡ owner_now c (hello_in msg.now) pass (owner_at boxes.old.items c) }
+{
+    if let Msg::Hello(clerk, _) = msg {
+        boxes[clerk.get() as usize].owner = Some(pass);
+    }
+}
+
+/// The first message in the clerk's outbox, where that belongs to the pass.
+pub fn next_for<'a>(boxes: &'a [Outbox], clerk: ClerkId, pass: u64) -> Option<&'a Msg>
+    requires { length boxes.now ≡ clerk_count }
+    ensures some { IfSome result (λ msg. (is_for pass (owner_at boxes.now clerk) ≡ true) × (first_of (queue_at boxes.now clerk) ≡ Some msg.now)) }
+    ensures none { IfNone result ((queue_at boxes.now clerk ≡ []) ⊎ (is_for pass (owner_at boxes.now clerk) ≡ false)) }
+{
+    let outbox = &boxes[clerk.get() as usize];
+    if let Some(owner) = outbox.owner {
+        if owner != pass {
+            return None;
+        }
+    }
+    outbox.msgs.front()
+}
+
+/// Takes the first message off the clerk's outbox.
+pub fn drop_first(boxes: &mut Vec<Outbox>, clerk: ClerkId)
+    requires { length boxes.old.items ≡ clerk_count }
+    ensures sized { length boxes.new.items ≡ clerk_count }
+    ensures dropped { (c : ℕ) → queue_at boxes.new.items c ≡ cond (clerk == c) (drop 1 (queue_at boxes.old.items c)) (queue_at boxes.old.items c) }
+    ensures owners { (c : ℕ) → owner_at boxes.new.items c ≡ owner_at boxes.old.items c }
+{
+    boxes[clerk.get() as usize].msgs.pop_front();
+}

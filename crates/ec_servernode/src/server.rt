@@ -1,0 +1,33 @@
+// The server's step, in words that stay folded above.
+ghost use Rattle.std.specs.Prelude.{◌≡◌, IfOk, IfErr, OnOk, IsTrue, Err};
+ghost use Rattle.ec_disk.specs.Disk.{Counted};
+ghost use Rattle.ec_wire.specs.Messages.{is_sound};
+ghost use Rattle.ec_server.specs.Servers.{standing, Does, StandsOn};
+ghost use Rattle.ec_server.specs.Keepers.{Did};
+ghost use Rattle.ec_server.specs.declared.fault.ServerFault.TheVariants as fault;
+ghost use Rattle.ec_servernode.specs.Folded.{taken};
+ghost use Rattle.ec_servernode.specs.Steps.{Refuses};
+
+use ec_base::ClerkId;
+use ec_protocol::Served;
+use ec_server::{Keeper, Server, ServerFault};
+use ec_wire::Msg;
+
+/// Takes a sound message of a clerk.
+#[tactic(auto, unfolding(crate::specs::Folded::taken))]
+pub fn take<K: Keeper>(
+    server: &mut Server,
+    keeper: &mut K,
+    from: ClerkId,
+    msg: &Msg,
+) -> Result<Served, ServerFault>
+    requires sound { IsTrue (is_sound msg.now) }
+    requires stands { StandsOn (K.kept keeper.old) server.old }
+    ensures ok { IfOk result (λ served. Does (taken from msg.now (standing (K.kept keeper.old) server.old)) (K.kept keeper.new) server.new served) }
+    ensures did { IfOk result (λ served. Did K.did served.rec keeper.old keeper.new) }
+    ensures err { IfErr result (λ f. Refuses f (taken from msg.now (standing (K.kept keeper.old) server.old)) (standing (K.kept keeper.old) server.old) (standing (K.kept keeper.new) server.new) keeper.old keeper.new) }
+    ensures counts { Counted (K.counts keeper.old) (K.counts keeper.new) (result ≡ Err fault.DiskFailed) (result ≡ Err fault.DiskStopped) }
+    ensures stands { StandsOn (K.kept keeper.new) server.new }
+{
+    server.take(keeper, from, msg)
+}

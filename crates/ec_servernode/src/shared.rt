@@ -1,0 +1,285 @@
+// The server that several threads share.
+ghost use Rattle.std.specs.Prelude.{◌≡◌, ℕ, ◌+◌, ◌<◌, ◌≤◌, List, [], ◌∷◌, Some, None, Ok, Err, IfOk, IfErr, IsTrue, MatchResult, Option};
+ghost use mathlib.Core.List.{IsPrefix};
+ghost use Rattle.ec_base.specs.Limits.{clerk_count};
+ghost use Rattle.ec_wire.specs.Codes.{said};
+ghost use Rattle.ec_wire.specs.Messages.{is_sound};
+ghost use Rattle.ec_lock.specs.Passes.{first, front, numbers, Same};
+ghost use Rattle.ec_server.specs.Servers.{StandsOn};
+ghost use Rattle.ec_servernode.specs.Floors.{no_floor};
+ghost use Rattle.ec_servernode.specs.Node.{Since, queue_at};
+ghost use Rattle.ec_servernode.specs.Run.{sender, put_all, for_clerk};
+ghost use Rattle.ec_servernode.specs.Turns.{IsServerPass, Looked, peer_of, turned_of, Hears, TakesMessage, GivesNext, Serves, RunsFrom, Finished};
+
+use crate::fault::ServeFault;
+use crate::outbox::filled_boxes;
+use crate::passes::{ServerPass, first_clerk};
+use crate::state::{Node, Told};
+use crate::step::Step;
+use ec_base::{ClerkId, NoMemory};
+use ec_link::{Got, Link};
+use ec_lock::{Traced, TracedLock};
+use ec_protocol::Served;
+use ec_server::{Keeper, Server};
+use ec_trace::Trace;
+use ec_wire::{Msg, WireFault, decode};
+use std::alloc::Global;
+use std::snapshot::Snapshot;
+use std::sync::Wait;
+use std::time::Clock;
+
+impl<K: Keeper + Drop> Traced for Node<K> {
+    type Step = Step;
+
+    ghost list = { λ n. n.trace.items };
+
+    ghost number = { λ s. Some s.pass };
+
+    ghost floor = { λ steps. 0 };
+
+    ghost since = { Since K.kept K.counts K.did };
+
+    fn steps(&self) -> u64 {
+        self.steps
+    }
+
+    ghost grows = { no_floor };
+}
+
+/// A server and what keeps its state, behind a lock. Nobody waits in a turn.
+#[derive(Drop)]
+pub struct SharedServer<K: Keeper + Drop> {
+    pub(crate) lock: TracedLock<Node<K>>,
+    alloc: Global,
+}
+
+/// What a turn with a link did.
+#[derive(Clone, Copy, Debug, Drop, PartialEq, Eq)]
+pub enum Turned {
+    /// A message was taken. Something came to the outboxes of these clerks.
+    Took(Told),
+    /// The first message of the outbox was sent.
+    Gave,
+    /// The link gave nothing, and there was nothing for it.
+    Idle,
+    /// The link gave nothing, and it still keeps back what it got before.
+    Busy,
+    /// The other end is gone.
+    Closed,
+}
+
+// The clerk of a message from a link of this clerk.
+fn sender_of(msg: &Msg, clerk: ClerkId) -> ClerkId
+    ensures { result ≡ sender msg.now clerk }
+{
+    match msg {
+        Msg::Hello(from, _) => *from,
+        _ => clerk,
+    }
+}
+
+// Why a body is no message.
+fn refused(fault: WireFault) -> ServeFault
+    ensures { result ≡ peer_of fault }
+{
+    match fault {
+        WireFault::NoMemory => ServeFault::NoMemory,
+        fault => ServeFault::Peer(fault),
+    }
+}
+
+// What a turn did in which the link may have got a message.
+fn gave_or_idle(gave: Result<bool, ServeFault>) -> Result<Turned, ServeFault>
+    ensures { result ≡ turned_of gave }
+{
+    match gave {
+        Ok(true) => Ok(Turned::Gave),
+        Ok(false) => Ok(Turned::Idle),
+        Err(fault) => Err(fault),
+    }
+}
+
+// The clerk of a link behind a message from this one.
+fn clerk_behind(told: &Result<Told, ServeFault>, from: ClerkId, clerk: ClerkId) -> ClerkId
+    ensures behind { MatchResult told.now (λ _. result ≡ from) (λ _. result ≡ clerk) }
+    ensures below { result < clerk_count }
+{
+    match told {
+        Ok(_) => from,
+        Err(_) => clerk,
+    }
+}
+
+impl<K: Keeper + Drop> SharedServer<K> {
+    /// A server that has taken no step since its start, which gave `begun`, and its keeper. The first pass has the number 0.
+    pub fn new(
+        alloc: Global,
+        server: Server,
+        begun: Served,
+        keeper: K,
+    ) -> Result<(SharedServer<K>, ServerPass<K>), NoMemory>
+        requires { StandsOn (K.kept keeper) server }
+        ensures pass { IfOk result (λ made. IsServerPass K.kept made.0.lock made.1.pass made.1.clerk) }
+        ensures number { IfOk result (λ made. (front made.1.pass ≡ []) × (made.1.pass.number ≡ 0) × (numbers made.1.pass ≡ 0 ∷ [])) }
+        ensures server { IfOk result (λ made. ((first made.0.lock).server ≡ server) × ((first made.0.lock).keeper ≡ keeper)) }
+        ensures boxes { IfOk result (λ made. (c : ℕ) → queue_at (first made.0.lock).boxes.items c ≡ put_all [] (for_clerk c begun.sent)) }
+    {
+        let Some(boxes) = filled_boxes(alloc, begun.sent.into_vec()) else {
+            return Err(NoMemory);
+        };
+        let node = Node {
+            server,
+            keeper,
+            boxes,
+            halt: None,
+            broken: false,
+            steps: 0,
+            trace: Trace::new(),
+        };
+        let Ok((lock, pass)) = TracedLock::new(alloc, node) else {
+            return Err(NoMemory);
+        };
+        let clerk = first_clerk();
+        Ok((SharedServer { lock, alloc }, ServerPass { pass, clerk }))
+    }
+
+    // Ends a turn in which the server does nothing. It looks whether the server is down.
+    fn unless_down<R: Wait>(
+        &self,
+        rt: &R,
+        pass: &mut ServerPass<K>,
+        otherwise: Result<Turned, ServeFault>,
+    ) -> Result<Turned, ServeFault>
+        requires pass { IsServerPass K.kept self.now.lock pass.old.pass pass.old.clerk }
+        ensures pass { IsServerPass K.kept self.now.lock pass.new.pass pass.new.clerk }
+        ensures same { Same pass.old.pass pass.new.pass }
+        ensures later { IsPrefix (front pass.old.pass) (front pass.new.pass) }
+        ensures looked { Looked pass.old.pass.number (front pass.old.pass) (front pass.new.pass) otherwise result }
+    {
+        let turn = self.lock.enter(rt, &mut pass.pass);
+        let halt = turn.value.halt;
+        self.lock.leave(turn, &mut pass.pass);
+        match halt {
+            Some(_) => Err(ServeFault::Down),
+            None => otherwise,
+        }
+    }
+
+    // Takes a message of the link.
+    fn take<R: Wait>(
+        &self,
+        rt: &R,
+        pass: &mut ServerPass<K>,
+        body: Snapshot<Vec<u8>>,
+        msg: &Msg,
+    ) -> Result<Told, ServeFault>
+        requires pass { IsServerPass K.kept self.now.lock pass.old.pass pass.old.clerk }
+        requires sound { IsTrue (is_sound msg.now) }
+        requires said { said body.value.items ≡ Ok msg.now }
+        ensures pass { IsServerPass K.kept self.now.lock pass.new.pass pass.new.clerk }
+        ensures same { Same pass.old.pass pass.new.pass }
+        ensures later { IsPrefix (front pass.old.pass) (front pass.new.pass) }
+        ensures takes { TakesMessage pass.old.pass.number body.value.items (front pass.old.pass) (front pass.new.pass) result }
+    {
+        let from = sender_of(msg, pass.clerk);
+        let number = pass.pass.number();
+        let mut turn = self.lock.enter(rt, &mut pass.pass);
+        let told = turn.value.take(number, from, body, msg);
+        self.lock.leave(turn, &mut pass.pass);
+        pass.clerk = clerk_behind(&told, from, pass.clerk);
+        told
+    }
+
+    // Takes what the link gave.
+    fn hear<R: Wait>(
+        &self,
+        rt: &R,
+        pass: &mut ServerPass<K>,
+        body: Vec<u8>,
+    ) -> Result<Turned, ServeFault>
+        requires pass { IsServerPass K.kept self.now.lock pass.old.pass pass.old.clerk }
+        ensures pass { IsServerPass K.kept self.now.lock pass.new.pass pass.new.clerk }
+        ensures same { Same pass.old.pass pass.new.pass }
+        ensures later { IsPrefix (front pass.old.pass) (front pass.new.pass) }
+        ensures hears { Hears pass.old.pass.number body.items (front pass.old.pass) (front pass.new.pass) result }
+    {
+        match decode(self.alloc, &body) {
+            Ok(msg) => {
+                let told = self.take(rt, pass, Snapshot::of(&body), &msg)?;
+                Ok(Turned::Took(told))
+            }
+            Err(fault) => self.unless_down(rt, pass, Err(refused(fault))),
+        }
+    }
+
+    // Gives the link the next message that is there for it.
+    fn give<L: Link, R: Wait + Clock>(
+        &self,
+        rt: &R,
+        pass: &mut ServerPass<K>,
+        link: &mut L,
+    ) -> Result<Turned, ServeFault>
+        requires pass { IsServerPass K.kept self.now.lock pass.old.pass pass.old.clerk }
+        ensures pass { IsServerPass K.kept self.now.lock pass.new.pass pass.new.clerk }
+        ensures same { Same pass.old.pass pass.new.pass }
+        ensures later { IsPrefix (front pass.old.pass) (front pass.new.pass) }
+        ensures given { (L.given link.new ≡ L.given link.old) × (L.held link.new ≡ L.held link.old) }
+        ensures counts { (L.faults link.old ≤ L.faults link.new) × (L.closes link.old ≤ L.closes link.new) }
+        ensures gives { GivesNext L.faults L.got (queue_at (first self.now.lock).boxes.items) pass.old.pass.number pass.old.clerk (front pass.old.pass) (front pass.new.pass) link.old link.new result }
+    {
+        let number = pass.pass.number();
+        let clerk = pass.clerk;
+        let mut turn = self.lock.enter(rt, &mut pass.pass);
+        let gave = turn.value.give(rt, self.alloc, number, clerk, link);
+        self.lock.leave(turn, &mut pass.pass);
+        gave_or_idle(gave)
+    }
+
+    /// One turn with a link, which has a pass of its own: takes the message that the link gives. Where it gives none, the link gets the first
+    /// message of its clerk's outbox, unless it keeps back what it got before. Nobody waits for the other end.
+    pub fn serve_one<L: Link, R: Wait + Clock>(
+        &self,
+        rt: &R,
+        pass: &mut ServerPass<K>,
+        link: &mut L,
+    ) -> Result<Turned, ServeFault>
+        requires pass { IsServerPass K.kept self.now.lock pass.old.pass pass.old.clerk }
+        ensures pass { IsServerPass K.kept self.now.lock pass.new.pass pass.new.clerk }
+        ensures same { Same pass.old.pass pass.new.pass }
+        ensures later { IsPrefix (front pass.old.pass) (front pass.new.pass) }
+        ensures counts { (L.faults link.old ≤ L.faults link.new) × (L.closes link.old ≤ L.closes link.new) }
+        ensures serves { Serves L.faults L.closes L.given L.got L.held L.clear (queue_at (first self.now.lock).boxes.items) pass.old.pass.number pass.old.clerk (front pass.old.pass) (front pass.new.pass) link.old link.new result }
+    {
+        match link.recv(rt) {
+            Got::Body(body) => self.hear(rt, pass, body),
+            Got::Nothing => {
+                if link.is_clear() {
+                    self.give(rt, pass, link)
+                } else {
+                    self.unless_down(rt, pass, Ok(Turned::Busy))
+                }
+            }
+            Got::Long(length) => self.unless_down(rt, pass, Err(ServeFault::Long(length))),
+            Got::Closed => self.unless_down(rt, pass, Ok(Turned::Closed)),
+            Got::Failed => self.unless_down(rt, pass, Err(ServeFault::Net)),
+            Got::NoMemory => Err(ServeFault::NoMemory),
+        }
+    }
+
+    /// Hands the server and its keeper back. The pass's front is the whole list then. There is no server where memory was wanting or the disk
+    /// failed in a step.
+    pub fn finish<R: Wait>(self, rt: &R, pass: &mut ServerPass<K>) -> (Option<Server>, K)
+        requires pass { IsServerPass K.kept self.lock pass.old.pass pass.old.clerk }
+        ensures same { Same pass.old.pass pass.new.pass }
+        ensures later { IsPrefix (front pass.old.pass) (front pass.new.pass) }
+        ensures run { RunsFrom K.kept (first self.lock) (front pass.new.pass) }
+        ensures finished { Finished K.kept K.counts K.did (first self.lock) (front pass.new.pass) result.0 result.1 }
+    {
+        let turn = self.lock.enter(rt, &mut pass.pass);
+        let node = turn.into_value();
+        if node.broken {
+            return (None, node.keeper);
+        }
+        (Some(node.server), node.keeper)
+    }
+}

@@ -1,0 +1,53 @@
+// The value behind the lock: the server, what keeps its state, an outbox for each clerk, and the list of steps.
+use crate::step::{Halt, Step};
+use ec_base::ClerkId;
+use ec_server::{Keeper, Server};
+use ec_trace::Trace;
+use ec_wire::Msg;
+use std::collections::VecDeque;
+
+/// The messages to one clerk that no link has got yet.
+#[derive(Drop)]
+pub struct Outbox {
+    pub msgs: VecDeque<Msg>,
+    /// The pass of the clerk's last Hello.
+    pub owner: Option<u64>,
+}
+
+#[derive(Drop)]
+pub struct Node<K: Keeper + Drop> {
+    pub server: Server,
+    pub keeper: K,
+    /// One for each clerk.
+    pub boxes: Vec<Outbox>,
+    /// Nothing is done any more after this.
+    pub halt: Option<Halt>,
+    /// Memory was wanting in a step, or the disk failed in it. From then on nothing is done.
+    pub broken: bool,
+    pub steps: u64,
+    pub trace: Trace<Step>,
+}
+
+/// The clerks to whose outboxes something came.
+#[derive(Clone, Copy, Debug, Drop, PartialEq, Eq)]
+pub struct Told {
+    clerks: u16,
+}
+
+impl Told {
+    pub fn nobody() -> Told {
+        Told { clerks: 0 }
+    }
+
+    /// These, and this one.
+    pub fn and(self, clerk: ClerkId) -> Told {
+        Told {
+            clerks: self.clerks | (1u16 << clerk.get()),
+        }
+    }
+
+    /// Whether something came to this clerk's outbox.
+    pub fn has(self, clerk: ClerkId) -> bool {
+        self.clerks & (1u16 << clerk.get()) != 0
+    }
+}

@@ -1,0 +1,32 @@
+// The steps that the list of a shared server has. They stand in proofs alone: what a step says of a body or a message is a snapshot, which has no
+// bytes.
+use ec_base::{ClerkId, Counter};
+use ec_protocol::Served;
+use ec_wire::Msg;
+use std::snapshot::Snapshot;
+
+/// Why a server took no message, and takes none any more.
+#[derive(Clone, Copy, Debug, Drop, PartialEq, Eq)]
+pub enum Halt {
+    DiskFailed,
+    DiskStopped,
+    Spent(Counter),
+}
+
+/// What was done.
+#[derive(Drop)]
+pub enum Deed {
+    /// A message of the clerk was taken: the body that it came in, the message, and what came of it.
+    Took(ClerkId, Snapshot<Vec<u8>>, Snapshot<Msg>, Snapshot<Served>),
+    /// The first message of the clerk's outbox was sent to it.
+    Gave(ClerkId, Snapshot<Msg>),
+    /// The taking of a message of the clerk ended so.
+    Halted(ClerkId, Snapshot<Vec<u8>>, Snapshot<Msg>, Halt),
+}
+
+#[derive(Drop)]
+pub struct Step {
+    /// The number of the pass that made it.
+    pub pass: u64,
+    pub deed: Deed,
+}
