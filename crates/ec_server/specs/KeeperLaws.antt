@@ -182,17 +182,11 @@ start_takes n d e same less is = subst (λ (m : ℕ). m < last_counter → step 
 -- Keepers.
 
 module _ {K : Type 0} (did broke : K → Record → K → Type 0) where
-  pub rests : (before after : Option Record) (k l : K) → after ≡ before → l ≡ k → Moves did before after k l
-  rests before after k l p q = inl (p, q)
-
-  pub commits : (before after : Option Record) (r : Record) (k l : K) → after ≡ Some r → did k r l → Moves did before after k l
-  commits before after r k l p q = inr (r, p, q)
-
-  pub fails : (r : Record) (d : Durable) (core : Core) (k l : K) → broke k r l → ((fault : RecordFault) → step r d ≡ Err fault → l ≡ k) → Fails broke NoMemory r d core k l
-  fails r d core k l b f = go (step r d) refl
+  pub fails : (r : Record) (d : Durable) (core : Core) (k l : K) → HasRoom core → broke k r l → ((fault : RecordFault) → step r d ≡ Err fault → l ≡ k) → Fails broke NoMemory r d core k l
+  fails r d core k l room b f = go (step r d) refl
     where
       go : (res : Result Durable RecordFault) → step r d ≡ res → Fails broke NoMemory r d core k l
-      go (Ok e) is = inr ((e, is), b)
+      go (Ok e) is = inr (room, (e, is), b)
       go (Err fault) is = inl (f fault is)
 
   -- a commit that a fault ends
@@ -201,7 +195,7 @@ module _ {K : Type 0} (did broke : K → Record → K → Type 0) where
   hurts DiskFailed r d core done k l h f = let p = f h.1.0 h.1.1 in (p.numbers h.0, (r, p.rec, h.2))
   hurts DiskStopped r d core done k l h f = let p = f h.1.0 h.1.1 in (p.numbers h.0, (r, p.rec, h.2))
   hurts NoMemory r d core done k l (inl h) f = inl h
-  hurts NoMemory r d core done k l (inr h) f = inr (r, (f h.0.0 h.0.1).rec, inr h.1)
+  hurts NoMemory r d core done k l (inr h) f = let p = f h.1.0 h.1.1 in inr (p.numbers h.0, (r, p.rec, inr h.2))
 
   -- the same of a start
   pub hurts_start : (fault : ServerFault) (r : Record) (d : Durable) (core : Core) (done : Serving) (k l : K) → Fails broke fault r d core k l → ((e : Durable) → step r d ≡ Ok e → (done.rec ≡ Some r) × (done.spent ≡ None))
@@ -210,17 +204,29 @@ module _ {K : Type 0} (did broke : K → Record → K → Type 0) where
   hurts_start DiskFailed r d core done k l h f = let p = f h.1.0 h.1.1 in (p.1, (r, p.0, h.2))
   hurts_start DiskStopped r d core done k l h f = let p = f h.1.0 h.1.1 in (p.1, (r, p.0, h.2))
   hurts_start NoMemory r d core done k l (inl h) f = inl h
-  hurts_start NoMemory r d core done k l (inr h) f = inr (r, (f h.0.0 h.0.1).0, inr h.1)
+  hurts_start NoMemory r d core done k l (inr h) f = let p = f h.1.0 h.1.1 in inr (p.1, (r, p.0, inr h.2))
+
+  -- a commit behind which there are numbers
+  pub commits : (b : Bool) (r : Record) (d e f : Durable) (old mid new : Core) (done : Serving) (before rec : Option Record) (k l : K) → b ≡ true → Commits b r d e old mid → Ends did b r before rec old k l → new.rec ≡ rec
+      → (step r d ≡ Ok e → Takes r old done) → done ≡ under f new → Moves did before new k l
+  commits false r d e f old mid new done before rec k l p h q same g is = absurd cc
+  commits true r d e f old mid new done before rec k l p h q same g is = inr (r, same ∙ q.0, q.1, (subst HasNumbers is ((g h.1).numbers q.2)).1)
 
   -- want of memory behind a commit
-  pub late : (b : Bool) (r : Record) (d e : Durable) (old new : Core) (rec before after : Option Record) (k l : K) → b ≡ true → Commits b r d e old new → Ends did b r before after k l → (step r d ≡ Ok e → rec ≡ Some r)
-      → (l ≡ k) ⊎ ((q : Record) × (rec ≡ Some q) × (did k q l ⊎ broke k q l))
-  late false r d e old new rec before after k l p h q f = absurd cc
-  late true r d e old new rec before after k l p h q f = inr (r, f h.1, inl q.1)
+  pub late : (b : Bool) (r : Record) (d e : Durable) (old new : Core) (done : Serving) (before after : Option Record) (k l : K) → b ≡ true → Commits b r d e old new → Ends did b r before after old k l → (step r d ≡ Ok e → Takes r old done)
+      → MayHave HasNumbers did broke done k l
+  late false r d e old new done before after k l p h q f = absurd cc
+  late true r d e old new done before after k l p h q f = let t = f h.1 in inr (t.numbers q.2, (r, t.rec, inl q.1))
+
+  -- the same of a start
+  pub late_start : (b : Bool) (r : Record) (d e : Durable) (old new : Core) (done : Serving) (before after : Option Record) (k l : K) → b ≡ true → Commits b r d e old new → Ends did b r before after old k l
+      → (step r d ≡ Ok e → (done.rec ≡ Some r) × (done.spent ≡ None)) → MayHave SpendsNothing did broke done k l
+  late_start false r d e old new done before after k l p h q f = absurd cc
+  late_start true r d e old new done before after k l p h q f = let t = f h.1 in inr (t.1, (r, t.0, inl q.1))
 
   -- an end in the place of a refused batch
   pub hurts_refused : {U : Type 0} (res : Result U ServerFault) (x : Bool) (c ss b : ℕ) (xs ops : List (ℕ × Update)) (d e : Durable) (old new : Core) (before after : Option Record) (k m l : K) → x ≡ false → xs ≡ ops
-      → has_batch b (slot d c) ≡ false → Commits x (Batch c ss b xs) d e old new → Ends did x (Batch c ss b xs) before after k m → IfErr res (λ fault. Hurts HasNumbers did broke fault (at_slot c (finish c) (under e new)) m l)
+      → has_batch b (slot d c) ≡ false → Commits x (Batch c ss b xs) d e old new → Ends did x (Batch c ss b xs) before after old k m → IfErr res (λ fault. Hurts HasNumbers did broke fault (at_slot c (finish c) (under e new)) m l)
       → IfErr res (λ fault. Hurts HasNumbers did broke fault (at_slot c (flush c ss b ops) (under d old)) k l)
   hurts_refused res true c ss b xs ops d e old new before after k m l p same had h q r = absurd cc
   hurts_refused res false c ss b xs ops d e old new before after k m l p same had h q r =
@@ -229,20 +235,24 @@ module _ {K : Type 0} (did broke : K → Record → K → Type 0) where
       let done : at_slot c (finish c) (under e new) ≡ at_slot c (flush c ss b ops) (under d old) = ap (at_slot c (finish c)) state ∙ flush_ends c ss b ops d old had (inr refused) in
       subst (λ (t : Serving). IfErr res (λ fault. Hurts HasNumbers did broke fault t k l)) done (subst (λ (n : K). IfErr res (λ fault. Hurts HasNumbers did broke fault (at_slot c (finish c) (under e new)) n l)) q.1 r)
 
-  pub moved : (before after : Option Record) (k l : K) → before ≡ None → Moves did before after k l → Did did after k l
-  moved before None k l none (inl p) = p.1
-  moved before (Some r) k l none (inl p) = absurd (not_none (p.0 ∙ none))
+  moved_by : (before after : Option Record) (k l : K) → before ≡ None → ((after ≡ before) × (l ≡ k)) ⊎ ((r : Record) × (after ≡ Some r) × did k r l) → Did did after k l
+  moved_by before None k l none (inl p) = p.1
+  moved_by before (Some r) k l none (inl p) = absurd (not_none (p.0 ∙ none))
     where
       not_none : Some r ≡ None → ⊥
       not_none q = absurd cc
-  moved before None k l none (inr q) = absurd (not_none q.1)
+  moved_by before None k l none (inr q) = absurd (not_none q.1)
     where
       not_none : None ≡ Some q.0 → ⊥
       not_none p = absurd cc
-  moved before (Some r) k l none (inr q) = subst (λ (x : Record). did k x l) (sym (same q.1)) q.2
+  moved_by before (Some r) k l none (inr q) = subst (λ (x : Record). did k x l) (sym (same q.1)) q.2
     where
       same : Some r ≡ Some q.0 → r ≡ q.0
       same p = cc
+
+  pub moved : (before : Option Record) (core : Core) (k l : K) → before ≡ None → Moves did before core k l → Did did core.rec k l
+  moved before core k l none (inl p) = moved_by before core.rec k l none (inl p)
+  moved before core k l none (inr q) = moved_by before core.rec k l none (inr (q.0, q.1, q.2))
 
   -- Whole steps: what is served changes none of it.
 
@@ -257,16 +267,18 @@ module _ {K : Type 0} (did broke : K → Record → K → Type 0) where
       go DiskFailed h = ((serve_lasts (f u) h.0).0, (h.1.0, rec_too h.1.0 h.1.1, h.1.2))
       go DiskStopped h = ((serve_lasts (f u) h.0).0, (h.1.0, rec_too h.1.0 h.1.1, h.1.2))
       go NoMemory (inl h) = inl h
-      go NoMemory (inr h) = inr (h.0, rec_too h.0 h.1, h.2)
+      go NoMemory (inr h) = inr ((serve_lasts (f u) h.0).0, (h.1.0, rec_too h.1.0 h.1.1, h.1.2))
 
-  pub did_served : (e : Durable) (before : Option Record) (now after : Core) (k l : K) → before ≡ None → serve (under e now) ≡ under e after → Moves did before now.rec k l → Did did after.rec k l
+  pub did_served : (e : Durable) (before : Option Record) (now after : Core) (k l : K) → before ≡ None → serve (under e now) ≡ under e after → Moves did before now k l → Did did after.rec k l
   did_served e before now after k l none same m =
-      subst (λ (o : Option Record). Did did o k l) (sym (serve_serves (under e now)).rec ∙ ap (λ (t : Serving). t.rec) same) (moved before now.rec k l none m)
+      subst (λ (o : Option Record). Did did o k l) (sym (serve_serves (under e now)).rec ∙ ap (λ (t : Serving). t.rec) same) (moved before now k l none m)
 
   -- want of memory while wants are served
-  pub may_served : (before after : Option Record) (done : Serving) (k l : K) → before ≡ None → done.rec ≡ after → Moves did before after k l → MayHave did broke (serve done) k l
-  may_served before after done k l none same (inl p) = inl p.1
-  may_served before after done k l none same (inr q) = inr (q.0, (serve_serves done).rec ∙ same ∙ q.1, inl q.2)
+  pub may_served : (before : Option Record) (e : Durable) (now : Core) (done : Serving) (k l : K) → before ≡ None → done ≡ under e now → Moves did before now k l → MayHave SpendsNothing did broke (serve done) k l
+  may_served before e now done k l none same (inl p) = inl p.1
+  may_served before e now done k l none same (inr q) =
+      let numbers : HasNumbers done = subst HasNumbers (sym same) (refl, q.3) in
+      inr ((serve_lasts done numbers).0, (q.0, (serve_serves done).rec ∙ ap (λ (t : Serving). t.rec) same ∙ q.1, inl q.2))
 
   -- Answers.
 

@@ -81,7 +81,7 @@ impl Core {
         requires { IsTrue (is_sound msg.now) }
         ensures ok { OnOk result (machine.taken clerk msg.now (under (K.kept keeper.old) self.old) ≡ under (K.kept keeper.new) self.new) }
         ensures err { IfErr result (λ fault. Leaves fault (K.counts keeper.old) (K.counts keeper.new) (machine.taken clerk msg.now (under (K.kept keeper.old) self.old)) (server (K.kept keeper.old) self.old) (server (K.kept keeper.new) self.new)) }
-        ensures did { OnOk result (Moves K.did self.old.rec self.new.rec keeper.old keeper.new) }
+        ensures did { OnOk result (Moves K.did self.old.rec self.new keeper.old keeper.new) }
         ensures keeper { IfErr result (λ fault. Hurts HasNumbers K.did K.broke fault (machine.taken clerk msg.now (under (K.kept keeper.old) self.old)) keeper.old keeper.new) }
         ensures later { IsLater (K.counts keeper.old) (K.counts keeper.new) }
     {
@@ -118,7 +118,7 @@ impl Core {
         requires slot { is_some (slot (K.kept keeper.old) clerk) ≡ true }
         ensures ok { OnOk result (at_slot clerk (does clerk msg.now) (under (K.kept keeper.old) self.old) ≡ under (K.kept keeper.new) self.new) }
         ensures err { IfErr result (λ fault. Leaves fault (K.counts keeper.old) (K.counts keeper.new) (at_slot clerk (does clerk msg.now) (under (K.kept keeper.old) self.old)) (server (K.kept keeper.old) self.old) (server (K.kept keeper.new) self.new)) }
-        ensures did { OnOk result (Moves K.did self.old.rec self.new.rec keeper.old keeper.new) }
+        ensures did { OnOk result (Moves K.did self.old.rec self.new keeper.old keeper.new) }
         ensures keeper { IfErr result (λ fault. Hurts HasNumbers K.did K.broke fault (at_slot clerk (does clerk msg.now) (under (K.kept keeper.old) self.old)) keeper.old keeper.new) }
         ensures later { IsLater (K.counts keeper.old) (K.counts keeper.new) }
     {

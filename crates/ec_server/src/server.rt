@@ -82,6 +82,7 @@ impl Server {
         ensures err { IfErr result (λ fault. Leaves fault (K.counts keeper.old) (K.counts keeper.new) (machine.take from msg.now (standing (K.kept keeper.old) self.old)) (standing (K.kept keeper.old) self.old) (standing (K.kept keeper.new) self.new)) }
         ensures did { IfOk result (λ served. Did K.did served.rec keeper.old keeper.new) }
         ensures keeper { IfErr result (λ fault. Hurts SpendsNothing K.did K.broke fault (machine.take from msg.now (standing (K.kept keeper.old) self.old)) keeper.old keeper.new) }
+        ensures rests { self.old.is_down ≡ true → keeper.new ≡ keeper.old }
         ensures counts { Counted (K.counts keeper.old) (K.counts keeper.new) (result ≡ Err fault.DiskFailed) (result ≡ Err fault.DiskStopped) }
         ensures down { GoesDown result self.old.is_down self.new.is_down }
         ensures stands { StandsOn (K.kept keeper.new) self.new }
@@ -104,6 +105,7 @@ impl Server {
         ensures err { IfErr result (λ fault. Leaves fault (K.counts keeper.old) (K.counts keeper.new) (machine.end clerk (standing (K.kept keeper.old) self.old)) (standing (K.kept keeper.old) self.old) (standing (K.kept keeper.new) self.new)) }
         ensures did { IfOk result (λ served. Did K.did served.rec keeper.old keeper.new) }
         ensures keeper { IfErr result (λ fault. Hurts SpendsNothing K.did K.broke fault (machine.end clerk (standing (K.kept keeper.old) self.old)) keeper.old keeper.new) }
+        ensures rests { self.old.is_down ≡ true → keeper.new ≡ keeper.old }
         ensures counts { Counted (K.counts keeper.old) (K.counts keeper.new) (result ≡ Err fault.DiskFailed) (result ≡ Err fault.DiskStopped) }
         ensures down { GoesDown result self.old.is_down self.new.is_down }
         ensures stands { StandsOn (K.kept keeper.new) self.new }

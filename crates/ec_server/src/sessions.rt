@@ -25,7 +25,7 @@ impl Core {
     ) -> Result<(), ServerFault>
         ensures ok { OnOk result (at_slot clerk (machine.finish clerk) (under (K.kept keeper.old) self.old) ≡ under (K.kept keeper.new) self.new) }
         ensures err { IfErr result (λ fault. Stops fault (K.counts keeper.old) (K.counts keeper.new)) }
-        ensures did { OnOk result (Moves K.did self.old.rec self.new.rec keeper.old keeper.new) }
+        ensures did { OnOk result (Moves K.did self.old.rec self.new keeper.old keeper.new) }
         ensures keeper { IfErr result (λ fault. Hurts HasNumbers K.did K.broke fault (at_slot clerk (machine.finish clerk) (under (K.kept keeper.old) self.old)) keeper.old keeper.new) }
         ensures later { IsLater (K.counts keeper.old) (K.counts keeper.new) }
     {
@@ -48,7 +48,7 @@ impl Core {
     ) -> Result<(), ServerFault>
         ensures ok { OnOk result (machine.hello clerk from age (under (K.kept keeper.old) self.old) ≡ under (K.kept keeper.new) self.new) }
         ensures err { IfErr result (λ fault. Leaves fault (K.counts keeper.old) (K.counts keeper.new) (machine.hello clerk from age (under (K.kept keeper.old) self.old)) (server (K.kept keeper.old) self.old) (server (K.kept keeper.new) self.new)) }
-        ensures did { OnOk result (Moves K.did self.old.rec self.new.rec keeper.old keeper.new) }
+        ensures did { OnOk result (Moves K.did self.old.rec self.new keeper.old keeper.new) }
         ensures keeper { IfErr result (λ fault. Hurts HasNumbers K.did K.broke fault (machine.hello clerk from age (under (K.kept keeper.old) self.old)) keeper.old keeper.new) }
         ensures later { IsLater (K.counts keeper.old) (K.counts keeper.new) }
     {
@@ -68,7 +68,7 @@ impl Core {
     ) -> Result<(), ServerFault>
         ensures ok { OnOk result (machine.greet clerk age greeting (under (K.kept keeper.old) self.old) ≡ under (K.kept keeper.new) self.new) }
         ensures err { IfErr result (λ fault. Leaves fault (K.counts keeper.old) (K.counts keeper.new) (machine.greet clerk age greeting (under (K.kept keeper.old) self.old)) (server (K.kept keeper.old) self.old) (server (K.kept keeper.new) self.new)) }
-        ensures did { OnOk result (Moves K.did self.old.rec self.new.rec keeper.old keeper.new) }
+        ensures did { OnOk result (Moves K.did self.old.rec self.new keeper.old keeper.new) }
         ensures keeper { IfErr result (λ fault. Hurts HasNumbers K.did K.broke fault (machine.greet clerk age greeting (under (K.kept keeper.old) self.old)) keeper.old keeper.new) }
         ensures later { IsLater (K.counts keeper.old) (K.counts keeper.new) }
     {
@@ -95,7 +95,7 @@ impl Core {
     ) -> Result<(), ServerFault>
         ensures ok { OnOk result (machine.open_new clerk age old (under (K.kept keeper.old) self.old) ≡ under (K.kept keeper.new) self.new) }
         ensures err { IfErr result (λ fault. Leaves fault (K.counts keeper.old) (K.counts keeper.new) (machine.open_new clerk age old (under (K.kept keeper.old) self.old)) (server (K.kept keeper.old) self.old) (server (K.kept keeper.new) self.new)) }
-        ensures did { OnOk result (Moves K.did self.old.rec self.new.rec keeper.old keeper.new) }
+        ensures did { OnOk result (Moves K.did self.old.rec self.new keeper.old keeper.new) }
         ensures keeper { IfErr result (λ fault. Hurts HasNumbers K.did K.broke fault (machine.open_new clerk age old (under (K.kept keeper.old) self.old)) keeper.old keeper.new) }
         ensures later { IsLater (K.counts keeper.old) (K.counts keeper.new) }
     {

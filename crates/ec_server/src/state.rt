@@ -101,7 +101,7 @@ impl Core {
         requires { is_sound_record change ≡ true }
         ensures ok { IfOk result (λ is_done. Commits is_done change (K.kept keeper.old) (K.kept keeper.new) self.old self.new) }
         ensures err { IfErr result (λ fault. Stops fault (K.counts keeper.old) (K.counts keeper.new)) }
-        ensures did { IfOk result (λ is_done. Ends K.did is_done change self.old.rec self.new.rec keeper.old keeper.new) }
+        ensures did { IfOk result (λ is_done. Ends K.did is_done change self.old.rec self.new.rec self.old keeper.old keeper.new) }
         ensures keeper { IfErr result (λ fault. Fails K.broke fault change (K.kept keeper.old) self.old keeper.old keeper.new) }
         ensures later { IsLater (K.counts keeper.old) (K.counts keeper.new) }
     {

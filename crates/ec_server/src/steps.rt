@@ -62,7 +62,7 @@ impl Core {
     fn end_open<K: Keeper>(&mut self, keeper: &mut K, clerk: ClerkId) -> Result<(), ServerFault>
         ensures ok { OnOk result (machine.end_open clerk (slot (K.kept keeper.old) clerk) (under (K.kept keeper.old) self.old) ≡ under (K.kept keeper.new) self.new) }
         ensures err { IfErr result (λ fault. Leaves fault (K.counts keeper.old) (K.counts keeper.new) (machine.end_open clerk (slot (K.kept keeper.old) clerk) (under (K.kept keeper.old) self.old)) (server (K.kept keeper.old) self.old) (server (K.kept keeper.new) self.new)) }
-        ensures did { OnOk result (Moves K.did self.old.rec self.new.rec keeper.old keeper.new) }
+        ensures did { OnOk result (Moves K.did self.old.rec self.new keeper.old keeper.new) }
         ensures keeper { IfErr result (λ fault. Hurts HasNumbers K.did K.broke fault (machine.end_open clerk (slot (K.kept keeper.old) clerk) (under (K.kept keeper.old) self.old)) keeper.old keeper.new) }
         ensures later { IsLater (K.counts keeper.old) (K.counts keeper.new) }
     {

@@ -102,7 +102,7 @@ impl Core {
         requires slot { is_some (slot (K.kept keeper.old) clerk) ≡ true }
         ensures ok { OnOk result (at_slot clerk (machine.claim clerk session list.now) (under (K.kept keeper.old) self.old) ≡ under (K.kept keeper.new) self.new) }
         ensures err { IfErr result (λ fault. Stops fault (K.counts keeper.old) (K.counts keeper.new)) }
-        ensures did { OnOk result (Moves K.did self.old.rec self.new.rec keeper.old keeper.new) }
+        ensures did { OnOk result (Moves K.did self.old.rec self.new keeper.old keeper.new) }
         ensures keeper { IfErr result (λ fault. Hurts HasNumbers K.did K.broke fault (at_slot clerk (machine.claim clerk session list.now) (under (K.kept keeper.old) self.old)) keeper.old keeper.new) }
         ensures later { IsLater (K.counts keeper.old) (K.counts keeper.new) }
     {

@@ -1,5 +1,5 @@
 -- What came of a server's step over a keeper that marks its records.
-use Rattle.std.proofs.Common.{◌≡◌, ◌⊎◌, ◌<◌, ◌≤◌, inl, inr, ⊎_elim, ℕ, Bool, false, List, [], length, Option, None, Some, Result, Ok, Err, refl, sym, ap, subst, ◌∙◌, arith}
+use Rattle.std.proofs.Common.{◌≡◌, ◌⊎◌, ◌<◌, ◌≤◌, inl, inr, ⊎_elim, ℕ, Bool, true, false, List, [], length, Option, None, Some, Result, Ok, Err, refl, sym, ap, subst, ◌∙◌, arith}
 use Rattle.std.specs.Prelude.{IfOk, IfErr}
 use Rattle.ec_base.specs.Outside.{Rose}
 use Rattle.ec_base.specs.declared.counter.Counter.{Counter}
@@ -7,6 +7,7 @@ use Rattle.ec_disk.specs.Disk.{View, LeavesOnly, Counts, Counted, Called}
 use Rattle.ec_durable.specs.Durable.{step}
 use Rattle.ec_durable.specs.declared.state.Durable.{Durable}
 use Rattle.ec_durable.specs.declared.record.Record.{Record}
+use Rattle.ec_durable.specs.declared.record.RecordFault.{RecordFault}
 use Rattle.ec_stands.specs.Stands.{StandsFor}
 use Rattle.ec_protocol.specs.Server.{Serving}
 use Rattle.ec_protocol.specs.declared.server.Served.{Served}
@@ -61,10 +62,12 @@ pub record Means (K : Type 0) (did broke : K → Record → K → Type 0) (k l :
   pub doubted : (r : Record) → broke k r l → Doubted tells old now mark before a b stops r
   pub same : l ≡ k → Same tells old new now mark a b
 
-abbrev pub IsDisk : ServerFault → Type 0
-IsDisk server.DiskFailed = Unit {0}
-IsDisk server.DiskStopped = Unit {0}
-IsDisk _ = ⊥
+-- The machine's step takes its record from the state, where a fault may have left that record.
+abbrev pub Steps : {K : Type 0} → ServerFault → Serving → Durable → K → K → Type 0
+Steps server.DiskFailed done d k l = Records done.rec d done.server.durable
+Steps server.DiskStopped done d k l = Records done.rec d done.server.durable
+Steps server.NoMemory done d k l = (l ≡ k) ⊎ Records done.rec d done.server.durable
+Steps (server.Spent n) done d k l = Unit {0}
 
 abbrev pub SpendsIn : ServerFault → Serving → Type 0
 SpendsIn (server.Spent n) done = done.spent ≡ Some n
@@ -93,17 +96,26 @@ abbrev pub Undone : ServerFault → Type 0 → Serving → Store → Store → V
 Undone (server.Spent n) tells done old new now mark before = Unchanged tells done n old new now
 Undone server.DiskFailed tells done old new now mark before = (r : Record) × InDoubt tells done (view_of old) now r
 Undone server.DiskStopped tells done old new now mark before = (r : Record) × InDoubt tells done (view_of old) now r × Marked mark r (view_of old) before
-Undone server.NoMemory tells done old new now mark before = tells → LeavesSome (view_of old) now
+Undone server.NoMemory tells done old new now mark before = tells → LeavesSome done (view_of old) now
 
 -- whatever a crash leaves of a held disk stands for the store's state
-held_some : (tells : Type 0) (d : Durable) (new : Store) (now : View) → (tells → IsHeld now new) → view_of new ≡ d → tells → LeavesSome d now
-held_some tells d new now held same told image left = inl (subst (λ (x : Durable). StandsFor image x) same (held_stands now new (held told) image left))
+held_some : (tells : Type 0) (done : Serving) (d : Durable) (new : Store) (now : View) → (tells → IsHeld now new) → view_of new ≡ d → tells → LeavesSome done d now
+held_some tells done d new now held same told image left = inl (subst (λ (x : Durable). StandsFor image x) same (held_stands now new (held told) image left))
 
-committed_some : (tells : Type 0) (d : Durable) (new : Store) (now : View) (r : Record) → (tells → IsHeld now new) → step r d ≡ Ok (view_of new) → tells → LeavesSome d now
-committed_some tells d new now r held is told image left = inr (r, view_of new, is, held_stands now new (held told) image left)
+pub same_ok : (d e : Durable) → ◌≡◌ {A = Result Durable RecordFault} (Ok d) (Ok e) → d ≡ e
+same_ok d e is = cc
 
-pub either_some : (r : Record) (d : Durable) (now : View) → LeavesEither r d now → LeavesSome d now
-either_some r d now h image left = ⊎_elim (λ is. inl is) (λ e. inr (r, e.0, e.1, e.2)) (h image left)
+-- the state behind the record of the machine's step
+pub is_behind : (done : Serving) (d e : Durable) (r : Record) → done.rec ≡ Some r → Records done.rec d done.server.durable → step r d ≡ Ok e → e ≡ done.server.durable
+is_behind done d e r is steps by = same_ok e done.server.durable (sym by ∙ subst (λ (o : Option Record). Records o d done.server.durable) is steps)
+
+committed_some : (tells : Type 0) (done : Serving) (d : Durable) (new : Store) (now : View) (r : Record) → (tells → IsHeld now new) → done.spent ≡ None → done.rec ≡ Some r → Records done.rec d done.server.durable → step r d ≡ Ok (view_of new) → tells → LeavesSome done d now
+committed_some tells done d new now r held none is steps by told image left =
+    inr (none, subst (λ (x : Durable). StandsFor image x) (is_behind done d (view_of new) r is steps by) (held_stands now new (held told) image left))
+
+either_some : (done : Serving) (d : Durable) (now : View) (r : Record) → done.spent ≡ None → done.rec ≡ Some r → Records done.rec d done.server.durable → LeavesEither r d now → LeavesSome done d now
+either_some done d now r none is steps h image left =
+    ⊎_elim (λ x. inl x) (λ e. inr (none, subst (λ (x : Durable). StandsFor image x) (is_behind done d e.0 r is steps e.1) e.2)) (h image left)
 
 in_doubt : (tells : Type 0) (done : Serving) (d : Durable) (now : View) (r : Record) → done.rec ≡ Some r → done.spent ≡ None → Records done.rec d done.server.durable → (tells → LeavesEither r d now) → InDoubt tells done d now r
 in_doubt tells done d now r is none steps leaves = record { rec_is = is; unspent = none; steps = subst (λ (o : Option Record). Records o d done.server.durable) is steps; leaves = leaves }
@@ -117,7 +129,7 @@ was_marked n rose h = ⊎_elim (λ x. absurd (no_stop n rose x.0)) (λ x. x) h
 
 pub undone : (T : Type 0) (K : Type 0) (did broke : K → Record → K → Type 0) (k l : K) (tells : Type 0) (old new : Store) (now : View) (mark : Option Mark) (before : List Record) (a b : Counts) (stops : ℕ) (done : Serving)
     → Means K did broke k l tells old new now mark before a b stops → (answer : Result T ServerFault)
-    → IfErr answer (λ f. Hurts SpendsNothing did broke f done k l) → IfErr answer (λ f. SpendsIn f done) → IfErr answer (λ f. IsDisk f → Records done.rec (view_of old) done.server.durable)
+    → IfErr answer (λ f. Hurts SpendsNothing did broke f done k l) → IfErr answer (λ f. SpendsIn f done) → IfErr answer (λ f. Steps f done (view_of old) k l)
     → (answer ≡ Err server.DiskStopped → Rose 0 stops)
     → IfErr answer (λ f. Undone f tells done old new now mark before)
 undone T K did broke k l tells old new now mark before a b stops done m (Ok x) hurts spends steps rose = tt
@@ -125,14 +137,21 @@ undone T K did broke k l tells old new now mark before a b stops done m (Err (se
     let s = m.same hurts in record { spent = spends; store = s.store; held = s.held }
 undone T K did broke k l tells old new now mark before a b stops done m (Err server.DiskFailed) hurts spends steps rose =
     let s = m.doubted hurts.1.0 hurts.1.2 in
-    (hurts.1.0, in_doubt tells done (view_of old) now hurts.1.0 hurts.1.1 hurts.0 (steps tt) s.leaves)
+    (hurts.1.0, in_doubt tells done (view_of old) now hurts.1.0 hurts.1.1 hurts.0 steps s.leaves)
 undone T K did broke k l tells old new now mark before a b stops done m (Err server.DiskStopped) hurts spends steps rose =
     let s = m.doubted hurts.1.0 hurts.1.2 in
     let marked : Marked mark hurts.1.0 (view_of old) before × Counted a b ⊥ (Unit {0}) = was_marked stops (rose refl) s.marked in
-    (hurts.1.0, in_doubt tells done (view_of old) now hurts.1.0 hurts.1.1 hurts.0 (steps tt) s.leaves, marked.0)
+    (hurts.1.0, in_doubt tells done (view_of old) now hurts.1.0 hurts.1.1 hurts.0 steps s.leaves, marked.0)
 undone T K did broke k l tells old new now mark before a b stops done m (Err server.NoMemory) hurts spends steps rose =
-    ⊎_elim (λ is. let s = m.same is in held_some tells (view_of old) new now s.held (ap view_of s.store))
-    (λ h. ⊎_elim (λ is. let s = m.committed h.0 is in committed_some tells (view_of old) new now h.0 s.held s.steps) (λ is told. either_some h.0 (view_of old) now ((m.doubted h.0 is).leaves told)) h.2)
+    let still : l ≡ k → tells → LeavesSome done (view_of old) now = λ is. let s = m.same is in held_some tells done (view_of old) new now s.held (ap view_of s.store) in
+    ⊎_elim still
+    (λ h.
+    ⊎_elim still
+    (λ goes.
+    ⊎_elim (λ is. let s = m.committed h.1.0 is in committed_some tells done (view_of old) new now h.1.0 s.held h.0 h.1.1 goes s.steps)
+    (λ is told. either_some done (view_of old) now h.1.0 h.0 h.1.1 goes ((m.doubted h.1.0 is).leaves told))
+    h.1.2)
+    steps)
     hurts
 
 pub has_mark : (T : Type 0) (tells : Type 0) (done : Serving) (old new : Store) (now : View) (mark : Option Mark) (before : List Record) (answer : Result T ServerFault) → IfErr answer (λ f. Undone f tells done old new now mark before) → HasMark answer mark
@@ -206,7 +225,7 @@ err_counted T K did broke k l tells old new now mark before a b stops done m (Er
     marked.1
 err_counted T K did broke k l tells old new now mark before a b stops done m (Err server.NoMemory) hurts rose =
     ⊎_elim (λ is. (m.same is).counted)
-    (λ h. ⊎_elim (λ is. (m.committed h.0 is).counted) (λ is. not_stopped a b _ _ _ (m.doubted h.0 is).marked) h.2)
+    (λ h. ⊎_elim (λ is. (m.committed h.1.0 is).counted) (λ is. not_stopped a b _ _ _ (m.doubted h.1.0 is).marked) h.1.2)
     hurts
 
 abbrev with_stops : Counts → ℕ → Counts
@@ -314,21 +333,21 @@ unstarted_spends T (Err server.DiskFailed) done d e h = tt
 unstarted_spends T (Err server.DiskStopped) done d e h = tt
 unstarted_spends T (Err server.NoMemory) done d e h = tt
 
--- a server that wasn't down before a fault of its disk
-pub was_up : (answer : Result Served ServerFault) (was is : Bool) → GoesDown answer was is → IfErr answer (λ f. IsDisk f → was ≡ false)
-was_up (Ok x) was is h = tt
-was_up (Err (server.Spent n)) was is h = λ e. absurd e
-was_up (Err server.DiskFailed) was is h = λ e. h.0
-was_up (Err server.DiskStopped) was is h = λ e. h.0
-was_up (Err server.NoMemory) was is h = λ e. absurd e
+-- A server that was down leaves its keeper; one that wasn't takes the machine's step.
+pub steps_up : {K : Type 0} (answer : Result Served ServerFault) (was is : Bool) (done : Serving) (d : Durable) (k l : K) → GoesDown answer was is → (was ≡ true → l ≡ k) → (was ≡ false → Records done.rec d done.server.durable) → IfErr answer (λ f. Steps f done d k l)
+steps_up (Ok x) was is done d k l h rests to = tt
+steps_up (Err (server.Spent n)) was is done d k l h rests to = tt
+steps_up (Err server.DiskFailed) was is done d k l h rests to = to h.0
+steps_up (Err server.DiskStopped) was is done d k l h rests to = to h.0
+steps_up (Err server.NoMemory) true is done d k l h rests to = inl (rests refl)
+steps_up (Err server.NoMemory) false is done d k l h rests to = inr (to refl)
 
-pub disk_faults : (T : Type 0) (answer : Result T ServerFault) (A B : Type 0) → IfErr answer (λ f. IsDisk f → A) → (A → B) → IfErr answer (λ f. IsDisk f → B)
-disk_faults T (Ok x) A B h to = tt
-disk_faults T (Err f) A B h to = λ e. to (h e)
-
-pub any_fault : (T : Type 0) (answer : Result T ServerFault) (B : Type 0) → B → IfErr answer (λ f. IsDisk f → B)
-any_fault T (Ok x) B b = tt
-any_fault T (Err f) B b = λ e. b
+pub steps_any : {K : Type 0} (T : Type 0) (answer : Result T ServerFault) (done : Serving) (d : Durable) (k l : K) → Records done.rec d done.server.durable → IfErr answer (λ f. Steps f done d k l)
+steps_any T (Ok x) done d k l to = tt
+steps_any T (Err (server.Spent n)) done d k l to = tt
+steps_any T (Err server.DiskFailed) done d k l to = to
+steps_any T (Err server.DiskStopped) done d k l to = to
+steps_any T (Err server.NoMemory) done d k l to = inr to
 
 -- a spent counter leaves the server as it was
 pub same_is : (T : Type 0) (answer : Result T ServerFault) (mark : Option Mark) (to : Result (Came T) Counter) (a b : Counts) (done : Serving) (was is : State) → Turns answer mark to → IfErr answer (λ f. FaultLeaves f a b done was is) → IfErr to (λ n. is ≡ was)

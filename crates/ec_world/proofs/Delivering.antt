@@ -25,7 +25,7 @@ use Rattle.ec_world.specs.Faults.{of_step}
 use Rattle.ec_world.specs.Keeping.{Unchanged}
 use Rattle.ec_world.specs.Laws.{held_stands, in_step_stands}
 use Rattle.ec_world.specs.Serving.{serves, Breaks}
-use Rattle.ec_world.specs.Steps.{Refuses, IsLeft}
+use Rattle.ec_world.specs.Steps.{Refuses, IsLeft, as_before}
 use Rattle.ec_world.specs.Worlds.{view_of, server_of, Stands, IsInStep}
 use Rattle.ec_world.specs.declared.fault.StepFault.{StepFault}
 use Rattle.ec_world.specs.declared.fault.StepFault.TheVariants as step_fault
@@ -119,11 +119,11 @@ deliver_takes n s w v is whose running fate = deliver_server fate n s (Some (sta
 
 -- What is left at a fault.
 
-pub nothing_left : (tells : Type 0) (now : View) (w : World) (behind : Durable) (f : StepFault) (image : List ℕ) → f ≡ step_fault.NoMemory → IsInStep tells now w → tells → now.may_leave image → IsLeft (of_step f) (state_of w.store) behind image
-nothing_left tells now w behind f image is h told left = subst (λ (y : StepFault). IsLeft (of_step y) (state_of w.store) behind image) (sym is) (inl (in_step_stands tells now w h told image left))
+pub nothing_left : (tells : Type 0) (now : View) (w : World) (m : Moving) (image : List ℕ) → IsInStep tells now w → tells → now.may_leave image → IsLeft (state_of w.store) m image
+nothing_left tells now w m image h told left = as_before (in_step_stands tells now w h told image left)
 
-pub spent_left : (tells : Type 0) (now : View) (n : Counter) (done : Serving) (old new : Store) (behind : Durable) (image : List ℕ) → Unchanged tells done n old new now → tells → now.may_leave image → IsLeft (fault.Spent n) (state_of old) behind image
-spent_left tells now n done old new behind image h told left = inl (subst (λ (s : Store). StandsFor image (state_of s)) h.store (held_stands now new (h.held told) image left))
+pub spent_left : (tells : Type 0) (now : View) (n : Counter) (done : Serving) (old new : Store) (m : Moving) (image : List ℕ) → Unchanged tells done n old new now → tells → now.may_leave image → IsLeft (state_of old) m image
+spent_left tells now n done old new m image h told left = as_before (subst (λ (s : Store). StandsFor image (state_of s)) h.store (held_stands now new (h.held told) image left))
 
 pub breaks_refuse : (f : StepFault) (m : Moving) (old new : Moved) (S : Type 0) → Breaks f → Refuses (of_step f) m old new S
 breaks_refuse step_fault.DiskFailed m old new S b = tt

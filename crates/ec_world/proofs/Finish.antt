@@ -8,7 +8,6 @@ use Rattle.ec_disk.specs.Disk.{View, Counts, Counted}
 use Rattle.ec_durable.specs.Durable.{step}
 use Rattle.ec_durable.specs.declared.state.Durable.{Durable}
 use Rattle.ec_durable.specs.declared.record.Record.{Record}
-use Rattle.ec_durable.specs.declared.record.RecordFault.{RecordFault}
 use Rattle.ec_history.specs.declared.shown.Shown.{Shown}
 use Rattle.ec_history.specs.declared.shown.Shown.TheVariants as show
 use Rattle.ec_wire.specs.declared.msg.Msg.{Msg}
@@ -21,7 +20,6 @@ use Rattle.ec_protocol.specs.declared.world.Noted.TheVariants as noted_as
 use Rattle.ec_protocol.specs.declared.world.World.{World as Moved}
 use Rattle.ec_protocol.specs.declared.world.WorldFault.TheVariants as fault
 use Rattle.ec_protocol.specs.World.{Fate, runs, stops_without, stops_with, Moving, moving, fails, with_world, show_line, show_noted, noted, send, send_all, go_on, committed, served, served_record, on_disk, stop}
-use Rattle.ec_server.specs.Clerks.{Records}
 use Rattle.ec_server.specs.Servers.{standing}
 use Rattle.ec_server.specs.declared.server.Server.{Server}
 use Rattle.ec_store.specs.Store.{IsHeld, view_of as state_of}
@@ -31,7 +29,7 @@ use Rattle.ec_world.specs.Keeping.{IsDone, InDoubt, LeavesSome, HasStoppedIn, Is
 use Rattle.ec_world.specs.Laws.{held_stands, in_step_keeps}
 use Rattle.ec_world.specs.Marks.{IsMark, gone}
 use Rattle.ec_world.specs.Serving.{serves, IsDoneBy, CameTo, FateIn, Finishes, Breaks, FailsSince, stopped_in, with_durable}
-use Rattle.ec_world.specs.Steps.{HasStopped, FateOf, IsTold, Fated, IsLeft, under}
+use Rattle.ec_world.specs.Steps.{HasStopped, FateOf, IsTold, Fated, IsLeft, as_before, as_behind, under}
 use Rattle.ec_world.specs.Worlds.{view_of, server_of, Stands, IsInStep, Keeps}
 use Rattle.ec_world.specs.declared.fault.StepFault.{StepFault}
 use Rattle.ec_world.specs.declared.fault.StepFault.TheVariants as step_fault
@@ -39,6 +37,7 @@ use Rattle.ec_world.specs.declared.keeping.Came.{Came}
 use Rattle.ec_world.specs.declared.keeping.Came.TheVariants as came
 use Rattle.ec_world.specs.declared.marks.Mark.{Mark}
 use Rattle.ec_world.specs.declared.world.World.{World}
+use Rattle.ec_world.proofs.Came.{same_ok}
 use Rattle.ec_world.proofs.Fresh.{fresh}
 use Rattle.ec_world.proofs.Served.{goes_on}
 
@@ -70,13 +69,10 @@ done_in_step tells done d old new now served' mark stands h same = in_step_keeps
     go None h = absurd h
     go (Some v) h = h.held
 
-done_some : (tells : Type 0) (done : Serving) (d : Durable) (before : List Record) (o : Option Server) (w : World) (now : View) (served' : Served) (mark : Option Mark) → IsDoneBy tells done d before o w.store now served' mark → tells → LeavesSome d now
+done_some : (tells : Type 0) (done : Serving) (d : Durable) (before : List Record) (o : Option Server) (w : World) (now : View) (served' : Served) (mark : Option Mark) → IsDoneBy tells done d before o w.store now served' mark → tells → LeavesSome done d now
 done_some tells done d before None w now served' mark h told image left = absurd h
-done_some tells done d before (Some v) w now served' mark h told image left = go served'.rec h.record_of
-  where
-    go : (rec : Option Record) → Records rec d (state_of w.store) → StandsFor image d ⊎ ((r : Record) × (e : Durable) × (step r d ≡ Ok e) × StandsFor image e)
-    go None is = inl (subst (λ (x : Durable). StandsFor image x) is (held_stands now w.store (h.held told) image left))
-    go (Some r) is = inr (r, state_of w.store, is, held_stands now w.store (h.held told) image left)
+done_some tells done d before (Some v) w now served' mark h told image left =
+    inr (ap (λ (t : Serving). t.spent) h.does, subst (λ (x : Durable). StandsFor image x) (sym (ap (λ (t : Serving). t.server.durable) h.does)) (held_stands now w.store (h.held told) image left))
 
 -- Stops.
 
@@ -119,25 +115,43 @@ pub sends_keep : (sent : List (ℕ × Msg)) (w : Moved) → (send_all sent w).du
 sends_keep [] w = refl
 sends_keep (s ∷ sent) w = sends_keep sent (send s.0 s.1 w)
 
-pub behind : (done : Serving) (r : Record) (u : Moved) → done.spent ≡ None → done.rec ≡ Some r → (served runs done u).world.durable ≡ done.server.durable
-behind done r u none is = ap (λ (m : Moving). m.world.durable) (served_commits runs r done u none is) ∙ sends_keep done.sent _
+-- the machine's step, which spends no counter, isn't refused, and this is the state behind it
+pub record IsTaken (m : Moving) (e : Durable) : Type 0 where
+  pub fault : m.fault ≡ None
+  pub durable : m.world.durable ≡ e
 
-same_ok : (d e : Durable) → ◌≡◌ {A = Result Durable RecordFault} (Ok d) (Ok e) → d ≡ e
-same_ok d e is = cc
+pub behind : (done : Serving) (u : Moved) → done.spent ≡ None → IsTaken (served runs done u) done.server.durable
+behind done u none = subst (λ (m : Moving). IsTaken m done.server.durable) (sym by) (go done.rec)
+  where
+    by : served runs done u ≡ served_record runs done.rec done u
+    by = ap (λ (o : Option Counter). elim o [ Some n ↦ fails (fault.Spent n) u | None ↦ served_record runs done.rec done u ]) none
+
+    shows : (o : Option Noted) (v : Moved) → (show_noted o (moving v)).fault ≡ None
+    shows None v = refl
+    shows (Some (noted_as.Durable c ns)) v = refl
+    shows (Some (noted_as.Ended c b)) v = refl
+
+    go : (rec : Option Record) → IsTaken (served_record runs rec done u) done.server.durable
+    go None = record { fault = refl; durable = sends_keep done.sent _ }
+    go (Some r) = record { fault = shows (noted u.durable r) (record u { records = u.records ++ r ∷ [] }); durable = sends_keep done.sent _ }
+
+pub left_behind : (d e : Durable) (m : Moving) (image : List ℕ) → IsTaken m e → StandsFor image d ⊎ StandsFor image e → IsLeft d m image
+left_behind d e m image at (inl h) = as_before h
+left_behind d e m image at (inr h) = as_behind at.fault (subst (λ (x : Durable). StandsFor image x) (sym at.durable) h)
+
+-- what stands for the state behind the machine's step, where that spends no counter
+pub some_left : (done : Serving) (d : Durable) (m : Moving) (image : List ℕ) → (done.spent ≡ None → IsTaken m done.server.durable) → StandsFor image d ⊎ ((done.spent ≡ None) × StandsFor image done.server.durable) → IsLeft d m image
+some_left done d m image at (inl h) = as_before h
+some_left done d m image at (inr h) = left_behind d done.server.durable m image (at h.0) (inr h.1)
 
 pub either_behind : (r : Record) (d e : Durable) (now : View) (image : List ℕ) → step r d ≡ Ok e → LeavesEither r d now → now.may_leave image → StandsFor image d ⊎ StandsFor image e
 either_behind r d e now image is h left = ⊎_elim (λ x. inl x) (λ x. inr (subst (λ (y : Durable). StandsFor image y) (same_ok x.0 e (sym x.1 ∙ is)) x.2)) (h image left)
 
 -- a fault behind a record that may be there
-pub doubt_leaves : (tells : Type 0) (done : Serving) (d : Durable) (before now : View) (r : Record) (u : Moved) (f : StepFault) (image : List ℕ) → Breaks f → InDoubt tells done d before r → LeavesEither r d now → now.may_leave image
-    → IsLeft (of_step f) d (served runs done u).world.durable image
-doubt_leaves tells done d before now r u step_fault.DiskFailed image b h e left = subst (λ (x : Durable). StandsFor image d ⊎ StandsFor image x) (sym (behind done r u h.unspent h.rec_is)) (either_behind r d done.server.durable now image h.steps e left)
-doubt_leaves tells done d before now r u step_fault.NoMemory image b h e left = ⊎_elim (λ x. inl x) (λ x. inr (r, x.0, x.1, x.2)) (e image left)
-doubt_leaves tells done d before now r u (step_fault.Spent n) image b h e left = absurd b
-doubt_leaves tells done d before now r u step_fault.NoSuchOp image b h e left = absurd b
-doubt_leaves tells done d before now r u step_fault.NoSuchMsg image b h e left = absurd b
+pub doubt_leaves : (tells : Type 0) (done : Serving) (d : Durable) (before now : View) (r : Record) (u : Moved) (image : List ℕ) → InDoubt tells done d before r → LeavesEither r d now → now.may_leave image → IsLeft d (served runs done u) image
+doubt_leaves tells done d before now r u image h e left = left_behind d done.server.durable (served runs done u) image (behind done u h.unspent) (either_behind r d done.server.durable now image h.steps e left)
 
-pub done_leaves : (tells : Type 0) (done : Serving) (d : Durable) (w : World) (now : View) (served' : Served) (mark : Option Mark) → IsDoneBy tells done d w.records.items w.server w.store now served' mark → tells → LeavesSome d now
+pub done_leaves : (tells : Type 0) (done : Serving) (d : Durable) (w : World) (now : View) (served' : Served) (mark : Option Mark) → IsDoneBy tells done d w.records.items w.server w.store now served' mark → tells → LeavesSome done d now
 done_leaves tells done d w now served' mark h told = done_some tells done d w.records.items w.server w now served' mark h told
 
 -- Counts.
@@ -171,10 +185,10 @@ pub done_steps : (tells : Type 0) (done : Serving) (d : Durable) (old new : Worl
     → Keeps old new → IsInStep tells now new
 done_steps tells done d old new now x served' mark is stands h same = done_in_step tells done d old new now served' mark stands (subst (CameTo tells done d old now) is h) same
 
-pub done_left : (tells : Type 0) (done : Serving) (d behind : Durable) (w : World) (now : View) (x : Came Served) (served' : Served) (mark : Option Mark) (f : StepFault) (image : List ℕ) → x ≡ came.Done served' mark → f ≡ step_fault.NoMemory → CameTo tells done d w now x → tells → now.may_leave image
-    → IsLeft (of_step f) d behind image
-done_left tells done d behind w now x served' mark f image is fault_is h told left =
-    subst (λ (y : StepFault). IsLeft (of_step y) d behind image) (sym fault_is) (done_leaves tells done d w now served' mark (subst (CameTo tells done d w now) is h) told image left)
+pub done_left : (tells : Type 0) (done : Serving) (d : Durable) (s : Option State) (w : World) (now : View) (x : Came Served) (served' : Served) (mark : Option Mark) (image : List ℕ) → x ≡ came.Done served' mark → CameTo tells done d w now x → tells → now.may_leave image
+    → IsLeft d (served runs done (serves s d (view_of w))) image
+done_left tells done d s w now x served' mark image is h told left =
+    some_left done d (served runs done (serves s d (view_of w))) image (behind done (serves s d (view_of w))) (done_leaves tells done d w now served' mark (subst (CameTo tells done d w now) is h) told image left)
 
 pub stopped_finishes : (tells : Type 0) (done : Serving) (d : Durable) (s : Option State) (w new : World) (now : View) (x : Came Served) (mark : Mark) → x ≡ came.Stopped mark → CameTo tells done d w now x
     → ((r : Record) (c e : Durable) → IsMark mark r c w.records.items → step r c ≡ Ok e → (tells → LeavesEither r c now) → (there : Bool) × (tells → show_line show.Stopped (moving (stopped_in there r (with_durable c (view_of w)))) ≡ under new))
@@ -185,22 +199,21 @@ stopped_finishes tells done d s w new now x mark is h shows =
     let found = shows came_to.0 d done.server.durable came_to.2 doubt.steps doubt.leaves in
     subst (λ (y : Came Served). Finishes tells (HasStoppedIn y) (λ fate. served fate done (serves s d (view_of w))) (under new)) (sym is) (stop_finishes tells done d s now came_to.0 found.0 w new doubt found.1)
 
-pub stopped_left : (tells : Type 0) (done : Serving) (d : Durable) (s : Option State) (w : World) (before now : View) (x : Came Served) (mark : Mark) (f : StepFault) (image : List ℕ) → x ≡ came.Stopped mark → Breaks f
-    → (tells → (r : Record) (c : Durable) → LeavesEither r c before → LeavesEither r c now) → CameTo tells done d w before x → tells → now.may_leave image → IsLeft (of_step f) d (served runs done (serves s d (view_of w))).world.durable image
-stopped_left tells done d s w before now x mark f image is breaks same h told left =
+pub stopped_left : (tells : Type 0) (done : Serving) (d : Durable) (s : Option State) (w : World) (before now : View) (x : Came Served) (mark : Mark) (image : List ℕ) → x ≡ came.Stopped mark
+    → (tells → (r : Record) (c : Durable) → LeavesEither r c before → LeavesEither r c now) → CameTo tells done d w before x → tells → now.may_leave image → IsLeft d (served runs done (serves s d (view_of w))) image
+stopped_left tells done d s w before now x mark image is same h told left =
     let came_to : CameTo tells done d w before (came.Stopped mark) = subst (CameTo tells done d w before) is h in
-    doubt_leaves tells done d before now came_to.0 (serves s d (view_of w)) f image breaks came_to.1 (same told came_to.0 d (came_to.1.leaves told)) left
+    doubt_leaves tells done d before now came_to.0 (serves s d (view_of w)) image came_to.1 (same told came_to.0 d (came_to.1.leaves told)) left
 
-pub failed_left : (tells : Type 0) (done : Serving) (d : Durable) (s : Option State) (w : World) (now : View) (x : Came Served) (image : List ℕ) → x ≡ came.DiskFailed → CameTo tells done d w now x → tells → now.may_leave image
-    → IsLeft (of_step step_fault.DiskFailed) d (served runs done (serves s d (view_of w))).world.durable image
+pub failed_left : (tells : Type 0) (done : Serving) (d : Durable) (s : Option State) (w : World) (now : View) (x : Came Served) (image : List ℕ) → x ≡ came.DiskFailed → CameTo tells done d w now x → tells → now.may_leave image → IsLeft d (served runs done (serves s d (view_of w))) image
 failed_left tells done d s w now x image is h told left =
     let came_to : CameTo tells done d w now came.DiskFailed = subst (CameTo tells done d w now) is h in
-    doubt_leaves tells done d now now came_to.0 (serves s d (view_of w)) step_fault.DiskFailed image tt came_to.1 (came_to.1.leaves told) left
+    doubt_leaves tells done d now now came_to.0 (serves s d (view_of w)) image came_to.1 (came_to.1.leaves told) left
 
-pub wants_left : (tells : Type 0) (done : Serving) (d behind : Durable) (w : World) (now : View) (x : Came Served) (image : List ℕ) → x ≡ came.NoMemory → CameTo tells done d w now x → tells → now.may_leave image → IsLeft (of_step step_fault.NoMemory) d behind image
-wants_left tells done d behind w now x image is h told left =
-    let some : tells → LeavesSome d now = subst (CameTo tells done d w now) is h in
-    some told image left
+pub wants_left : (tells : Type 0) (done : Serving) (d : Durable) (s : Option State) (w : World) (now : View) (x : Came Served) (image : List ℕ) → x ≡ came.NoMemory → CameTo tells done d w now x → tells → now.may_leave image → IsLeft d (served runs done (serves s d (view_of w))) image
+wants_left tells done d s w now x image is h told left =
+    let some : tells → LeavesSome done d now = subst (CameTo tells done d w now) is h in
+    some_left done d (served runs done (serves s d (view_of w))) image (behind done (serves s d (view_of w))) (some told image left)
 
 pub on_ok : {P Q : Type 0} (res : Result (Unit {0}) StepFault) → OnOk res P → (P → Q) → OnOk res Q
 on_ok (Ok u) h to = to h

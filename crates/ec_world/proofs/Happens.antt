@@ -28,9 +28,9 @@ pub acts_not : {A : Type 0} (r : Result A StepFault) (e this : Event) (old new :
 acts_not r e this old new S is h s =
     subst (λ (x : Event). IfErr r (λ why. Refuses (of_step why) (happen runs x old) old new S)) (sym is) (refuses r (happen runs this old) old new S h s)
 
-pub leaves : {A : Type 0} (r : Result A StepFault) (tells : Type 0) (may_leave : List ℕ → Type 0) (before : Durable) (e this : Event) (w : State) → e ≡ this → IfErr r (λ why. tells → (image : List ℕ) → may_leave image → IsLeft (of_step why) before (happen runs this w).world.durable image) → IfErr r (λ why. tells → (image : List ℕ) → may_leave image → IsLeft (of_step why) before (happen runs e w).world.durable image)
+pub leaves : {A : Type 0} (r : Result A StepFault) (tells : Type 0) (may_leave : List ℕ → Type 0) (before : Durable) (e this : Event) (w : State) → e ≡ this → IfErr r (λ why. tells → (image : List ℕ) → may_leave image → IsLeft before (happen runs this w) image) → IfErr r (λ why. tells → (image : List ℕ) → may_leave image → IsLeft before (happen runs e w) image)
 leaves r tells may_leave before e this w is h =
-    subst (λ (x : Event). IfErr r (λ why. tells → (image : List ℕ) → may_leave image → IsLeft (of_step why) before (happen runs x w).world.durable image)) (sym is) h
+    subst (λ (x : Event). IfErr r (λ why. tells → (image : List ℕ) → may_leave image → IsLeft before (happen runs x w) image)) (sym is) h
 
 -- Want of memory.
 

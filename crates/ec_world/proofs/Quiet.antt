@@ -10,7 +10,7 @@ use Rattle.ec_protocol.specs.declared.world.WorldFault.{WorldFault}
 use Rattle.ec_protocol.specs.declared.world.WorldFault.TheVariants as world
 use Rattle.ec_world.specs.Faults.{of_step}
 use Rattle.ec_world.specs.Laws.{in_step_keeps, in_step_stands}
-use Rattle.ec_world.specs.Steps.{Fated, Refuses, Declines, IsLeft}
+use Rattle.ec_world.specs.Steps.{Fated, Refuses, Declines, IsLeft, as_before}
 use Rattle.ec_world.specs.Worlds.{view_of, IsInStep, Keeps}
 use Rattle.ec_world.specs.declared.fault.StepFault.{StepFault}
 use Rattle.ec_world.specs.declared.fault.StepFault.TheVariants as step
@@ -56,14 +56,6 @@ uncounted n F never = record {
   not_rearmed = λ a. a;
 }
 
-left_before : (f : WorldFault) (before behind : Durable) (image : List ℕ) → StandsFor image before → IsLeft f before behind image
-left_before (world.BadDisk p) before behind image h = inl h
-left_before world.DiskFailed before behind image h = inl h
-left_before (world.Spent n) before behind image h = inl h
-left_before world.NoSuchOp before behind image h = inl h
-left_before world.NoSuchMsg before behind image h = inl h
-left_before world.NoMemory before behind image h = inl h
-
-pub left_as_was : {A : Type 0} (r : Result A StepFault) (tells : Type 0) (now : View) (w : World) (behind : Durable) → IsInStep tells now w → IfErr r (λ why. tells → (image : List ℕ) → now.may_leave image → IsLeft (of_step why) (view_of w).durable behind image)
-left_as_was (Ok x) tells now w behind h = tt
-left_as_was (Err why) tells now w behind h = λ told image left. left_before (of_step why) (view_of w).durable behind image (in_step_stands tells now w h told image left)
+pub left_as_was : {A : Type 0} (r : Result A StepFault) (tells : Type 0) (now : View) (w : World) (m : Moving) → IsInStep tells now w → IfErr r (λ why. tells → (image : List ℕ) → now.may_leave image → IsLeft (view_of w).durable m image)
+left_as_was (Ok x) tells now w m h = tt
+left_as_was (Err why) tells now w m h = λ told image left. as_before (in_step_stands tells now w h told image left)

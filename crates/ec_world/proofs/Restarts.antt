@@ -44,14 +44,5 @@ restart_finishes tells F G w s new now x a b c none came up one two =
     let d = state_of w.store in
     finished tells (HasStoppedIn x) F G a b c (λ fate. restart fate (serves None d (view_of (record w { store = s })))) (λ fate. restart_server fate (view_of w).server (view_of w)) (under new) (up d came) (λ fate. restart_is fate w s none) one two
 
-pub restart_left : (w : World) (s : Store) (f : StepFault) (image : List ℕ) → w.server ≡ None → IsLeft (of_step f) (state_of w.store) (restart runs (serves None (state_of w.store) (view_of (record w { store = s })))).world.durable image
-    → IsLeft (of_step f) (state_of w.store) (restart_server runs (view_of w).server (view_of w)).world.durable image
-restart_left w s f image none h = subst (λ (m : Moving). IsLeft (of_step f) (state_of w.store) m.world.durable image) (sym (restart_is runs w s none)) h
-
--- A step that is refused for a spent counter, or shows nothing for want of memory, leaves the state.
-
-pub spent_left : (tells B : Type 0) (done : Serving) (n : Counter) (old new : Store) (now : View) (image : List ℕ) → Unchanged tells done n old new now → tells → now.may_leave image → StandsFor image (state_of old) ⊎ B
-spent_left tells B done n old new now image same told left = inl (subst (λ (s : Store). StandsFor image (state_of s)) same.store (held_stands now new (same.held told) image left))
-
-pub nothing_left : (tells : Type 0) (now : View) (w : World) (behind : Durable) (f : StepFault) (image : List ℕ) → f ≡ step_fault.NoMemory → IsInStep tells now w → tells → now.may_leave image → IsLeft (of_step f) (view_of w).durable behind image
-nothing_left tells now w behind f image is h told left = subst (λ (y : StepFault). IsLeft (of_step y) (view_of w).durable behind image) (sym is) (inl (in_step_stands tells now w h told image left))
+pub restart_left : (w : World) (s : Store) (image : List ℕ) → w.server ≡ None → IsLeft (state_of w.store) (restart runs (serves None (state_of w.store) (view_of (record w { store = s })))) image → IsLeft (state_of w.store) (restart_server runs (view_of w).server (view_of w)) image
+restart_left w s image none h = subst (λ (m : Moving). IsLeft (state_of w.store) m image) (sym (restart_is runs w s none)) h

@@ -26,11 +26,11 @@ use Rattle.ec_server.specs.Servers.{standing}
 use Rattle.ec_server.specs.declared.server.Server.{Server}
 use Rattle.ec_store.specs.Store.{view_of as state_of}
 use Rattle.ec_wire.specs.declared.msg.Msg.{Msg}
-use Rattle.ec_world.proofs.Finish.{fate_of, told_fate, came_fate, sends_keep, either_behind, done_leaves}
+use Rattle.ec_world.proofs.Finish.{fate_of, told_fate, came_fate, sends_keep, IsTaken, left_behind, some_left, either_behind, done_leaves}
 use Rattle.ec_world.proofs.Fresh.{fresh}
 use Rattle.ec_world.specs.Cutting.{LeavesEither}
 use Rattle.ec_world.specs.Faults.{of_step}
-use Rattle.ec_world.specs.Keeping.{IsDone, InDoubt, HasStoppedIn}
+use Rattle.ec_world.specs.Keeping.{IsDone, InDoubt, LeavesSome, HasStoppedIn}
 use Rattle.ec_world.specs.Marks.{IsMark, MarkOf}
 use Rattle.ec_world.specs.Serving.{serves, with_durable, left_in, CameUp, Finishes, Breaks}
 use Rattle.ec_world.specs.Signs.{sign_of}
@@ -165,24 +165,24 @@ stop_restarts tells d now r there old cut new none h left fresh_piece shown =
 
 -- What is left at a fault.
 
-behind_up : (t : Serving) (u : Moved) → t.spent ≡ None → (by_spent runs t u).world.durable ≡ t.server.durable
-unfolding by_spent
-behind_up t u none = ap (λ (m : Moving). m.world.durable) (unspent_is runs t u none) ∙ ap (λ (m : Moving). m.world.durable) (comes_up u.unshown t u) ∙ sends_keep t.sent _ ∙ up u.unshown
-  where
-    up : (x : Option Noted) → (show_line show.Started (show_noted x (moving (come_to t.server (u.records ++ record_of.Epoch t.server.durable.epoch ∷ []) u)))).world.durable ≡ t.server.durable
-    up None = refl
-    up (Some (noted_as.Durable c ns)) = refl
-    up (Some (noted_as.Ended c b)) = refl
+shown_up : (x : Option Noted) (v : Moved) (e : Durable) → v.durable ≡ e → IsTaken (show_line show.Started (show_noted x (moving v))) e
+shown_up None v e is = record { fault = refl; durable = is }
+shown_up (Some (noted_as.Durable c ns)) v e is = record { fault = refl; durable = is }
+shown_up (Some (noted_as.Ended c b)) v e is = record { fault = refl; durable = is }
 
-pub doubt_restarts : (tells : Type 0) (d : Durable) (before now : View) (r : Record) (u : Moved) (f : StepFault) (image : List ℕ) → u.durable ≡ d → Breaks f → InDoubt tells (start d) d before r → LeavesEither r d now → now.may_leave image
-    → IsLeft (of_step f) d (restart runs u).world.durable image
+behind_up : (t : Serving) (u : Moved) → t.spent ≡ None → IsTaken (by_spent runs t u) t.server.durable
 unfolding by_spent
-doubt_restarts tells d before now r u step_fault.DiskFailed image is b h e left =
-    subst (λ (x : Durable). StandsFor image d ⊎ StandsFor image x) (sym (ap (λ (x : Durable). (by_spent runs (start x) u).world.durable) is ∙ behind_up (start d) u h.unspent)) (either_behind r d (start d).server.durable now image h.steps e left)
-doubt_restarts tells d before now r u step_fault.NoMemory image is b h e left = ⊎_elim (λ x. inl x) (λ x. inr (r, x.0, x.1, x.2)) (e image left)
-doubt_restarts tells d before now r u (step_fault.Spent n) image is b h e left = absurd b
-doubt_restarts tells d before now r u step_fault.NoSuchOp image is b h e left = absurd b
-doubt_restarts tells d before now r u step_fault.NoSuchMsg image is b h e left = absurd b
+behind_up t u none = subst (λ (m : Moving). IsTaken m t.server.durable) (sym (unspent_is runs t u none ∙ comes_up u.unshown t u)) (record { fault = up.fault; durable = sends_keep t.sent _ ∙ up.durable })
+  where
+    up : IsTaken (show_line show.Started (show_noted u.unshown (moving (come_to t.server (u.records ++ record_of.Epoch t.server.durable.epoch ∷ []) u)))) t.server.durable
+    up = shown_up u.unshown (come_to t.server (u.records ++ record_of.Epoch t.server.durable.epoch ∷ []) u) t.server.durable refl
+
+up_is : (d : Durable) (u : Moved) → u.durable ≡ d → (start d).spent ≡ None → IsTaken (restart runs u) (start d).server.durable
+unfolding by_spent
+up_is d u is none = subst (λ (x : Durable). IsTaken (by_spent runs (start x) u) (start d).server.durable) (sym is) (behind_up (start d) u none)
+
+pub doubt_restarts : (tells : Type 0) (d : Durable) (before now : View) (r : Record) (u : Moved) (image : List ℕ) → u.durable ≡ d → InDoubt tells (start d) d before r → LeavesEither r d now → now.may_leave image → IsLeft d (restart runs u) image
+doubt_restarts tells d before now r u image is h e left = left_behind d (start d).server.durable (restart runs u) image (up_is d u is h.unspent) (either_behind r d (start d).server.durable now image h.steps e left)
 
 -- What came of a server's start.
 
@@ -208,26 +208,24 @@ pub err_is : {P Q : StepFault → Type 0} (res : Result (Unit {0}) StepFault) �
 err_is (Ok u) h by = absurd h
 err_is (Err f) h by = by f h
 
-pub done_left : (tells : Type 0) (d behind : Durable) (w : World) (now : View) (x : Came (Server × Served)) (made : Server × Served) (mark : Option Mark) (f : StepFault) (image : List ℕ) → x ≡ came.Done made mark → f ≡ step_fault.NoMemory → CameUp tells d w now x → tells → now.may_leave image
-    → IsLeft (of_step f) d behind image
-done_left tells d behind w now x made mark f image is fault_is h told left =
+pub done_left : (tells : Type 0) (d : Durable) (w : World) (now : View) (x : Came (Server × Served)) (made : Server × Served) (mark : Option Mark) (image : List ℕ) → x ≡ came.Done made mark → CameUp tells d w now x → tells → now.may_leave image
+    → IsLeft d (restart runs (serves None d (view_of w))) image
+done_left tells d w now x made mark image is h told left =
     let up : CameUp tells d w now (came.Done made mark) = subst (λ (y : Came (Server × Served)). CameUp tells d w now y) is h in
-    subst (λ (y : StepFault). IsLeft (of_step y) d behind image) (sym fault_is) (done_leaves tells (start d) d (record w { server = Some made.0 }) now made.1 mark up told image left)
+    some_left (start d) d (restart runs (serves None d (view_of w))) image (up_is d (serves None d (view_of w)) refl) (done_leaves tells (start d) d (record w { server = Some made.0 }) now made.1 mark up told image left)
 
-pub stopped_left : (tells : Type 0) (d : Durable) (w : World) (before now : View) (x : Came (Server × Served)) (mark : Mark) (f : StepFault) (image : List ℕ) → x ≡ came.Stopped mark → Breaks f → (tells → (r : Record) (c : Durable) → LeavesEither r c before → LeavesEither r c now) → CameUp tells d w before x → tells → now.may_leave image
-    → IsLeft (of_step f) d (restart runs (serves None d (view_of w))).world.durable image
-stopped_left tells d w before now x mark f image is breaks same h told left =
+pub stopped_left : (tells : Type 0) (d : Durable) (w : World) (before now : View) (x : Came (Server × Served)) (mark : Mark) (image : List ℕ) → x ≡ came.Stopped mark → (tells → (r : Record) (c : Durable) → LeavesEither r c before → LeavesEither r c now) → CameUp tells d w before x → tells → now.may_leave image
+    → IsLeft d (restart runs (serves None d (view_of w))) image
+stopped_left tells d w before now x mark image is same h told left =
     let up : CameUp tells d w before (came.Stopped mark) = subst (λ (y : Came (Server × Served)). CameUp tells d w before y) is h in
-    doubt_restarts tells d before now up.0 (serves None d (view_of w)) f image refl breaks up.1 (same told up.0 d (up.1.leaves told)) left
+    doubt_restarts tells d before now up.0 (serves None d (view_of w)) image refl up.1 (same told up.0 d (up.1.leaves told)) left
 
-pub failed_left : (tells : Type 0) (d : Durable) (w : World) (now : View) (x : Came (Server × Served)) (image : List ℕ) → x ≡ came.DiskFailed → CameUp tells d w now x → tells → now.may_leave image
-    → IsLeft (of_step step_fault.DiskFailed) d (restart runs (serves None d (view_of w))).world.durable image
+pub failed_left : (tells : Type 0) (d : Durable) (w : World) (now : View) (x : Came (Server × Served)) (image : List ℕ) → x ≡ came.DiskFailed → CameUp tells d w now x → tells → now.may_leave image → IsLeft d (restart runs (serves None d (view_of w))) image
 failed_left tells d w now x image is h told left =
     let up : CameUp tells d w now came.DiskFailed = subst (λ (y : Came (Server × Served)). CameUp tells d w now y) is h in
-    doubt_restarts tells d now now up.0 (serves None d (view_of w)) step_fault.DiskFailed image refl tt up.1 (up.1.leaves told) left
+    doubt_restarts tells d now now up.0 (serves None d (view_of w)) image refl up.1 (up.1.leaves told) left
 
-pub breaks_memory : (f : StepFault) → f ≡ step_fault.NoMemory → Breaks f
-breaks_memory f is = subst Breaks (sym is) tt
-
-pub breaks_same : (f g : StepFault) → f ≡ g → Breaks g → Breaks f
-breaks_same f g is h = subst Breaks (sym is) h
+pub wants_left : (tells : Type 0) (d : Durable) (w : World) (now : View) (x : Came (Server × Served)) (image : List ℕ) → x ≡ came.NoMemory → CameUp tells d w now x → tells → now.may_leave image → IsLeft d (restart runs (serves None d (view_of w))) image
+wants_left tells d w now x image is h told left =
+    let some : tells → LeavesSome (start d) d now = subst (λ (y : Came (Server × Served)). CameUp tells d w now y) is h in
+    some_left (start d) d (restart runs (serves None d (view_of w))) image (up_is d (serves None d (view_of w)) refl) (some told image left)

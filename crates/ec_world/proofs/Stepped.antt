@@ -12,7 +12,7 @@ use Rattle.ec_protocol.specs.declared.world.WorldFault.{WorldFault}
 use Rattle.ec_protocol.specs.declared.world.WorldFault.TheVariants as world
 use Rattle.ec_world.specs.Faults.{of_step}
 use Rattle.ec_world.specs.Laws.{in_step_keeps}
-use Rattle.ec_world.specs.Steps.{under, Fated, FateOf, IsTold, Refuses, CountsOf, IsLeft}
+use Rattle.ec_world.specs.Steps.{under, Fated, FateOf, IsTold, Refuses, CountsOf}
 use Rattle.ec_world.specs.Worlds.{view_of, IsInStep, Keeps}
 use Rattle.ec_world.specs.declared.fault.StepFault.{StepFault}
 use Rattle.ec_world.specs.declared.fault.StepFault.TheVariants as step
@@ -112,8 +112,7 @@ failed_before (Err why) (Err f) is failed = let fault_is : f ≡ world.DiskFaile
 pub answer_counts : {A G : Type 0} (done : Result A StepFault) (answer : Result (Vec Shown G) WorldFault) (e : Event) (old new : Counts) → CountsOf e old new (done ≡ Err step.DiskFailed) → Faults done answer → CountsOf e old new (answer ≡ Err world.DiskFailed)
 answer_counts done answer e old new h is = counts_less e old new (done ≡ Err step.DiskFailed) (answer ≡ Err world.DiskFailed) (λ failed. failed_before done answer is failed) h
 
-pub answer_left : {A G : Type 0} (done : Result A StepFault) (answer : Result (Vec Shown G) WorldFault) (tells : Type 0) (may_leave : List ℕ → Type 0) (before behind : Durable) → IfErr done (λ why. tells → (image : List ℕ) → may_leave image → IsLeft (of_step why) before behind image) → Faults done answer → IfErr answer (λ fault. tells → (image : List ℕ) → may_leave image → IsLeft fault before behind image)
-answer_left done (Ok s) tells may_leave before behind h is = tt
-answer_left (Ok x) (Err f) tells may_leave before behind h is = absurd is
-answer_left (Err why) (Err f) tells may_leave before behind h is =
-    subst (λ (g : WorldFault). tells → (image : List ℕ) → may_leave image → IsLeft g before behind image) (sym is) h
+pub answer_left : {A G : Type 0} (done : Result A StepFault) (answer : Result (Vec Shown G) WorldFault) (P : Type 0) → IfErr done (λ why. P) → Faults done answer → IfErr answer (λ fault. P)
+answer_left done (Ok s) P h is = tt
+answer_left (Ok x) (Err f) P h is = absurd is
+answer_left (Err why) (Err f) P h is = h

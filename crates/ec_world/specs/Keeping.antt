@@ -36,16 +36,16 @@ pub record InDoubt (tells : Type 0) (done : Serving) (d : Durable) (now : View) 
   pub steps : step r d ≡ Ok done.server.durable
   pub leaves : tells → LeavesEither r d now
 
--- Whatever a crash leaves stands for the state, or for the one behind some record that it takes.
-abbrev pub LeavesSome : Durable → View → Type 0
-LeavesSome d now = (image : List ℕ) → now.may_leave image → StandsFor image d ⊎ ((r : Record) × (e : Durable) × (step r d ≡ Ok e) × StandsFor image e)
+-- Whatever a crash leaves stands for the state, or for the one behind the machine's step, where that spends no counter.
+abbrev pub LeavesSome : Serving → Durable → View → Type 0
+LeavesSome done d now = (image : List ℕ) → now.may_leave image → StandsFor image d ⊎ ((done.spent ≡ None) × StandsFor image done.server.durable)
 
 -- What came of a step over the state d.
 abbrev pub CameOf : {T : Type 0} → (T → Option Mark → Type 0) → Type 0 → Serving → Durable → List Record → View → Came T → Type 0
 CameOf Did tells done d before now (Done x mark) = Did x mark
 CameOf Did tells done d before now (Stopped mark) = (r : Record) × InDoubt tells done d now r × IsMark mark r d before
 CameOf Did tells done d before now DiskFailed = (r : Record) × InDoubt tells done d now r
-CameOf Did tells done d before now NoMemory = tells → LeavesSome d now
+CameOf Did tells done d before now NoMemory = tells → LeavesSome done d now
 
 -- A spent counter changes nothing.
 pub record Unchanged (tells : Type 0) (done : Serving) (n : Counter) (old new : Store) (now : View) : Type 0 where

@@ -3,8 +3,7 @@ use Rattle.std.specs.Prelude.{◌≡◌, ◌⊎◌, ℕ, List, length, Ok, Err, 
 use Rattle.ec_base.specs.Outside.{Rose}
 use Rattle.ec_disk.specs.Disk.{View, Counts, Counted}
 use Rattle.ec_durable.specs.declared.state.Durable.{Durable}
-use Rattle.ec_durable.specs.declared.record.Record.{Record}
-use Rattle.ec_durable.specs.Durable.{formatted, step as record_step}
+use Rattle.ec_durable.specs.Durable.{formatted}
 use Rattle.ec_base.specs.Limits.{clerk_count}
 use Rattle.ec_volume.specs.Volume.{images}
 use Rattle.ec_volume.specs.declared.image.Image.TheVariants.{Gone}
@@ -80,11 +79,10 @@ abbrev pub CountsOf : Event → Counts → Counts → Type 0 → Type 0
 CountsOf (Arm n ch) old new failed = ((new ≡ record old { armed = Some n }) ⊎ (new ≡ old)) × (failed → ⊥)
 CountsOf _ old new failed = Counted old new failed ⊥
 
--- An image stands for the state before a step that isn't taken, or for the one behind it. Want of memory may come behind a record of a step
--- that is refused then.
-abbrev pub IsLeft : WorldFault → Durable → Durable → List ℕ → Type 0
-IsLeft NoMemory before behind image = StandsFor image before ⊎ ((r : Record) × (e : Durable) × (record_step r before ≡ Ok e) × StandsFor image e)
-IsLeft _ before behind image = StandsFor image before ⊎ StandsFor image behind
+-- An image stands for the state before a step that isn't taken, or for the one behind it, where the machine takes it.
+pub data IsLeft (before : Durable) (m : Moving) (image : List ℕ) : Type 0 where
+  as_before : StandsFor image before → IsLeft before m image
+  as_behind : m.fault ≡ None → StandsFor image m.world.durable → IsLeft before m image
 
 -- the step under way
 abbrev pub under : World → Moving

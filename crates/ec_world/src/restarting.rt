@@ -35,7 +35,7 @@ impl World {
         ensures in_step { OnOk result (IsInStep D.tells (D.view disk.new) self.new) }
         ensures err { IfErr result (λ fault. Refuses (of_step fault) (machine.restart_server machine.runs (view_of self.old).server (view_of self.old)) (view_of self.old) (view_of self.new) (IsInStep D.tells (D.view disk.new) self.new)) }
         ensures counts { Counted (D.counts disk.old) (D.counts disk.new) (result ≡ Err fault.DiskFailed) ⊥ }
-        ensures left { IfErr result (λ fault. D.tells → (image : List ℕ) → (D.view disk.new).may_leave image → IsLeft (of_step fault) (view_of self.old).durable (machine.restart_server machine.runs (view_of self.old).server (view_of self.old)).world.durable image) }
+        ensures left { IfErr result (λ fault. D.tells → (image : List ℕ) → (D.view disk.new).may_leave image → IsLeft (view_of self.old).durable (machine.restart_server machine.runs (view_of self.old).server (view_of self.old)) image) }
     {
         if self.server.is_some() {
             return Ok(self.show_nothing(alloc)?);
@@ -59,7 +59,7 @@ impl World {
         requires marked { IsMarked came }
         ensures ok { OnOk result ((d : Durable) → CameUp D.tells d self.old (D.view disk.old) came → Finishes D.tells (HasStoppedIn came) (λ fate. machine.restart fate (serves None d (view_of self.old))) (under self.new)) }
         ensures in_step { OnOk result ((d : Durable) → CameUp D.tells d self.old (D.view disk.old) came → IfDone came (λ made. StandsOn (stores.view_of self.old.store) made.0) → IsInStep D.tells (D.view disk.new) self.new) }
-        ensures left { IfErr result (λ fault. D.tells → (d : Durable) → CameUp D.tells d self.old (D.view disk.old) came → (image : List ℕ) → (D.view disk.new).may_leave image → IsLeft (of_step fault) d (machine.restart machine.runs (serves None d (view_of self.old))).world.durable image) }
+        ensures left { IfErr result (λ fault. D.tells → (d : Durable) → CameUp D.tells d self.old (D.view disk.old) came → (image : List ℕ) → (D.view disk.new).may_leave image → IsLeft d (machine.restart machine.runs (serves None d (view_of self.old))) image) }
         ensures err { IfErr result Breaks }
         ensures counts { Counted (D.counts disk.old) (D.counts disk.new) (FailsSince came result) ⊥ }
     {

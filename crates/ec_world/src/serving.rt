@@ -42,7 +42,7 @@ impl World {
         ensures in_step { OnOk result (IsInStep D.tells (D.view disk.new) self.new) }
         ensures err { IfErr result (λ fault. Refuses (of_step fault) (machine.deliver machine.runs number (view_of self.old)) (view_of self.old) (view_of self.new) (IsInStep D.tells (D.view disk.new) self.new)) }
         ensures counts { Counted (D.counts disk.old) (D.counts disk.new) (result ≡ Err fault.DiskFailed) ⊥ }
-        ensures left { IfErr result (λ fault. D.tells → (image : List ℕ) → (D.view disk.new).may_leave image → IsLeft (of_step fault) (view_of self.old).durable (machine.deliver machine.runs number (view_of self.old)).world.durable image) }
+        ensures left { IfErr result (λ fault. D.tells → (image : List ℕ) → (D.view disk.new).may_leave image → IsLeft (view_of self.old).durable (machine.deliver machine.runs number (view_of self.old)) image) }
     {
         let Some(sent) = self.pool.message(number) else {
             return Err(StepFault::NoSuchMsg);
@@ -81,7 +81,7 @@ impl World {
         ensures in_step { OnOk result (IsInStep D.tells (D.view disk.new) self.new) }
         ensures err { IfErr result (λ fault. Refuses (of_step fault) (machine.end machine.runs clerk (view_of self.old).server (view_of self.old)) (view_of self.old) (view_of self.new) (IsInStep D.tells (D.view disk.new) self.new)) }
         ensures counts { Counted (D.counts disk.old) (D.counts disk.new) (result ≡ Err fault.DiskFailed) ⊥ }
-        ensures left { IfErr result (λ fault. D.tells → (image : List ℕ) → (D.view disk.new).may_leave image → IsLeft (of_step fault) (view_of self.old).durable (machine.end machine.runs clerk (view_of self.old).server (view_of self.old)).world.durable image) }
+        ensures left { IfErr result (λ fault. D.tells → (image : List ℕ) → (D.view disk.new).may_leave image → IsLeft (view_of self.old).durable (machine.end machine.runs clerk (view_of self.old).server (view_of self.old)) image) }
     {
         let is_open = self.has_session(clerk);
         let Some(server) = &mut self.server else {
@@ -118,7 +118,7 @@ impl World {
         requires stands { Stands (stores.view_of self.old.store) self.old.server }
         ensures ok { OnOk result ((done : Serving) (d : Durable) (s : Option State) → CameTo D.tells done d self.old (D.view disk.old) came → Finishes D.tells (HasStoppedIn came) (λ fate. machine.served fate done (serves s d (view_of self.old))) (under self.new)) }
         ensures in_step { OnOk result ((done : Serving) (d : Durable) → CameTo D.tells done d self.old (D.view disk.old) came → IsInStep D.tells (D.view disk.new) self.new) }
-        ensures left { IfErr result (λ fault. D.tells → (done : Serving) (d : Durable) (s : Option State) → CameTo D.tells done d self.old (D.view disk.old) came → (image : List ℕ) → (D.view disk.new).may_leave image → IsLeft (of_step fault) d (machine.served machine.runs done (serves s d (view_of self.old))).world.durable image) }
+        ensures left { IfErr result (λ fault. D.tells → (done : Serving) (d : Durable) (s : Option State) → CameTo D.tells done d self.old (D.view disk.old) came → (image : List ℕ) → (D.view disk.new).may_leave image → IsLeft d (machine.served machine.runs done (serves s d (view_of self.old))) image) }
         ensures err { IfErr result Breaks }
         ensures counts { Counted (D.counts disk.old) (D.counts disk.new) (FailsSince came result) ⊥ }
     {

@@ -29,7 +29,7 @@ impl World {
         ensures in_step { OnOk result (IsInStep D.tells (D.view disk.new) self.new) }
         ensures err { IfErr result (λ fault. Refuses (of_step fault) (machine.happen machine.runs event (view_of self.old)) (view_of self.old) (view_of self.new) (IsInStep D.tells (D.view disk.new) self.new)) }
         ensures counts { CountsOf event (D.counts disk.old) (D.counts disk.new) (result ≡ Err fault.DiskFailed) }
-        ensures left { IfErr result (λ fault. D.tells → (image : List ℕ) → (D.view disk.new).may_leave image → IsLeft (of_step fault) (view_of self.old).durable (machine.happen machine.runs event (view_of self.old)).world.durable image) }
+        ensures left { IfErr result (λ fault. D.tells → (image : List ℕ) → (D.view disk.new).may_leave image → IsLeft (view_of self.old).durable (machine.happen machine.runs event (view_of self.old)) image) }
     {
         match event {
             Event::Call(clerk, line, call) => self.call(alloc, clerk, line, call),
@@ -64,7 +64,7 @@ impl World {
         ensures in_step { OnOk result (IsInStep D.tells (D.view disk.new) self.new) }
         ensures err { IfErr result (λ fault. Refuses (of_step fault) (machine.deliver machine.runs number (view_of self.old)) (view_of self.old) (view_of self.new) (IsInStep D.tells (D.view disk.new) self.new)) }
         ensures counts { Counted (D.counts disk.old) (D.counts disk.new) (result ≡ Err fault.DiskFailed) ⊥ }
-        ensures left { IfErr result (λ fault. D.tells → (image : List ℕ) → (D.view disk.new).may_leave image → IsLeft (of_step fault) (view_of self.old).durable (machine.deliver machine.runs number (view_of self.old)).world.durable image) }
+        ensures left { IfErr result (λ fault. D.tells → (image : List ℕ) → (D.view disk.new).may_leave image → IsLeft (view_of self.old).durable (machine.deliver machine.runs number (view_of self.old)) image) }
     {
         let Some(sent) = self.pool.message(number) else {
             return Err(StepFault::NoSuchMsg);

@@ -95,7 +95,7 @@ impl World {
         ensures in_step { OnOk result (IsInStep D.tells (D.view disk.new) self.new) }
         ensures err { IfErr result (λ fault. Refuses fault (machine.happen machine.runs event (view_of self.old)) (view_of self.old) (view_of self.new) (IsInStep D.tells (D.view disk.new) self.new)) }
         ensures counts { CountsOf event (D.counts disk.old) (D.counts disk.new) (IsErrOf result fault.DiskFailed) }
-        ensures left { IfErr result (λ fault. D.tells → (image : List ℕ) → (D.view disk.new).may_leave image → IsLeft fault (view_of self.old).durable (machine.happen machine.runs event (view_of self.old)).world.durable image) }
+        ensures left { IfErr result (λ fault. D.tells → (image : List ℕ) → (D.view disk.new).may_leave image → IsLeft (view_of self.old).durable (machine.happen machine.runs event (view_of self.old)) image) }
     {
         if self.is_broken {
             return Err(WorldFault::NoMemory);

@@ -12,7 +12,7 @@ use Rattle.ec_server.specs.declared.fault.ServerFault.TheVariants as server
 use Rattle.ec_store.specs.Store.{view_of}
 use Rattle.ec_world.specs.Keeping.{IsDone, Turns, HasMark}
 use Rattle.ec_world.specs.declared.marks.Mark.{Mark}
-use Rattle.ec_world.proofs.Came.{IsDisk, Undone, disk_did, disk_broke, means, done_is, undone, has_mark, came_is, spent_is, same_is, ok_counted, err_counted, counts_are, leaves_spends, unstarted_spends, was_up, disk_faults, any_fault}
+use Rattle.ec_world.proofs.Came.{Undone, disk_did, disk_broke, means, done_is, undone, has_mark, came_is, spent_is, same_is, ok_counted, err_counted, counts_are, leaves_spends, unstarted_spends, steps_any}
 use Rattle.ec_world.proofs.Begun.{marked_is, stands_is}
 use Rattle.ec_world.proofs.keeping.start_by.Goals as goal
 
@@ -36,7 +36,7 @@ turned-requires g c =
     let mark = l.marks.now.mark in
     let moved = subst (λ (n : ℕ). Counted (record a { stops = n }) (record b { stops = stops }) (answer ≡ Err server.DiskFailed) (answer ≡ Err server.DiskStopped)) (ap (λ (rs : List Record). length rs) c.requires.running) c.start-answer.ensures.counts in
     let m = means tells view counts k l (λ told image le left. g.met.D.Disk.counts_now told l.keeper.disk.now (view k.keeper.disk.now).moment image le left) c.requires.held c.requires.unmarked c.requires.running in
-    let steps : IfErr answer (λ f. IsDisk f → Records done.rec d done.server.durable) = any_fault (Server × Served) answer (Records done.rec d done.server.durable) (start_goes d).record_of in
+    let steps = steps_any (Server × Served) answer done d k l (start_goes d).record_of in
     let u = undone (Server × Served) _ did broke k l tells k.keeper.store.now l.keeper.store.now now mark before a b stops done m answer c.start-answer.ensures.keeper (unstarted_spends (Server × Served) answer done d (view_of l.keeper.store.now) c.start-answer.ensures.err) steps moved.stopped in
     let marked = has_mark (Server × Served) tells done k.keeper.store.now l.keeper.store.now now mark before answer u in
     subst (λ (o : Option Mark). HasMark answer o) (sym c.take.ensures.value) marked
@@ -61,7 +61,7 @@ returns-clause-came g c =
     let mark = l.marks.now.mark in
     let moved = subst (λ (n : ℕ). Counted (record a { stops = n }) (record b { stops = stops }) (answer ≡ Err server.DiskFailed) (answer ≡ Err server.DiskStopped)) (ap (λ (rs : List Record). length rs) c.requires.running) c.start-answer.ensures.counts in
     let m = means tells view counts k l (λ told image le left. g.met.D.Disk.counts_now told l.keeper.disk.now (view k.keeper.disk.now).moment image le left) c.requires.held c.requires.unmarked c.requires.running in
-    let steps : IfErr answer (λ f. IsDisk f → Records done.rec d done.server.durable) = any_fault (Server × Served) answer (Records done.rec d done.server.durable) (start_goes d).record_of in
+    let steps = steps_any (Server × Served) answer done d k l (start_goes d).record_of in
     let u = undone (Server × Served) _ did broke k l tells k.keeper.store.now l.keeper.store.now now mark before a b stops done m answer c.start-answer.ensures.keeper (unstarted_spends (Server × Served) answer done d (view_of l.keeper.store.now) c.start-answer.ensures.err) steps moved.stopped in
     let turns = subst (λ (o : Option Mark). Turns answer o c.turned.result) c.take.ensures.value c.turned.ensures in
     let did_is = done_is (Server × Served) (λ (x : Server × Served). x.0) (λ (x : Server × Served). x.1) _ did broke k l tells k.keeper.store.now l.keeper.store.now now mark before a b stops done m answer c.start-answer.ensures.ok c.start-answer.ensures.did c.start-answer.ensures.record in
@@ -87,7 +87,7 @@ returns-clause-spent g c =
     let mark = l.marks.now.mark in
     let moved = subst (λ (n : ℕ). Counted (record a { stops = n }) (record b { stops = stops }) (answer ≡ Err server.DiskFailed) (answer ≡ Err server.DiskStopped)) (ap (λ (rs : List Record). length rs) c.requires.running) c.start-answer.ensures.counts in
     let m = means tells view counts k l (λ told image le left. g.met.D.Disk.counts_now told l.keeper.disk.now (view k.keeper.disk.now).moment image le left) c.requires.held c.requires.unmarked c.requires.running in
-    let steps : IfErr answer (λ f. IsDisk f → Records done.rec d done.server.durable) = any_fault (Server × Served) answer (Records done.rec d done.server.durable) (start_goes d).record_of in
+    let steps = steps_any (Server × Served) answer done d k l (start_goes d).record_of in
     let u = undone (Server × Served) _ did broke k l tells k.keeper.store.now l.keeper.store.now now mark before a b stops done m answer c.start-answer.ensures.keeper (unstarted_spends (Server × Served) answer done d (view_of l.keeper.store.now) c.start-answer.ensures.err) steps moved.stopped in
     let turns = subst (λ (o : Option Mark). Turns answer o c.turned.result) c.take.ensures.value c.turned.ensures in
     spent_is (Server × Served) tells done k.keeper.store.now l.keeper.store.now now mark before answer c.turned.result turns u
@@ -137,7 +137,7 @@ returns-clause-marked g c =
     let mark = l.marks.now.mark in
     let moved = subst (λ (n : ℕ). Counted (record a { stops = n }) (record b { stops = stops }) (answer ≡ Err server.DiskFailed) (answer ≡ Err server.DiskStopped)) (ap (λ (rs : List Record). length rs) c.requires.running) c.start-answer.ensures.counts in
     let m = means tells view counts k l (λ told image le left. g.met.D.Disk.counts_now told l.keeper.disk.now (view k.keeper.disk.now).moment image le left) c.requires.held c.requires.unmarked c.requires.running in
-    let steps : IfErr answer (λ f. IsDisk f → Records done.rec d done.server.durable) = any_fault (Server × Served) answer (Records done.rec d done.server.durable) (start_goes d).record_of in
+    let steps = steps_any (Server × Served) answer done d k l (start_goes d).record_of in
     let u = undone (Server × Served) _ did broke k l tells k.keeper.store.now l.keeper.store.now now mark before a b stops done m answer c.start-answer.ensures.keeper (unstarted_spends (Server × Served) answer done d (view_of l.keeper.store.now) c.start-answer.ensures.err) steps moved.stopped in
     let turns = subst (λ (o : Option Mark). Turns answer o c.turned.result) c.take.ensures.value c.turned.ensures in
     let did_is = done_is (Server × Served) (λ (x : Server × Served). x.0) (λ (x : Server × Served). x.1) _ did broke k l tells k.keeper.store.now l.keeper.store.now now mark before a b stops done m answer c.start-answer.ensures.ok c.start-answer.ensures.did c.start-answer.ensures.record in

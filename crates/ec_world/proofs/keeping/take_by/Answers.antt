@@ -12,7 +12,7 @@ use Rattle.ec_server.specs.declared.fault.ServerFault.TheVariants as server
 use Rattle.ec_store.specs.Store.{view_of}
 use Rattle.ec_world.specs.Keeping.{IsDone, Turns, HasMark}
 use Rattle.ec_world.specs.declared.marks.Mark.{Mark}
-use Rattle.ec_world.proofs.Came.{IsDisk, Undone, disk_did, disk_broke, means, done_is, undone, has_mark, came_is, spent_is, same_is, ok_counted, err_counted, counts_are, leaves_spends, unstarted_spends, was_up, disk_faults, any_fault}
+use Rattle.ec_world.proofs.Came.{Undone, disk_did, disk_broke, means, done_is, undone, has_mark, came_is, spent_is, same_is, ok_counted, err_counted, counts_are, leaves_spends, unstarted_spends, steps_up}
 use Rattle.ec_world.proofs.keeping.take_by.Goals as goal
 
 pub turned-requires : goal.turned-requires
@@ -35,7 +35,7 @@ turned-requires g c =
     let mark = l.marks.now.mark in
     let moved = subst (λ (n : ℕ). Counted (record a { stops = n }) (record b { stops = stops }) (answer ≡ Err server.DiskFailed) (answer ≡ Err server.DiskStopped)) (ap (λ (rs : List Record). length rs) c.requires.running) c.take-answer.ensures.counts in
     let m = means tells view counts k l (λ told image le left. g.met.D.Disk.counts_now told l.keeper.disk.now (view k.keeper.disk.now).moment image le left) c.requires.held c.requires.unmarked c.requires.running in
-    let steps : IfErr answer (λ f. IsDisk f → Records done.rec d done.server.durable) = disk_faults Served answer (c.args.server.now.is_down ≡ false) (Records done.rec d done.server.durable) (was_up answer _ _ c.take-answer.ensures.down) (λ up. (take_goes c.args.from c.args.msg.now (standing d c.args.server.now) (c.requires.stands up)).record_of) in
+    let steps = steps_up answer _ _ done d k l c.take-answer.ensures.down c.take-answer.ensures.rests (λ up. (take_goes c.args.from c.args.msg.now (standing d c.args.server.now) (c.requires.stands up)).record_of) in
     let u = undone Served _ did broke k l tells k.keeper.store.now l.keeper.store.now now mark before a b stops done m answer c.take-answer.ensures.keeper (leaves_spends Served answer _ _ done (standing d c.args.server.now) (standing (view_of l.keeper.store.now) c.take-answer.new.self) c.take-answer.ensures.err) steps moved.stopped in
     let marked = has_mark Served tells done k.keeper.store.now l.keeper.store.now now mark before answer u in
     subst (λ (o : Option Mark). HasMark answer o) (sym c.take.ensures.value) marked
@@ -60,7 +60,7 @@ returns-clause-came g c =
     let mark = l.marks.now.mark in
     let moved = subst (λ (n : ℕ). Counted (record a { stops = n }) (record b { stops = stops }) (answer ≡ Err server.DiskFailed) (answer ≡ Err server.DiskStopped)) (ap (λ (rs : List Record). length rs) c.requires.running) c.take-answer.ensures.counts in
     let m = means tells view counts k l (λ told image le left. g.met.D.Disk.counts_now told l.keeper.disk.now (view k.keeper.disk.now).moment image le left) c.requires.held c.requires.unmarked c.requires.running in
-    let steps : IfErr answer (λ f. IsDisk f → Records done.rec d done.server.durable) = disk_faults Served answer (c.args.server.now.is_down ≡ false) (Records done.rec d done.server.durable) (was_up answer _ _ c.take-answer.ensures.down) (λ up. (take_goes c.args.from c.args.msg.now (standing d c.args.server.now) (c.requires.stands up)).record_of) in
+    let steps = steps_up answer _ _ done d k l c.take-answer.ensures.down c.take-answer.ensures.rests (λ up. (take_goes c.args.from c.args.msg.now (standing d c.args.server.now) (c.requires.stands up)).record_of) in
     let u = undone Served _ did broke k l tells k.keeper.store.now l.keeper.store.now now mark before a b stops done m answer c.take-answer.ensures.keeper (leaves_spends Served answer _ _ done (standing d c.args.server.now) (standing (view_of l.keeper.store.now) c.take-answer.new.self) c.take-answer.ensures.err) steps moved.stopped in
     let turns = subst (λ (o : Option Mark). Turns answer o c.turned.result) c.take.ensures.value c.turned.ensures in
     let did_is = done_is Served (λ (x : Served). c.take-answer.new.self) (λ (x : Served). x) _ did broke k l tells k.keeper.store.now l.keeper.store.now now mark before a b stops done m answer c.take-answer.ensures.ok c.take-answer.ensures.did c.take-answer.ensures.record in
@@ -86,7 +86,7 @@ returns-clause-spent g c =
     let mark = l.marks.now.mark in
     let moved = subst (λ (n : ℕ). Counted (record a { stops = n }) (record b { stops = stops }) (answer ≡ Err server.DiskFailed) (answer ≡ Err server.DiskStopped)) (ap (λ (rs : List Record). length rs) c.requires.running) c.take-answer.ensures.counts in
     let m = means tells view counts k l (λ told image le left. g.met.D.Disk.counts_now told l.keeper.disk.now (view k.keeper.disk.now).moment image le left) c.requires.held c.requires.unmarked c.requires.running in
-    let steps : IfErr answer (λ f. IsDisk f → Records done.rec d done.server.durable) = disk_faults Served answer (c.args.server.now.is_down ≡ false) (Records done.rec d done.server.durable) (was_up answer _ _ c.take-answer.ensures.down) (λ up. (take_goes c.args.from c.args.msg.now (standing d c.args.server.now) (c.requires.stands up)).record_of) in
+    let steps = steps_up answer _ _ done d k l c.take-answer.ensures.down c.take-answer.ensures.rests (λ up. (take_goes c.args.from c.args.msg.now (standing d c.args.server.now) (c.requires.stands up)).record_of) in
     let u = undone Served _ did broke k l tells k.keeper.store.now l.keeper.store.now now mark before a b stops done m answer c.take-answer.ensures.keeper (leaves_spends Served answer _ _ done (standing d c.args.server.now) (standing (view_of l.keeper.store.now) c.take-answer.new.self) c.take-answer.ensures.err) steps moved.stopped in
     let turns = subst (λ (o : Option Mark). Turns answer o c.turned.result) c.take.ensures.value c.turned.ensures in
     spent_is Served tells done k.keeper.store.now l.keeper.store.now now mark before answer c.turned.result turns u

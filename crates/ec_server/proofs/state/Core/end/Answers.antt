@@ -38,9 +38,8 @@ returns-in_err-serve-clause-keeper g c =
     let f : machine.Serving → machine.Serving = machine.end_open c.args.clerk (slot d c.args.clerk) in
     let p = err_from_is_err_and c.from_residual-in_err-serve.result c.from_residual-in_err-serve.ensures.1 in
     rw (p.1, p.2)
-    (may_served g.K.Keeper.did g.K.Keeper.broke c.begin.new.self.rec c.end_open.new.self.rec (f (machine.serving (server d c.args.self.now))) c.args.keeper.now c.end_open.new.keeper
-    (ap (λ (t : machine.Serving). t.rec) (c.begin.ensures d))
-    (ap (λ (t : machine.Serving). t.rec) (ap f (sym (c.begin.ensures d)) ∙ c.in_ok-end_open.ensures.ok)) c.in_ok-end_open.ensures.did)
+    (may_served g.K.Keeper.did g.K.Keeper.broke c.begin.new.self.rec (g.K.Keeper.kept c.end_open.new.keeper) c.end_open.new.self (f (machine.serving (server d c.args.self.now))) c.args.keeper.now c.end_open.new.keeper
+    (ap (λ (t : machine.Serving). t.rec) (c.begin.ensures d)) (ap f (sym (c.begin.ensures d)) ∙ c.in_ok-end_open.ensures.ok) c.in_ok-end_open.ensures.did)
 
 pub returns-clause-did : goal.returns-clause-did
 returns-clause-did g c =

@@ -1,5 +1,6 @@
-use Rattle.ec_server.specs.KeeperLaws.{start_takes, hurts_start, late}
+use Rattle.ec_server.specs.KeeperLaws.{start_takes, hurts_start, late_start}
 use Rattle.std.proofs.lemmas.Result.{err_from_is_err_and}
+use Rattle.ec_protocol.specs.Server as machine
 use Rattle.ec_server.specs.Laws.{started}
 use Rattle.ec_server.proofs.state.Core.start.Goals as goal
 
@@ -24,5 +25,5 @@ returns-in_err-tell_all-clause-keeper g c =
     let e = kept c.commit.new.keeper in
     let p = err_from_is_err_and c.from_residual-in_err-tell_all.result c.from_residual-in_err-tell_all.ensures.1 in
     rw (p.1, p.2)
-    (late g.K.Keeper.did g.K.Keeper.broke _ _ d e c.args.self.now c.commit.new.self _ _ _ c.args.keeper.now c.commit.new.keeper c.if-branch.true c.in_ok-commit.ensures.ok c.in_ok-commit.ensures.did
-    (λ is. (start_takes _ d e c.epoch-last.ensures c.if-last-ge-LAST_COUNTER.false is).0))
+    (late_start g.K.Keeper.did g.K.Keeper.broke _ _ d e c.args.self.now c.commit.new.self (machine.start d) _ _ c.args.keeper.now c.commit.new.keeper c.if-branch.true c.in_ok-commit.ensures.ok c.in_ok-commit.ensures.did
+    (λ is. start_takes _ d e c.epoch-last.ensures c.if-last-ge-LAST_COUNTER.false is))

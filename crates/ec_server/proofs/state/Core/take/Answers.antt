@@ -37,9 +37,8 @@ returns-in_err-serve-clause-keeper g c =
     let f : machine.Serving → machine.Serving = machine.taken c.args.from c.args.msg.now in
     let p = err_from_is_err_and c.from_residual-in_err-serve.result c.from_residual-in_err-serve.ensures.1 in
     rw (p.1, p.2)
-    (may_served g.K.Keeper.did g.K.Keeper.broke c.begin.new.self.rec c.taken.new.self.rec (f (machine.serving (server d c.args.self.now))) c.args.keeper.now c.taken.new.keeper
-    (ap (λ (t : machine.Serving). t.rec) (c.begin.ensures d))
-    (ap (λ (t : machine.Serving). t.rec) (ap f (sym (c.begin.ensures d)) ∙ c.in_ok-taken.ensures.ok)) c.in_ok-taken.ensures.did)
+    (may_served g.K.Keeper.did g.K.Keeper.broke c.begin.new.self.rec (g.K.Keeper.kept c.taken.new.keeper) c.taken.new.self (f (machine.serving (server d c.args.self.now))) c.args.keeper.now c.taken.new.keeper
+    (ap (λ (t : machine.Serving). t.rec) (c.begin.ensures d)) (ap f (sym (c.begin.ensures d)) ∙ c.in_ok-taken.ensures.ok) c.in_ok-taken.ensures.did)
 
 pub returns-clause-did : goal.returns-clause-did
 returns-clause-did g c =

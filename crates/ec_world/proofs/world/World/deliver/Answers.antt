@@ -1,9 +1,9 @@
-use Rattle.std.proofs.Common.{◌≡◌, ◌∙◌, refl, sym, inl}
+use Rattle.std.proofs.Common.{◌≡◌, ◌∙◌, refl, sym}
 use Rattle.ec_protocol.specs.World as machine
 use Rattle.ec_protocol.specs.World.{Fate}
 use Rattle.ec_world.specs.Laws.{in_step_keeps, in_step_stands}
 use Rattle.ec_world.specs.Worlds.{view_of}
-use Rattle.ec_world.specs.Steps.{under}
+use Rattle.ec_world.specs.Steps.{as_before, under}
 use Rattle.ec_world.proofs.Pooled.{deliver_none}
 use Rattle.ec_world.proofs.Quiet.{fated, in_step, refuses, not_failed, uncounted, left_as_was}
 use Rattle.ec_world.proofs.world.World.deliver.Goals as goal
@@ -21,7 +21,7 @@ pub returns-in_default-clause-counts : goal.returns-in_default-clause-counts
 returns-in_default-clause-counts g c = uncounted (g.D.Disk.counts c.args.disk.now) _ (λ is. cc)
 
 pub returns-in_default-clause-left : goal.returns-in_default-clause-left
-returns-in_default-clause-left g c = λ told image left. inl (in_step_stands g.D.Disk.tells (g.D.Disk.view c.args.disk.now) c.args.self.now c.requires.in_step told image left)
+returns-in_default-clause-left g c = λ told image left. as_before (in_step_stands g.D.Disk.tells (g.D.Disk.view c.args.disk.now) c.args.self.now c.requires.in_step told image left)
 
 pub returns-else-is_for_server-clause-ok : goal.returns-else-is_for_server-clause-ok
 returns-else-is_for_server-clause-ok g c =
@@ -45,4 +45,4 @@ returns-else-is_for_server-clause-counts g c =
 
 pub returns-else-is_for_server-clause-left : goal.returns-else-is_for_server-clause-left
 returns-else-is_for_server-clause-left g c =
-    left_as_was c.deliver_to_clerk.result g.D.Disk.tells (g.D.Disk.view c.args.disk.now) c.args.self.now (machine.deliver machine.runs c.args.number (view_of c.args.self.now)).world.durable c.requires.in_step
+    left_as_was c.deliver_to_clerk.result g.D.Disk.tells (g.D.Disk.view c.args.disk.now) c.args.self.now (machine.deliver machine.runs c.args.number (view_of c.args.self.now)) c.requires.in_step

@@ -53,7 +53,7 @@ returns-in-Ok-clause-left g c =
     let whose : is_for_server s ≡ true = is_for_sent n w.pool c.requires.message.message s c.requires.message.kept c.in-Some.ensures.value c.requires.message.is_for in
     let same = deliver_is n s w v c.take-taken.new.server c.take-taken.new.store c.settle.new.self (sym c.in-Some.ensures.value) whose c.in-Some-server.is c.settle.ensures machine.runs in
     if_err c.finish.result c.finish.ensures.left
-    (λ f h told image left. subst (λ (m : machine.Moving). IsLeft (of_step f) d m.world.durable image) (sym same) (h told done d (Some (standing d v)) c.in-Ok.ensures.came image left))
+    (λ f h told image left. subst (λ (m : machine.Moving). IsLeft d m image) (sym same) (h told done d (Some (standing d v)) c.in-Ok.ensures.came image left))
 
 pub returns-in-Err-clause-err : goal.returns-in-Err-clause-err
 returns-in-Err-clause-err g c =
@@ -71,10 +71,10 @@ pub returns-in-Err-clause-left : goal.returns-in-Err-clause-left
 returns-in-Err-clause-left g c =
     let w = c.args.self.now in
     λ told image left.
-    spent_left g.D.Disk.tells (g.D.Disk.view c.take-taken.new.disk) c.in-Err.counter _ w.store c.take-taken.new.store (machine.deliver machine.runs c.args.number (view_of w)).world.durable image c.in-Err.ensures.spent told left
+    spent_left g.D.Disk.tells (g.D.Disk.view c.take-taken.new.disk) c.in-Err.counter _ w.store c.take-taken.new.store (machine.deliver machine.runs c.args.number (view_of w)) image c.in-Err.ensures.spent told left
 
 pub returns-in_err-show_nothing-clause-left : goal.returns-in_err-show_nothing-clause-left
 returns-in_err-show_nothing-clause-left g c =
     let w = c.args.self.now in
     err_is c.from_residual.result c.from_residual.ensures.1
-    (λ f gives told image left. nothing_left g.D.Disk.tells (g.D.Disk.view c.args.disk.now) w (machine.deliver machine.runs c.args.number (view_of w)).world.durable f image gives c.requires.in_step told left)
+    (λ f gives told image left. nothing_left g.D.Disk.tells (g.D.Disk.view c.args.disk.now) w (machine.deliver machine.runs c.args.number (view_of w)) image c.requires.in_step told left)

@@ -46,7 +46,7 @@ returns-in-Ok-clause-left g c =
     let done = server.end n (standing d v) in
     let same = end_is n w v c.end-ended.new.server c.end-ended.new.store (sym c.if-not-is_open.ensures) c.in-Some.is machine.runs in
     if_err c.finish.result c.finish.ensures.left
-    (λ f h told image left. subst (λ (m : machine.Moving). IsLeft (of_step f) d m.world.durable image) (sym same) (h told done d (Some (standing d v)) c.in-Ok.ensures.came image left))
+    (λ f h told image left. subst (λ (m : machine.Moving). IsLeft d m image) (sym same) (h told done d (Some (standing d v)) c.in-Ok.ensures.came image left))
 
 pub returns-in-Err-clause-err : goal.returns-in-Err-clause-err
 returns-in-Err-clause-err g c =
@@ -65,16 +65,16 @@ returns-in-Err-clause-left g c =
     let d = state_of w.store in
     λ told image left.
     spent_left g.D.Disk.tells (g.D.Disk.view c.end-ended.new.disk) c.in-Err.counter (server.end c.args.clerk (standing d c.in-Some.server)) w.store c.end-ended.new.store
-    (machine.end machine.runs c.args.clerk (view_of w).server (view_of w)).world.durable image c.in-Err.ensures.spent told left
+    (machine.end machine.runs c.args.clerk (view_of w).server (view_of w)) image c.in-Err.ensures.spent told left
 
 pub returns-in_err-show_nothing-clause-left : goal.returns-in_err-show_nothing-clause-left
 returns-in_err-show_nothing-clause-left g c =
     let w = c.args.self.now in
     err_is c.from_residual.result c.from_residual.ensures.1
-    (λ f gives told image left. nothing_left g.D.Disk.tells (g.D.Disk.view c.args.disk.now) w (machine.end machine.runs c.args.clerk (view_of w).server (view_of w)).world.durable f image gives c.requires.in_step told left)
+    (λ f gives told image left. nothing_left g.D.Disk.tells (g.D.Disk.view c.args.disk.now) w (machine.end machine.runs c.args.clerk (view_of w).server (view_of w)) image c.requires.in_step told left)
 
 pub returns-in_err-show_nothing-2-clause-left : goal.returns-in_err-show_nothing-2-clause-left
 returns-in_err-show_nothing-2-clause-left g c =
     let w = c.args.self.now in
     err_is c.from_residual-in_err-show_nothing-2.result c.from_residual-in_err-show_nothing-2.ensures.1
-    (λ f gives told image left. nothing_left g.D.Disk.tells (g.D.Disk.view c.args.disk.now) w (machine.end machine.runs c.args.clerk (view_of w).server (view_of w)).world.durable f image gives c.requires.in_step told left)
+    (λ f gives told image left. nothing_left g.D.Disk.tells (g.D.Disk.view c.args.disk.now) w (machine.end machine.runs c.args.clerk (view_of w).server (view_of w)) image c.requires.in_step told left)

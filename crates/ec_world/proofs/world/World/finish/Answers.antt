@@ -13,7 +13,7 @@ returns-in_ok-go_on-in-Done-clause-in_step g c = λ done d came.
 pub returns-in_err-go_on-in-Done-clause-left : goal.returns-in_err-go_on-in-Done-clause-left
 returns-in_err-go_on-in-Done-clause-left g c =
     err_is c.from_residual.result c.from_residual.ensures.1
-    (λ f gives told done d s came image left. done_left g.D.Disk.tells done d _ c.args.self.now (g.D.Disk.view c.args.disk.now) c.args.came c.in-Done.served c.in-Done.mark f image c.in-Done.is gives came told left)
+    (λ f gives told done d s came image left. done_left g.D.Disk.tells done d s c.args.self.now (g.D.Disk.view c.args.disk.now) c.args.came c.in-Done.served c.in-Done.mark image c.in-Done.is came told left)
 
 pub returns-in-Stopped-clause-ok : goal.returns-in-Stopped-clause-ok
 returns-in-Stopped-clause-ok g c =
@@ -24,7 +24,7 @@ pub returns-in-Stopped-clause-left : goal.returns-in-Stopped-clause-left
 returns-in-Stopped-clause-left g c =
     if_err c.stop_in.result c.stop_in.ensures.err
     (λ f breaks told done d s came image left.
-    stopped_left g.D.Disk.tells done d s c.args.self.now (g.D.Disk.view c.args.disk.now) (g.D.Disk.view c.stop_in.new.disk) c.args.came c.in-Stopped.mark f image c.in-Stopped.is breaks c.stop_in.ensures.left came told left)
+    stopped_left g.D.Disk.tells done d s c.args.self.now (g.D.Disk.view c.args.disk.now) (g.D.Disk.view c.stop_in.new.disk) c.args.came c.in-Stopped.mark image c.in-Stopped.is c.stop_in.ensures.left came told left)
 
 pub returns-in-DiskFailed-clause-left : goal.returns-in-DiskFailed-clause-left
 returns-in-DiskFailed-clause-left g c = λ told done d s came image left.
@@ -32,4 +32,4 @@ returns-in-DiskFailed-clause-left g c = λ told done d s came image left.
 
 pub returns-in-NoMemory-clause-left : goal.returns-in-NoMemory-clause-left
 returns-in-NoMemory-clause-left g c = λ told done d s came image left.
-    wants_left g.D.Disk.tells done d d c.args.self.now (g.D.Disk.view c.args.disk.now) c.args.came image c.in-NoMemory.is came told left
+    wants_left g.D.Disk.tells done d s c.args.self.now (g.D.Disk.view c.args.disk.now) c.args.came image c.in-NoMemory.is came told left

@@ -1,6 +1,7 @@
 use Rattle.std.proofs.Common.{◌≡◌, None, rules}
 use Rattle.ec_store.specs.Store.{view_of as state_of}
-use Rattle.ec_world.proofs.Restarts.{on_ok, if_err, restart_finishes, restart_left, spent_left, nothing_left}
+use Rattle.ec_world.proofs.Restarts.{on_ok, if_err, restart_finishes, restart_left}
+use Rattle.ec_world.proofs.Delivering.{spent_left, nothing_left}
 use Rattle.ec_world.proofs.Starting.{err_is}
 use Rattle.ec_world.proofs.world.World.restart.Goals as goal
 
@@ -18,12 +19,12 @@ returns-in-Ok-clause-in_step g c = on_ok c.start_up.result c.start_up.ensures.in
 pub returns-in-Ok-clause-left : goal.returns-in-Ok-clause-left
 returns-in-Ok-clause-left g c =
     let none : c.args.self.now.server ≡ None = search rules in
-    if_err c.start_up.result c.start_up.ensures.left (λ f up told image left. restart_left c.args.self.now c.start-started.new.store f image none (up told (state_of c.args.self.now.store) c.in-Ok.ensures.came image left))
+    if_err c.start_up.result c.start_up.ensures.left (λ f up told image left. restart_left c.args.self.now c.start-started.new.store image none (up told (state_of c.args.self.now.store) c.in-Ok.ensures.came image left))
 
 pub returns-in-Err-clause-left : goal.returns-in-Err-clause-left
 returns-in-Err-clause-left g c = λ told image left.
-    spent_left g.D.Disk.tells _ _ c.in-Err.counter c.args.self.now.store c.start-started.new.store (g.D.Disk.view c.start-started.new.disk) image c.in-Err.ensures.spent told left
+    spent_left g.D.Disk.tells (g.D.Disk.view c.start-started.new.disk) c.in-Err.counter _ c.args.self.now.store c.start-started.new.store _ image c.in-Err.ensures.spent told left
 
 pub returns-in_err-show_nothing-clause-left : goal.returns-in_err-show_nothing-clause-left
 returns-in_err-show_nothing-clause-left g c =
-    err_is c.from_residual.result c.from_residual.ensures.1 (λ f gives told image left. nothing_left g.D.Disk.tells (g.D.Disk.view c.args.disk.now) c.args.self.now _ f image gives c.requires.in_step told left)
+    err_is c.from_residual.result c.from_residual.ensures.1 (λ f gives told image left. nothing_left g.D.Disk.tells (g.D.Disk.view c.args.disk.now) c.args.self.now _ image c.requires.in_step told left)

@@ -1,5 +1,5 @@
 use Rattle.std.proofs.Common.{ap, ◌∙◌}
-use Rattle.ec_world.proofs.Starting.{done_restarts, stopped_restarts, err_is, done_left, stopped_left, failed_left, breaks_memory, breaks_same}
+use Rattle.ec_world.proofs.Starting.{done_restarts, stopped_restarts, err_is, done_left, stopped_left, failed_left, wants_left}
 use Rattle.ec_world.proofs.world.World.start_up.Goals as goal
 
 pub returns-in_ok-come_up-in-Done-clause-ok : goal.returns-in_ok-come_up-in-Done-clause-ok
@@ -14,19 +14,22 @@ returns-in_ok-show_line-in-Stopped-clause-ok g c = λ d came.
 pub returns-in_err-come_up-in-Done-clause-left : goal.returns-in_err-come_up-in-Done-clause-left
 returns-in_err-come_up-in-Done-clause-left g c =
     err_is c.from_residual.result c.from_residual.ensures.1
-    (λ f gives told d came image left. done_left g.D.Disk.tells d _ c.args.self.now (g.D.Disk.view c.args.disk.now) c.args.came c.in-Done.made c.in-Done.mark f image c.in-Done.is gives came told left)
+    (λ f gives told d came image left. done_left g.D.Disk.tells d c.args.self.now (g.D.Disk.view c.args.disk.now) c.args.came c.in-Done.made c.in-Done.mark image c.in-Done.is came told left)
 
 pub returns-in_err-cut_off-in-Stopped-clause-left : goal.returns-in_err-cut_off-in-Stopped-clause-left
 returns-in_err-cut_off-in-Stopped-clause-left g c =
-    let breaks = c.in_err-cut_off-in-Stopped.ensures.err in
     err_is c.from_residual-in_err-cut_off-in-Stopped.result c.from_residual-in_err-cut_off-in-Stopped.ensures.1
-    (λ f gives told d came image left. stopped_left g.D.Disk.tells d c.args.self.now (g.D.Disk.view c.args.disk.now) (g.D.Disk.view c.cut_off.new.disk) c.args.came c.in-Stopped.mark f image c.in-Stopped.is (breaks_same f c.in_err-cut_off-in-Stopped.field-0.0 gives breaks) c.in_err-cut_off-in-Stopped.ensures.left came told left)
+    (λ f gives told d came image left. stopped_left g.D.Disk.tells d c.args.self.now (g.D.Disk.view c.args.disk.now) (g.D.Disk.view c.cut_off.new.disk) c.args.came c.in-Stopped.mark image c.in-Stopped.is c.in_err-cut_off-in-Stopped.ensures.left came told left)
 
 pub returns-in_err-show_line-in-Stopped-clause-left : goal.returns-in_err-show_line-in-Stopped-clause-left
 returns-in_err-show_line-in-Stopped-clause-left g c =
     err_is c.from_residual-in_err-show_line-in-Stopped.result c.from_residual-in_err-show_line-in-Stopped.ensures.1
-    (λ f gives told d came image left. stopped_left g.D.Disk.tells d c.args.self.now (g.D.Disk.view c.args.disk.now) (g.D.Disk.view c.cut_off.new.disk) c.args.came c.in-Stopped.mark f image c.in-Stopped.is (breaks_memory f gives) c.in_ok-cut_off-in-Stopped.ensures.left came told left)
+    (λ f gives told d came image left. stopped_left g.D.Disk.tells d c.args.self.now (g.D.Disk.view c.args.disk.now) (g.D.Disk.view c.cut_off.new.disk) c.args.came c.in-Stopped.mark image c.in-Stopped.is c.in_ok-cut_off-in-Stopped.ensures.left came told left)
 
 pub returns-in-DiskFailed-clause-left : goal.returns-in-DiskFailed-clause-left
 returns-in-DiskFailed-clause-left g c = λ told d came image left.
     failed_left g.D.Disk.tells d c.args.self.now (g.D.Disk.view c.args.disk.now) c.args.came image c.in-DiskFailed.is came told left
+
+pub returns-in-NoMemory-clause-left : goal.returns-in-NoMemory-clause-left
+returns-in-NoMemory-clause-left g c = λ told d came image left.
+    wants_left g.D.Disk.tells d c.args.self.now (g.D.Disk.view c.args.disk.now) c.args.came image c.in-NoMemory.is came told left

@@ -1,17 +1,17 @@
-use Rattle.std.proofs.Common.{ℕ, List, subst, inl}
+use Rattle.std.proofs.Common.{ℕ, List, subst}
 use Rattle.std.specs.Prelude.{IfErr, OnOk}
 use Rattle.ec_protocol.specs.World as machine
 use Rattle.ec_protocol.specs.declared.world.World.{World as State}
 use Rattle.ec_world.specs.Faults.{of_step}
 use Rattle.ec_world.specs.Laws.{in_step_stands}
-use Rattle.ec_world.specs.Steps.{under, Fated, Refuses, IsLeft}
+use Rattle.ec_world.specs.Steps.{under, Fated, Refuses, IsLeft, as_before}
 use Rattle.ec_world.specs.Worlds.{view_of, IsInStep}
 use Rattle.ec_world.proofs.Reaching.{leads_known}
 use Rattle.ec_world.proofs.Stepped.{answer_ok, answer_in_step, answer_err, answer_counts, answer_left}
 use Rattle.ec_world.proofs.world.World.step.Goals as goal
 
 pub returns-then-self-clause-left : goal.returns-then-self-clause-left
-returns-then-self-clause-left g c = λ told image left. inl (in_step_stands g.D.Disk.tells (g.D.Disk.view c.args.disk.now) c.args.self.now c.requires told image left)
+returns-then-self-clause-left g c = λ told image left. as_before (in_step_stands g.D.Disk.tells (g.D.Disk.view c.args.disk.now) c.args.self.now c.requires told image left)
 
 pub returns-clause-ok : goal.returns-clause-ok
 returns-clause-ok g c =
@@ -48,6 +48,6 @@ pub returns-clause-left : goal.returns-clause-left
 returns-clause-left g c =
     let tells = g.D.Disk.tells in
     let now = g.D.Disk.view c.happen-done.new.disk in
-    let from : State → Type 0 = λ v. IfErr c.happen-done.result (λ why. tells → (image : List ℕ) → now.may_leave image → IsLeft (of_step why) v.durable (machine.happen machine.runs c.args.event v).world.durable image) in
-    answer_left c.happen-done.result c.answer.result tells now.may_leave (view_of c.args.self.now).durable (machine.happen machine.runs c.args.event (view_of c.args.self.now)).world.durable
-    (subst from c.begin_step.ensures.value c.happen-done.ensures.left) c.answer.ensures.err
+    let leaves : State → Type 0 = λ v. tells → (image : List ℕ) → now.may_leave image → IsLeft v.durable (machine.happen machine.runs c.args.event v) image in
+    let from : State → Type 0 = λ v. IfErr c.happen-done.result (λ why. leaves v) in
+    answer_left c.happen-done.result c.answer.result (leaves (view_of c.args.self.now)) (subst from c.begin_step.ensures.value c.happen-done.ensures.left) c.answer.ensures.err
