@@ -25,6 +25,7 @@ use Rattle.ec_reached.proofs.Runs.{run-in-order}
 use Rattle.ec_promise.specs.Promise.{AreLawfulOn, AreStoredOn, AreWholeOn, CutIsLawful, DrillsAreLawful, CleanIsLawful, IsLawful, PartIsLawful, SpentIsLawful, WholeIsLawful, base_on}
 use Rattle.ec_promise.proofs.Fit.{fit_script}
 use Rattle.ec_promise.proofs.Greatest.{greatest-id}
+use Rattle.ec_promise.proofs.Spared.{lose-nothing}
 
 -- Lists.
 
@@ -126,6 +127,7 @@ module _ (reads : List Read) (fates : List Fates) (d : Durable) (wf : WellFormed
     counted = omega arith;
     numbered = tt;
     ends = λ c k le. no-ends c k;
+    spared = λ s. tt;
     fit = λ o. tt;
   }
 
@@ -159,6 +161,7 @@ module _ (reads : List Read) (fates : List Fates) (d : Durable) (wf : WellFormed
       counted = shows.counted;
       numbered = shows.numbered;
       ends = shows.ends;
+      spared = lose-nothing shows.lines (close ran.ending ran).pieces shows.ends;
       fit = shows.fit;
     }
 

@@ -1,3 +1,4 @@
 pub mod Greatest
 pub mod Fit
 pub mod Lawful
+pub mod Spared

@@ -1,6 +1,7 @@
 -- What a drill promises of the lines that it wrote: they stand in one legal history of one uncached volume. It's told by the lines, the script and the
 -- volumes of the disk alone.
-use Rattle.std.specs.Prelude.{◌≡◌, ◌≤◌, ◌+◌, ℕ, List, [], ◌++◌, length, take, Ok, ⊤}
+use Rattle.std.specs.Prelude.{◌≡◌, ◌≤◌, ◌+◌, ℕ, T, List, [], ◌++◌, length, take, Ok, ⊤}
+use Rattle.std.specs.List.{list_all}
 use Rattle.std.proofs.Common.{inl, inr}
 use Rattle.ec_volume.specs.Volume.{Fits, WellFormed, images}
 use Rattle.ec_history.specs.History.{Base, kept, updates}
@@ -17,6 +18,7 @@ use Rattle.ec_protocol.specs.declared.world.World.{World}
 use Rattle.ec_headline.specs.Headline.{AreEndsAsked, ArePieces, FrontsAreLawful, InScript, IsGreatest, Lines, Pieces, joined, placed_on}
 use Rattle.ec_steps.specs.Drills.{AreFit, lines_in}
 use Rattle.ec_reached.specs.Reached.{IsInOrder}
+use Rattle.ec_promise.specs.Spared.{LosesNothing, spares}
 use Rattle.ec_drill.specs.Drill.{Outside, Drilled, IsCut, IsCutClean, IsToldAll, RanWhole, RanInPart, state_after}
 use Rattle.ec_drill.specs.declared.status.Status.{Status}
 use Rattle.ec_drill.specs.declared.status.Status.TheVariants as status
@@ -58,6 +60,8 @@ pub record AreWholeOn (reads : List Read) (state : Durable) (shown : List Shown)
   pub numbered : ArePieces 1 [] pieces
   -- no session ends but by a crash or an end: up to each line no more of a clerk's sessions ended than such lines were carried out
   pub ends : AreEndsAsked lawful.lines pieces
+  -- so nothing is lost where none of the lines crashes a clerk or ends a session
+  pub spared : T (list_all spares lawful.lines) → LosesNothing (place lawful.told)
   -- at the end each update that is kept fits in turn
   pub fit : Fits (images state.volume) (updates (kept (base_on state lawful.top) (place lawful.told)))
 
