@@ -14,12 +14,14 @@ use Rattle.ec_protocol.specs.declared.world.Event.{Event}
 use Rattle.ec_protocol.specs.declared.world.Event.TheVariants as event
 use Rattle.ec_text.specs.Lines.{shown_text, text_of}
 use Rattle.ec_base.specs.Outside.{Rose}
-use Rattle.ec_disk.specs.Disk.{Counts}
-use Rattle.ec_world.specs.Steps.{FateOf, IsTold, Refuses}
+use Rattle.ec_disk.specs.Disk.{View, Counts}
+use Rattle.ec_stands.specs.Stands.{StandsFor}
+use Rattle.ec_world.specs.Steps.{FateOf, IsTold, Refuses, IsLeft, as_before, as_behind}
 use Rattle.ec_drill.specs.Drill.{code}
+use Rattle.ec_drill.specs.Left.{EachLeft}
 use Rattle.ec_drill.specs.Steps.{going, IsCause, CutText, CutLines}
 use Rattle.ec_drill.specs.Steps.{ending_of as machine_ending}
-use Rattle.ec_drill.specs.Closing.{is_spent, restart_end, IsOwn, ran_to, closed, lines_in, Restarted, RestartedInPart, LastTold, Closed, ClosedInPart}
+use Rattle.ec_drill.specs.Closing.{is_spent, restart_end, IsOwn, ran_to, closed, lines_in, Restarted, RestartedInPart, IsClosing, before_end, behind_end, LastTold, Closed, ClosedInPart}
 use Rattle.ec_drill.specs.declared.status.Status.{Status}
 use Rattle.ec_drill.specs.declared.running.Ending.{Ending as OwnEnding}
 use Rattle.ec_drill.specs.declared.writing.Cut.{Cut}
@@ -116,9 +118,23 @@ any_front w Done pieces = stopping w Done pieces refl
 any_front w (BadLine number col) pieces = stopping w (BadLine number col) pieces refl
 any_front w (TooMany n) pieces = stopping w (TooMany n) pieces refl
 
+-- what is left where the restart isn't carried out
+restart_left : (w : World) (e : Ending) (image : List ℕ) → is_spent e ≡ false → is_none w.server ≡ true → IsLeft w.durable (happen runs event.Restart w) image → IsClosing w e [] image
+restart_left w e image s off (as_before h) = before_end refl h
+restart_left w e image s off (as_behind none h) = behind_end m.world by h
+  where
+    m : Moving
+    m = happen runs event.Restart w
+
+    by : (pieces : List (List Shown)) → (closed w e pieces).world ≡ m.world
+    by pieces =
+        ap (λ (r : Ran). r.world) (stopped_closes w e pieces s off m refl)
+        ∙ ap (λ (x : Option WorldFault). (elim x as (λ z. Ran) [ Some f ↦ record (ran_to w e pieces) { ending = ending_of 0 0 f } | None ↦ record (ran_to w e pieces) { world = m.world; pieces = pieces ++ m.shown ∷ [] } ]).world) none
+
 -- the run was cut off before anything of the restart was written
-pub cut_before : (w : World) (e : Ending) (c : Cut) (held : Option (List ℕ)) (writes writes_after faults faults_after : ℕ) → IsCause c [] writes writes_after faults faults_after → RestartedInPart w e c held held writes writes_after faults faults_after
-cut_before w e c held writes writes_after faults faults_after cause = record {
+pub cut_before : (tells : Type 0) (seen : View) (w : World) (e : Ending) (c : Cut) (held : Option (List ℕ)) (writes writes_after faults faults_after : ℕ) → is_spent e ≡ false → is_none w.server ≡ true → (tells → EachLeft seen (IsLeft w.durable (happen runs event.Restart w)))
+    → IsCause c [] writes writes_after faults faults_after → RestartedInPart tells seen w e c held held writes writes_after faults faults_after
+cut_before tells seen w e c held writes writes_after faults faults_after s off leaves cause = record {
   shown = [];
   unwritten = [];
   front = any_front w e;
@@ -126,12 +142,13 @@ cut_before w e c held writes writes_after faults faults_after cause = record {
   bytes = nothing held;
   part = refl;
   cause = cause;
+  left = λ told image may. restart_left w e image s off (leaves told image may);
 }
 
 -- or while its lines were
-pub cut_within : (w v : World) (e : Ending) (c : Cut) (lines : List Shown) (held now : Option (List ℕ)) (writes writes_after faults faults_after : ℕ) → is_spent e ≡ false → is_none w.server ≡ true → happen runs event.Restart w ≡ going v lines
-    → CutLines c lines held now writes writes_after → RestartedInPart w e c held now writes writes_after faults faults_after
-cut_within w v e c lines held now writes writes_after faults faults_after s off is text = record {
+pub cut_within : (tells : Type 0) (seen : View) (w v : World) (e : Ending) (c : Cut) (lines : List Shown) (held now : Option (List ℕ)) (writes writes_after faults faults_after : ℕ) → is_spent e ≡ false → is_none w.server ≡ true → happen runs event.Restart w ≡ going v lines
+    → CutLines c lines held now writes writes_after → (tells → EachLeft seen (λ image. StandsFor image v.durable)) → RestartedInPart tells seen w e c held now writes writes_after faults faults_after
+cut_within tells seen w v e c lines held now writes writes_after faults faults_after s off is text stands = record {
   shown = text.written;
   unwritten = text.first ∷ text.more;
   front = λ pieces. (
@@ -143,6 +160,7 @@ cut_within w v e c lines held now writes writes_after faults faults_after s off 
   bytes = text.bytes;
   part = written_part c text.first text.more text.last writes writes_after text.why;
   cause = written_cause c (shown_text text.first) text.last writes writes_after faults faults_after text.why;
+  left = λ told image may. behind_end v (λ pieces. ap (λ (r : Ran). r.world) (stopped_closes w e pieces s off (going v lines) is)) (stands told image may);
 }
 
 -- a step on a disk that isn't armed runs
@@ -153,19 +171,19 @@ pub disarmed_rose : (old mid new : Counts) → mid ≡ record old { armed = None
 disarmed_rose old mid new is rose = subst (λ (c : Counts). Rose c.faults new.faults) is rose
 
 -- the restart isn't carried out
-pub comes_down : (r : Result OwnEnding Cut) (f : WorldFault) (w v : World) (e : Ending) (P : Type 0) (held : Option (List ℕ)) (writes faults faults_after : ℕ) → r ≡ restart_end f → is_spent e ≡ false → is_none w.server ≡ true
-    → Refuses f (happen runs event.Restart w) w v P → (f ≡ fault.DiskFailed → Rose faults faults_after)
-    → MatchResult r (λ end. Restarted w v e (machine_ending end) held held) (λ c. RestartedInPart w e c held held writes writes faults faults_after)
-comes_down r f w v e P held writes faults faults_after is s off refused failed =
-    subst (λ (x : Result OwnEnding Cut). MatchResult x (λ end. Restarted w v e (machine_ending end) held held) (λ c. RestartedInPart w e c held held writes writes faults faults_after)) (sym is) (by f refused failed)
+pub comes_down : (tells : Type 0) (seen : View) (r : Result OwnEnding Cut) (f : WorldFault) (w v : World) (e : Ending) (P : Type 0) (held : Option (List ℕ)) (writes faults faults_after : ℕ) → r ≡ restart_end f → is_spent e ≡ false → is_none w.server ≡ true
+    → Refuses f (happen runs event.Restart w) w v P → (f ≡ fault.DiskFailed → Rose faults faults_after) → (tells → EachLeft seen (IsLeft w.durable (happen runs event.Restart w)))
+    → MatchResult r (λ end. Restarted w v e (machine_ending end) held held) (λ c. RestartedInPart tells seen w e c held held writes writes faults faults_after)
+comes_down tells seen r f w v e P held writes faults faults_after is s off refused failed leaves =
+    subst (λ (x : Result OwnEnding Cut). MatchResult x (λ end. Restarted w v e (machine_ending end) held held) (λ c. RestartedInPart tells seen w e c held held writes writes faults faults_after)) (sym is) (by f refused failed)
   where
-    by : (f : WorldFault) → Refuses f (happen runs event.Restart w) w v P → (f ≡ fault.DiskFailed → Rose faults faults_after) → MatchResult (restart_end f) (λ end. Restarted w v e (machine_ending end) held held) (λ c. RestartedInPart w e c held held writes writes faults faults_after)
+    by : (f : WorldFault) → Refuses f (happen runs event.Restart w) w v P → (f ≡ fault.DiskFailed → Rose faults faults_after) → MatchResult (restart_end f) (λ end. Restarted w v e (machine_ending end) held held) (λ c. RestartedInPart tells seen w e c held held writes writes faults faults_after)
     by (fault.Spent n) refused failed = subst (λ (u : World). Restarted w u e (IsSpent n) held held) (sym refused.1) (comes_not w e n held s off refused.0)
-    by fault.DiskFailed refused failed = cut_before w e cut.Disk held writes writes faults faults_after (failed refl, refl)
+    by fault.DiskFailed refused failed = cut_before tells seen w e cut.Disk held writes writes faults faults_after s off leaves (failed refl, refl)
     by (fault.BadDisk place) refused failed = absurd refused
-    by fault.NoSuchOp refused failed = cut_before w e cut.NoMemory held writes writes faults faults_after tt
-    by fault.NoSuchMsg refused failed = cut_before w e cut.NoMemory held writes writes faults faults_after tt
-    by fault.NoMemory refused failed = cut_before w e cut.NoMemory held writes writes faults faults_after tt
+    by fault.NoSuchOp refused failed = cut_before tells seen w e cut.NoMemory held writes writes faults faults_after s off leaves tt
+    by fault.NoSuchMsg refused failed = cut_before tells seen w e cut.NoMemory held writes writes faults faults_after s off leaves tt
+    by fault.NoMemory refused failed = cut_before tells seen w e cut.NoMemory held writes writes faults faults_after s off leaves tt
 
 -- The last line.
 
@@ -196,9 +214,9 @@ all_closed w v e end st held mid now r told = record {
   bytes = appends_two held mid now _ _ _ r.bytes told.bytes (sym (text_of-append r.shown (last_line end)));
 }
 
-last_cut : (w v : World) (e end : Ending) (c : Cut) (held mid now : Option (List ℕ)) (writes writes_mid writes_after faults faults_after : ℕ) → Restarted w v e end held mid
-    → writes ≤ writes_mid → CutLines c (last_line end) mid now writes_mid writes_after → ClosedInPart w e c held now writes writes_after faults faults_after
-last_cut w v e end c held mid now writes writes_mid writes_after faults faults_after r le text = record {
+last_cut : (tells : Type 0) (seen : View) (w v : World) (e end : Ending) (c : Cut) (held mid now : Option (List ℕ)) (writes writes_mid writes_after faults faults_after : ℕ) → Restarted w v e end held mid
+    → writes ≤ writes_mid → CutLines c (last_line end) mid now writes_mid writes_after → (tells → EachLeft seen (λ image. StandsFor image v.durable)) → ClosedInPart tells seen w e c held now writes writes_after faults faults_after
+last_cut tells seen w v e end c held mid now writes writes_mid writes_after faults faults_after r le text stands = record {
   shown = r.shown ++ text.written;
   unwritten = text.first ∷ text.more;
   front = λ pieces. (
@@ -212,17 +230,18 @@ last_cut w v e end c held mid now writes writes_mid writes_after faults faults_a
   bytes = appends_two held mid now _ _ _ r.bytes text.bytes (texts_then r.shown text.written text.last);
   part = written_part c text.first text.more text.last writes_mid writes_after text.why;
   cause = written_cause c (shown_text text.first) text.last writes writes_after faults faults_after (cut_later c (shown_text text.first) text.last writes writes_mid writes_after le text.why);
+  left = λ told image may. behind_end v r.world (stands told image may);
 }
 
 -- behind a restart
-pub tells_last : (r : Result Status Cut) (w v : World) (e end : Ending) (held mid now : Option (List ℕ)) (writes writes_mid writes_after faults faults_after : ℕ) → Restarted w v e end held mid → writes ≤ writes_mid
-    → MatchResult r (λ st. LastTold end st mid now) (λ c. CutLines c (last_line end) mid now writes_mid writes_after)
-    → MatchResult r (λ st. Closed w v e st held now) (λ c. ClosedInPart w e c held now writes writes_after faults faults_after)
-tells_last (Ok st) w v e end held mid now writes writes_mid writes_after faults faults_after done le told = all_closed w v e end st held mid now done told
-tells_last (Err c) w v e end held mid now writes writes_mid writes_after faults faults_after done le told = last_cut w v e end c held mid now writes writes_mid writes_after faults faults_after done le told
+pub tells_last : (tells : Type 0) (seen : View) (r : Result Status Cut) (w v : World) (e end : Ending) (held mid now : Option (List ℕ)) (writes writes_mid writes_after faults faults_after : ℕ) → Restarted w v e end held mid → writes ≤ writes_mid
+    → MatchResult r (λ st. LastTold end st mid now) (λ c. CutLines c (last_line end) mid now writes_mid writes_after) → (tells → EachLeft seen (λ image. StandsFor image v.durable))
+    → MatchResult r (λ st. Closed w v e st held now) (λ c. ClosedInPart tells seen w e c held now writes writes_after faults faults_after)
+tells_last tells seen (Ok st) w v e end held mid now writes writes_mid writes_after faults faults_after done le told stands = all_closed w v e end st held mid now done told
+tells_last tells seen (Err c) w v e end held mid now writes writes_mid writes_after faults faults_after done le told stands = last_cut tells seen w v e end c held mid now writes writes_mid writes_after faults faults_after done le told stands
 
-pub part_closed : (w : World) (e : Ending) (c : Cut) (held now : Option (List ℕ)) (writes writes_after faults faults_after : ℕ) → RestartedInPart w e c held now writes writes_after faults faults_after → ClosedInPart w e c held now writes writes_after faults faults_after
-part_closed w e c held now writes writes_after faults faults_after r = record {
+pub part_closed : (tells : Type 0) (seen : View) (w : World) (e : Ending) (c : Cut) (held now : Option (List ℕ)) (writes writes_after faults faults_after : ℕ) → RestartedInPart tells seen w e c held now writes writes_after faults faults_after → ClosedInPart tells seen w e c held now writes writes_after faults faults_after
+part_closed tells seen w e c held now writes writes_after faults faults_after r = record {
   shown = r.shown;
   unwritten = r.unwritten;
   front = λ pieces.
@@ -236,6 +255,7 @@ part_closed w e c held now writes writes_after faults faults_after r = record {
   bytes = r.bytes;
   part = r.part;
   cause = r.cause;
+  left = r.left;
 }
 
 -- the lines of a run stand first among all of the closed one

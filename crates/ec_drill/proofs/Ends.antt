@@ -20,8 +20,9 @@ use Rattle.ec_world.specs.Steps.{Opens, Unopened}
 use Rattle.ec_world.specs.Worlds.{view_of, IsInStep}
 use Rattle.ec_drill.specs.Cuts.{IsFront}
 use Rattle.ec_drill.specs.Fates.{IsKnown}
+use Rattle.ec_drill.specs.Left.{behind_lines, at_end, IsOfMoment, LeavesOf}
 use Rattle.ec_drill.specs.Steps.{IsLater, Ended, IsCause, CutOff}
-use Rattle.ec_drill.specs.Closing.{lines_in, IsOwn, Closed, ClosedInPart}
+use Rattle.ec_drill.specs.Closing.{closed, lines_in, IsOwn, IsClosing, before_end, behind_end, Closed, ClosedInPart}
 use Rattle.ec_drill.specs.Drill.{Outside, code, HoldsState, end_of, IsGiven, RanWhole, RanInPart, Unbegun, over, bad, RefusedInPart, IsOver, IsDiskUntouched, Drilled}
 use Rattle.ec_drill.specs.Starts.{status_of, RefusedWith, TellsUnopened, WholeOn, PartOn, DrilledOn}
 use Rattle.ec_drill.specs.declared.status.Status.{Status}
@@ -50,8 +51,27 @@ module _ (tells : Type 0) (a b c : ℕ) (reads : List Read) (start : World) (e :
     disk = λ told. subst (λ (u : World). HoldsState seen u.durable) (sym (ap (λ (r : Ran). (close r.ending r).world) (is (inl told)) ∙ done.world s.pieces)) (stands told);
   }
 
-  pub whole_part : (why : Cut) (writes writes_after faults faults_after : ℕ) → (part : ClosedInPart w e why mid now writes writes_after faults faults_after) → PartOn tells a c reads start part.last held now
-  whole_part why writes writes_after faults faults_after part = record {
+  -- what is left where it was cut off in its end
+  left_at : (shown unwritten rest : List Shown) (image : List ℕ) → tells → lines_in (closed w e s.pieces) ≡ joined s.pieces ++ (shown ++ (unwritten ++ rest)) → IsClosing w e shown image → IsOfMoment (bound reads) reads s.fates start (joined s.pieces ++ shown) image
+  left_at shown unwritten rest image told front (before_end none h) = record {
+    world = w;
+    shown = joined s.pieces;
+    moment = behind_lines reads [] (append-nil reads) (run_from (bound reads) 1 reads s.fates start) refl (ap (λ (r : Ran). r.world) (is (inl told))) (ap (λ (r : Ran). joined r.pieces) (is (inl told)));
+    rest = [];
+    holds = sym (ap (λ l. (joined s.pieces ++ l) ++ []) none ∙ append-nil (joined s.pieces ++ []) ∙ append-nil (joined s.pieces));
+    stands = h;
+  }
+  left_at shown unwritten rest image told front (behind_end v at h) = record {
+    world = v;
+    shown = lines_in (closed w e s.pieces);
+    moment = at_end (run_from (bound reads) 1 reads s.fates start) refl (ap (λ (r : Ran). (close r.ending r).world) (is (inl told)) ∙ at s.pieces) (ap (λ (r : Ran). lines_in (close r.ending r)) (is (inl told)));
+    rest = unwritten ++ rest;
+    holds = front ∙ sym (append_assoc (joined s.pieces) shown (unwritten ++ rest));
+    stands = h;
+  }
+
+  pub whole_part : (seen : View) (why : Cut) (writes writes_after faults faults_after : ℕ) → (part : ClosedInPart tells seen w e why mid now writes writes_after faults faults_after) → PartOn tells a c seen reads start part.last held now
+  whole_part seen why writes writes_after faults faults_after part = record {
     fates = s.fates;
     are = are_to s.fates a b c le s.are;
     shown = joined s.pieces ++ part.shown;
@@ -61,6 +81,7 @@ module _ (tells : Type 0) (a b c : ℕ) (reads : List Read) (start : World) (e :
         (at.0, ap (λ (r : Ran). lines_in (close r.ending r)) (is known) ∙ at.1 ∙ sym (append_assoc (joined s.pieces) part.shown (part.unwritten ++ at.0)));
     bytes = appends_two held mid now _ _ _ s.bytes part.bytes (texts_then (joined s.pieces) part.shown part.last);
     part = part.part;
+    left = λ told image may. let at = part.front s.pieces in left_at part.shown part.unwritten at.0 image told at.1 (part.left told image may);
   }
 
 -- the disk of a world that is in step with it
@@ -81,8 +102,8 @@ by_status status.BadDisk tells old new seen reads start held now writes later ow
 by_status status.NoMemory tells old new seen reads start held now writes later own r = absurd own
 
 -- a run that was cut off before its end
-pub cut_part : (tells : Type 0) (a b : ℕ) (reads : List Read) (start : World) (c : Cut) (held now : Option (List ℕ)) (writes writes_after faults faults_after : ℕ) → (s : CutOff tells a b (bound reads) reads start c held now writes writes_after faults faults_after) → PartOn tells a b reads start s.last held now
-cut_part tells a b reads start c held now writes writes_after faults faults_after s =
+pub cut_part : (tells : Type 0) (a b : ℕ) (seen : View) (reads : List Read) (start : World) (c : Cut) (held now : Option (List ℕ)) (writes writes_after faults faults_after : ℕ) → (s : CutOff tells a b seen (bound reads) reads start c held now writes writes_after faults faults_after) → PartOn tells a b seen reads start s.last held now
+cut_part tells a b seen reads start c held now writes writes_after faults faults_after s =
     let p = s.part in
     record {
       fates = p.fates;
@@ -97,11 +118,12 @@ cut_part tells a b reads start c held now writes writes_after faults faults_afte
           );
       bytes = p.bytes;
       part = p.part;
+      left = p.left;
     }
 
 -- what was cut off, by its cause
-pub by_cause : (c : Cut) (tells : Type 0) (old new : Counts) (seen : View) (reads : List Read) (start : World) (last : List ℕ) (held now : Option (List ℕ)) (writes later : ℕ) → IsCause c last writes later old.faults new.faults → PartOn tells old.stops new.stops reads start last held now → DrilledOn (status_of c) tells old new seen reads start held now writes later
-by_cause cut.Disk tells old new seen reads start last held now writes later cause part = (cause.0, subst (λ (l : List ℕ). PartOn tells old.stops new.stops reads start l held now) cause.1 part)
+pub by_cause : (c : Cut) (tells : Type 0) (old new : Counts) (seen : View) (reads : List Read) (start : World) (last : List ℕ) (held now : Option (List ℕ)) (writes later : ℕ) → IsCause c last writes later old.faults new.faults → PartOn tells old.stops new.stops seen reads start last held now → DrilledOn (status_of c) tells old new seen reads start held now writes later
+by_cause cut.Disk tells old new seen reads start last held now writes later cause part = (cause.0, subst (λ (l : List ℕ). PartOn tells old.stops new.stops seen reads start l held now) cause.1 part)
 by_cause cut.Sink tells old new seen reads start last held now writes later cause part = (cause, (last, part))
 by_cause cut.NoMemory tells old new seen reads start last held now writes later cause part = (last, part)
 
@@ -132,7 +154,7 @@ module _ (most : ℕ) (reads : List Read) (state : Durable) (start : World) (w :
     disk = λ told. subst (λ (x : Result World Counter). HoldsState w.disk_after (elim x [ Err n ↦ state | Ok v ↦ (end_of reads r.fates v).durable ])) (sym opened) (r.disk told);
   }
 
-  part : (last : List ℕ) → PartOn w.tells mid.stops w.counts_after.stops reads start last w.held w.held_after → RanInPart most w last
+  part : (last : List ℕ) → PartOn w.tells mid.stops w.counts_after.stops w.disk_after reads start last w.held w.held_after → RanInPart most w last
   part last r = record {
     reads = reads;
     given = given;
@@ -145,6 +167,7 @@ module _ (most : ℕ) (reads : List Read) (state : Durable) (start : World) (w :
     front = λ k. let at = r.front (known k) in (at.0, ap (λ (x : Result World Counter). (drill_in reads r.fates x).0) opened ∙ at.1);
     bytes = r.bytes;
     part = r.part;
+    left = λ told. subst (λ (x : Result World Counter). LeavesOf w.disk_after reads r.fates state x r.shown) (sym opened) (r.left told);
   }
 
   pub drilled_on : (st : Status) → DrilledOn st w.tells mid w.counts_after w.disk_after reads start w.held w.held_after w.writes w.writes_after → Drilled most st w
@@ -172,8 +195,8 @@ refused most w line st result why told (inr (cut.NoMemory, is, text)) = subst (�
 
 -- The opening would spend a counter.
 
-spent_part : (most : ℕ) (reads : List Read) (state : Durable) (n : Counter) (w : Outside) → IsGiven w reads → Opens w.tells w.disk.gives most state → open_world state ≡ Err n → (last : List ℕ) → (last ≡ []) ⊎ IsFront (shown_text (Spent n)) last → Appends w.held w.held_after last → RanInPart most w last
-spent_part most reads state n w given opens e last part bytes = record {
+spent_part : (most : ℕ) (reads : List Read) (state : Durable) (n : Counter) (w : Outside) → IsGiven w reads → Opens w.tells w.disk.gives most state → open_world state ≡ Err n → (w.tells → HoldsState w.disk_after state) → (last : List ℕ) → (last ≡ []) ⊎ IsFront (shown_text (Spent n)) last → Appends w.held w.held_after last → RanInPart most w last
+spent_part most reads state n w given opens e stands last part bytes = record {
   reads = reads;
   given = given;
   state = state;
@@ -185,6 +208,7 @@ spent_part most reads state n w given opens e last part bytes = record {
   front = λ known. ([], ap (λ (x : Result World Counter). (drill_in reads [] x).0) e);
   bytes = bytes;
   part = part;
+  left = λ told. subst (λ (x : Result World Counter). LeavesOf w.disk_after reads [] state x []) (sym e) (stands told).crash;
 }
 
 pub spent_at_once : (most : ℕ) (reads : List Read) (state : Durable) (n : Counter) (w : Outside) (result : Status) → IsGiven w reads → Opens w.tells w.disk.gives most state → open_world state ≡ Err n → (w.tells → HoldsState w.disk_after state) → RefusedWith (Spent n) status.Spent result w.held w.held_after w.writes w.writes_after → Drilled most result w
@@ -202,14 +226,14 @@ spent_at_once most reads state n w result given opens e stands (inl (is, bytes))
   disk = λ told. subst (λ (x : Result World Counter). HoldsState w.disk_after (elim x [ Err n ↦ state | Ok v ↦ (end_of reads [] v).durable ])) (sym e) (stands told);
 })
 spent_at_once most reads state n w result given opens e stands (inr (cut.Disk, is, text)) = absurd text.why
-spent_at_once most reads state n w result given opens e stands (inr (cut.Sink, is, text)) = subst (λ (s : Status). Drilled most s w) (sym is) (text.why.0, inl (text.last, spent_part most reads state n w given opens e text.last (inr text.why.1) text.bytes))
-spent_at_once most reads state n w result given opens e stands (inr (cut.NoMemory, is, text)) = subst (λ (s : Status). Drilled most s w) (sym is) (inl (inl (text.last, spent_part most reads state n w given opens e text.last text.why text.bytes)))
+spent_at_once most reads state n w result given opens e stands (inr (cut.Sink, is, text)) = subst (λ (s : Status). Drilled most s w) (sym is) (text.why.0, inl (text.last, spent_part most reads state n w given opens e stands text.last (inr text.why.1) text.bytes))
+spent_at_once most reads state n w result given opens e stands (inr (cut.NoMemory, is, text)) = subst (λ (s : Status). Drilled most s w) (sym is) (inl (inl (text.last, spent_part most reads state n w given opens e stands text.last text.why text.bytes)))
 
 -- A run and its end, by how it was closed. `k` is the run's bound.
 
 pub closes_with : (r : Result Status Cut) (result : Status) (tells : Type 0) (old mid new : Counts) (seen : View) (k : ℕ) (reads : List Read) (start : World) (e : Ending) (w v : World) (held held_mid now : Option (List ℕ)) (writes writes_mid later : ℕ)
     → MatchResult r (λ st. result ≡ st) (λ c. result ≡ status_of c) → k ≡ bound reads → Ended tells old.stops mid.stops k reads start e w held held_mid → IsLater old mid ⊥ → IsLater mid new ⊥ → writes ≤ writes_mid
-    → MatchResult r (λ st. Closed w v e st held_mid now) (λ c. ClosedInPart w e c held_mid now writes_mid later mid.faults new.faults) → MatchResult r (λ st. tells → HoldsState seen v.durable) (λ c. Unit {0})
+    → MatchResult r (λ st. Closed w v e st held_mid now) (λ c. ClosedInPart tells seen w e c held_mid now writes_mid later mid.faults new.faults) → MatchResult r (λ st. tells → HoldsState seen v.durable) (λ c. Unit {0})
     → DrilledOn result tells old new seen reads start held now writes later
 closes_with (Ok st) result tells old mid new seen k reads start e w v held held_mid now writes writes_mid later is same s first second le done stands =
     let ended = subst (λ (n : ℕ). Ended tells old.stops mid.stops n reads start e w held held_mid) same s in
@@ -219,14 +243,14 @@ closes_with (Err c) result tells old mid new seen k reads start e w v held held_
     let ended = subst (λ (n : ℕ). Ended tells old.stops mid.stops n reads start e w held held_mid) same s in
     subst (λ (x : Status). DrilledOn x tells old new seen reads start held now writes later) (sym is)
     (by_cause c tells old new seen reads start part.last held now writes later (cause_from c part.last writes writes_mid later old.faults mid.faults new.faults le first.faults part.cause)
-    (whole_part tells old.stops mid.stops new.stops reads start e w held held_mid now ended second.stops c writes_mid later mid.faults new.faults part))
+    (whole_part tells old.stops mid.stops new.stops reads start e w held held_mid now ended second.stops seen c writes_mid later mid.faults new.faults part))
 
 pub cut_short : (c : Cut) (result : Status) (tells : Type 0) (old new : Counts) (seen : View) (k : ℕ) (reads : List Read) (start : World) (held now : Option (List ℕ)) (writes later : ℕ)
-    → result ≡ status_of c → k ≡ bound reads → CutOff tells old.stops new.stops k reads start c held now writes later old.faults new.faults → DrilledOn result tells old new seen reads start held now writes later
+    → result ≡ status_of c → k ≡ bound reads → CutOff tells old.stops new.stops seen k reads start c held now writes later old.faults new.faults → DrilledOn result tells old new seen reads start held now writes later
 cut_short c result tells old new seen k reads start held now writes later is same s =
-    let off = subst (λ (n : ℕ). CutOff tells old.stops new.stops n reads start c held now writes later old.faults new.faults) same s in
+    let off = subst (λ (n : ℕ). CutOff tells old.stops new.stops seen n reads start c held now writes later old.faults new.faults) same s in
     subst (λ (x : Status). DrilledOn x tells old new seen reads start held now writes later) (sym is)
-    (by_cause c tells old new seen reads start off.last held now writes later off.cause (cut_part tells old.stops new.stops reads start c held now writes later old.faults new.faults off))
+    (by_cause c tells old new seen reads start off.last held now writes later off.cause (cut_part tells old.stops new.stops seen reads start c held now writes later old.faults new.faults off))
 
 -- The disk wasn't opened.
 pub not_opened : (f : WorldFault) (most : ℕ) (reads : List Read) (result : Status) (w : Outside) → IsGiven w reads → Unopened f w.tells w.disk.gives w.disk_after.gives w.disk_after.may_leave most

@@ -1,9 +1,10 @@
 -- What carrying out a line makes of the run.
-use Rattle.std.proofs.Common.{◌≡◌, ◌+◌, ℕ, true, false, List, [], ◌∷◌, ◌++◌, Option, Some, None, Result, Ok, Err, refl, sym, ap, subst, ◌∙◌, append_assoc}
-use Rattle.std.specs.Prelude.{is_some}
+use Rattle.std.proofs.Common.{◌≡◌, ◌+◌, ℕ, true, false, List, [], ◌∷◌, ◌++◌, Option, Some, None, Result, Ok, Err, refl, sym, ap, subst, ◌∙◌, append_assoc, arith, inl}
+use Rattle.std.specs.Prelude.{is_some, OnErr}
 use Rattle.std.specs.Io.KnownBytes.{Appends}
 use Rattle.ec_base.specs.Outside.{Rose}
-use Rattle.ec_disk.specs.Disk.{Counts}
+use Rattle.ec_disk.specs.Disk.{View, Counts}
+use Rattle.ec_stands.specs.Stands.{StandsFor}
 use Rattle.ec_history.specs.declared.shown.Shown.{Shown}
 use Rattle.ec_protocol.specs.World.{Moving, pending}
 use Rattle.ec_protocol.specs.Drill.{Fates, Read, reads, run_from, joined, carry_out}
@@ -15,7 +16,8 @@ use Rattle.ec_protocol.specs.declared.world.WorldFault.TheVariants as fault
 use Rattle.ec_text.specs.Lines.{text_of}
 use Rattle.ec_drill.specs.Closing.{ran_to}
 use Rattle.ec_drill.specs.Fates.{IsKnown}
-use Rattle.ec_drill.specs.Steps.{going, behind, Comes, Stays, IsLater, AreOfLine, CutLines, IsCause, LineEnds, LineDone, LineCut, line_end, PendingEnd, ending_of}
+use Rattle.ec_drill.specs.Left.{EachLeft}
+use Rattle.ec_drill.specs.Steps.{going, behind, Comes, Stays, IsLater, AreOfLine, IsCarrying, before_line, behind_some, IsInLine, none_shown, some_shown, CutLines, IsCause, LineEnds, LineDone, LineCut, line_end, PendingEnd, ending_of}
 use Rattle.ec_drill.specs.declared.running.Ending.{Ending}
 use Rattle.ec_drill.specs.declared.writing.Cut.{Cut}
 use Rattle.ec_drill.proofs.Texts.{nothing}
@@ -23,9 +25,9 @@ use Rattle.ec_drill.proofs.Writes.{written_cause, written_part}
 use Rattle.ec_drill.proofs.Runs.{line_goes, line_piles, line_fails, line_shows}
 
 -- what carrying out a line that came to this result is, by its steps
-abbrev pub Carried : {X : Type 0} → Result X WorldFault → Type 0 → Counts → Counts → ℕ → ℕ → Line → World → World → List Shown → Type 0
-Carried r tells old new k number l w v piece =
-    (fates : Fates) × AreOfLine fates old new × (IsKnown tells old.stops new.stops → Comes r (carry_out k fates number l w) v piece)
+abbrev pub Carried : {X : Type 0} → Result X WorldFault → Type 0 → Counts → Counts → View → ℕ → ℕ → Line → World → World → List Shown → Type 0
+Carried r tells old new seen k number l w v piece =
+    (fates : Fates) × AreOfLine fates old new × (IsKnown tells old.stops new.stops → Comes r (carry_out k fates number l w) v piece) × OnErr r (tells → EachLeft seen (IsCarrying k fates number l w))
 
 ok_not : {X Y : Type 0} (x : X) (y : Y) → Ok x ≡ Err y → ⊥
 ok_not x y e = cc
@@ -48,10 +50,19 @@ lost_cause (Err fault.DiskFailed) number column c writes writes_after faults fau
 lost_cause (Err (fault.BadDisk p)) number column c writes writes_after faults faults_after e f = subst (λ (d : Cut). IsCause d [] writes writes_after faults faults_after) (err_is _ _ e) tt
 lost_cause (Err fault.NoMemory) number column c writes writes_after faults faults_after e f = subst (λ (d : Cut). IsCause d [] writes writes_after faults faults_after) (err_is _ _ e) tt
 
+lost_left : {X : Type 0} (r : Result X WorldFault) (number column : ℕ) (c : Cut) (P : Type 0) → line_end r number column ≡ Err c → OnErr r P → P
+lost_left (Ok x) number column c P e h = absurd (ok_not _ _ e)
+lost_left (Err f) number column c P e h = h
+
+-- nothing of a line was written
+nothing_shown : (k number column : ℕ) (l : Line) (w : World) (fates : Fates) (image : List ℕ) → IsCarrying k fates number l w image → IsInLine k number (reads l column) w fates [] image
+nothing_shown k number column l w fates image (before_line h) = none_shown refl h
+nothing_shown k number column l w fates image (behind_some j most h) = some_shown l column refl j most (carry_out j fates number l w).shown refl h
+
 -- the line ends the run before its piece is known
-pub line_lost : {X : Type 0} (r : Result X WorldFault) (tells : Type 0) (old new : Counts) (k number column : ℕ) (l : Line) (w v : World) (piece : List Shown) (c : Cut) (held : Option (List ℕ)) (writes : ℕ)
-    → Carried r tells old new k number l w v piece → IsLater old new (r ≡ Err fault.DiskFailed) → line_end r number column ≡ Err c → LineCut tells old new k number (reads l column) w c held held writes writes
-line_lost r tells old new k number column l w v piece c held writes did later e = record {
+pub line_lost : {X : Type 0} (r : Result X WorldFault) (tells : Type 0) (old new : Counts) (seen : View) (k number column : ℕ) (l : Line) (w v : World) (piece : List Shown) (c : Cut) (held : Option (List ℕ)) (writes : ℕ)
+    → Carried r tells old new seen k number l w v piece → IsLater old new (r ≡ Err fault.DiskFailed) → line_end r number column ≡ Err c → LineCut tells old new seen k number (reads l column) w c held held writes writes
+line_lost r tells old new seen k number column l w v piece c held writes did later e = record {
   fates = did.0;
   are = did.1;
   shown = [];
@@ -61,6 +72,7 @@ line_lost r tells old new k number column l w v piece c held writes did later e 
   bytes = nothing held;
   part = refl;
   cause = lost_cause r number column c writes writes old.faults new.faults e later.failed;
+  left = λ told image may. nothing_shown k number column l w did.0 image (lost_left r number column c _ e did.3 told image may);
 }
 
 -- the piece of a line that came to an end of its own
@@ -73,6 +85,15 @@ came_to (Err fault.DiskFailed) number column e m v piece is comes = absurd (err_
 came_to (Err (fault.BadDisk p)) number column e m v piece is comes = absurd (err_not _ _ is)
 came_to (Err fault.NoMemory) number column e m v piece is comes = absurd (err_not _ _ is)
 
+came_world : {X : Type 0} (r : Result X WorldFault) (number column : ℕ) (e : Option Ending) (m : Moving) (v : World) (piece : List Shown) → line_end r number column ≡ Ok e → Comes r m v piece → m.world ≡ v
+came_world (Ok x) number column e m v piece is comes = ap (λ (n : Moving). n.world) comes
+came_world (Err (fault.Spent n)) number column e m v piece is comes = ap (λ (n : Moving). n.world) (comes tt)
+came_world (Err fault.NoSuchOp) number column e m v piece is comes = ap (λ (n : Moving). n.world) (comes tt)
+came_world (Err fault.NoSuchMsg) number column e m v piece is comes = ap (λ (n : Moving). n.world) (comes tt)
+came_world (Err fault.DiskFailed) number column e m v piece is comes = absurd (err_not _ _ is)
+came_world (Err (fault.BadDisk p)) number column e m v piece is comes = absurd (err_not _ _ is)
+came_world (Err fault.NoMemory) number column e m v piece is comes = absurd (err_not _ _ is)
+
 -- what holds behind such a line
 pub came_stays : {X : Type 0} (r : Result X WorldFault) (number column : ℕ) (e : Option Ending) (P : Type 0) → line_end r number column ≡ Ok e → Stays r P → P
 came_stays (Ok x) number column e P is h = h
@@ -84,9 +105,9 @@ came_stays (Err (fault.BadDisk p)) number column e P is h = absurd (err_not _ _ 
 came_stays (Err fault.NoMemory) number column e P is h = absurd (err_not _ _ is)
 
 -- its piece wasn't written whole
-pub line_unwritten : {X : Type 0} (r : Result X WorldFault) (tells : Type 0) (old new : Counts) (k number column : ℕ) (l : Line) (w v : World) (piece : List Shown) (e : Option Ending) (c : Cut) (held now : Option (List ℕ)) (writes writes_after : ℕ)
-    → Carried r tells old new k number l w v piece → line_end r number column ≡ Ok e → CutLines c piece held now writes writes_after → LineCut tells old new k number (reads l column) w c held now writes writes_after
-line_unwritten r tells old new k number column l w v piece e c held now writes writes_after did is cut = record {
+pub line_unwritten : {X : Type 0} (r : Result X WorldFault) (tells : Type 0) (old new : Counts) (seen : View) (k number column : ℕ) (l : Line) (w v : World) (piece : List Shown) (e : Option Ending) (c : Cut) (held now : Option (List ℕ)) (writes writes_after : ℕ)
+    → Carried r tells old new seen k number l w v piece → line_end r number column ≡ Ok e → CutLines c piece held now writes writes_after → (tells → EachLeft seen (λ image. StandsFor image v.durable)) → LineCut tells old new seen k number (reads l column) w c held now writes writes_after
+line_unwritten r tells old new seen k number column l w v piece e c held now writes writes_after did is cut stands = record {
   fates = did.0;
   are = did.1;
   shown = cut.written;
@@ -101,6 +122,11 @@ line_unwritten r tells old new k number column l w v piece e c held now writes w
   bytes = cut.bytes;
   part = written_part c cut.first cut.more cut.last writes writes_after cut.why;
   cause = written_cause c _ cut.last writes writes_after old.faults new.faults cut.why;
+  left = λ told image may.
+      let m = carry_out k did.0 number l w in
+      let comes = did.2 (inl told) in
+      some_shown l column refl k (omega arith) (cut.first ∷ cut.more) (came_to r number column e m v piece is comes ∙ cut.front)
+      (subst (λ (u : World). StandsFor image u.durable) (sym (came_world r number column e m v piece is comes)) (stands told image may));
 }
 
 some_not : (e : Option Ending) → None ≡ e → is_some e ≡ true → ⊥
@@ -118,9 +144,9 @@ ends_by (Err fault.DiskFailed) k number column l w v piece fates e comes is some
 ends_by (Err (fault.BadDisk p)) k number column l w v piece fates e comes is some ahead = absurd (err_not _ _ is)
 ends_by (Err fault.NoMemory) k number column l w v piece fates e comes is some ahead = absurd (err_not _ _ is)
 
-pub line_ended : {X : Type 0} (r : Result X WorldFault) (tells : Type 0) (old new : Counts) (k number column : ℕ) (l : Line) (w v : World) (piece : List Shown) (e : Option Ending) (held now : Option (List ℕ))
-    → Carried r tells old new k number l w v piece → line_end r number column ≡ Ok e → is_some e ≡ true → Appends held now (text_of piece) → LineDone tells old new k number (reads l column) w v e held now
-line_ended r tells old new k number column l w v piece e held now did is some bytes = record {
+pub line_ended : {X : Type 0} (r : Result X WorldFault) (tells : Type 0) (old new : Counts) (seen : View) (k number column : ℕ) (l : Line) (w v : World) (piece : List Shown) (e : Option Ending) (held now : Option (List ℕ))
+    → Carried r tells old new seen k number l w v piece → line_end r number column ≡ Ok e → is_some e ≡ true → Appends held now (text_of piece) → LineDone tells old new k number (reads l column) w v e held now
+line_ended r tells old new seen k number column l w v piece e held now did is some bytes = record {
   fates = did.0;
   are = did.1;
   piece = piece;
@@ -150,9 +176,9 @@ goes_by (Some e) k number column l w v u piece fates is end ahead = λ more.
     ∙ ap (λ (x : World). ran_to x (machine.TooMany (pending v)) (piece ∷ [])) (sym end.2)
     ∙ ap (λ (x : Ending). ran_to u (ending_of x) (piece ∷ [])) (sym end.1)
 
-pub line_pending : {X : Type 0} (r : Result X WorldFault) (tells : Type 0) (old new : Counts) (k number column : ℕ) (l : Line) (w v u : World) (piece : List Shown) (e p : Option Ending) (held now : Option (List ℕ))
-    → Carried r tells old new k number l w v piece → line_end r number column ≡ Ok e → is_some e ≡ false → PendingEnd p v u → Appends held now (text_of piece) → LineDone tells old new k number (reads l column) w u p held now
-line_pending r tells old new k number column l w v u piece e p held now did is none end bytes = record {
+pub line_pending : {X : Type 0} (r : Result X WorldFault) (tells : Type 0) (old new : Counts) (seen : View) (k number column : ℕ) (l : Line) (w v u : World) (piece : List Shown) (e p : Option Ending) (held now : Option (List ℕ))
+    → Carried r tells old new seen k number l w v piece → line_end r number column ≡ Ok e → is_some e ≡ false → PendingEnd p v u → Appends held now (text_of piece) → LineDone tells old new k number (reads l column) w u p held now
+line_pending r tells old new seen k number column l w v u piece e p held now did is none end bytes = record {
   fates = did.0;
   are = did.1;
   piece = piece;

@@ -1,7 +1,7 @@
 -- The lines of a run, one behind the other.
-use Rattle.std.proofs.Common.{◌≡◌, ◌+◌, ◌<◌, ◌≤◌, ℕ, Bool, true, false, List, [], ◌∷◌, ◌++◌, length, Option, Some, None, refl, sym, ap, subst, ◌∙◌, append_assoc, append-nil, arith, inl}
+use Rattle.std.proofs.Common.{◌≡◌, ◌+◌, ◌<◌, ◌≤◌, ℕ, Bool, true, false, List, [], ◌∷◌, ◌++◌, length, drop, Option, Some, None, refl, sym, ap, subst, ◌∙◌, append_assoc, append-nil, arith, inl}
 use Rattle.std.specs.Prelude.{nat_lt}
-use Rattle.ec_disk.specs.Disk.{Counts}
+use Rattle.ec_disk.specs.Disk.{View, Counts}
 use Rattle.ec_history.specs.declared.shown.Shown.{Shown}
 use Rattle.ec_protocol.specs.World.{Moving, pending, forget}
 use Rattle.ec_protocol.specs.Drill.{Fates, Read, reads, unfit, Ran, ends, piece_before, run_from, joined, carry_out, max_pending, first_fates, rest_fates}
@@ -11,7 +11,8 @@ use Rattle.ec_protocol.specs.declared.world.World.{World}
 use Rattle.ec_protocol.specs.declared.world.WorldFault.{WorldFault}
 use Rattle.ec_text.specs.Lines.{text_of}
 use Rattle.ec_drill.specs.Fates.{IsKnown}
-use Rattle.ec_drill.specs.Steps.{going, behind, Sofar, Ended, IsCause, CutOff, LineDone, LineCut, ending_of}
+use Rattle.ec_drill.specs.Left.{fates_behind, behind_lines, in_line, IsOfMoment}
+use Rattle.ec_drill.specs.Steps.{going, behind, Sofar, Ended, IsCause, IsInLine, none_shown, some_shown, CutOff, LineDone, LineCut, ending_of}
 use Rattle.ec_drill.specs.declared.running.Ending.{Ending}
 use Rattle.ec_drill.specs.declared.running.Ending.TheVariants as ending
 use Rattle.ec_drill.specs.declared.writing.Cut.{Cut}
@@ -99,7 +100,33 @@ behind-two : (ps qs : List (List Shown)) (r : Ran) → behind ps (behind qs r) �
 behind-two ps qs r = ap (λ l. record r { pieces = l }) (sym (append_assoc ps qs r.pieces))
 
 pub sofar : (tells : Type 0) (a k : ℕ) (all : List Read) (start : World) (held : Option (List ℕ)) → Sofar tells a a k all start 1 all start held held
-sofar tells a k all start held = record { fates = []; are = inl tt; pieces = []; run = λ known more. refl; bytes = nothing held }
+sofar tells a k all start held = record { done = []; split = refl; counted = refl; fates = []; each = refl; are = inl tt; pieces = []; run = λ known others more. refl; bytes = nothing held }
+
+one-more : {X : Type 0} (xs : List X) (x : X) → length (xs ++ x ∷ []) ≡ length xs + 1
+one-more [] x = refl
+one-more (y ∷ xs) x = let e = one-more xs x in omega (arith, e)
+
+-- what stands behind so many
+drop-front : {X : Type 0} (xs ys : List X) (n : ℕ) → length xs ≡ n → drop n (xs ++ ys) ≡ ys
+drop-front {X} xs ys n is = subst (λ (m : ℕ). drop m (xs ++ ys) ≡ ys) is (go xs)
+  where
+    go : (xs : List X) → drop (length xs) (xs ++ ys) ≡ ys
+    go [] = refl
+    go (x ∷ xs) = go xs
+
+pub fates-here : (fs : List Fates) (f : Fates) (n : ℕ) → length fs ≡ n → fates_behind n (fs ++ f ∷ []) ≡ f
+fates-here fs f n is = ap first_fates (drop-front fs (f ∷ []) n is)
+
+-- the run over all lines
+pub all_run : (tells : Type 0) (a b k : ℕ) (all : List Read) (start : World) (number : ℕ) (ahead : List Read) (w : World) (held mid : Option (List ℕ)) (s : Sofar tells a b k all start number ahead w held mid) → IsKnown tells a b
+    → (more : List Fates) → run_from k 1 all (s.fates ++ more) start ≡ behind s.pieces (run_from k number ahead more w)
+all_run tells a b k all start number ahead w held mid s known more = ap (λ ls. run_from k 1 ls (s.fates ++ more) start) (sym s.split) ∙ s.run known ahead more
+
+-- the one over those that were carried out
+done_run : (tells : Type 0) (a b k : ℕ) (all : List Read) (start : World) (number : ℕ) (ahead : List Read) (w : World) (held mid : Option (List ℕ)) (s : Sofar tells a b k all start number ahead w held mid) → IsKnown tells a b
+    → (more : List Fates) → run_from k 1 s.done (s.fates ++ more) start ≡ record { world = w; pieces = s.pieces; ending = machine.Done }
+done_run tells a b k all start number ahead w held mid s known more =
+    ap (λ ls. run_from k 1 ls (s.fates ++ more) start) (sym (append-nil s.done)) ∙ s.run known [] more ∙ ap (λ l. record { world = w; pieces = l; ending = machine.Done }) (append-nil s.pieces)
 
 module _ (tells : Type 0) (a b : ℕ) (old new : Counts) (k : ℕ) (all : List Read) (start : World) (number : ℕ) (r : Read) (ahead : List Read) (w : World) (held mid now : Option (List ℕ)) (s : Sofar tells a b k all start number (r ∷ ahead) w held mid) (here : old.stops ≡ b) (from : a ≤ b) (later : old.stops ≤ new.stops) where
   before : IsKnown tells a new.stops → IsKnown tells a b
@@ -109,17 +136,34 @@ module _ (tells : Type 0) (a b : ℕ) (old new : Counts) (k : ℕ) (all : List R
   inside known = known_later tells a old.stops new.stops (subst (λ (n : ℕ). a ≤ n) (sym here) from) known
 
   to_line : (fates : Fates) (more : List Fates) → IsKnown tells a new.stops → run_from k 1 all ((s.fates ++ fates ∷ []) ++ more) start ≡ behind s.pieces (run_from k number (r ∷ ahead) (fates ∷ more) w)
-  to_line fates more known = ap (λ fs. run_from k 1 all fs start) (append_assoc s.fates (fates ∷ []) more) ∙ s.run (before known) (fates ∷ more)
+  to_line fates more known = ap (λ fs. run_from k 1 all fs start) (append_assoc s.fates (fates ∷ []) more) ∙ all_run tells a b k all start number (r ∷ ahead) w held mid s (before known) (fates ∷ more)
+
+  -- the lines that are carried out, with this one, before any others
+  on_line : (fates : Fates) (others : List Read) (more : List Fates) → IsKnown tells a new.stops → run_from k 1 ((s.done ++ r ∷ []) ++ others) ((s.fates ++ fates ∷ []) ++ more) start ≡ behind s.pieces (run_from k number (r ∷ others) (fates ∷ more) w)
+  on_line fates others more known =
+      ap (λ ls. run_from k 1 ls ((s.fates ++ fates ∷ []) ++ more) start) (append_assoc s.done (r ∷ []) others)
+      ∙ ap (λ fs. run_from k 1 (s.done ++ r ∷ others) fs start) (append_assoc s.fates (fates ∷ []) more)
+      ∙ s.run (before known) (r ∷ others) (fates ∷ more)
+
+  more_done : number + 1 ≡ length (s.done ++ r ∷ []) + 1
+  more_done = let one = one-more s.done r in omega (arith, s.counted, one)
+
+  more_fates : (f : Fates) → length (s.fates ++ f ∷ []) ≡ length (s.done ++ r ∷ [])
+  more_fates f = one-more s.fates f ∙ ap (λ (n : ℕ). n + 1) s.each ∙ sym (one-more s.done r)
 
   -- a line more
   pub goes_on : (v : World) → LineDone tells old new k number r w v None mid now → Sofar tells a new.stops k all start (number + 1) ahead v held now
   goes_on v did = record {
+    done = s.done ++ r ∷ [];
+    split = append_assoc s.done (r ∷ []) ahead ∙ s.split;
+    counted = more_done;
     fates = s.fates ++ did.fates ∷ [];
+    each = more_fates did.fates;
     are = one_line s.fates did.fates a b old new here from later s.are did.are;
     pieces = s.pieces ++ did.piece ∷ [];
-    run = λ known more.
-        to_line did.fates more known ∙ ap (behind s.pieces) (did.run (inside known) ahead more)
-        ∙ behind-two s.pieces (did.piece ∷ []) (run_from k (number + 1) ahead more v);
+    run = λ known others more.
+        on_line did.fates others more known ∙ ap (behind s.pieces) (did.run (inside known) others more)
+        ∙ behind-two s.pieces (did.piece ∷ []) (run_from k (number + 1) others more v);
     bytes = appends_two held mid now _ _ _ s.bytes did.bytes (sym (text_of-append (joined s.pieces) did.piece) ∙ ap text_of (sym (joined-push s.pieces did.piece)));
   }
 
@@ -134,11 +178,42 @@ module _ (tells : Type 0) (a b : ℕ) (old new : Counts) (k : ℕ) (all : List R
     bytes = appends_two held mid now _ _ _ s.bytes did.bytes (sym (text_of-append (joined s.pieces) did.piece) ∙ ap text_of (sym (joined-push s.pieces did.piece)));
   }
 
+  -- what is left of the disk where a line is cut off
+  left_at : (f : Fates) (written : List Shown) (image : List ℕ) → tells → IsInLine k number r w f written image → IsOfMoment k all (s.fates ++ f ∷ []) start (joined s.pieces ++ written) image
+  left_at f written image told (none_shown none h) = record {
+    world = w;
+    shown = joined s.pieces;
+    moment = behind_lines s.done (r ∷ ahead) s.split (run_from k 1 s.done (s.fates ++ f ∷ []) start) refl (ap (λ (x : Ran). x.world) ran) (ap (λ (x : Ran). joined x.pieces) ran);
+    rest = [];
+    holds = sym (ap (λ l. (joined s.pieces ++ l) ++ []) none ∙ append-nil (joined s.pieces ++ []) ∙ append-nil (joined s.pieces));
+    stands = h;
+  }
+    where
+      ran : run_from k 1 s.done (s.fates ++ f ∷ []) start ≡ record { world = w; pieces = s.pieces; ending = machine.Done }
+      ran = done_run tells a b k all start number (r ∷ ahead) w held mid s (inl told) (f ∷ [])
+  left_at f written image told (some_shown l column is j most rest shows h) = record {
+    world = m.world;
+    shown = joined s.pieces ++ m.shown;
+    moment = in_line s.done ahead l column (ap (λ (x : Read). s.done ++ x ∷ ahead) (sym is) ∙ s.split) w s.pieces ran j most (ap (λ (x : Moving). x.world) here_is) (ap (λ (x : Moving). joined s.pieces ++ x.shown) here_is);
+    rest = rest;
+    holds = ap (λ l. joined s.pieces ++ l) shows ∙ sym (append_assoc (joined s.pieces) written rest);
+    stands = h;
+  }
+    where
+      m : Moving
+      m = carry_out j f number l w
+
+      ran : run_from k 1 s.done (s.fates ++ f ∷ []) start ≡ record { world = w; pieces = s.pieces; ending = machine.Done }
+      ran = done_run tells a b k all start number (r ∷ ahead) w held mid s (inl told) (f ∷ [])
+
+      here_is : carry_out j (fates_behind (length s.done) (s.fates ++ f ∷ [])) (length s.done + 1) l w ≡ m
+      here_is = ap (λ (x : Fates). carry_out j x (length s.done + 1) l w) (fates-here s.fates f (length s.done) s.each) ∙ ap (λ (n : ℕ). carry_out j f n l w) (sym s.counted)
+
   -- one in which it's cut off
-  pub cut_at : (c : Cut) (writes writes_now writes_after faults : ℕ) → LineCut tells old new k number r w c mid now writes_now writes_after
+  pub cut_at : (seen : View) (c : Cut) (writes writes_now writes_after faults : ℕ) → LineCut tells old new seen k number r w c mid now writes_now writes_after
       → ((last : List ℕ) → IsCause c last writes_now writes_after old.faults new.faults → IsCause c last writes writes_after faults new.faults)
-      → CutOff tells a new.stops k all start c held now writes writes_after faults new.faults
-  cut_at c writes writes_now writes_after faults did cause = record {
+      → CutOff tells a new.stops seen k all start c held now writes writes_after faults new.faults
+  cut_at seen c writes writes_now writes_after faults did cause = record {
     last = did.last;
     cause = cause did.last did.cause;
     part = record {
@@ -157,6 +232,7 @@ module _ (tells : Type 0) (a b : ℕ) (old new : Counts) (k : ℕ) (all : List R
           );
       bytes = appends_two held mid now _ _ _ s.bytes did.bytes (texts_then (joined s.pieces) did.shown did.last);
       part = did.part;
+      left = λ told image may. left_at did.fates did.shown image told (did.left told image may);
     };
   }
 
@@ -166,7 +242,8 @@ ends_done tells a b k all start number w held now s = record {
   fates = s.fates;
   are = s.are;
   pieces = s.pieces;
-  run = λ known. ap (λ fs. run_from k 1 all fs start) (sym (append-nil s.fates)) ∙ s.run known [] ∙ ap (λ l. record { world = w; pieces = l; ending = machine.Done }) (append-nil s.pieces);
+  run = λ known.
+      ap (λ fs. run_from k 1 all fs start) (sym (append-nil s.fates)) ∙ all_run tells a b k all start number [] w held now s known [] ∙ ap (λ l. record { world = w; pieces = l; ending = machine.Done }) (append-nil s.pieces);
   bytes = s.bytes;
 }
 

@@ -1,7 +1,9 @@
 -- No public clause cites this module: it says what the private steps at the end of a run do.
-use Rattle.std.specs.Prelude.{◌≡◌, ⊤, ℕ, Bool, true, false, List, ◌++◌, Option, Result, Ok, Err}
+use Rattle.std.specs.Prelude.{◌≡◌, ⊤, ℕ, Bool, true, false, List, [], ◌++◌, Option, Result, Ok, Err}
 use Rattle.std.specs.Io.KnownBytes.{Appends}
+use Rattle.ec_disk.specs.Disk.{View}
 use Rattle.ec_history.specs.declared.shown.Shown.{Shown}
+use Rattle.ec_stands.specs.Stands.{StandsFor}
 use Rattle.ec_protocol.specs.Drill.{Ran, Ending, Done, BadLine, TooMany, IsSpent, close, joined, last_line, status}
 use Rattle.ec_drill.specs.declared.status.Status.TheVariants as own
 use Rattle.ec_protocol.specs.declared.world.World.{World}
@@ -9,6 +11,7 @@ use Rattle.ec_protocol.specs.declared.world.WorldFault.{WorldFault}
 use Rattle.ec_protocol.specs.declared.world.WorldFault.TheVariants as fault
 use Rattle.ec_text.specs.Lines.{text_of}
 use Rattle.ec_drill.specs.Cuts.{IsPartOf}
+use Rattle.ec_drill.specs.Left.{EachLeft}
 use Rattle.ec_drill.specs.Drill.{code}
 use Rattle.ec_drill.specs.Steps.{IsCause}
 use Rattle.ec_drill.specs.declared.status.Status.{Status}
@@ -53,8 +56,13 @@ pub record Restarted (w v : World) (e end : Ending) (held now : Option (List ℕ
   pub ending : (pieces : List (List Shown)) → (closed w e pieces).ending ≡ end
   pub bytes : Appends held now (text_of shown)
 
+-- An image stands for the state before the end of a run, or for the one behind its last restart.
+pub data IsClosing (w : World) (e : Ending) (written : List Shown) (image : List ℕ) : Type 0 where
+  before_end : written ≡ [] → StandsFor image w.durable → IsClosing w e written image
+  behind_end : (v : World) → ((pieces : List (List Shown)) → (closed w e pieces).world ≡ v) → StandsFor image v.durable → IsClosing w e written image
+
 -- the run was cut off there
-pub record RestartedInPart (w : World) (e : Ending) (c : Cut) (held now : Option (List ℕ)) (writes writes_after faults faults_after : ℕ) : Type 0 where
+pub record RestartedInPart (tells : Type 0) (seen : View) (w : World) (e : Ending) (c : Cut) (held now : Option (List ℕ)) (writes writes_after faults faults_after : ℕ) : Type 0 where
   pub shown : List Shown
   pub unwritten : List Shown
   pub front : (pieces : List (List Shown)) → (rest : List Shown) × (joined (closed w e pieces).pieces ≡ joined pieces ++ (shown ++ (unwritten ++ rest)))
@@ -62,6 +70,7 @@ pub record RestartedInPart (w : World) (e : Ending) (c : Cut) (held now : Option
   pub bytes : Appends held now (text_of shown ++ last)
   pub part : IsPartOf unwritten last
   pub cause : IsCause c last writes writes_after faults faults_after
+  pub left : tells → EachLeft seen (IsClosing w e shown)
 
 -- the statuses of runs that end by themselves
 abbrev pub IsOwn : Status → Type 0
@@ -87,7 +96,7 @@ pub record Closed (w v : World) (e : Ending) (st : Status) (held now : Option (L
   pub bytes : Appends held now (text_of shown)
 
 -- a front of them was
-pub record ClosedInPart (w : World) (e : Ending) (c : Cut) (held now : Option (List ℕ)) (writes writes_after faults faults_after : ℕ) : Type 0 where
+pub record ClosedInPart (tells : Type 0) (seen : View) (w : World) (e : Ending) (c : Cut) (held now : Option (List ℕ)) (writes writes_after faults faults_after : ℕ) : Type 0 where
   pub shown : List Shown
   pub unwritten : List Shown
   pub front : (pieces : List (List Shown)) → (rest : List Shown) × (lines_in (closed w e pieces) ≡ joined pieces ++ (shown ++ (unwritten ++ rest)))
@@ -95,3 +104,4 @@ pub record ClosedInPart (w : World) (e : Ending) (c : Cut) (held now : Option (L
   pub bytes : Appends held now (text_of shown ++ last)
   pub part : IsPartOf unwritten last
   pub cause : IsCause c last writes writes_after faults faults_after
+  pub left : tells → EachLeft seen (IsClosing w e shown)

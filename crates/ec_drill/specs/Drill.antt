@@ -19,6 +19,7 @@ use Rattle.ec_drill.specs.Limits.{most_bytes, most_lines}
 use Rattle.ec_drill.specs.Script.{AreRead}
 use Rattle.ec_drill.specs.Fates.{AreOf, IsKnown}
 use Rattle.ec_drill.specs.Cuts.{IsFront, IsPartOf}
+use Rattle.ec_drill.specs.Left.{LeavesOf}
 use Rattle.ec_drill.specs.declared.status.Status.{Status}
 use Rattle.ec_drill.specs.declared.status.Status.TheVariants as status
 
@@ -110,7 +111,8 @@ pub record RanWhole (most number : ℕ) (w : Outside) : Type 0 where
   -- the disk stands for the machine's state
   pub disk : w.tells → HoldsState w.disk_after (state_after reads fates state)
 
--- A run that was cut off: a front of its lines was written, and perhaps a part of the next one.
+-- A run that was cut off: a front of its lines was written, and perhaps a part of the next one. Whatever a crash leaves of the disk stands for the
+-- state at a moment of the run by which all that was written had been shown.
 pub record RanInPart (most : ℕ) (w : Outside) (last : List ℕ) : Type 0 where
   pub reads : List Read
   pub given : IsGiven w reads
@@ -123,6 +125,7 @@ pub record RanInPart (most : ℕ) (w : Outside) (last : List ℕ) : Type 0 where
   pub front : IsToldAll w → (rest : List Shown) × ((drill reads fates state).0 ≡ shown ++ (unwritten ++ rest))
   pub bytes : Appends w.held w.held_after (text_of shown ++ last)
   pub part : IsPartOf unwritten last
+  pub left : w.tells → LeavesOf w.disk_after reads fates state (open_world state) shown
 
 -- The source has too much: more bytes than the limit, of which one more than the limit was read, or too many lines.
 abbrev pub IsOver : Outside → LimitName → ℕ → Type 0

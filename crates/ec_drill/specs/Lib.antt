@@ -3,6 +3,7 @@ pub mod Script
 pub mod Lines
 pub mod Fates
 pub mod Cuts
+pub mod Left
 pub mod Steps
 pub mod Drill
 pub mod Closing

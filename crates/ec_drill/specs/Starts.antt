@@ -7,14 +7,14 @@ use Rattle.ec_history.specs.declared.shown.Shown.{Shown}
 use Rattle.ec_history.specs.declared.shown.Shown.TheVariants.{DiskBad, Spent}
 use Rattle.ec_script.specs.Lines.{lines_of}
 use Rattle.ec_text.specs.Lines.{shown_text, text_of}
-use Rattle.ec_protocol.specs.Drill.{Read, Fates, drill_in}
+use Rattle.ec_protocol.specs.Drill.{Read, Fates, bound, drill_in}
 use Rattle.ec_protocol.specs.declared.world.World.{World}
 use Rattle.ec_protocol.specs.declared.world.WorldFault.{WorldFault}
 use Rattle.ec_protocol.specs.declared.world.WorldFault.TheVariants as fault
 use Rattle.ec_drill.specs.Limits.{most_bytes, most_lines}
 use Rattle.ec_drill.specs.Script.{AreRead}
 use Rattle.ec_drill.specs.Fates.{AreOf, IsKnown}
-use Rattle.ec_drill.specs.Steps.{CutText, InPart}
+use Rattle.ec_drill.specs.Steps.{CutText, InPart, run_leaves}
 use Rattle.ec_drill.specs.Drill.{Outside, IsGiven, Drilled, HoldsState, end_of}
 use Rattle.ec_drill.specs.declared.start.Withheld.{Withheld}
 use Rattle.ec_drill.specs.declared.start.Withheld.TheVariants as why
@@ -67,17 +67,17 @@ pub record WholeOn (tells : Type 0) (before now : ℕ) (seen : View) (reads : Li
   pub disk : tells → HoldsState seen (end_of reads fates start).durable
 
 -- one that was cut off
-abbrev pub PartOn : Type 0 → ℕ → ℕ → List Read → World → List ℕ → Option (List ℕ) → Option (List ℕ) → Type 0
-PartOn tells before now reads start last held mid = InPart tells before now (λ fates. (drill_in reads fates (Ok start)).0) last held mid
+abbrev pub PartOn : Type 0 → ℕ → ℕ → View → List Read → World → List ℕ → Option (List ℕ) → Option (List ℕ) → Type 0
+PartOn tells before now seen reads start last held mid = InPart tells before now (λ fates. (drill_in reads fates (Ok start)).0) (run_leaves seen (bound reads) reads start) last held mid
 
 abbrev pub DrilledOn : Status → Type 0 → Counts → Counts → View → List Read → World → Option (List ℕ) → Option (List ℕ) → ℕ → ℕ → Type 0
 DrilledOn status.Done tells old new seen reads start held now writes later = WholeOn tells old.stops new.stops seen reads start 0 held now
 DrilledOn status.BadLine tells old new seen reads start held now writes later = WholeOn tells old.stops new.stops seen reads start 3 held now
 DrilledOn status.Limit tells old new seen reads start held now writes later = WholeOn tells old.stops new.stops seen reads start 11 held now
 DrilledOn status.Spent tells old new seen reads start held now writes later = WholeOn tells old.stops new.stops seen reads start 15 held now
-DrilledOn status.SinkFault tells old new seen reads start held now writes later = Rose writes later × ((last : List ℕ) × PartOn tells old.stops new.stops reads start last held now)
-DrilledOn status.DiskFault tells old new seen reads start held now writes later = Rose old.faults new.faults × PartOn tells old.stops new.stops reads start [] held now
-DrilledOn status.NoMemory tells old new seen reads start held now writes later = (last : List ℕ) × PartOn tells old.stops new.stops reads start last held now
+DrilledOn status.SinkFault tells old new seen reads start held now writes later = Rose writes later × ((last : List ℕ) × PartOn tells old.stops new.stops seen reads start last held now)
+DrilledOn status.DiskFault tells old new seen reads start held now writes later = Rose old.faults new.faults × PartOn tells old.stops new.stops seen reads start [] held now
+DrilledOn status.NoMemory tells old new seen reads start held now writes later = (last : List ℕ) × PartOn tells old.stops new.stops seen reads start last held now
 DrilledOn status.Usage tells old new seen reads start held now writes later = ⊥
 DrilledOn status.SourceFault tells old new seen reads start held now writes later = ⊥
 DrilledOn status.BadDisk tells old new seen reads start held now writes later = ⊥

@@ -1,18 +1,21 @@
 -- No public clause cites this module: it says what the private steps of a run do.
-use Rattle.std.specs.Prelude.{◌≡◌, ◌⊎◌, ◌<◌, ◌≤◌, ◌+◌, ℕ, List, [], ◌∷◌, ◌++◌, Option, Some, None, Result, Ok, Err, ⊤}
+use Rattle.std.specs.Prelude.{◌≡◌, ◌⊎◌, ◌<◌, ◌≤◌, ◌+◌, ℕ, List, [], ◌∷◌, ◌++◌, length, Option, Some, None, Result, Ok, Err, ⊤}
 use Rattle.std.specs.Io.KnownBytes.{Appends}
 use Rattle.ec_base.specs.Outside.{Rose}
-use Rattle.ec_disk.specs.Disk.{Counts}
+use Rattle.ec_disk.specs.Disk.{View, Counts}
+use Rattle.ec_stands.specs.Stands.{StandsFor}
 use Rattle.ec_history.specs.declared.shown.Shown.{Shown}
 use Rattle.ec_protocol.specs.World.{Moving, pending, forget}
-use Rattle.ec_protocol.specs.Drill.{Fates, Read, Ran, run_from, joined, close, last_line}
+use Rattle.ec_protocol.specs.Drill.{Fates, Read, reads, Ran, settle, carry_out, run_from, joined, close, last_line}
 use Rattle.ec_protocol.specs.Drill as machine
+use Rattle.ec_protocol.specs.declared.script.Line.{Line}
 use Rattle.ec_protocol.specs.declared.world.World.{World}
 use Rattle.ec_protocol.specs.declared.world.WorldFault.{WorldFault}
 use Rattle.ec_protocol.specs.declared.world.WorldFault.TheVariants as fault
 use Rattle.ec_text.specs.Lines.{shown_text, text_of}
 use Rattle.ec_drill.specs.Fates.{AllRun, AreOf, IsKnown}
 use Rattle.ec_drill.specs.Cuts.{IsFront, IsPartOf}
+use Rattle.ec_drill.specs.Left.{EachLeft, IsOfMoment}
 use Rattle.ec_drill.specs.declared.writing.Cut.{Cut}
 use Rattle.ec_drill.specs.declared.writing.Cut.TheVariants as cut
 use Rattle.ec_drill.specs.declared.running.Ending.{Ending}
@@ -53,6 +56,25 @@ pub record IsLater (old new : Counts) (Failing : Type 0) : Type 0 where
 abbrev pub AreOfLine : Fates → Counts → Counts → Type 0
 AreOfLine fates old new = AllRun fates ⊎ Rose old.stops new.stops
 
+-- What is left of the disk where a line is cut off.
+
+-- an image stands for the state behind so many of the messages that are delivered after a line's event
+pub record IsSettling (k : ℕ) (fates : Fates) (m : Moving) (image : List ℕ) : Type 0 where
+  pub count : ℕ
+  pub most : count ≤ k
+  pub stands : StandsFor image (settle count fates m).world.durable
+
+-- or for the one before the line
+pub data IsCarrying (k : ℕ) (fates : Fates) (number : ℕ) (l : Line) (w : World) (image : List ℕ) : Type 0 where
+  before_line : StandsFor image w.durable → IsCarrying k fates number l w image
+  behind_some : (j : ℕ) → j ≤ k → StandsFor image (carry_out j fates number l w).world.durable → IsCarrying k fates number l w image
+
+-- The same of a line of which these lines were written.
+pub data IsInLine (k number : ℕ) (r : Read) (w : World) (fates : Fates) (written : List Shown) (image : List ℕ) : Type 0 where
+  none_shown : written ≡ [] → StandsFor image w.durable → IsInLine k number r w fates written image
+  some_shown : (l : Line) (column : ℕ) → r ≡ reads l column → (j : ℕ) → j ≤ k → (rest : List Shown) → (carry_out j fates number l w).shown ≡ written ++ rest
+      → StandsFor image (carry_out j fates number l w).world.durable → IsInLine k number r w fates written image
+
 -- Lines written.
 
 -- why no more of this text was written than these bytes
@@ -89,12 +111,16 @@ ending_of (ending.Spent n) = machine.IsSpent n
 abbrev pub behind : List (List Shown) → Ran → Ran
 behind pieces r = record r { pieces = pieces ++ r.pieces }
 
--- The lines of a run that are still ahead, from this number on, and what was done and written before.
+-- The lines of a run that are still ahead, from this number on, and what was done and written before. Any other lines could be ahead too.
 pub record Sofar (tells : Type 0) (before now k : ℕ) (all : List Read) (start : World) (number : ℕ) (ahead : List Read) (w : World) (held mid : Option (List ℕ)) : Type 0 where
+  pub done : List Read
+  pub split : done ++ ahead ≡ all
+  pub counted : number ≡ length done + 1
   pub fates : List Fates
+  pub each : length fates ≡ length done
   pub are : AreOf fates before now
   pub pieces : List (List Shown)
-  pub run : IsKnown tells before now → (more : List Fates) → run_from k 1 all (fates ++ more) start ≡ behind pieces (run_from k number ahead more w)
+  pub run : IsKnown tells before now → (others : List Read) (more : List Fates) → run_from k 1 (done ++ others) (fates ++ more) start ≡ behind pieces (run_from k number others more w)
   pub bytes : Appends held mid (text_of (joined pieces))
 
 -- A run that ended, with all its pieces written.
@@ -111,8 +137,8 @@ IsCause cut.Disk last writes writes_after faults faults_after = Rose faults faul
 IsCause cut.Sink last writes writes_after faults faults_after = Rose writes writes_after
 IsCause cut.NoMemory last writes writes_after faults faults_after = Unit {0}
 
--- A front of a run's lines was written. `lines` are those of the run in which the disk did this in its steps.
-pub record InPart (tells : Type 0) (before now : ℕ) (lines : List Fates → List Shown) (last : List ℕ) (held mid : Option (List ℕ)) : Type 0 where
+-- A front of a run's lines was written, and this is left of the disk. `lines` are those of the run in which the disk did this in its steps.
+pub record InPart (tells : Type 0) (before now : ℕ) (lines : List Fates → List Shown) (Leaves : List Fates → List Shown → Type 0) (last : List ℕ) (held mid : Option (List ℕ)) : Type 0 where
   pub fates : List Fates
   pub are : AreOf fates before now
   pub shown : List Shown
@@ -120,15 +146,20 @@ pub record InPart (tells : Type 0) (before now : ℕ) (lines : List Fates → Li
   pub front : IsKnown tells before now → (rest : List Shown) × (lines fates ≡ shown ++ (unwritten ++ rest))
   pub bytes : Appends held mid (text_of shown ++ last)
   pub part : IsPartOf unwritten last
+  pub left : tells → Leaves fates shown
 
 -- the lines of a run's pieces
 abbrev pub run_lines : ℕ → List Read → World → List Fates → List Shown
 run_lines k all start fates = joined (run_from k 1 all fates start).pieces
 
-pub record CutOff (tells : Type 0) (before now k : ℕ) (all : List Read) (start : World) (c : Cut) (held mid : Option (List ℕ)) (writes writes_after faults faults_after : ℕ) : Type 0 where
+-- what is left of a disk, as it's seen now, by a run that was cut off
+abbrev pub run_leaves : View → ℕ → List Read → World → List Fates → List Shown → Type 0
+run_leaves seen k all start fates shown = EachLeft seen (IsOfMoment k all fates start shown)
+
+pub record CutOff (tells : Type 0) (before now : ℕ) (seen : View) (k : ℕ) (all : List Read) (start : World) (c : Cut) (held mid : Option (List ℕ)) (writes writes_after faults faults_after : ℕ) : Type 0 where
   pub last : List ℕ
   pub cause : IsCause c last writes writes_after faults faults_after
-  pub part : InPart tells before now (run_lines k all start) last held mid
+  pub part : InPart tells before now (run_lines k all start) (run_leaves seen k all start) last held mid
 
 -- One line.
 
@@ -146,7 +177,7 @@ pub record LineDone (tells : Type 0) (old new : Counts) (k number : ℕ) (r : Re
   pub bytes : Appends held mid (text_of piece)
 
 -- A line in which the run was cut off: its piece is written in part, or not at all.
-pub record LineCut (tells : Type 0) (old new : Counts) (k number : ℕ) (r : Read) (w : World) (c : Cut) (held mid : Option (List ℕ)) (writes writes_after : ℕ) : Type 0 where
+pub record LineCut (tells : Type 0) (old new : Counts) (seen : View) (k number : ℕ) (r : Read) (w : World) (c : Cut) (held mid : Option (List ℕ)) (writes writes_after : ℕ) : Type 0 where
   pub fates : Fates
   pub are : AreOfLine fates old new
   pub shown : List Shown
@@ -156,6 +187,7 @@ pub record LineCut (tells : Type 0) (old new : Counts) (k number : ℕ) (r : Rea
   pub bytes : Appends held mid (text_of shown ++ last)
   pub part : IsPartOf unwritten last
   pub cause : IsCause c last writes writes_after old.faults new.faults
+  pub left : tells → EachLeft seen (IsInLine k number r w fates shown)
 
 -- what a line makes of the run, by the fault that carrying it out came to
 abbrev pub line_end : {X : Type 0} → Result X WorldFault → ℕ → ℕ → Result (Option Ending) Cut

@@ -1,13 +1,14 @@
 // A line is carried out: its event happens, and then the world settles.
-ghost use Rattle.std.specs.Prelude.{◌≡◌, ◌⊎◌, [], ℕ, Err};
+ghost use Rattle.std.specs.Prelude.{◌≡◌, ◌⊎◌, [], ℕ, Err, OnErr};
 ghost use Rattle.ec_protocol.specs.World.{Fate, happen};
 ghost use Rattle.ec_protocol.specs.Drill.{Fates, onward, line_happens, settle, carry_out};
 ghost use Rattle.ec_protocol.specs.declared.world.WorldFault.TheVariants as fault;
 ghost use Rattle.ec_world.specs.Worlds.{view_of, IsInStep, Keeps};
-ghost use Rattle.ec_world.specs.Steps.{FateOf, IsTold};
+ghost use Rattle.ec_world.specs.Steps.{FateOf, IsTold, IsLeft};
 ghost use Rattle.ec_drill.specs.Script.{machine_line};
 ghost use Rattle.ec_drill.specs.Fates.{IsKnown};
-ghost use Rattle.ec_drill.specs.Steps.{going, Comes, Stays, IsLater, AreOfLine};
+ghost use Rattle.ec_drill.specs.Left.{EachLeft};
+ghost use Rattle.ec_drill.specs.Steps.{going, Comes, Stays, IsLater, AreOfLine, IsSettling, IsCarrying};
 
 use crate::event::event_of;
 use ec_disk::CrashDisk;
@@ -31,7 +32,8 @@ pub(crate) fn carry_out<D: CrashDisk>(
     requires empty { piece.old.items ≡ [] }
     ensures carried { (fates : Fates) × AreOfLine fates (D.counts disk.old) (D.counts disk.new)
         × (IsKnown D.tells (D.counts disk.old).stops (D.counts disk.new).stops
-        → Comes result (carry_out bound fates number (machine_line line) (view_of world.old)) (view_of world.new) piece.new.items) }
+        → Comes result (carry_out bound fates number (machine_line line) (view_of world.old)) (view_of world.new) piece.new.items)
+        × OnErr result (D.tells → EachLeft (D.view disk.new) (IsCarrying bound fates number (machine_line line) (view_of world.old))) }
     ensures in_step { Stays result (IsInStep D.tells (D.view disk.new) world.new) }
     ensures counts { IsLater (D.counts disk.old) (D.counts disk.new) (result ≡ Err fault.DiskFailed) }
 {
@@ -54,7 +56,8 @@ fn begin<D: CrashDisk>(
     requires empty { piece.old.items ≡ [] }
     ensures begun { (fate : Fate) × FateOf fate (D.counts disk.old) (D.counts disk.new)
         × (IsTold fate D.tells
-        → Comes result (onward (going (view_of world.old) []) (line_happens fate number (machine_line line) (view_of world.old))) (view_of world.new) piece.new.items) }
+        → Comes result (onward (going (view_of world.old) []) (line_happens fate number (machine_line line) (view_of world.old))) (view_of world.new) piece.new.items)
+        × OnErr result (D.tells → EachLeft (D.view disk.new) (IsLeft (view_of world.old).durable (line_happens fate number (machine_line line) (view_of world.old)))) }
     ensures in_step { Stays result (IsInStep D.tells (D.view disk.new) world.new) }
     ensures counts { IsLater (D.counts disk.old) (D.counts disk.new) (result ≡ Err fault.DiskFailed) }
 {
@@ -76,7 +79,8 @@ fn settle<D: CrashDisk>(
     requires { IsInStep D.tells (D.view disk.old) world.old }
     ensures settled { (fates : Fates) × AreOfLine fates (D.counts disk.old) (D.counts disk.new)
         × (IsKnown D.tells (D.counts disk.old).stops (D.counts disk.new).stops
-        → Comes result (settle bound fates (going (view_of world.old) piece.old.items)) (view_of world.new) piece.new.items) }
+        → Comes result (settle bound fates (going (view_of world.old) piece.old.items)) (view_of world.new) piece.new.items)
+        × OnErr result (D.tells → EachLeft (D.view disk.new) (IsSettling bound fates (going (view_of world.old) piece.old.items))) }
     ensures in_step { Stays result (IsInStep D.tells (D.view disk.new) world.new) }
     ensures counts { IsLater (D.counts disk.old) (D.counts disk.new) (result ≡ Err fault.DiskFailed) }
 {
@@ -122,7 +126,8 @@ fn step<D: CrashDisk>(
     requires { IsInStep D.tells (D.view disk.old) world.old }
     ensures stepped { (fate : Fate) × FateOf fate (D.counts disk.old) (D.counts disk.new)
         × (IsTold fate D.tells
-        → Comes result (onward (going (view_of world.old) piece.old.items) (happen fate event (view_of world.old))) (view_of world.new) piece.new.items) }
+        → Comes result (onward (going (view_of world.old) piece.old.items) (happen fate event (view_of world.old))) (view_of world.new) piece.new.items)
+        × OnErr result (D.tells → EachLeft (D.view disk.new) (IsLeft (view_of world.old).durable (happen fate event (view_of world.old)))) }
     ensures in_step { Stays result (IsInStep D.tells (D.view disk.new) world.new) }
     ensures counts { IsLater (D.counts disk.old) (D.counts disk.new) (result ≡ Err fault.DiskFailed) }
 {

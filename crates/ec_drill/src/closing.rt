@@ -31,7 +31,7 @@ pub(crate) fn close<D: CrashDisk, K: Sink>(
     requires { IsInStep D.tells (D.view disk.old) world.old }
     ensures closed { MatchResult result
         (λ status. Closed (view_of world.old) (view_of world.new) (ending_of ending) status (K.held sink.old) (K.held sink.new))
-        (λ cut. ClosedInPart (view_of world.old) (ending_of ending) cut (K.held sink.old) (K.held sink.new) (K.faults sink.old) (K.faults sink.new) (D.counts disk.old).faults (D.counts disk.new).faults) }
+        (λ cut. ClosedInPart D.tells (D.view disk.new) (view_of world.old) (ending_of ending) cut (K.held sink.old) (K.held sink.new) (K.faults sink.old) (K.faults sink.new) (D.counts disk.old).faults (D.counts disk.new).faults) }
     ensures in_step { OnOk result (IsInStep D.tells (D.view disk.new) world.new) }
     ensures counts { IsLater (D.counts disk.old) (D.counts disk.new) ⊥ }
     ensures later { K.faults sink.old ≤ K.faults sink.new }
@@ -53,7 +53,7 @@ fn restart_at_end<D: CrashDisk, K: Sink>(
     requires { IsInStep D.tells (D.view disk.old) world.old }
     ensures closed { MatchResult result
         (λ end. Restarted (view_of world.old) (view_of world.new) (ending_of ending) (ending_of end) (K.held sink.old) (K.held sink.new))
-        (λ cut. RestartedInPart (view_of world.old) (ending_of ending) cut (K.held sink.old) (K.held sink.new) (K.faults sink.old) (K.faults sink.new) (D.counts disk.old).faults (D.counts disk.new).faults) }
+        (λ cut. RestartedInPart D.tells (D.view disk.new) (view_of world.old) (ending_of ending) cut (K.held sink.old) (K.held sink.new) (K.faults sink.old) (K.faults sink.new) (D.counts disk.old).faults (D.counts disk.new).faults) }
     ensures in_step { OnOk result (IsInStep D.tells (D.view disk.new) world.new) }
     ensures counts { IsLater (D.counts disk.old) (D.counts disk.new) ⊥ }
     ensures later { K.faults sink.old ≤ K.faults sink.new }

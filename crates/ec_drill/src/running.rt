@@ -44,7 +44,7 @@ pub(crate) fn run<D: CrashDisk, K: Sink>(
     requires few { length lines.items ≤ most_lines }
     ensures ran { MatchResult result
         (λ ending. Ended D.tells (D.counts disk.old).stops (D.counts disk.new).stops bound (map read_of lines.items) (view_of world.old) (ending_of ending) (view_of world.new) (K.held sink.old) (K.held sink.new))
-        (λ cut. CutOff D.tells (D.counts disk.old).stops (D.counts disk.new).stops bound (map read_of lines.items) (view_of world.old) cut (K.held sink.old) (K.held sink.new) (K.faults sink.old) (K.faults sink.new) (D.counts disk.old).faults (D.counts disk.new).faults) }
+        (λ cut. CutOff D.tells (D.counts disk.old).stops (D.counts disk.new).stops (D.view disk.new) bound (map read_of lines.items) (view_of world.old) cut (K.held sink.old) (K.held sink.new) (K.faults sink.old) (K.faults sink.new) (D.counts disk.old).faults (D.counts disk.new).faults) }
     ensures in_step { OnOk result (IsInStep D.tells (D.view disk.new) world.new) }
     ensures counts { IsLater (D.counts disk.old) (D.counts disk.new) ⊥ }
     ensures later { K.faults sink.old ≤ K.faults sink.new }
@@ -74,7 +74,7 @@ fn carry<D: CrashDisk, K: Sink>(
     requires { IsInStep D.tells (D.view disk.old) world.old }
     ensures carried { MatchResult result
         (λ ending. LineDone D.tells (D.counts disk.old) (D.counts disk.new) bound number (read_of line) (view_of world.old) (view_of world.new) ending (K.held sink.old) (K.held sink.new))
-        (λ cut. LineCut D.tells (D.counts disk.old) (D.counts disk.new) bound number (read_of line) (view_of world.old) cut (K.held sink.old) (K.held sink.new) (K.faults sink.old) (K.faults sink.new)) }
+        (λ cut. LineCut D.tells (D.counts disk.old) (D.counts disk.new) (D.view disk.new) bound number (read_of line) (view_of world.old) cut (K.held sink.old) (K.held sink.new) (K.faults sink.old) (K.faults sink.new)) }
     ensures in_step { OnOk result (IsInStep D.tells (D.view disk.new) world.new) }
     ensures counts { IsLater (D.counts disk.old) (D.counts disk.new) ⊥ }
     ensures later { K.faults sink.old ≤ K.faults sink.new }
@@ -100,7 +100,7 @@ fn carry_fit<D: CrashDisk, K: Sink>(
     requires { IsInStep D.tells (D.view disk.old) world.old }
     ensures carried { MatchResult result
         (λ ending. LineDone D.tells (D.counts disk.old) (D.counts disk.new) bound number (reads (machine_line line) column) (view_of world.old) (view_of world.new) ending (K.held sink.old) (K.held sink.new))
-        (λ cut. LineCut D.tells (D.counts disk.old) (D.counts disk.new) bound number (reads (machine_line line) column) (view_of world.old) cut (K.held sink.old) (K.held sink.new) (K.faults sink.old) (K.faults sink.new)) }
+        (λ cut. LineCut D.tells (D.counts disk.old) (D.counts disk.new) (D.view disk.new) bound number (reads (machine_line line) column) (view_of world.old) cut (K.held sink.old) (K.held sink.new) (K.faults sink.old) (K.faults sink.new)) }
     ensures in_step { OnOk result (IsInStep D.tells (D.view disk.new) world.new) }
     ensures counts { IsLater (D.counts disk.old) (D.counts disk.new) ⊥ }
     ensures later { K.faults sink.old ≤ K.faults sink.new }

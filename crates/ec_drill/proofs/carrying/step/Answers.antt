@@ -1,8 +1,31 @@
 use Rattle.ec_protocol.specs.World.{runs, happen}
 use Rattle.ec_world.specs.Worlds.{view_of, IsInStep}
-use Rattle.ec_drill.proofs.Refused.{refused_stays}
+use Rattle.ec_world.specs.Laws.{in_step_stands}
+use Rattle.ec_drill.proofs.Carried.{step_left, told_by}
+use Rattle.ec_drill.proofs.Refused.{refused_stays, refused_comes}
 use Rattle.ec_drill.proofs.carrying.step.Goals as goal
 
 pub returns-in-Err-clause-in_step : goal.returns-in-Err-clause-in_step
 returns-in-Err-clause-in_step g c =
     refused_stays c.in-Err.fault (happen runs c.args.event (view_of c.args.world.now)) (view_of c.args.world.now) (view_of c.step.new.self) (IsInStep g.D.Disk.tells (g.D.Disk.view c.step.new.disk) c.step.new.self) c.in-Err.ensures.err
+
+pub returns-in-Err-clause-stepped : goal.returns-in-Err-clause-stepped
+returns-in-Err-clause-stepped g c = (
+  runs,
+  tt,
+  λ told seen.
+      refused_comes c.in-Err.fault (happen runs c.args.event (view_of c.args.world.now)) (view_of c.args.world.now) (view_of c.step.new.self) c.args.piece.now.items (IsInStep g.D.Disk.tells (g.D.Disk.view c.step.new.disk) c.step.new.self)
+      c.in-Err.ensures.err seen,
+  c.in-Err.ensures.left,
+)
+
+pub returns-then-is_err-clause-stepped : goal.returns-then-is_err-clause-stepped
+returns-then-is_err-clause-stepped g c =
+    let ok = c.in-Ok.ensures.ok in (
+      ok.0,
+      ok.1,
+      λ told seen. absurd seen,
+      λ told.
+          step_left (g.D.Disk.view c.step.new.disk) (view_of c.args.world.now).durable (happen ok.0 c.args.event (view_of c.args.world.now)) (view_of c.step.new.self) c.in-Ok.lines.items (ok.2 (told_by ok.0 g.D.Disk.tells told))
+          (in_step_stands g.D.Disk.tells (g.D.Disk.view c.step.new.disk) c.step.new.self c.in-Ok.ensures.in_step told),
+    )

@@ -88,7 +88,7 @@ returns-in-Err-clause-ran g c =
     let writes_after = g.K.Sink.faults c.carry.new.sink in
     cut_at tells first.stops old.stops old new c.args.bound all start c.lines.number (read_of line) (map read_of (into_iter_items c.next.new.self)) world begun held written
     (subst (λ (ls : List ScriptLine). Sofar tells first.stops old.stops c.args.bound all start c.lines.number (map read_of ls) world begun held) c.in-Some.ensures.items c.lines.invariant.0)
-    refl c.lines.invariant.2.stops did.counts.stops c.in-Err.cut writes writes_now writes_after first.faults did.carried
+    refl c.lines.invariant.2.stops did.counts.stops (g.D.Disk.view c.carry.new.disk) c.in-Err.cut writes writes_now writes_after first.faults did.carried
     (λ last. cause_from c.in-Err.cut last writes writes_now writes_after first.faults old.faults new.faults c.lines.invariant.3 c.lines.invariant.2.faults)
 
 pub returns-clause-ran : goal.returns-clause-ran
