@@ -20,14 +20,14 @@ use Rattle.ec_settles.proofs.Beginning.{begins}
 use Rattle.ec_settles.proofs.Resending.{resends-keep}
 use Rattle.ec_settles.proofs.Carrying.{same-shows}
 use Rattle.ec_settles.proofs.Settling as settling
-use Rattle.ec_taking.proofs.Taken.{messages-done}
-use Rattle.ec_tries.proofs.Answering.{all-in}
-use Rattle.ec_tries.proofs.Tries.{answers-show, tries-show}
-use Rattle.ec_norooms.specs.Laws.{unasked}
-use Rattle.ec_norooms.proofs.Forgets.{forgets}
-use Rattle.ec_norooms.proofs.Refuses.{no-room}
-use Rattle.ec_goes.proofs.Calls.{calls-whole}
-use Rattle.ec_goes.proofs.Starts.{starts-whole}
+use Rattle.ec_lawful.proofs.Taken.{messages-done}
+use Rattle.ec_lawful.proofs.Answering.{all-in}
+use Rattle.ec_lawful.proofs.Tries.{answers-show, tries-show}
+use Rattle.ec_lawful.specs.Rooms.{unasked}
+use Rattle.ec_lawful.proofs.Forgets.{forgets}
+use Rattle.ec_lawful.proofs.Refuses.{no-room}
+use Rattle.ec_lawful.proofs.Calls.{calls-whole}
+use Rattle.ec_lawful.proofs.Starts.{starts-whole}
 
 -- what goes on with them beside
 abbrev Q : System → ℕ → ℕ → Doing → Ghost → Type 0

@@ -1,2 +1,14 @@
+pub mod Answering
+pub mod Calls
 pub mod Clerks
+pub mod Ended
+pub mod Forgets
+pub mod Lines
+pub mod Plain
+pub mod Refuses
+pub mod Same
 pub mod Shows
+pub mod Starts
+pub mod Taken
+pub mod Tried
+pub mod Tries

@@ -1,1 +1,5 @@
+pub mod Goes
 pub mod Laws
+pub mod Rooms
+pub mod Taking
+pub mod Tries

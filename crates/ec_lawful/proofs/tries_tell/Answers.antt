@@ -1,5 +1,5 @@
-use Rattle.ec_tries.proofs.Tries.{answers-show, tries-show}
-use Rattle.ec_tries.proofs.tries_tell.Goals as goal
+use Rattle.ec_lawful.proofs.Tries.{answers-show, tries-show}
+use Rattle.ec_lawful.proofs.tries_tell.Goals as goal
 
 pub returns-clause-tried : goal.returns-clause-tried
 returns-clause-tried z g c b = tries-show g c b

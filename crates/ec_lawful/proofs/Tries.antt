@@ -18,10 +18,10 @@ use Rattle.ec_answers.proofs.Given.{spent-verdict}
 use Rattle.ec_answers.proofs.Single.{each-mid}
 use Rattle.ec_whole.specs.Whole.{ShowsAll}
 use Rattle.ec_settles.specs.Laws.{TriesAll}
-use Rattle.ec_norooms.specs.Laws.{OneAnswers}
-use Rattle.ec_tries.specs.Laws.{Shows}
-use Rattle.ec_tries.proofs.Answering.{comes-so}
-use Rattle.ec_tries.proofs.Tried.{ShownTried, tried}
+use Rattle.ec_lawful.specs.Rooms.{OneAnswers}
+use Rattle.ec_lawful.specs.Tries.{Shows}
+use Rattle.ec_lawful.proofs.Answering.{comes-so}
+use Rattle.ec_lawful.proofs.Tried.{ShownTried, tried}
 
 -- the step, where calls had these lines when the tries began
 module _ (g : System) (c b : ℕ) (L : Type 0) where

@@ -1,5 +1,5 @@
-use Rattle.ec_taking.proofs.Taken.{messages-done, messages-stand}
-use Rattle.ec_taking.proofs.clerks_take_messages.Goals as goal
+use Rattle.ec_lawful.proofs.Taken.{messages-done, messages-stand}
+use Rattle.ec_lawful.proofs.clerks_take_messages.Goals as goal
 
 pub returns-clause-stand : goal.returns-clause-stand
 returns-clause-stand z g whole c b k runs at-start m p q = messages-stand g whole c b k runs at-start m p q

@@ -38,7 +38,7 @@ use Rattle.ec_fresh.proofs.Steps.{step-fresh}
 use Rattle.ec_whole.specs.Whole.{Whole}
 use Rattle.ec_whole.proofs.Telling.{line-step-tells}
 use Rattle.ec_settles.specs.Laws.{IsLined}
-use Rattle.ec_taking.proofs.Same.{first, lined-so, no-zero}
+use Rattle.ec_lawful.proofs.Same.{first, lined-so, no-zero}
 
 module _ (g : System) (whole : Whole g) (c b : ℕ) (k : Clerk) (runs : g.running c ≡ Some b) (at-start : g.clerks c b ≡ Some k) (s : ℕ) (within : k.session ≡ Some s) (low mask : ℕ) (sent : Contains g.pool (c, Ended s low mask)) where
   abbrev w : Window

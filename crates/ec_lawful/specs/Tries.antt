@@ -5,7 +5,7 @@ use Rattle.ec_coherence.specs.System.{System, Ghost}
 use Rattle.ec_coherence.specs.Steps.{doing_in}
 use Rattle.ec_whole.specs.Whole.{ShowsAll}
 use Rattle.ec_settles.specs.Laws.{TriesAll}
-use Rattle.ec_norooms.specs.Laws.{OneAnswers}
+use Rattle.ec_lawful.specs.Rooms.{OneAnswers}
 
 -- behind the tries of all calls
 abbrev pub EachTries : Type 0

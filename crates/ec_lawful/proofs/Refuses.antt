@@ -20,8 +20,8 @@ use Rattle.ec_events.specs.Answers.{Gives}
 use Rattle.ec_answers.specs.Answering.{Suits, answered_clerk}
 use Rattle.ec_answers.specs.Frees.{FullsAgree, IsFull}
 use Rattle.ec_answers.specs.Trying.{IsTrying}
-use Rattle.ec_norooms.specs.Laws.{IsCarried, OneAnswers, answered_by, left_with, unasked}
-use Rattle.ec_norooms.proofs.Forgets.{forgets}
+use Rattle.ec_lawful.specs.Rooms.{IsCarried, OneAnswers, answered_by, left_with, unasked}
+use Rattle.ec_lawful.proofs.Forgets.{forgets}
 
 -- these calls wait behind the others
 abbrev pub with_rest : List Waiting → Doing → Doing

@@ -42,7 +42,7 @@ use Rattle.ec_fresh.proofs.Ids.{ids-fresh}
 use Rattle.ec_whole.specs.Whole.{Whole}
 use Rattle.ec_settles.specs.Laws.{IsLined}
 use Rattle.ec_settles.proofs.Carrying.{goes-lined, in-hand, same-shows}
-use Rattle.ec_taking.proofs.Same.{first, no-zero}
+use Rattle.ec_lawful.proofs.Same.{first, no-zero}
 
 module _ (g : System) (whole : Whole g) (c b : ℕ) (k : Clerk) (runs : g.running c ≡ Some b) (at-start : g.clerks c b ≡ Some k) (s : ℕ) (within : k.session ≡ Some s) where
   abbrev d : Doing

@@ -23,7 +23,7 @@ use Rattle.ec_zeros.proofs.Behind.{steps-keep}
 use Rattle.ec_frees.proofs.Stored.{stills-keep}
 use Rattle.ec_answers.specs.Trying.{IsTrying}
 use Rattle.ec_answers.specs.Zeros.{HasNoZero}
-use Rattle.ec_norooms.specs.Laws.{unasked}
+use Rattle.ec_lawful.specs.Rooms.{unasked}
 
 module _ (g : System) (c b s : ℕ) (d : Doing) (γ : Ghost) (t : IsTrying g c b d γ) (within : d.clerk.session ≡ Some s) where
   in-hand : IsInHand g c b s d γ

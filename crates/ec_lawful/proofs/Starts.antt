@@ -58,8 +58,8 @@ use Rattle.ec_steps.specs.Ties.{called, waiting}
 use Rattle.ec_whole.specs.Whole.{ShowsAll, Whole}
 use Rattle.ec_settles.specs.Laws.{Beside, TriesAll}
 use Rattle.ec_settles.proofs.Settling.{settles-call}
-use Rattle.ec_goes.proofs.Calls.{shown-by}
-use Rattle.ec_goes.proofs.Lines.{lines-at-end}
+use Rattle.ec_lawful.proofs.Calls.{shown-by}
+use Rattle.ec_lawful.proofs.Lines.{lines-at-end}
 
 twice : (c b : ℕ) (k now : Clerk) (f : ℕ → ℕ → Option Clerk) → with_start c b now (with_start c b k f) ≡ with_start c b now f
 twice c b k now f = λ j x y. point ((x == c) && (y == b)) x y j

@@ -54,7 +54,7 @@ use Rattle.ec_settles.specs.Laws.{Beside, IsLined, TriesAll}
 use Rattle.ec_settles.proofs.Beginning.{begins}
 use Rattle.ec_settles.proofs.Carrying.{no-zero}
 use Rattle.ec_settles.proofs.Settling.{settles-call}
-use Rattle.ec_goes.proofs.Lines.{answered-gone, lines-at-end}
+use Rattle.ec_lawful.proofs.Lines.{answered-gone, lines-at-end}
 
 -- the second where the test fails
 cond-false : (z : Bool) (x y : Watch) → z ≡ false → Rattle.std.specs.Prelude.if◌then◌else◌ z x y ≡ y

@@ -13,10 +13,10 @@ use Rattle.ec_steps.specs.Steps.{IsDone}
 use Rattle.ec_whole.specs.Whole.{Whole}
 use Rattle.ec_settles.specs.Laws.{IsLined, TriesAll}
 use Rattle.ec_settles.proofs.Settling as settling
-use Rattle.ec_taking.specs.Laws.{AnswersNone}
-use Rattle.ec_taking.proofs.Same.{first, greets, opens, shows-old}
-use Rattle.ec_taking.proofs.Ended.{ends}
-use Rattle.ec_taking.proofs.Plain.{takes-grant-so, takes-ids-so, takes-kept-so, takes-recall-so, takes-restarted-so}
+use Rattle.ec_lawful.specs.Taking.{AnswersNone}
+use Rattle.ec_lawful.proofs.Same.{first, greets, opens, shows-old}
+use Rattle.ec_lawful.proofs.Ended.{ends}
+use Rattle.ec_lawful.proofs.Plain.{takes-grant-so, takes-ids-so, takes-kept-so, takes-recall-so, takes-restarted-so}
 
 module _ (g : System) (whole : Whole g) (c b : ℕ) (k : Clerk) (runs : g.running c ≡ Some b) (at-start : g.clerks c b ≡ Some k) where
   abbrev pub Goes : Msg → Type 0

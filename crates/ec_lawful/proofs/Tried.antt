@@ -32,7 +32,7 @@ use Rattle.ec_frees.specs.Moves.{IsStill}
 use Rattle.ec_frees.proofs.Stilling.{are-still}
 use Rattle.ec_whole.specs.Whole.{ShowsAll}
 use Rattle.ec_settles.proofs.Carrying.{same-shows}
-use Rattle.ec_tries.proofs.Answering.{Comes, all-in, comes-so}
+use Rattle.ec_lawful.proofs.Answering.{Comes, all-in, comes-so}
 
 -- A call that waits on leaves the clerk's session and its ids.
 

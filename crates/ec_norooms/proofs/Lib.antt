@@ -1,2 +1,0 @@
-pub mod Forgets
-pub mod Refuses

@@ -1,4 +1,0 @@
-pub mod Same
-pub mod Ended
-pub mod Plain
-pub mod Taken

@@ -1,3 +1,0 @@
-pub mod Answering
-pub mod Tried
-pub mod Tries
