@@ -1,8 +1,8 @@
 #!/bin/sh
 # Times, over real files: appends of 2,000 bytes to a journal beside a C program with the same writes and two syncs an append; commits of
 # 64 small updates to a store beside that program and beside SQLite (its log written ahead, full syncs); and the opening of a full volume
-# beside a C program that reads the same bytes, from the disk and from memory. It prints rates and ratios. The programs run by turns; each time is the least of
-# its runs, of which a busy disk needs more than five.
+# beside a C program that reads the same bytes, from the disk and from memory. It prints rates and ratios. The programs run by turns; each
+# time is the least of its runs, of which a busy disk needs more than five.
 # Usage: bench/commit.sh PROGRAM [FOLDER] [RECORDS] [RUNS]   (the ec_bench program; `rt run` in crates/ec_bench builds it; FOLDER is on the disk to be measured)
 set -eu
 program=${1:?usage: bench/commit.sh PROGRAM [FOLDER] [RECORDS] [RUNS]}

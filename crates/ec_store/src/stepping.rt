@@ -1,4 +1,4 @@
-// A record steps the state. Of a batch only the images of its operands are copied, to try it on them.
+// A record steps the state in place. A batch is tried first on copies of its operands' images, so that a refusal changes nothing.
 ghost use Rattle.std.specs.Prelude.{◌≡◌, IfOk, OnOk, OnErr, IfErr, Err, Ok};
 ghost use Rattle.std.specs.List.{flat_map};
 ghost use Rattle.ec_volume.specs.Update.{member, operands};
@@ -16,7 +16,7 @@ use std::mem;
 
 /// Carries out a record, whose operands these are, or tells why it's refused; then nothing has changed.
 ///
-/// Where memory runs out behind a batch's trial, a formatted state is left.
+/// Where memory runs out, the state is the old one or a formatted one.
 pub(crate) fn step(
     alloc: Global,
     state: &mut Durable,

@@ -236,8 +236,8 @@ impl Store {
     /// Steps the state by a record whose updates are sound, of which a batch has 1 to 64, and brings the record to the disk: by four calls
     /// where the journal has room, else by a checkpoint before them.
     ///
-    /// A record that is refused makes no call and changes nothing. After a fault of the disk, or want of memory behind the first call, the
-    /// record is there whole or not at all: open the disk again.
+    /// A record that is refused makes no call and changes nothing. After a fault of the disk, or want of memory, the record is there whole or
+    /// not at all, and what is shown may be neither: open the disk again.
     pub fn commit<D: Disk>(&mut self, disk: &mut D, change: &Record) -> Result<(), StoreFault>
         requires { is_sound_record change.now ≡ true }
         // The stepped state is shown, and the disk stands for it, whatever a crash leaves.
