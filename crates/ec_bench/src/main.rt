@@ -1,6 +1,7 @@
-//! ec_bench: the work that the benches of the journal, the frames, the lines and the messages time.
+//! ec_bench: the work that the benches of the journal, the frames, the lines, the messages and a clerk time.
 #![tactic(auto)]
 
+mod begins;
 mod formats;
 mod frames;
 mod records;
@@ -23,7 +24,10 @@ fn main(rt: HostRuntime) -> anyhow::Result<()> {
         [_, format, size, rounds] => {
             formats::repeat(alloc, format, size.parse::<u32>()?, rounds.parse::<u32>()?)
         }
-        _ => bail!("usage: ec_bench FILE RECORDS BODIES, or ec_bench formats FORMAT BYTES ROUNDS"),
+        [reads] => begin_reads(&rt, reads.parse::<u32>()?),
+        _ => bail!(
+            "usage: ec_bench FILE RECORDS BODIES, or ec_bench formats FORMAT BYTES ROUNDS, or ec_bench READS"
+        ),
     }
 }
 
@@ -41,5 +45,12 @@ fn records_and_bodies(
     let kept = records::append_all(alloc, &mut disk, records)?;
     let taken = frames::take_all(alloc, bodies)?;
     println!(rt; "{kept} records, {taken} bodies")?;
+    Ok(())
+}
+
+// Begins so many reads at a clerk that holds the file.
+fn begin_reads(rt: &HostRuntime, reads: u32) -> anyhow::Result<()> {
+    let whole = begins::read_all(rt.alloc(), reads)?;
+    println!(rt; "{whole} reads")?;
     Ok(())
 }
