@@ -1,6 +1,7 @@
-//! ec_bench: the work that the benches of the journal, the store, the frames, the lines and the messages time.
+//! ec_bench: the work that the benches of the journal, the store, the frames, the lines, the messages and a clerk time.
 #![tactic(auto)]
 
+mod begins;
 mod formats;
 mod frames;
 mod records;
@@ -29,9 +30,10 @@ fn main(rt: HostRuntime) -> anyhow::Result<()> {
                 formats::repeat(alloc, name, count, size)
             }
         }
+        [reads] => begin_reads(&rt, reads.parse::<u32>()?),
         [what, path] => fill_or_open(&rt, what, path),
         _ => bail!(
-            "usage: ec_bench FILE RECORDS BODIES, ec_bench formats FORMAT BYTES ROUNDS, ec_bench commit FILE COMMITS BYTES, or ec_bench fill|open FILE"
+            "usage: ec_bench FILE RECORDS BODIES, ec_bench formats FORMAT BYTES ROUNDS, ec_bench commit FILE COMMITS BYTES, ec_bench fill|open FILE, or ec_bench READS"
         ),
     }
 }
@@ -84,5 +86,12 @@ fn fill_or_open(rt: &HostRuntime, what: &str, path: &str) -> anyhow::Result<()> 
         };
         println!(rt; "{live} objects")?;
     }
+    Ok(())
+}
+
+// Begins so many reads at a clerk that holds the file.
+fn begin_reads(rt: &HostRuntime, reads: u32) -> anyhow::Result<()> {
+    let whole = begins::read_all(rt.alloc(), reads)?;
+    println!(rt; "{whole} reads")?;
     Ok(())
 }
