@@ -11,7 +11,7 @@ use Rattle.ec_wire.specs.declared.msg.MsgKind.TheVariants as msg
 use Rattle.ec_protocol.specs.declared.script.Line.TheVariants as line
 use Rattle.ec_protocol.specs.World.{runs, stops_without, stops_with}
 use Rattle.ec_protocol.specs.Drill.{reads}
-use Rattle.ec_protocol.specs.Runs.{Run, A, B, C, D}
+use Rattle.ec_protocol.specs.Runs.{Run, A, B, C, D, O}
 
 abbrev pub stop_16 : Run
 stop_16 =
