@@ -1,6 +1,6 @@
 // Random scripts with crashes and ended sessions.
 ghost use Rattle.ec_protocol.specs.Runs.{Shows};
-ghost use Rattle.ec_runs.specs.ThirdCrashes.{crash_16, crash_17, crash_18, crash_19, crash_20, crash_21, crash_22, crash_23, crash_24};
+ghost use Rattle.ec_runs.specs.ThirdCrashes.{crash_16, crash_17, crash_18, crash_19, crash_20, crash_21};
 
 /// The machine shows of these scripts, with crashes and ended sessions, what the simulator shows.
 pub fn shows_third_crashes()
@@ -10,7 +10,4 @@ pub fn shows_third_crashes()
     ensures crash_19 { Shows crash_19 }
     ensures crash_20 { Shows crash_20 }
     ensures crash_21 { Shows crash_21 }
-    ensures crash_22 { Shows crash_22 }
-    ensures crash_23 { Shows crash_23 }
-    ensures crash_24 { Shows crash_24 }
 {}

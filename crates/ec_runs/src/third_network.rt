@@ -1,6 +1,6 @@
 // Random scripts with lost, repeated and late messages.
 ghost use Rattle.ec_protocol.specs.Runs.{Shows};
-ghost use Rattle.ec_runs.specs.ThirdNetwork.{net_16, net_17, net_18, net_19, net_20, net_21, net_22, net_23, net_24};
+ghost use Rattle.ec_runs.specs.ThirdNetwork.{net_16, net_17, net_18, net_19, net_20, net_21};
 
 /// The machine shows of these scripts, with lost, repeated and late messages, what the simulator shows.
 pub fn shows_third_network()
@@ -10,7 +10,4 @@ pub fn shows_third_network()
     ensures net_19 { Shows net_19 }
     ensures net_20 { Shows net_20 }
     ensures net_21 { Shows net_21 }
-    ensures net_22 { Shows net_22 }
-    ensures net_23 { Shows net_23 }
-    ensures net_24 { Shows net_24 }
 {}

@@ -1,6 +1,6 @@
 // Random scripts with no fault.
 ghost use Rattle.ec_protocol.specs.Runs.{Shows};
-ghost use Rattle.ec_runs.specs.ThirdPlain.{plain_16, plain_17, plain_18, plain_19, plain_20, plain_21, plain_22, plain_23, plain_24};
+ghost use Rattle.ec_runs.specs.ThirdPlain.{plain_16, plain_17, plain_18, plain_19, plain_20, plain_21};
 
 /// The machine shows of these scripts, with no fault, what the simulator shows.
 pub fn shows_third_plain()
@@ -10,7 +10,4 @@ pub fn shows_third_plain()
     ensures plain_19 { Shows plain_19 }
     ensures plain_20 { Shows plain_20 }
     ensures plain_21 { Shows plain_21 }
-    ensures plain_22 { Shows plain_22 }
-    ensures plain_23 { Shows plain_23 }
-    ensures plain_24 { Shows plain_24 }
 {}

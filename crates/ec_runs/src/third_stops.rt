@@ -1,6 +1,6 @@
 // Random scripts with stops of the server.
 ghost use Rattle.ec_protocol.specs.Runs.{Shows};
-ghost use Rattle.ec_runs.specs.ThirdStops.{stop_16, stop_17, stop_18, stop_19, stop_20, stop_21, stop_22, stop_23, stop_24};
+ghost use Rattle.ec_runs.specs.ThirdStops.{stop_16, stop_17, stop_18, stop_19, stop_20, stop_21};
 
 /// The machine shows of these scripts, with stops of the server, what the simulator shows.
 pub fn shows_third_stops()
@@ -10,7 +10,4 @@ pub fn shows_third_stops()
     ensures stop_19 { Shows stop_19 }
     ensures stop_20 { Shows stop_20 }
     ensures stop_21 { Shows stop_21 }
-    ensures stop_22 { Shows stop_22 }
-    ensures stop_23 { Shows stop_23 }
-    ensures stop_24 { Shows stop_24 }
 {}

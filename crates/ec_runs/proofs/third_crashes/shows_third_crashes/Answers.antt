@@ -26,15 +26,3 @@ returns-clause-crash_20 c = refl
 pub returns-clause-crash_21 : goal.returns-clause-crash_21
 unfolding sixteen marked
 returns-clause-crash_21 c = refl
-
-pub returns-clause-crash_22 : goal.returns-clause-crash_22
-unfolding sixteen marked
-returns-clause-crash_22 c = refl
-
-pub returns-clause-crash_23 : goal.returns-clause-crash_23
-unfolding sixteen marked
-returns-clause-crash_23 c = refl
-
-pub returns-clause-crash_24 : goal.returns-clause-crash_24
-unfolding sixteen marked
-returns-clause-crash_24 c = refl

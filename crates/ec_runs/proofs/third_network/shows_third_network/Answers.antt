@@ -26,15 +26,3 @@ returns-clause-net_20 c = refl
 pub returns-clause-net_21 : goal.returns-clause-net_21
 unfolding sixteen marked
 returns-clause-net_21 c = refl
-
-pub returns-clause-net_22 : goal.returns-clause-net_22
-unfolding sixteen marked
-returns-clause-net_22 c = refl
-
-pub returns-clause-net_23 : goal.returns-clause-net_23
-unfolding sixteen marked
-returns-clause-net_23 c = refl
-
-pub returns-clause-net_24 : goal.returns-clause-net_24
-unfolding sixteen marked
-returns-clause-net_24 c = refl

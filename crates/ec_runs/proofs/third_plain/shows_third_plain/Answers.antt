@@ -26,15 +26,3 @@ returns-clause-plain_20 c = refl
 pub returns-clause-plain_21 : goal.returns-clause-plain_21
 unfolding sixteen marked
 returns-clause-plain_21 c = refl
-
-pub returns-clause-plain_22 : goal.returns-clause-plain_22
-unfolding sixteen marked
-returns-clause-plain_22 c = refl
-
-pub returns-clause-plain_23 : goal.returns-clause-plain_23
-unfolding sixteen marked
-returns-clause-plain_23 c = refl
-
-pub returns-clause-plain_24 : goal.returns-clause-plain_24
-unfolding sixteen marked
-returns-clause-plain_24 c = refl

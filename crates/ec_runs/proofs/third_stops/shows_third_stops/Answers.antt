@@ -26,15 +26,3 @@ returns-clause-stop_20 c = refl
 pub returns-clause-stop_21 : goal.returns-clause-stop_21
 unfolding sixteen marked
 returns-clause-stop_21 c = refl
-
-pub returns-clause-stop_22 : goal.returns-clause-stop_22
-unfolding sixteen marked
-returns-clause-stop_22 c = refl
-
-pub returns-clause-stop_23 : goal.returns-clause-stop_23
-unfolding sixteen marked
-returns-clause-stop_23 c = refl
-
-pub returns-clause-stop_24 : goal.returns-clause-stop_24
-unfolding sixteen marked
-returns-clause-stop_24 c = refl
