@@ -1,5 +1,5 @@
 //! Tables of refusals: each reason for which bytes are no image, or no message, once, and volumes that
-//! aren't well formed.
+//! aren't well formed. Lines that are written are read back.
 #![tactic(auto)]
 
 #[cfg(test)]
@@ -8,3 +8,5 @@ mod images;
 mod messages;
 #[cfg(test)]
 mod volumes;
+#[cfg(test)]
+mod written;
