@@ -1,12 +1,11 @@
 -- The first operations of a closure, and how far they reach.
-use Rattle.std.proofs.Common.{◌≡◌, ◌⊎◌, ◌≤◌, ◌<◌, ◌∙◌, inl, inr, refl, sym, ap, subst, arith, ℕ, zero, suc, T, Bool, true, false, cond, List, [], ◌∷◌, ◌++◌, length, take, drop, get_or, drop-cons, append-nil, Some}
+use Rattle.std.proofs.Common.{◌≡◌, ◌⊎◌, ◌≤◌, ◌<◌, ◌∙◌, inl, inr, refl, sym, ap, subst, arith, ℕ, zero, suc, T, Bool, true, false, cond, List, [], ◌∷◌, ◌++◌, length, take, drop, append-nil, Some}
 use Rattle.std.specs.Prelude.{nat_lt, ◌==◌, ◌&&◌, ◌||◌, ◌+◌}
-use Rattle.std.specs.Ordering.{nat_cmp, is_lt}
+use Rattle.std.specs.Ordering.{nat_cmp}
 use Rattle.std.specs.FinMap.{is_sorted}
 use Rattle.std.specs.FinMap.Entries.{below_all}
 use Rattle.std.specs.List.{filter, list_any}
 use Rattle.std.proofs.lemmas.Bool.{true≢false, and_parts, ltb-true}
-use Rattle.std.proofs.lemmas.List.{drop_all}
 use Rattle.std.proofs.lemmas.Bool.Decides.{nat_tests}
 use Rattle.ec_base.specs.SortedLaws.{first, second, both}
 use Rattle.ec_base.specs.Tables.{Table, keys, at, at_or, or_else, put}
@@ -21,7 +20,7 @@ use Rattle.ec_chains.specs.Walk.{passes, walk}
 use Rattle.ec_chains.proofs.Maps.{at-put}
 use Rattle.ec_chains.proofs.Needs.{look, plain_needs, range_needs, ranges_need}
 use Rattle.ec_chains.specs.declared.closure.Ask.{Ask}
-use Rattle.ec_chains.specs.declared.closure.Ask.TheVariants.{Object, Op}
+use Rattle.ec_chains.specs.declared.closure.Ask.TheVariants.{Object}
 
 is-true : (b : Bool) → b ≡ true → T b
 is-true b e = subst T (sym e) tt
@@ -57,7 +56,7 @@ any-both t (x ∷ xs) ys = go (t x) (any-both t xs ys)
     go true e = refl
     go false e = e
 
-keys-both : (xs ys : Issued) → keys (xs ++ ys) ≡ keys xs ++ keys ys
+pub keys-both : (xs ys : Issued) → keys (xs ++ ys) ≡ keys xs ++ keys ys
 keys-both [] ys = refl
 keys-both (x ∷ xs) ys = ap (λ l. x.0 ∷ l) (keys-both xs ys)
 
@@ -156,7 +155,7 @@ module _ (p : ℕ × Update → Bool) where
       go false true l = omega (arith, l)
       go false false l = l
 
-  passing-found : (n : ℕ) (xs : Issued) → (member n (keys (walk p xs)) || member n (keys (filter p xs))) ≡ member n (keys (walk p xs))
+  pub passing-found : (n : ℕ) (xs : Issued) → (member n (keys (walk p xs)) || member n (keys (filter p xs))) ≡ member n (keys (walk p xs))
   passing-found n [] = refl
   passing-found n (x ∷ xs) = go (p x) (list_any (λ z. needs x.1 z.1) (walk p xs)) (passing-found n xs)
     where
@@ -286,98 +285,6 @@ bound-object shared held obj covers n u h l p x d = go (is_alone u) refl
     go : (b : Bool) → is_alone u ≡ b → T (member obj (operands x.1))
     go true e = alone-needs u e obj p x.1 d
     go false e = let most : n ≤ at_or 0 obj shared = covers n u h e obj p in absurd (omega (arith, most, l))
-
--- As far as it reaches.
-
-pub above-none : (op : ℕ) (xs : Issued) → T (below_all nat_cmp op xs) → filter (passes (Op op)) xs ≡ []
-above-none op [] b = refl
-above-none op (x ∷ xs) b = ap (λ t. cond t (x ∷ filter (passes (Op op)) xs) (filter (passes (Op op)) xs)) (higher (first _ _ b)) ∙ above-none op xs (second _ _ b)
-  where
-    higher : T (is_lt (nat_cmp op x.0)) → (x.0 == op) ≡ false
-    higher l = grind (arith, nat_tests, l)
-
--- One by one.
-
-module _ (p : ℕ × Update → Bool) (held : Issued) where
-  -- the operations before a place are counted that pass
-  pub record Counted (place found : ℕ) : Type 0 where
-    pub within : place ≤ length held
-    pub count : found ≡ length (filter p (take place held))
-    pub few : found ≤ place
-
-  pub counted-none : Counted 0 0
-  counted-none = record { within = omega arith; count = refl; few = omega arith }
-
-  module _ (place found : ℕ) (c : Counted place found) (x : ℕ × Update) (l : place < length held) (is : x ≡ get_or held place x) where
-    at-place : drop place held ≡ x ∷ drop (suc place) held
-    at-place = drop-cons held place x l ∙ ap (λ y. y ∷ drop (suc place) held) (sym is)
-
-    one-more : filter p (take (suc place) held) ≡ filter p (take place held) ++ filter p (x ∷ [])
-    one-more = ap (filter p) (take-more place held at-place) ∙ filter-both p (take place held) (x ∷ [])
-      where
-        take-more : (i : ℕ) (ys : Issued) → drop i ys ≡ x ∷ drop (suc i) ys → take (suc i) ys ≡ take i ys ++ x ∷ []
-        take-more zero [] e = absurd (let t : ◌≡◌ {A = Issued} [] (x ∷ []) = e in none t)
-          where
-            none : ◌≡◌ {A = Issued} [] (x ∷ []) → ⊥
-            none t = cc
-        take-more zero (y ∷ ys) e = let same : y ≡ x = cc in ap (λ z. z ∷ []) same
-        take-more (suc i) [] e = absurd (none e)
-          where
-            none : ◌≡◌ {A = Issued} [] (x ∷ []) → ⊥
-            none t = cc
-        take-more (suc i) (y ∷ ys) e = ap (λ l. y ∷ l) (take-more i ys e)
-
-    length-more : (n m : ℕ) → length (filter p (x ∷ [])) ≡ m → length (filter p (take (suc place) held)) ≡ length (filter p (take place held)) + m
-    length-more n m e = ap length one-more ∙ length-both (filter p (take place held)) (filter p (x ∷ [])) ∙ ap (λ k. length (filter p (take place held)) + k) e
-
-    pub counted-more : (b : Bool) → p x ≡ b → (found' : ℕ) → found' ≡ cond b (found + 1) found → Counted (place + 1) found'
-    counted-more b e found' f =
-        let within : place < length held = l in
-        let few : found ≤ place = c.few in
-        record {
-          within = omega (arith, within);
-          count = f ∙ by b e;
-          few = fewer b f;
-        }
-      where
-        next : place + 1 ≡ suc place
-        next = omega arith
-
-        by : (b : Bool) → p x ≡ b → cond b (found + 1) found ≡ length (filter p (take (place + 1) held))
-        by true e =
-            ap (λ n. n + 1) c.count ∙ sym (ap (λ n. length (filter p (take n held))) next ∙ length-more place 1 (ap (λ t. length (cond t (x ∷ []) [])) e))
-        by false e =
-            let same = length-more place 0 (ap (λ t. length (cond t (x ∷ []) [])) e) in
-            c.count ∙ sym (ap (λ n. length (filter p (take n held))) next ∙ same ∙ plus-none (length (filter p (take place held))))
-          where
-            plus-none : (n : ℕ) → n + 0 ≡ n
-            plus-none n = omega arith
-
-        fewer : (b : Bool) → found' ≡ cond b (found + 1) found → found' ≤ place + 1
-        fewer true f = let few : found ≤ place = c.few in omega (arith, f, few)
-        fewer false f = let few : found ≤ place = c.few in omega (arith, f, few)
-
-    -- it ends here
-    pub above-bound : (bound : ℕ) → T (is_sorted nat_cmp held) → bound < x.0 → T (below_all nat_cmp bound (drop place held))
-    above-bound bound s b = subst (λ ys. T (below_all nat_cmp bound ys)) (sym at-place) (both _ _ (lower bound x.0 b) (all-above bound x.0 b (drop (suc place) held) (first _ _ (subst (λ ys. T (is_sorted nat_cmp ys)) at-place (sorted-behind place held s)))))
-      where
-        lower : (m n : ℕ) → m < n → T (is_lt (nat_cmp m n))
-        lower m n q = is-true (is_lt (nat_cmp m n)) (grind (arith, nat_tests, q))
-
-        higher : (m n : ℕ) → T (is_lt (nat_cmp m n)) → m < n
-        higher m n t = grind (arith, nat_tests, t)
-
-        all-above : (m n : ℕ) → m < n → (ys : Issued) → T (below_all nat_cmp n ys) → T (below_all nat_cmp m ys)
-        all-above m n q [] t = tt
-        all-above m n q (y ∷ ys) t = let r : n < y.0 = higher n y.0 (first _ _ t) in both _ _ (lower m y.0 (omega (arith, q, r))) (all-above m n q ys (second _ _ t))
-
-        sorted-behind : (i : ℕ) (ys : Issued) → T (is_sorted nat_cmp ys) → T (is_sorted nat_cmp (drop i ys))
-        sorted-behind zero ys t = t
-        sorted-behind (suc i) [] t = t
-        sorted-behind (suc i) (y ∷ ys) t = sorted-behind i ys (second _ _ t)
-
-  pub none-behind : (place : ℕ) → length held ≤ place → drop place held ≡ []
-  none-behind place l = drop_all place held l
 
 -- What the map of shared objects covers.
 

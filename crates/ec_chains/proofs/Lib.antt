@@ -1,8 +1,10 @@
 pub mod Chained
+pub mod Emptied
+pub mod Firsts
 pub mod Fronts
-pub mod Held
 pub mod Leaving
 pub mod Linked
+pub mod Live
 pub mod Maps
 pub mod Needs
 pub mod Numbers
@@ -10,5 +12,6 @@ pub mod Onward
 pub mod Operands
 pub mod Places
 pub mod Reached
+pub mod Rising
 pub mod Taken
 pub mod Walks

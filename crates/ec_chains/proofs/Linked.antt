@@ -15,7 +15,7 @@ use Rattle.ec_chains.specs.Held.{is_behind, settle}
 use Rattle.ec_chains.proofs.Fronts.{holds-last, holds-part}
 use Rattle.ec_chains.proofs.Maps.{at-put}
 
-held-below : (op : ℕ) (xs : Issued) → is_behind op xs ≡ true → (n : ℕ) (u : Update) → Holds xs n u → n < op
+pub held-below : (op : ℕ) (xs : Issued) → is_behind op xs ≡ true → (n : ℕ) (u : Update) → Holds xs n u → n < op
 held-below op [] b n u h = absurd h
 held-below op (x ∷ xs) b n u (inl e) = subst (λ k. k < op) e.0 (ltb-true x.0 op (and_parts (nat_lt x.0 op) (is_behind op xs) b).0)
 held-below op (x ∷ xs) b n u (inr h) = held-below op xs (and_parts (nat_lt x.0 op) (is_behind op xs) b).1 n u h
@@ -36,27 +36,16 @@ linked-more old new xs op w b l stay its o n u h t = elim (holds-last xs (op, w)
 pub linked-none : (chains : Table (List ℕ)) → AreLinked chains []
 linked-none chains o n u h t = absurd h
 
-left-out : (ops : List ℕ) (xs : Issued) (n : ℕ) (u : Update) → Holds (settle ops xs) n u → member n ops ≡ false
-left-out ops [] n u h = absurd h
-left-out ops (x ∷ xs) n u h = go (member x.0 ops) refl h (left-out ops xs n u)
-  where
-    go : (b : Bool) → member x.0 ops ≡ b → Holds (cond (not b) (x ∷ settle ops xs) (settle ops xs)) n u → (Holds (settle ops xs) n u → member n ops ≡ false) → member n ops ≡ false
-    go true e k r = r k
-    go false e (inl k) r = subst (λ m. member m ops ≡ false) k.0 e
-    go false e (inr k) r = r k
-
-pub linked-part : (ops : List ℕ) (old new : Table (List ℕ)) (xs : Issued) → AreKept xs ops old new → AreLinked old xs → AreLinked new (settle ops xs)
-linked-part ops old new xs kept l o n u h t =
-    let held = holds-part (λ x. not (member x.0 ops)) xs n u h in
-    kept o n u held (left-out ops xs n u h) (l o n u held t)
+pub linked-part : (ops : List ℕ) (old new : Table (List ℕ)) (xs after : Issued) → after ≡ settle ops xs → AreKept after old new → AreLinked old xs → AreLinked new after
+linked-part ops old new xs after e kept l o n u h t = kept o n u h (l o n u (holds-part (λ x. not (member x.0 ops)) xs n u (subst (λ ys. Holds ys n u) e h)) t)
 
 -- Chains that are changed one by one.
 
-pub kept-same : (xs : Issued) (ops : List ℕ) (old : Table (List ℕ)) → AreKept xs ops old old
-kept-same xs ops old o n u h m t = t
+pub kept-same : (xs : Issued) (old : Table (List ℕ)) → AreKept xs old old
+kept-same xs old o n u h t = t
 
-pub kept-twice : (xs : Issued) (ops : List ℕ) (old middle new : Table (List ℕ)) → AreKept xs ops old middle → AreKept xs ops middle new → AreKept xs ops old new
-kept-twice xs ops old middle new a b o n u h m t = b o n u h m (a o n u h m t)
+pub kept-twice : (xs : Issued) (old middle new : Table (List ℕ)) → AreKept xs old middle → AreKept xs middle new → AreKept xs old new
+kept-twice xs old middle new a b o n u h t = b o n u h (a o n u h t)
 
 -- a chain that is there takes the place of the empty one that took its place
 pub put-twice : (obj o : ℕ) (none now : List ℕ) (old middle new : Table (List ℕ)) → middle ≡ put obj none old → new ≡ put obj now middle → at_or [] o new ≡ or_else [] (cond (o == obj) (Some now) (at o old))

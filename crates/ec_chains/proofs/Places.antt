@@ -1,19 +1,17 @@
 -- Operations by their places.
 use Rattle.std.proofs.Common.{◌≡◌, ◌≤◌, ◌<◌, ◌+◌, ◌∙◌, inl, inr, refl, sym, ap, subst, arith, ℕ, zero, suc, T, true, false, cond, List, [], ◌∷◌, length, take, drop, Option, None, Some}
-use Rattle.std.specs.Prelude.{◌==◌, nat_lt, slice_get, Result, Ok, Err, MatchResult}
+use Rattle.std.specs.Prelude.{◌==◌, nat_lt, slice_get}
 use Rattle.std.specs.declared.cmp.Ordering.TheVariants.{Equal}
-use Rattle.std.specs.Cmp.{nat_cmp_total, unsigned_ties}
-use Rattle.std.specs.List.Sorted.{IsSearchInRange, IsBinarySearchResult}
+use Rattle.std.specs.Cmp.{unsigned_ties}
 use Rattle.std.specs.Ordering.{nat_cmp, is_eq}
 use Rattle.std.specs.FinMap.{is_sorted}
 use Rattle.std.proofs.lemmas.Bool.{cases_Bool, ltb-true}
 use Rattle.std.proofs.lemmas.Bool.Decides.{nat_tests}
-use Rattle.std.proofs.lemmas.Option.{get_or_from_slice_get}
-use Rattle.ec_base.specs.SortedLaws.{first, second, searched}
+use Rattle.ec_base.specs.SortedLaws.{first, second}
 use Rattle.ec_base.specs.Tables.{Table, at}
 use Rattle.ec_volume.specs.declared.update.Update.{Update}
 use Rattle.ec_order.specs.Order.{Issued, Holds}
-use Rattle.ec_chains.specs.Chains.{AreLinked, IsAt}
+use Rattle.ec_chains.specs.Chains.{AreLinked}
 use Rattle.ec_chains.specs.ClosureLaws.{above-held}
 
 pub no-item : {X : Type 0} {x : X} → ◌≡◌ {A = Option X} None (Some x) → ⊥
@@ -72,10 +70,10 @@ held-once xs i x n u s e q h = let r = holds-at xs n u h in same-there xs i r.0 
 
 -- Where a search finds an operation.
 
-numbered : (m n : ℕ) → nat_cmp m n ≡ Equal → m ≡ n
+pub numbered : (m n : ℕ) → nat_cmp m n ≡ Equal → m ≡ n
 numbered m n e = grind (arith, nat_tests, subst T (ap is_eq (sym e)) tt, sym (unsigned_ties m n))
 
-found-held : (xs : Issued) (n : ℕ) (u : Update) → T (is_sorted nat_cmp xs) → Holds xs n u → at n xs ≡ Some u
+pub found-held : (xs : Issued) (n : ℕ) (u : Update) → T (is_sorted nat_cmp xs) → Holds xs n u → at n xs ≡ Some u
 found-held [] n u s h = absurd h
 found-held (x ∷ xs) n u s (inl e) = ap (λ b. cond b (Some x.1) (at n xs)) (sym (unsigned_ties n x.0) ∙ same (sym e.0)) ∙ ap Some e.1
   where
@@ -86,13 +84,9 @@ found-held (x ∷ xs) n u s (inr h) = ap (λ b. cond b (Some x.1) (at n xs)) (sy
     apart : x.0 < n → (n == x.0) ≡ false
     apart l = grind (arith, nat_tests, l)
 
-pub slotted : (op : ℕ) (held : Issued) (r : Result ℕ ℕ) → T (is_sorted nat_cmp held) → IsSearchInRange r (length held) → IsBinarySearchResult (λ e. nat_cmp e.0 op) held r → MatchResult r (IsAt op held) (λ _. (u : Update) → Holds held op u → ⊥)
-slotted op held (Ok place) s within ties = (within, λ x e. numbered x.0 op (ap (λ (y : ℕ × Update). nat_cmp y.0 op) (sym (get_or_from_slice_get held place x x e)) ∙ ties x))
-slotted op held (Err place) s within parted = λ u h. no-item (sym (searched nat_cmp nat_cmp_total op held (Err place) s within parted).absent ∙ found-held held op u s h)
-
 -- The first ones, and those behind them.
 
-pub get-front : (n i : ℕ) (xs : Issued) (x : ℕ × Update) → slice_get (take n xs) i ≡ Some x → slice_get xs i ≡ Some x
+pub get-front : {X : Type 0} (n i : ℕ) (xs : List X) (x : X) → slice_get (take n xs) i ≡ Some x → slice_get xs i ≡ Some x
 get-front zero i xs x e = absurd (no-item e)
 get-front (suc n) i [] x e = absurd (no-item e)
 get-front (suc n) zero (y ∷ ys) x e = e

@@ -1,89 +1,25 @@
 -- How far a closure reaches.
 use Rattle.std.proofs.Common.{◌≡◌, ◌≤◌, ◌<◌, ◌+◌, ◌-◌, ◌∙◌, inl, inr, refl, sym, ap, subst, arith, ℕ, zero, suc, T, Bool, true, false, cond, List, [], ◌∷◌, ◌++◌, length, take, drop, get_or, Some}
-use Rattle.std.specs.Prelude.{◌==◌, nat_le, filter, slice_get, min}
+use Rattle.std.specs.Prelude.{filter, slice_get}
 use Rattle.std.specs.Ordering.{nat_cmp}
 use Rattle.std.specs.FinMap.{is_sorted}
-use Rattle.std.specs.FinMap.Entries.{below_all}
 use Rattle.std.specs.List.Sorted.{IsNonDecreasing}
-use Rattle.std.proofs.lemmas.Bool.{cases_Bool}
-use Rattle.std.proofs.lemmas.Bool.Decides.{nat_tests}
-use Rattle.std.proofs.lemmas.List.{drop_all, length-take-le}
-use Rattle.ec_base.specs.SortedLaws.{first, second}
+use Rattle.std.proofs.lemmas.List.{drop_all}
+use Rattle.ec_base.specs.SortedLaws.{second}
 use Rattle.ec_volume.specs.Update.{member, has_operand}
 use Rattle.ec_volume.specs.declared.update.Update.{Update}
 use Rattle.ec_order.specs.Order.{Issued, Holds}
-use Rattle.ec_chains.specs.Chains.{IsAt, IsReached, touches, IsPlaceOn}
-use Rattle.ec_chains.specs.ClosureLaws.{above-held}
+use Rattle.ec_chains.specs.Chains.{IsReached, touches, IsPlaceOn}
 use Rattle.ec_chains.specs.Front.{IsBound}
 use Rattle.ec_chains.specs.Walk.{passes}
-use Rattle.ec_chains.specs.declared.closure.Ask.TheVariants.{Object, Op, All}
-use Rattle.ec_chains.proofs.Fronts.{above-none, holds-behind, filter-both, length-both}
-use Rattle.ec_chains.proofs.Numbers.{same-number, member-behind, least-behind}
+use Rattle.ec_chains.specs.declared.closure.Ask.TheVariants.{Object, All}
+use Rattle.ec_chains.proofs.Fronts.{holds-behind, filter-both, length-both}
+use Rattle.ec_chains.proofs.Numbers.{member-behind, least-behind}
 use Rattle.ec_chains.proofs.Places.{same-item, no-item, item-at, at-holds, holds-at, rise, get-front, front-within, get-behind, behind-get}
 
-filter-all : (xs : Issued) → filter (passes All) xs ≡ xs
+pub filter-all : (xs : Issued) → filter (passes All) xs ≡ xs
 filter-all [] = refl
 filter-all (x ∷ xs) = ap (λ l. x ∷ l) (filter-all xs)
-
-pub all-reached : (held : Issued) (most place : ℕ) → place ≡ min most (length held) → IsReached All held most place
-all-reached held most place e = elim (cases_Bool (nat_le most (length held))) [
-  | inl l ↦ record {
-    within = omega (arith, e, least most (length held));
-    needs_asked = λ n u h t x d. tt;
-    enough = inl (let few = at-most l in let long = ap length (filter-all (take place held)) ∙ length-take-le place held (omega (arith, e, least most (length held))) in omega (arith, few, long));
-  }
-  | inr l ↦ record {
-    within = omega (arith, e, least most (length held));
-    needs_asked = λ n u h t x d. tt;
-    enough = inr (ap (filter (passes All)) (drop_all place held (let all = whole l in omega (arith, all))));
-  }
-]
-  where
-    least : (m n : ℕ) → min m n ≤ n
-    least m n = omega arith
-
-    at-most : nat_le most (length held) ≡ true → most ≤ place
-    at-most l = grind (arith, nat_tests, l, e)
-
-    whole : nat_le most (length held) ≡ false → length held ≤ place
-    whole l = grind (arith, nat_tests, l, e)
-
-below-behind : (xs : Issued) (i : ℕ) (x : ℕ × Update) → T (is_sorted nat_cmp xs) → slice_get xs i ≡ Some x → T (below_all nat_cmp x.0 (drop (suc i) xs))
-below-behind [] i x s e = absurd (no-item e)
-below-behind (y ∷ ys) zero x s e = subst (λ z. T (below_all nat_cmp z.0 ys)) (same-item e) (first _ _ s)
-below-behind (y ∷ ys) (suc i) x s e = below-behind ys i x (second _ _ s) e
-
-pub op-reached : (op : ℕ) (held : Issued) (most place : ℕ) → T (is_sorted nat_cmp held) → IsAt op held place → IsReached (Op op) held most (place + 1)
-op-reached op held most place s is =
-    let within : place < length held = is.0 in
-    let item = item-at held place within in
-    let x = item.0 in
-    let number : x.0 ≡ op = is.1 x item.1 in
-    let next : suc place ≡ place + 1 = omega arith in
-    let above : T (below_all nat_cmp op (drop (place + 1) held)) = subst (λ n. T (below_all nat_cmp n (drop (place + 1) held))) number (subst (λ k. T (below_all nat_cmp x.0 (drop k held))) next (below-behind held place x s item.1)) in
-    record {
-      within = omega (arith, within);
-      needs_asked = λ n u h t x d. absurd (let far = above-held op (drop (place + 1) held) above n u h in let same = same-number n op t in omega (arith, far, same));
-      enough = inr (above-none op (drop (place + 1) held) above);
-    }
-
-pub op-absent : (op : ℕ) (held : Issued) (most : ℕ) → ((u : Update) → Holds held op u → ⊥) → IsReached (Op op) held most 0
-op-absent op held most none = record {
-  within = omega arith;
-  needs_asked = λ n u h t x d. absurd (none u (subst (λ m. Holds held m u) (same-number n op t) h));
-  enough = inr (absent held none);
-}
-  where
-    absent : (xs : Issued) → ((u : Update) → Holds xs op u → ⊥) → filter (passes (Op op)) xs ≡ []
-    absent [] f = refl
-    absent (x ∷ xs) f = go (x.0 == op) refl (absent xs (λ u h. f u (inr h)))
-      where
-        numbered : (m n : ℕ) → (m == n) ≡ true → m ≡ n
-        numbered m n e = grind (arith, nat_tests, e)
-
-        go : (b : Bool) → (x.0 == op) ≡ b → filter (passes (Op op)) xs ≡ [] → cond b (x ∷ filter (passes (Op op)) xs) (filter (passes (Op op)) xs) ≡ []
-        go true e r = absurd (f x.1 (inl (numbered x.0 op e, refl)))
-        go false e r = r
 
 -- Along the chain of an object.
 

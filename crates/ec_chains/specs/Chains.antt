@@ -1,5 +1,5 @@
 -- One chain of held operations for each object, and the places among the held ones that a walk goes on to.
-use Rattle.std.specs.Prelude.{◌≡◌, ◌⊎◌, ◌<◌, ◌≤◌, ℕ, T, Bool, false, is_some, List, [], length, take, drop, filter, slice_get, Some}
+use Rattle.std.specs.Prelude.{◌≡◌, ◌⊎◌, ◌<◌, ◌≤◌, ℕ, T, Bool, is_some, List, [], length, take, drop, filter, slice_get, Some}
 use Rattle.ec_base.specs.Tables.{Table, at, at_or}
 use Rattle.ec_volume.specs.Update.{member, has_operand}
 use Rattle.ec_volume.specs.declared.update.Update.{Update}
@@ -16,9 +16,9 @@ IsAt op held place = (place < length held) × ((x : ℕ × Update) → slice_get
 abbrev pub AreLinked : Table (List ℕ) → Issued → Type 0
 AreLinked chains held = (o n : ℕ) (u : Update) → Holds held n u → T (has_operand o u) → T (member n (at_or [] o chains))
 
--- those of these operations stay in the chains that don't leave
-abbrev pub AreKept : Issued → List ℕ → Table (List ℕ) → Table (List ℕ) → Type 0
-AreKept held ops old new = (o n : ℕ) (u : Update) → Holds held n u → member n ops ≡ false → T (member n (at_or [] o old)) → T (member n (at_or [] o new))
+-- those that are held stay in the chains
+abbrev pub AreKept : Issued → Table (List ℕ) → Table (List ℕ) → Type 0
+AreKept held old new = (o n : ℕ) (u : Update) → Holds held n u → T (member n (at_or [] o old)) → T (member n (at_or [] o new))
 
 -- the operation has the object as an operand
 abbrev pub touches : ℕ → ℕ × Update → Bool

@@ -1,7 +1,5 @@
 -- The first operations of a closure.
-use Rattle.std.specs.Prelude.{◌≡◌, ◌⊎◌, ◌<◌, ◌≤◌, ℕ, T, Bool, true, false, ◌||◌, List, [], length, take, drop, filter}
-use Rattle.std.specs.Ordering.{nat_cmp}
-use Rattle.std.specs.FinMap.Entries.{below_all}
+use Rattle.std.specs.Prelude.{◌≡◌, ◌<◌, ◌≤◌, ℕ, T, Bool, true, false, ◌||◌, List, take, filter}
 use Rattle.ec_base.specs.Tables.{Table, keys, at_or}
 use Rattle.ec_volume.specs.Update.{member, operands}
 use Rattle.ec_volume.specs.declared.update.Update.{Update}
@@ -35,7 +33,3 @@ Covers shared held = (n : ℕ) (u : Update) → Holds held n u → is_alone u �
 -- What is asked for behind the number needs nothing that isn't asked for.
 abbrev pub IsBound : Ask → Issued → ℕ → Type 0
 IsBound ask held bound = (n : ℕ) (u : Update) → Holds held n u → bound < n → T (passes ask (n, u)) → (x : ℕ × Update) → T (needs x.1 u) → T (passes ask x)
-
--- All the operations come in front of the place, or so many that are asked for do, and those behind it are above the bound.
-abbrev pub Reaches : Ask → Issued → ℕ → ℕ → ℕ → Type 0
-Reaches ask held most bound place = (drop place held ≡ []) ⊎ ((most ≤ length (filter (passes ask) (take place held))) × T (below_all nat_cmp bound (drop place held)))

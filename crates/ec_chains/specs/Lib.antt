@@ -3,4 +3,6 @@ pub mod ClosureLaws
 pub mod Front
 pub mod Held
 pub mod Needed
+pub mod SlotLaws
+pub mod Slots
 pub mod Walk

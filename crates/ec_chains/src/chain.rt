@@ -1,16 +1,12 @@
 // The operations on one object.
-ghost use Rattle.std.specs.Prelude.{◌≡◌, ◌<◌, ◌≤◌, ℕ, T, [], length, drop, take, true, false, MatchResult, OnOk};
-ghost use Rattle.std.specs.Ordering.{nat_cmp};
-ghost use Rattle.std.specs.FinMap.{is_sorted};
+ghost use Rattle.std.specs.Prelude.{◌≡◌, ◌<◌, ◌≤◌, ℕ, T, [], length, drop, take, OnOk};
 ghost use Rattle.std.specs.List.Sorted.{IsNonDecreasing};
 ghost use Rattle.ec_volume.specs.Update.{member};
 ghost use Rattle.ec_volume.specs.declared.update.Update.{Update as Of};
 ghost use Rattle.ec_order.specs.Order.{Holds};
-ghost use Rattle.ec_chains.specs.Chains.{IsAt};
 
-use crate::settling::remove_first;
+use crate::held::Held;
 use ec_base::{NoMemory, OpNo};
-use ec_volume::Update;
 use std::alloc::Global;
 use std::marker::Model;
 
@@ -65,12 +61,11 @@ impl Chain {
         Ok(self.ops.push(op)?)
     }
 
-    /// The first ones go that aren't held, or are among those that leave. It takes no memory.
-    pub fn leave(&mut self, held: &[(OpNo, Update)], ops: &[OpNo])
-        requires { T (is_sorted nat_cmp held.now) }
-        ensures { (n : ℕ) (u : Of) → Holds held.now n u → member n ops.now ≡ false → T (member n self.old) → T (member n self.new) }
+    /// The first ones go that aren't held. It takes no memory.
+    pub fn leave(&mut self, held: &Held)
+        ensures { (n : ℕ) (u : Of) → Holds held.now n u → T (member n self.old) → T (member n self.new) }
     {
-        let count = left(self.ops(), held, ops);
+        let count = left(self.ops(), held);
         self.gone += count;
         self.trim();
     }
@@ -96,30 +91,24 @@ fn below(chain: &[OpNo], op: OpNo) -> usize
     chain.partition_point(|other| other.0 < op.0)
 }
 
-// So many of the first numbers aren't held, or leave.
-fn left(chain: &[OpNo], held: &[(OpNo, Update)], ops: &[OpNo]) -> usize
-    requires { T (is_sorted nat_cmp held.now) }
+// So many of the first numbers aren't held.
+fn left(chain: &[OpNo], held: &Held) -> usize
     ensures within { result ≤ length chain.now }
-    ensures rest { (n : ℕ) (u : Of) → Holds held.now n u → member n ops.now ≡ false → T (member n chain.now) → T (member n (drop result chain.now)) }
+    ensures rest { (n : ℕ) (u : Of) → Holds held.now n u → T (member n chain.now) → T (member n (drop result chain.now)) }
 {
     let mut count = 0;
-    'left: while count < chain.len() && has_left(chain[count], held, ops) {
+    'left: while count < chain.len() && !held.has(chain[count]) {
         count += 1;
     }
     count
 }
 
-fn has_left(op: OpNo, held: &[(OpNo, Update)], ops: &[OpNo]) -> bool
-    requires { T (is_sorted nat_cmp held.now) }
-    ensures { result ≡ true → (u : Of) → Holds held.now op u → member op ops.now ≡ false → ⊥ }
+// Drops so many of the first items. It takes no memory.
+fn remove_first(items: &mut Vec<OpNo>, count: usize)
+    requires { count ≤ length items.old.items }
+    ensures { items.new.items ≡ drop count items.old.items }
 {
-    ops.contains(&op) || slot_of(held, op).is_err()
-}
-
-/// The place of the operation, or where it would go.
-pub fn slot_of(held: &[(OpNo, Update)], op: OpNo) -> Result<usize, usize>
-    requires { T (is_sorted nat_cmp held.now) }
-    ensures { MatchResult result (λ place. IsAt op held.now place) (λ _. (u : Of) → Holds held.now op u → ⊥) }
-{
-    held.binary_search_by(|(here, _)| here.0.cmp(&op.0))
+    let rest = items.len() - count;
+    items.rotate_left(count);
+    items.truncate(rest);
 }

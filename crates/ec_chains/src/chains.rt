@@ -1,13 +1,12 @@
 // One chain for each object.
 ghost use Rattle.std.specs.Prelude.{◌≡◌, ◌<◌, ℕ, T, [], true, is_some, OnOk};
-ghost use Rattle.std.specs.Ordering.{nat_cmp};
-ghost use Rattle.std.specs.FinMap.{is_sorted};
 ghost use Rattle.std.specs.List.Sorted.{IsNonDecreasing};
 ghost use Rattle.ec_base.specs.Tables.{at, at_or, put};
 ghost use Rattle.ec_volume.specs.Update.{member};
 ghost use Rattle.ec_chains.specs.Chains.{AreKept};
 
-use crate::chain::{Chain, slot_of};
+use crate::chain::Chain;
+use crate::held::Held;
 use ec_base::{Name, NoMemory, ObjId, OpNo, SortedMap};
 use ec_volume::Update;
 use std::alloc::Global;
@@ -74,37 +73,33 @@ fn put_back(chains: &mut SortedMap<ObjId, Chain>, obj: ObjId, chain: Chain)
     chains.replace(&obj, chain);
 }
 
-/// Those of the operations that are held leave the fronts of their chains. It takes no memory.
+/// What has left goes from the fronts of the chains of the objects on which this one was. It takes no
+/// memory.
 pub fn unlink(
     alloc: Global,
     chains: &mut SortedMap<ObjId, Chain>,
-    held: &[(OpNo, Update)],
-    ops: &[OpNo],
+    held: &Held,
+    left: Option<Update>,
 )
-    requires { T (is_sorted nat_cmp held.now) }
-    ensures { AreKept held.now ops.now chains.old chains.new }
+    ensures { AreKept held.now chains.old chains.new }
 {
-    'each: for op in ops {
-        if let Ok(place) = slot_of(held, *op) {
-            unlink_operands(alloc, chains, &held[place].1, held, ops);
-        }
+    if let Some(update) = &left {
+        unlink_operands(alloc, chains, held, update);
     }
 }
 
 fn unlink_operands(
     alloc: Global,
     chains: &mut SortedMap<ObjId, Chain>,
+    held: &Held,
     update: &Update,
-    held: &[(OpNo, Update)],
-    ops: &[OpNo],
 )
-    requires { T (is_sorted nat_cmp held.now) }
-    ensures { AreKept held.now ops.now chains.old chains.new }
+    ensures { AreKept held.now chains.old chains.new }
 {
     match update {
         Update::Make { dir, obj, .. } | Update::Drop { dir, obj, .. } => {
-            unlink_one(alloc, chains, *dir, held, ops);
-            unlink_one(alloc, chains, *obj, held, ops);
+            unlink_one(alloc, chains, *dir, held);
+            unlink_one(alloc, chains, *obj, held);
         }
         Update::Move {
             dir,
@@ -112,16 +107,16 @@ fn unlink_operands(
             victim,
             ..
         } => {
-            unlink_one(alloc, chains, *dir, held, ops);
-            unlink_one(alloc, chains, *obj, held, ops);
-            unlink_victim(alloc, chains, *victim, held, ops);
+            unlink_one(alloc, chains, *dir, held);
+            unlink_one(alloc, chains, *obj, held);
+            unlink_victim(alloc, chains, *victim, held);
         }
         Update::Put { obj, .. }
         | Update::Len { obj, .. }
         | Update::Mode { obj, .. }
         | Update::Stamp { obj, .. }
-        | Update::Owner { obj, .. } => unlink_one(alloc, chains, *obj, held, ops),
-        Update::Order { objs } => unlink_all(alloc, chains, objs.as_slice(), held, ops),
+        | Update::Owner { obj, .. } => unlink_one(alloc, chains, *obj, held),
+        Update::Order { objs } => unlink_all(alloc, chains, objs.as_slice(), held),
         Update::Shift {
             dir,
             into,
@@ -130,29 +125,22 @@ fn unlink_operands(
             up,
             ..
         } => {
-            unlink_one(alloc, chains, *dir, held, ops);
-            unlink_one(alloc, chains, *into, held, ops);
-            unlink_one(alloc, chains, *obj, held, ops);
-            unlink_victim(alloc, chains, *victim, held, ops);
-            unlink_above(alloc, chains, up.as_slice(), held, ops);
+            unlink_one(alloc, chains, *dir, held);
+            unlink_one(alloc, chains, *into, held);
+            unlink_one(alloc, chains, *obj, held);
+            unlink_victim(alloc, chains, *victim, held);
+            unlink_above(alloc, chains, up.as_slice(), held);
         }
     }
 }
 
-fn unlink_one(
-    alloc: Global,
-    chains: &mut SortedMap<ObjId, Chain>,
-    obj: ObjId,
-    held: &[(OpNo, Update)],
-    ops: &[OpNo],
-)
-    requires { T (is_sorted nat_cmp held.now) }
-    ensures { AreKept held.now ops.now chains.old chains.new }
+fn unlink_one(alloc: Global, chains: &mut SortedMap<ObjId, Chain>, obj: ObjId, held: &Held)
+    ensures { AreKept held.now chains.old chains.new }
 {
     let Some(mut chain) = chains.replace(&obj, Chain::new(alloc)) else {
         return;
     };
-    chain.leave(held, ops);
+    chain.leave(held);
     if chain.ops().is_empty() {
         chains.remove(&obj);
     } else {
@@ -164,29 +152,20 @@ fn unlink_victim(
     alloc: Global,
     chains: &mut SortedMap<ObjId, Chain>,
     victim: Option<ObjId>,
-    held: &[(OpNo, Update)],
-    ops: &[OpNo],
+    held: &Held,
 )
-    requires { T (is_sorted nat_cmp held.now) }
-    ensures { AreKept held.now ops.now chains.old chains.new }
+    ensures { AreKept held.now chains.old chains.new }
 {
     if let Some(obj) = victim {
-        unlink_one(alloc, chains, obj, held, ops);
+        unlink_one(alloc, chains, obj, held);
     }
 }
 
-fn unlink_all(
-    alloc: Global,
-    chains: &mut SortedMap<ObjId, Chain>,
-    objs: &[ObjId],
-    held: &[(OpNo, Update)],
-    ops: &[OpNo],
-)
-    requires { T (is_sorted nat_cmp held.now) }
-    ensures { AreKept held.now ops.now chains.old chains.new }
+fn unlink_all(alloc: Global, chains: &mut SortedMap<ObjId, Chain>, objs: &[ObjId], held: &Held)
+    ensures { AreKept held.now chains.old chains.new }
 {
     'each: for obj in objs {
-        unlink_one(alloc, chains, *obj, held, ops);
+        unlink_one(alloc, chains, *obj, held);
     }
 }
 
@@ -194,13 +173,11 @@ fn unlink_above(
     alloc: Global,
     chains: &mut SortedMap<ObjId, Chain>,
     up: &[(ObjId, Name)],
-    held: &[(OpNo, Update)],
-    ops: &[OpNo],
+    held: &Held,
 )
-    requires { T (is_sorted nat_cmp held.now) }
-    ensures { AreKept held.now ops.now chains.old chains.new }
+    ensures { AreKept held.now chains.old chains.new }
 {
     'each: for (obj, _) in up {
-        unlink_one(alloc, chains, *obj, held, ops);
+        unlink_one(alloc, chains, *obj, held);
     }
 }

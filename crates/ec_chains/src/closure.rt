@@ -4,12 +4,14 @@ ghost use Rattle.std.specs.Ordering.{nat_cmp};
 ghost use Rattle.std.specs.FinMap.{is_sorted};
 ghost use Rattle.ec_base.specs.Tables.{keys};
 ghost use Rattle.ec_chains.specs.Needed.{is_needed};
-ghost use Rattle.ec_chains.specs.Chains.{AreLinked, IsOne};
+ghost use Rattle.ec_chains.specs.Chains.{AreLinked};
+ghost use Rattle.ec_chains.specs.Slots.{live, placed, IsThere};
 ghost use Rattle.ec_chains.specs.Walk.{passes, walk};
 
 use crate::chain::Chain;
 use crate::needed::Needed;
 use crate::operand::has_operand;
+use crate::slots::Slot;
 use crate::walking::{await_operands, begin, take_last};
 use ec_base::{NoMemory, ObjId, OpNo, SortedMap};
 use ec_volume::Update;
@@ -49,41 +51,14 @@ fn is_chosen(ask: &Ask, needed: &Needed, op: OpNo, update: &Update) -> Result<bo
 /// walked, and each operation is looked at once.
 pub fn closure(
     alloc: Global,
-    held: &[(OpNo, Update)],
-    chains: &SortedMap<ObjId, Chain>,
-    ask: Ask,
-) -> Result<Vec<OpNo>, NoMemory>
-    requires sorted { T (is_sorted nat_cmp held.now) }
-    requires linked { AreLinked chains.now held.now }
-    ensures { IfOk result (λ ops. ops.items ≡ keys (walk (passes ask) held.now)) }
-{
-    match ask {
-        Ask::All => numbers(alloc, held),
-        Ask::Object(_) | Ask::Op(_) => walk_back(alloc, held, chains, &ask),
-    }
-}
-
-// The numbers of all of them.
-fn numbers(alloc: Global, held: &[(OpNo, Update)]) -> Result<Vec<OpNo>, NoMemory>
-    ensures { IfOk result (λ ops. ops.items ≡ keys held.now) }
-{
-    let mut ops = Vec::new(alloc);
-    for (op, _) in held {
-        ops.push(*op)?;
-    }
-    Ok(ops)
-}
-
-fn walk_back(
-    alloc: Global,
-    held: &[(OpNo, Update)],
+    held: &[Slot],
     chains: &SortedMap<ObjId, Chain>,
     ask: &Ask,
 ) -> Result<Vec<OpNo>, NoMemory>
-    requires sorted { T (is_sorted nat_cmp held.now) }
-    requires linked { AreLinked chains.now held.now }
-    requires one { IsOne ask.now }
-    ensures { IfOk result (λ ops. ops.items ≡ keys (walk (passes ask.now) held.now)) }
+    requires sorted { T (is_sorted nat_cmp (placed held.now)) }
+    requires linked { AreLinked chains.now (placed held.now) }
+    requires there { IsThere ask.now held.now }
+    ensures { IfOk result (λ ops. ops.items ≡ keys (walk (passes ask.now) (live held.now))) }
 {
     let mut needed = Needed::new(alloc);
     let mut ops = Vec::new(alloc);
@@ -95,6 +70,9 @@ fn walk_back(
         };
         let (op, update) = &rest[place];
         rest = &rest[..place];
+        let Some(update) = update else {
+            continue;
+        };
         await_operands(alloc, &mut places, chains, rest, update)?;
         if is_chosen(ask, &needed, *op, update)? {
             needed.add(update)?;

@@ -1,5 +1,5 @@
 // How far the first operations of a closure reach.
-ghost use Rattle.std.specs.Prelude.{◌≡◌, ◌≤◌, ℕ, T, false, length, OnOk};
+ghost use Rattle.std.specs.Prelude.{◌≡◌, ◌≤◌, ℕ, T, false, filter, OnOk};
 ghost use Rattle.std.specs.Ordering.{nat_cmp};
 ghost use Rattle.std.specs.FinMap.{is_sorted};
 ghost use Rattle.ec_base.specs.Tables.{at_or};
@@ -7,53 +7,26 @@ ghost use Rattle.ec_volume.specs.Update.{member, has_operand, operands};
 ghost use Rattle.std.specs.List.Sorted.{IsNonDecreasing};
 ghost use Rattle.ec_volume.specs.declared.update.Update.{Update as Of};
 ghost use Rattle.ec_order.specs.Order.{Holds};
-ghost use Rattle.ec_chains.specs.Chains.{IsReached};
-ghost use Rattle.ec_chains.specs.Front.{is_alone, IsBound, Reaches};
-ghost use Rattle.ec_chains.specs.declared.closure.Ask.TheVariants.{Object, Op, All};
+ghost use Rattle.ec_chains.specs.Chains.{IsReached, touches};
+ghost use Rattle.ec_chains.specs.Front.{is_alone, IsBound};
+ghost use Rattle.ec_chains.specs.Held.{first_number};
+ghost use Rattle.ec_chains.specs.Slots.{live, placed};
+ghost use Rattle.ec_chains.specs.declared.closure.Ask.TheVariants.{Object};
 
-use crate::chain::slot_of;
-use crate::closure::{Ask, passes};
+use crate::slots::Slot;
 use crate::walking::place_on;
 use ec_base::{NoMemory, ObjId, OpNo, SortedMap};
 use ec_volume::{Update, operands};
 use std::alloc::Global;
 
-/// The least place such that so many of the operations before it are asked for, and all behind it
-/// are above the bound, or behind the last one.
-pub fn reach(held: &[(OpNo, Update)], ask: &Ask, bound: u64, most: usize) -> usize
-    requires { T (is_sorted nat_cmp held.now) }
-    ensures within { result ≤ length held.now }
-    ensures reaches { Reaches ask.now held.now most bound result }
-{
-    let mut at = 0;
-    let mut found = 0;
-    'reach: while at < held.len() {
-        let (op, update) = &held[at];
-        if most <= found && bound < op.0 {
-            return at;
-        }
-        if passes(ask, *op, update) {
-            found += 1;
-        }
-        at += 1;
-    }
-    at
-}
-
 /// How far the closure of the object reaches, by its chain: so many operations on it come before the
 /// place, and those behind it are above the bound.
-pub fn reach_on(
-    chain: &[OpNo],
-    held: &[(OpNo, Update)],
-    obj: ObjId,
-    bound: u64,
-    most: usize,
-) -> usize
-    requires sorted { T (is_sorted nat_cmp held.now) }
+pub fn reach_on(chain: &[OpNo], held: &[Slot], obj: ObjId, bound: u64, most: usize) -> usize
+    requires sorted { T (is_sorted nat_cmp (placed held.now)) }
     requires rising { IsNonDecreasing chain.now }
-    requires linked { (n : ℕ) (u : Of) → Holds held.now n u → T (has_operand obj u) → T (member n chain.now) }
-    requires bound { IsBound (Object obj) held.now bound }
-    ensures { IsReached (Object obj) held.now most result }
+    requires linked { (n : ℕ) (u : Of) → Holds (placed held.now) n u → T (has_operand obj u) → T (member n chain.now) }
+    requires bound { IsBound (Object obj) (placed held.now) bound }
+    ensures { IsReached (Object obj) (placed held.now) most result }
 {
     let mut place = 0;
     let mut found = 0;
@@ -69,22 +42,19 @@ pub fn reach_on(
     place
 }
 
-/// Right behind the operation, or before all where it isn't held.
-pub fn reach_op(held: &[(OpNo, Update)], op: OpNo, most: usize) -> usize
-    requires sorted { T (is_sorted nat_cmp held.now) }
-    ensures { IsReached (Op op) held.now most result }
+/// The first operation on the object that is held, by its chain.
+pub fn first_on(chain: &[OpNo], held: &[Slot], obj: ObjId) -> Option<OpNo>
+    requires sorted { T (is_sorted nat_cmp (placed held.now)) }
+    requires rising { IsNonDecreasing chain.now }
+    requires linked { (n : ℕ) (u : Of) → Holds (placed held.now) n u → T (has_operand obj u) → T (member n chain.now) }
+    ensures { result ≡ first_number (filter (touches obj) (live held.now)) }
 {
-    match slot_of(held, op) {
-        Ok(place) => place + 1,
-        Err(_) => 0,
+    'each: for op in chain {
+        if place_on(held, *op, obj).is_some() {
+            return Some(*op);
+        }
     }
-}
-
-/// So many, or all.
-pub fn reach_all(held: &[(OpNo, Update)], most: usize) -> usize
-    ensures { IsReached All held.now most result }
-{
-    most.min(held.len())
+    None
 }
 
 /// Whether the update is on one object alone.

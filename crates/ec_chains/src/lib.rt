@@ -5,13 +5,15 @@ mod chain;
 mod chains;
 mod closure;
 mod front;
+mod held;
 mod needed;
 mod operand;
 mod order;
-mod settling;
+mod slots;
 mod walking;
 
 pub use closure::Ask;
 pub use needed::Needed;
 pub use operand::has_operand;
 pub use order::{Order, OrderFault};
+pub use slots::Slot;

@@ -1,20 +1,22 @@
 // The held operations.
-ghost use Rattle.std.specs.Prelude.{◌≡◌, ℕ, T, true, false, Err, [], ◌∷◌, ◌++◌, IfOk, OnOk, OnErr};
+ghost use Rattle.std.specs.Prelude.{◌≡◌, ℕ, T, true, false, Err, [], ◌∷◌, ◌++◌, length, filter, option_copied, IfOk, OnOk, OnErr};
 ghost use Rattle.std.specs.Ordering.{nat_cmp};
 ghost use Rattle.std.specs.FinMap.{is_sorted};
-ghost use Rattle.ec_base.specs.Tables.{keys};
+ghost use Rattle.ec_base.specs.Tables.{at, keys};
 ghost use Rattle.ec_volume.specs.Update.{member};
-ghost use Rattle.ec_chains.specs.Chains.{IsReached};
 ghost use Rattle.ec_chains.specs.Front.{IsFront};
 ghost use Rattle.ec_chains.specs.Held as held;
-ghost use Rattle.ec_chains.specs.declared.closure.Ask.TheVariants.{Object};
+ghost use Rattle.ec_chains.specs.Slots.{live};
+ghost use Rattle.ec_chains.specs.Walk.{passes, walk};
+ghost use Rattle.ec_chains.specs.declared.closure.Ask.TheVariants.{Object, Op};
 ghost use Rattle.ec_chains.specs.declared.order.OrderFault.TheVariants as fault;
 
 use crate::chain::Chain;
 use crate::chains::{chain_of, link, unlink};
 use crate::closure::{Ask, closure};
-use crate::front::{last_on, note, reach_all, reach_on, reach_op};
-use crate::settling::{leave, remove_first};
+use crate::front::{first_on, last_on, note, reach_on};
+use crate::held::Held;
+use crate::slots::{Slot, first_numbers};
 use ec_base::{Duplicate, NoMemory, ObjId, OpNo, SortedMap};
 use ec_volume::{Update, operands};
 use std::alloc::Global;
@@ -25,9 +27,7 @@ use thiserror::Error;
 #[derive(Drop)]
 pub struct Order {
     alloc: Global,
-    // so many of the first ones have left; the others by rising number
-    held: Vec<(OpNo, Update)>,
-    gone: usize,
+    held: Held,
     // for objects the last operation on them that is on others too, or a later number
     shared: SortedMap<ObjId, OpNo>,
     // for objects the operations on them
@@ -35,10 +35,7 @@ pub struct Order {
 }
 
 impl Model for Order {
-    ghost use Rattle.std.specs.Prelude.{◌≤◌, T, length, drop};
     ghost use Rattle.std.specs.Coded.{coded_list, coded×, coded_ℕ};
-    ghost use Rattle.std.specs.Ordering.{nat_cmp};
-    ghost use Rattle.std.specs.FinMap.{is_sorted};
     ghost use Rattle.ec_volume.specs.contracts.update.Update as update;
     ghost use Rattle.ec_order.specs.Order.{Issued};
     ghost use Rattle.ec_chains.specs.Front.{Covers};
@@ -48,9 +45,9 @@ impl Model for Order {
 
     ghost coded = { coded_list (coded× coded_ℕ update.the_row.coded) };
 
-    ghost view = { λ o. drop o.gone o.held.items };
+    ghost view = { λ o. o.held };
 
-    ghost invariant = { λ o. (o.gone ≤ length o.held.items) × T (is_sorted nat_cmp (drop o.gone o.held.items)) × Covers o.shared (drop o.gone o.held.items) × AreLinked o.chains (drop o.gone o.held.items) };
+    ghost invariant = { λ o. Covers o.shared o.held × AreLinked o.chains o.held };
 }
 
 #[derive(Clone, Copy, Debug, Drop, PartialEq, Eq, Error)]
@@ -77,8 +74,7 @@ impl Order {
     {
         Ok(Order {
             alloc,
-            held: Vec::new(alloc),
-            gone: 0,
+            held: Held::new(alloc),
             shared: SortedMap::new(alloc),
             chains: SortedMap::new(alloc),
         })
@@ -102,22 +98,65 @@ impl Order {
         let objs = operands(self.alloc, &update)?;
         link(self.alloc, &mut self.chains, op, &objs)?;
         note(self.alloc, &mut self.shared, op, &update)?;
-        Ok(self.held.push((op, update))?)
+        self.held.push(op, update)
     }
 
-    /// The held operations, by rising number.
-    pub fn held(&self) -> &[(OpNo, Update)]
-        ensures value { result.now ≡ self.now }
+    /// The places of the held operations, by rising number, and of some that left: no more than are
+    /// held.
+    pub fn slots(&self) -> &[Slot]
+        ensures value { live result.now ≡ self.now }
         ensures sorted { T (is_sorted nat_cmp self.now) }
     {
-        &self.held[self.gone..]
+        self.held.slots()
+    }
+
+    /// How many operations are held.
+    pub fn count(&self) -> usize
+        ensures count { result ≡ length self.now }
+        ensures sorted { T (is_sorted nat_cmp self.now) }
+    {
+        self.held.count()
+    }
+
+    /// The update of an operation, if it's held: by a search.
+    pub fn get(&self, op: OpNo) -> Option<&Update>
+        ensures value { option_copied result ≡ at op self.now }
+        ensures sorted { T (is_sorted nat_cmp self.now) }
+    {
+        self.held.get(op)
+    }
+
+    /// The first operation that is asked for by itself. That on an object is the first of its chain.
+    /// It takes no memory.
+    pub fn first(&self, ask: Ask) -> Option<OpNo>
+        ensures { result ≡ held.first_number (filter (passes ask) self.now) }
+    {
+        match ask {
+            Ask::Object(obj) => first_on(chain_of(&self.chains, obj), self.held.slots(), obj),
+            Ask::Op(op) => self.first_op(op),
+            Ask::All => self.held.first(),
+        }
+    }
+
+    fn first_op(&self, op: OpNo) -> Option<OpNo>
+        ensures { result ≡ held.first_number (filter (passes (Op op)) self.now) }
+    {
+        if !self.held.has(op) {
+            return None;
+        }
+        Some(op)
     }
 
     /// The closure of the operations on the object, in the order of issue.
     pub fn closure_of_object(&self, obj: ObjId) -> Result<Vec<OpNo>, NoMemory>
         ensures { IfOk result (λ ops. ops.items ≡ keys (held.closure_of_object obj self.now)) }
     {
-        closure(self.alloc, self.held(), &self.chains, Ask::Object(obj))
+        closure(
+            self.alloc,
+            self.held.slots(),
+            &self.chains,
+            &Ask::Object(obj),
+        )
     }
 
     /// The closure of the operation, in the order of issue. `NoSuchOp` where it isn't held.
@@ -126,58 +165,62 @@ impl Order {
         ensures held { OnOk result (member op (keys self.now) ≡ true) }
         ensures none { (n : ℕ) → result ≡ Err (fault.NoSuchOp n) → (n ≡ op) × (member op (keys self.now) ≡ false) }
     {
-        let ops = closure(self.alloc, self.held(), &self.chains, Ask::Op(op))?;
+        let ops = self.closure_if_held(op)?;
         if ops.as_slice().is_empty() {
             return Err(OrderFault::NoSuchOp(op));
         }
         Ok(ops)
     }
 
+    // No operation where it isn't held.
+    fn closure_if_held(&self, op: OpNo) -> Result<Vec<OpNo>, NoMemory>
+        ensures { IfOk result (λ ops. ops.items ≡ keys (walk (passes (Op op)) self.now)) }
+    {
+        if !self.held.has(op) {
+            return Ok(Vec::new(self.alloc));
+        }
+        closure(self.alloc, self.held.slots(), &self.chains, &Ask::Op(op))
+    }
+
     /// The first of the closure of what is asked for, in the order of issue: at least so many, or
     /// all. The rest of the closure is asked for by itself. Of an object it walks its chain as far as
     /// needed.
     pub fn front(&self, ask: Ask, most: usize) -> Result<Vec<OpNo>, NoMemory>
-        ensures { IfOk result (λ ops. IsFront ask self.now most ops.items) }
+        ensures front { IfOk result (λ ops. IsFront ask self.now most ops.items) }
+        ensures sorted { OnOk result (T (is_sorted nat_cmp self.now)) }
     {
-        let place = self.reach(&ask, most);
-        closure(self.alloc, &self.held()[..place], &self.chains, ask)
-    }
-
-    fn reach(&self, ask: &Ask, most: usize) -> usize
-        ensures { IsReached ask.now self.now most result }
-    {
+        let held = self.held.slots();
         match ask {
-            Ask::Object(obj) => self.reach_on(*obj, most),
-            Ask::Op(op) => reach_op(self.held(), *op, most),
-            Ask::All => reach_all(self.held(), most),
+            Ask::Object(obj) => self.front_on(obj, most),
+            Ask::Op(op) => self.closure_if_held(op),
+            Ask::All => first_numbers(self.alloc, held, most),
         }
     }
 
-    fn reach_on(&self, obj: ObjId, most: usize) -> usize
-        ensures { IsReached (Object obj) self.now most result }
+    fn front_on(&self, obj: ObjId, most: usize) -> Result<Vec<OpNo>, NoMemory>
+        ensures { IfOk result (λ ops. IsFront (Object obj) self.now most ops.items) }
     {
+        let held = self.held.slots();
         let bound = last_on(&self.shared, obj);
-        reach_on(chain_of(&self.chains, obj), self.held(), obj, bound, most)
+        let place = reach_on(chain_of(&self.chains, obj), held, obj, bound, most);
+        closure(self.alloc, &held[..place], &self.chains, &Ask::Object(obj))
     }
 
-    /// The operations of these numbers leave, in time in proportion to the place of the last one, and
-    /// only now and then by a walk over all. It takes no memory.
+    /// The operations of these numbers leave. Each is found by a search; its place and its number in
+    /// the chains of its operands go later, once for all that left by then. It takes no memory.
     pub fn settle(&mut self, ops: &[OpNo])
         ensures { self.new ≡ held.settle ops.now self.old }
     {
-        unlink(self.alloc, &mut self.chains, &self.held[self.gone..], ops);
-        self.gone = leave(&mut self.held, self.gone, ops);
-        self.trim();
+        'each: for op in ops {
+            self.leave(*op);
+        }
     }
 
-    // What has left is dropped once it is half of all.
-    fn trim(&mut self)
-        ensures { self.new ≡ self.old }
+    fn leave(&mut self, op: OpNo)
+        ensures { self.new ≡ held.settle (op ∷ []) self.old }
     {
-        if self.held.len() / 2 <= self.gone {
-            remove_first(&mut self.held, self.gone);
-            self.gone = 0;
-        }
+        let left = self.held.take(op);
+        unlink(self.alloc, &mut self.chains, &self.held, left);
     }
 
     /// No operation is held any more. It takes no memory.
@@ -185,7 +228,6 @@ impl Order {
         ensures { self.new ≡ [] }
     {
         self.held.clear();
-        self.gone = 0;
         self.shared = SortedMap::new(self.alloc);
         self.chains = SortedMap::new(self.alloc);
     }

@@ -7,13 +7,14 @@ ghost use Rattle.ec_base.specs.Tables.{at, put};
 ghost use Rattle.ec_volume.specs.Update.{member, has_operand, operands};
 ghost use Rattle.ec_volume.specs.declared.update.Update.{Update as Of};
 ghost use Rattle.ec_order.specs.Order.{Holds};
+ghost use Rattle.ec_chains.specs.Slots.{placed};
 ghost use Rattle.ec_chains.specs.Walk.{passes};
 ghost use Rattle.ec_chains.specs.Chains.{AreLinked, IsAt, IsOne, touches, NonePass, IsLatest, IsPlaceOn, Ahead, IsTaken, AreAwaited};
 
-use crate::chain::{Chain, slot_of};
+use crate::chain::Chain;
 use crate::chains::chain_of;
 use crate::closure::Ask;
-use crate::operand::has_operand;
+use crate::slots::{Slot, has_operand, slot_of};
 use ec_base::{NoMemory, ObjId, OpNo, SortedMap};
 use ec_volume::{Update, operands};
 use std::alloc::Global;
@@ -43,12 +44,12 @@ pub fn await_operands(
     alloc: Global,
     places: &mut SortedMap<usize, ()>,
     chains: &SortedMap<ObjId, Chain>,
-    held: &[(OpNo, Update)],
+    held: &[Slot],
     update: &Update,
 ) -> Result<(), NoMemory>
-    requires sorted { T (is_sorted nat_cmp held.now) }
-    requires linked { AreLinked chains.now held.now }
-    ensures { OnOk result (AreAwaited held.now (operands update.now) places.old places.new) }
+    requires sorted { T (is_sorted nat_cmp (placed held.now)) }
+    requires linked { AreLinked chains.now (placed held.now) }
+    ensures { OnOk result (AreAwaited (placed held.now) (operands update.now) places.old places.new) }
 {
     let objs = operands(alloc, update)?;
     await_all(places, chains, held, &objs)
@@ -57,12 +58,12 @@ pub fn await_operands(
 fn await_all(
     places: &mut SortedMap<usize, ()>,
     chains: &SortedMap<ObjId, Chain>,
-    held: &[(OpNo, Update)],
+    held: &[Slot],
     objs: &[ObjId],
 ) -> Result<(), NoMemory>
-    requires sorted { T (is_sorted nat_cmp held.now) }
-    requires linked { AreLinked chains.now held.now }
-    ensures { OnOk result (AreAwaited held.now objs.now places.old places.new) }
+    requires sorted { T (is_sorted nat_cmp (placed held.now)) }
+    requires linked { AreLinked chains.now (placed held.now) }
+    ensures { OnOk result (AreAwaited (placed held.now) objs.now places.old places.new) }
 {
     match objs {
         [] => Ok(()),
@@ -76,12 +77,12 @@ fn await_all(
 fn await_one(
     places: &mut SortedMap<usize, ()>,
     chains: &SortedMap<ObjId, Chain>,
-    held: &[(OpNo, Update)],
+    held: &[Slot],
     obj: ObjId,
 ) -> Result<(), NoMemory>
-    requires sorted { T (is_sorted nat_cmp held.now) }
-    requires linked { AreLinked chains.now held.now }
-    ensures { OnOk result (AreAwaited held.now (obj ∷ []) places.old places.new) }
+    requires sorted { T (is_sorted nat_cmp (placed held.now)) }
+    requires linked { AreLinked chains.now (placed held.now) }
+    ensures { OnOk result (AreAwaited (placed held.now) (obj ∷ []) places.old places.new) }
 {
     match last_on(chain_of(chains, obj), held, obj) {
         Some(place) => places.insert(place, ()),
@@ -92,15 +93,15 @@ fn await_one(
 /// The place of the last operation that is asked for by itself, alone.
 pub fn begin(
     alloc: Global,
-    held: &[(OpNo, Update)],
+    held: &[Slot],
     chains: &SortedMap<ObjId, Chain>,
     ask: &Ask,
 ) -> Result<SortedMap<usize, ()>, NoMemory>
-    requires sorted { T (is_sorted nat_cmp held.now) }
-    requires linked { AreLinked chains.now held.now }
+    requires sorted { T (is_sorted nat_cmp (placed held.now)) }
+    requires linked { AreLinked chains.now (placed held.now) }
     requires one { IsOne ask.now }
-    ensures ahead { IfOk result (λ places. Ahead (passes ask.now) held.now places) }
-    ensures within { IfOk result (λ places. (k : ℕ) → T (is_some (at k places)) → k < length held.now) }
+    ensures ahead { IfOk result (λ places. Ahead (passes ask.now) (placed held.now) places) }
+    ensures within { IfOk result (λ places. (k : ℕ) → T (is_some (at k places)) → k < length (placed held.now)) }
 {
     match last_asked(held, chains, ask) {
         Some(place) => one_place(alloc, place),
@@ -116,11 +117,11 @@ fn one_place(alloc: Global, place: usize) -> Result<SortedMap<usize, ()>, NoMemo
     Ok(places)
 }
 
-fn last_asked(held: &[(OpNo, Update)], chains: &SortedMap<ObjId, Chain>, ask: &Ask) -> Option<usize>
-    requires sorted { T (is_sorted nat_cmp held.now) }
-    requires linked { AreLinked chains.now held.now }
+fn last_asked(held: &[Slot], chains: &SortedMap<ObjId, Chain>, ask: &Ask) -> Option<usize>
+    requires sorted { T (is_sorted nat_cmp (placed held.now)) }
+    requires linked { AreLinked chains.now (placed held.now) }
     requires one { IsOne ask.now }
-    ensures { MatchOption result (NonePass (passes ask.now) held.now) (IsLatest (passes ask.now) held.now) }
+    ensures { MatchOption result (NonePass (passes ask.now) (placed held.now)) (IsLatest (passes ask.now) (placed held.now)) }
 {
     match ask {
         Ask::Object(obj) => last_on(chain_of(chains, *obj), held, *obj),
@@ -130,9 +131,9 @@ fn last_asked(held: &[(OpNo, Update)], chains: &SortedMap<ObjId, Chain>, ask: &A
 }
 
 // The place of the operation, if it's held.
-fn place_of(held: &[(OpNo, Update)], op: OpNo) -> Option<usize>
-    requires { T (is_sorted nat_cmp held.now) }
-    ensures { MatchOption result ((u : Of) → Holds held.now op u → ⊥) (IsAt op held.now) }
+fn place_of(held: &[Slot], op: OpNo) -> Option<usize>
+    requires { T (is_sorted nat_cmp (placed held.now)) }
+    ensures { MatchOption result ((u : Of) → Holds (placed held.now) op u → ⊥) (IsAt op (placed held.now)) }
 {
     match slot_of(held, op) {
         Ok(place) => Some(place),
@@ -141,11 +142,11 @@ fn place_of(held: &[(OpNo, Update)], op: OpNo) -> Option<usize>
 }
 
 // The place of the last operation on the object.
-fn last_on(chain: &[OpNo], held: &[(OpNo, Update)], obj: ObjId) -> Option<usize>
-    requires sorted { T (is_sorted nat_cmp held.now) }
+fn last_on(chain: &[OpNo], held: &[Slot], obj: ObjId) -> Option<usize>
+    requires sorted { T (is_sorted nat_cmp (placed held.now)) }
     requires rising { IsNonDecreasing chain.now }
-    requires linked { (n : ℕ) (u : Of) → Holds held.now n u → T (has_operand obj u) → T (member n chain.now) }
-    ensures { MatchOption result (NonePass (touches obj) held.now) (IsLatest (touches obj) held.now) }
+    requires linked { (n : ℕ) (u : Of) → Holds (placed held.now) n u → T (has_operand obj u) → T (member n chain.now) }
+    ensures { MatchOption result (NonePass (touches obj) (placed held.now)) (IsLatest (touches obj) (placed held.now)) }
 {
     let [.., (last, _)] = held else {
         return None;
@@ -161,9 +162,9 @@ fn last_on(chain: &[OpNo], held: &[(OpNo, Update)], obj: ObjId) -> Option<usize>
 }
 
 /// The place of the operation, if it's held and on the object.
-pub fn place_on(held: &[(OpNo, Update)], op: OpNo, obj: ObjId) -> Option<usize>
-    requires { T (is_sorted nat_cmp held.now) }
-    ensures { MatchOption result ((u : Of) → Holds held.now op u → T (has_operand obj u) → ⊥) (λ place. IsPlaceOn op obj held.now place) }
+pub fn place_on(held: &[Slot], op: OpNo, obj: ObjId) -> Option<usize>
+    requires { T (is_sorted nat_cmp (placed held.now)) }
+    ensures { MatchOption result ((u : Of) → Holds (placed held.now) op u → T (has_operand obj u) → ⊥) (λ place. IsPlaceOn op obj (placed held.now) place) }
 {
     let Ok(place) = slot_of(held, op) else {
         return None;

@@ -1,5 +1,5 @@
 -- What is owed comes before the operations of the session, and the lost ones of those come behind it.
-use Rattle.std.proofs.Common.{◌≡◌, ◌<◌, ◌≤◌, ◌+◌, refl, sym, ap, ◌∙◌, inl, inr, arith, ℕ, Bool, true, false, cond, List, [], ◌∷◌, ◌++◌, length, drop, get_or}
+use Rattle.std.proofs.Common.{◌≡◌, ◌<◌, ◌≤◌, ◌+◌, refl, sym, ap, ◌∙◌, inl, inr, arith, ℕ, Bool, true, false, cond, List, [], ◌∷◌, ◌++◌}
 use Rattle.std.specs.Prelude.{T, not, nat_lt, nat_le, map, filter}
 use Rattle.std.specs.Ordering.{nat_cmp, is_lt}
 use Rattle.std.specs.FinMap.{is_sorted}
@@ -21,7 +21,6 @@ use Rattle.ec_sessions.specs.declared.window.Window.{Window}
 use Rattle.ec_report.specs.Report.{Owed, owe, pairs_of, come_behind}
 use Rattle.ec_protocol.specs.Clerk.{with_operands}
 use Rattle.ec_clerk.specs.Owing.{lost_of, owed_before}
-use Rattle.ec_clerk.proofs.Steps.{next_is}
 
 pub later : (n m : ℕ) (owed : Owed) → n ≤ m → owed_before n owed ≡ true → owed_before m owed ≡ true
 later n m [] l h = refl
@@ -131,18 +130,18 @@ first_member ns (x ∷ xs) n rest e = go (member x.0 ns) refl e (first_member ns
     go true m e r = ap (λ k. member k ns) (sym (head (keys (lost_of ns xs)) e)) ∙ m
     go false m e r = r e
 
-module _ (ns : List ℕ) (ops : Issued) (i : ℕ) (x : ℕ × Update) (within : i < length ops) (is : x ≡ get_or ops i x) (left : List ℕ) (walked : keys (lost_of ns (drop i ops)) ≡ left) where
-  next_left : keys (lost_of ns (x ∷ drop (i + 1) ops)) ≡ left
-  next_left = ap (λ l. keys (lost_of ns l)) (sym (next_is ops i x within is)) ∙ walked
+module _ (ns : List ℕ) (ops after : Issued) (x : ℕ × Update) (next : ops ≡ x ∷ after) (left : List ℕ) (walked : keys (lost_of ns ops) ≡ left) where
+  next_left : keys (lost_of ns (x ∷ after)) ≡ left
+  next_left = ap (λ l. keys (lost_of ns l)) (sym next) ∙ walked
 
-  by_test : (b : Bool) → member x.0 ns ≡ b → keys (cond b (x ∷ lost_of ns (drop (i + 1) ops)) (lost_of ns (drop (i + 1) ops))) ≡ left
-  by_test b e = sym (ap (λ t. keys (cond t (x ∷ lost_of ns (drop (i + 1) ops)) (lost_of ns (drop (i + 1) ops)))) e) ∙ next_left
+  by_test : (b : Bool) → member x.0 ns ≡ b → keys (cond b (x ∷ lost_of ns after) (lost_of ns after)) ≡ left
+  by_test b e = sym (ap (λ t. keys (cond t (x ∷ lost_of ns after) (lost_of ns after))) e) ∙ next_left
 
   -- the next one is lost
   pub is_next : (rest : List ℕ) → left ≡ x.0 ∷ rest → member x.0 ns ≡ true
-  is_next rest e = first_member ns (x ∷ drop (i + 1) ops) x.0 rest (next_left ∙ e)
+  is_next rest e = first_member ns (x ∷ after) x.0 rest (next_left ∙ e)
 
-  pub left_behind : (rest : List ℕ) → left ≡ x.0 ∷ rest → keys (lost_of ns (drop (i + 1) ops)) ≡ rest
+  pub left_behind : (rest : List ℕ) → left ≡ x.0 ∷ rest → keys (lost_of ns after) ≡ rest
   left_behind rest e = tail (by_test true (is_next rest e) ∙ e)
     where
       tail : {ms : List ℕ} → ◌≡◌ {A = List ℕ} (x.0 ∷ ms) (x.0 ∷ rest) → ms ≡ rest
@@ -154,9 +153,9 @@ module _ (ns : List ℕ) (ops : Issued) (i : ℕ) (x : ℕ × Update) (within : 
     where
       go : (b : Bool) → member x.0 ns ≡ b → member x.0 ns ≡ false
       go false e = e
-      go true e = absurd (h (keys (lost_of ns (drop (i + 1) ops))) (sym (by_test true e)))
+      go true e = absurd (h (keys (lost_of ns after)) (sym (by_test true e)))
 
-  pub left_same : ((rest : List ℕ) → left ≡ x.0 ∷ rest → ⊥) → keys (lost_of ns (drop (i + 1) ops)) ≡ left
+  pub left_same : ((rest : List ℕ) → left ≡ x.0 ∷ rest → ⊥) → keys (lost_of ns after) ≡ left
   left_same h = by_test false (is_other h)
 
 -- what the code finds of them

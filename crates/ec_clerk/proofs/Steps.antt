@@ -135,13 +135,13 @@ owed_by ns op ops = go (member op.0 ns)
     go true = refl
     go false = refl
 
-pub owed_more : (ns : List ℕ) (ops : Issued) (i : ℕ) (op : ℕ × Update) (before after all : List (ℕ × List ℕ)) → i < length ops → op ≡ get_or ops i op → after ≡ before ++ clerk.with_operands (lost_of ns (op ∷ [])) → before ++ clerk.with_operands (lost_of ns (drop i ops)) ≡ all → after ++ clerk.with_operands (lost_of ns (drop (i + 1) ops)) ≡ all
-owed_more ns ops i op before after all within is more h =
-    let rest = clerk.with_operands (lost_of ns (drop (i + 1) ops)) in
-    ap (λ x. x ++ rest) more
-    ∙ append_assoc before (clerk.with_operands (lost_of ns (op ∷ []))) rest
-    ∙ ap (λ x. before ++ x) (sym (owed_by ns op (drop (i + 1) ops)))
-    ∙ sym (ap (λ x. before ++ clerk.with_operands (lost_of ns x)) (next_is ops i op within is))
+pub owed_more : (ns : List ℕ) (ops rest : Issued) (op : ℕ × Update) (before after all : List (ℕ × List ℕ)) → ops ≡ op ∷ rest → after ≡ before ++ clerk.with_operands (lost_of ns (op ∷ [])) → before ++ clerk.with_operands (lost_of ns ops) ≡ all → after ++ clerk.with_operands (lost_of ns rest) ≡ all
+owed_more ns ops rest op before after all next more h =
+    let owed = clerk.with_operands (lost_of ns rest) in
+    ap (λ x. x ++ owed) more
+    ∙ append_assoc before (clerk.with_operands (lost_of ns (op ∷ []))) owed
+    ∙ ap (λ x. before ++ x) (sym (owed_by ns op rest))
+    ∙ sym (ap (λ x. before ++ clerk.with_operands (lost_of ns x)) next)
     ∙ h
 
 pub one_owed : (ns : List ℕ) (op : ℕ) (u : Update) (objs : List ℕ) (before after : List (ℕ × List ℕ)) → member op ns ≡ true → objs ≡ operands u → after ≡ before ++ (op, objs) ∷ [] → after ≡ before ++ clerk.with_operands (lost_of ns ((op, u) ∷ []))

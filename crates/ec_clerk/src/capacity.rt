@@ -1,11 +1,13 @@
 // Tokens beyond the capacity go back, but those on objects with undurable operations.
 ghost use Rattle.std.specs.Prelude.{◌≡◌, IfOk, OnOk};
+ghost use Rattle.ec_chains.specs.Slots.{live};
 ghost use Rattle.ec_protocol.specs.Clerk as clerk;
 ghost use Rattle.ec_clerk.specs.Seen.{Does, send_numbers};
 
 use crate::doing::Doing;
-use ec_base::{Hold, NoMemory, ObjId, OpNo};
-use ec_volume::{Update, operands};
+use ec_base::{Hold, NoMemory, ObjId};
+use ec_chains::Slot;
+use ec_volume::operands;
 use std::alloc::Global;
 
 impl Doing {
@@ -32,11 +34,14 @@ impl Doing {
 }
 
 // The operands of operations.
-fn on_objects(alloc: Global, ops: &[(OpNo, Update)]) -> Result<Vec<ObjId>, NoMemory>
-    ensures { IfOk result (λ objs. objs.items ≡ clerk.on_objects ops.now) }
+fn on_objects(alloc: Global, ops: &[Slot]) -> Result<Vec<ObjId>, NoMemory>
+    ensures { IfOk result (λ objs. objs.items ≡ clerk.on_objects (live ops.now)) }
 {
     let mut objs = Vec::new(alloc);
     'ops: for (_, update) in ops {
+        let Some(update) = update else {
+            continue;
+        };
         objs.extend_from_slice(&operands(alloc, update)?)?;
     }
     Ok(objs)

@@ -1,16 +1,18 @@
 // The operations of a session, and the lost ones of earlier sessions.
 ghost use Rattle.std.specs.Prelude.{◌≡◌, ◌∷◌, ℕ, List as Listed, true, IfOk, OnOk, MatchOption};
 ghost use Rattle.ec_base.specs.Tables.{keys};
+ghost use Rattle.ec_chains.specs.Slots.{live};
 ghost use Rattle.ec_log.specs.Log as logs;
 ghost use Rattle.ec_report.specs.Report as report;
 ghost use Rattle.ec_protocol.specs.Clerk as clerk;
 ghost use Rattle.ec_clerk.specs.Owing.{lost_of, owed_before};
 
 use ec_base::{List, NoMemory, ObjId, OpNo};
+use ec_chains::Slot;
 use ec_log::Log;
 use ec_report::Report;
 use ec_sessions::Window;
-use ec_volume::{Update, operands};
+use ec_volume::operands;
 use std::alloc::Global;
 
 /// What a clerk issued, and the lost operations that are still to be reported, which come before
@@ -41,15 +43,18 @@ impl Ledger {
 // are some of the others, in the same order.
 fn with_operands(
     alloc: Global,
-    ops: &[(OpNo, Update)],
+    ops: &[Slot],
     lost: &[OpNo],
 ) -> Result<Vec<(OpNo, List<ObjId>)>, NoMemory>
-    requires { keys (lost_of lost.now ops.now) ≡ lost.now }
-    ensures { IfOk result (λ owed. owed.items ≡ clerk.with_operands (lost_of lost.now ops.now)) }
+    requires { keys (lost_of lost.now (live ops.now)) ≡ lost.now }
+    ensures { IfOk result (λ owed. owed.items ≡ clerk.with_operands (lost_of lost.now (live ops.now))) }
 {
     let mut owed = Vec::with_capacity(alloc, lost.len())?;
     let mut left = lost;
     'ops: for (op, update) in ops {
+        let Some(update) = update else {
+            continue;
+        };
         if let Some(rest) = behind(left, *op) {
             owed.push((*op, List::of(operands(alloc, update)?)))?;
             left = rest;

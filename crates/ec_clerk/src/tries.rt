@@ -140,7 +140,7 @@ impl Doing {
         if !suits(self.alloc, &update, &self.cache)? {
             return Ok(Tried::Waits);
         }
-        if self.ledger.log.undurable().len() >= MAX_UNDURABLE {
+        if self.ledger.log.count() >= MAX_UNDURABLE {
             self.ask_for(Asked::All)?;
             return Ok(Tried::Waits);
         }

@@ -1,14 +1,22 @@
 -- Walks over operations by rising place, and closures by what is asked for.
-use Rattle.std.proofs.Common.{◌≡◌, ◌<◌, ◌≤◌, ◌+◌, refl, sym, ap, ◌∙◌, ℕ, suc, Bool, true, false, cond, not, List, [], ◌∷◌, ◌++◌, length, drop, get_or, arith, drop-cons, append-nil, None, Some}
-use Rattle.std.specs.Prelude.{◌&&◌, filter, nat_lt, nat_le}
+use Rattle.std.proofs.Common.{◌≡◌, ◌<◌, ◌≤◌, ◌+◌, refl, sym, ap, ◌∙◌, ℕ, Bool, true, false, cond, not, List, [], ◌∷◌, ◌++◌, length, drop, get_or, append-nil, arith, Option, None, Some}
+use Rattle.std.specs.Prelude.{◌&&◌, filter, is_some, nat_lt, nat_le}
 use Rattle.std.proofs.lemmas.Bool.{and_parts, and_from, lt-ltb, ltb-true, le-leb}
 use Rattle.std.proofs.lemmas.List.{append_assoc, drop_all}
 use Rattle.ec_base.specs.Tables.{Table, at, or_else, without, keys}
 use Rattle.ec_volume.specs.Update.{member}
 use Rattle.ec_volume.specs.declared.update.Update.{Update}
 use Rattle.ec_order.specs.Order.{Issued}
+use Rattle.ec_chains.specs.Held as held
 use Rattle.ec_chains.specs.Held.{is_behind}
-use Rattle.ec_log.specs.Log.{first_number, is_from, kept}
+use Rattle.ec_chains.specs.SlotLaws.{live-next}
+use Rattle.ec_chains.specs.Slots.{Slots, with_one, live}
+use Rattle.ec_chains.specs.Walk.{passes}
+use Rattle.ec_chains.specs.declared.closure.Ask.TheVariants.{All}
+use Rattle.ec_log.specs.Choice.{ask_of}
+use Rattle.ec_log.specs.Log.{first_number, is_asked, is_from, kept}
+use Rattle.ec_log.specs.declared.state.Asked.{Asked}
+use Rattle.ec_log.specs.declared.state.Asked.TheVariants as asked_of
 use Rattle.ec_log.specs.declared.state.LogState.{LogState}
 
 -- Numbers above all that are held.
@@ -62,65 +70,41 @@ kept_none l n bs none is =
 
 -- One more place.
 
-module _ (ops : Issued) (i : ℕ) (x : ℕ × Update) (within : i < length ops) (is : x ≡ get_or ops i x) where
-  at_place : drop i ops ≡ x ∷ drop (i + 1) ops
-  at_place = drop-cons ops i x within ∙ ap (λ y. y ∷ drop (suc i) ops) (sym is) ∙ ap (λ n. x ∷ drop n ops) next_place
-    where
-      next_place : suc i ≡ i + 1
-      next_place = omega arith
+module _ (slots : Slots) (i : ℕ) (x : ℕ × Option Update) (within : i < length slots) (is : x ≡ get_or slots i x) (q : ℕ → Bool) where
+  abbrev p : ℕ × Update → Bool
+  p op = q op.0
 
-  pub numbers_more : (before after all : List ℕ) → after ≡ before ++ x.0 ∷ [] → before ++ keys (drop i ops) ≡ all → after ++ keys (drop (i + 1) ops) ≡ all
-  numbers_more before after all more h = ap (λ l. l ++ keys (drop (i + 1) ops)) more ∙ append_assoc before (x.0 ∷ []) (keys (drop (i + 1) ops)) ∙ ap (λ l. before ++ keys l) (sym at_place) ∙ h
+  abbrev rest : Issued
+  rest = live (drop (i + 1) slots)
 
-  module _ (p : ℕ × Update → Bool) where
-    next_part : drop i ops ≡ x ∷ drop (i + 1) ops → filter p (drop i ops) ≡ cond (p x) (x ∷ filter p (drop (i + 1) ops)) (filter p (drop (i + 1) ops))
-    next_part e = ap (filter p) e
+  by : (o : Option Update) (t : Bool) → q x.0 ≡ t → (before : List ℕ) → cond (is_some o && t) (before ++ x.0 ∷ []) before ++ keys (filter p rest) ≡ before ++ keys (filter p (with_one x.0 o rest))
+  by None t g before = refl
+  by (Some u) true g before = append_assoc before (x.0 ∷ []) (keys (filter p rest)) ∙ sym (ap (λ b. before ++ keys (cond b ((x.0, u) ∷ filter p rest) (filter p rest))) g)
+  by (Some u) false g before = sym (ap (λ b. before ++ keys (cond b ((x.0, u) ∷ filter p rest) (filter p rest))) g)
 
-    pub part_taken : (before after all : List ℕ) → p x ≡ true → after ≡ before ++ x.0 ∷ [] → before ++ keys (filter p (drop i ops)) ≡ all → after ++ keys (filter p (drop (i + 1) ops)) ≡ all
-    part_taken before after all e more h =
-        ap (λ l. l ++ keys (filter p (drop (i + 1) ops))) more
-        ∙ append_assoc before (x.0 ∷ []) (keys (filter p (drop (i + 1) ops)))
-        ∙ ap (λ b. before ++ keys (cond b (x ∷ filter p (drop (i + 1) ops)) (filter p (drop (i + 1) ops)))) (sym e)
-        ∙ ap (λ l. before ++ keys l) (sym (next_part at_place))
-        ∙ h
-
-    pub part_left : (before all : List ℕ) → p x ≡ false → before ++ keys (filter p (drop i ops)) ≡ all → before ++ keys (filter p (drop (i + 1) ops)) ≡ all
-    part_left before all e h =
-        ap (λ b. before ++ keys (cond b (x ∷ filter p (drop (i + 1) ops)) (filter p (drop (i + 1) ops)))) (sym e)
-        ∙ ap (λ l. before ++ keys l) (sym (next_part at_place))
-        ∙ h
-
-    pub held_taken : (before after all : Issued) (y : ℕ × Update) → y ≡ x → p x ≡ true → after ≡ before ++ y ∷ [] → before ++ filter p (drop i ops) ≡ all → after ++ filter p (drop (i + 1) ops) ≡ all
-    held_taken before after all y same e more h =
-        ap (λ l. l ++ filter p (drop (i + 1) ops)) more
-        ∙ append_assoc before (y ∷ []) (filter p (drop (i + 1) ops))
-        ∙ ap (λ z. before ++ z ∷ filter p (drop (i + 1) ops)) same
-        ∙ ap (λ b. before ++ cond b (x ∷ filter p (drop (i + 1) ops)) (filter p (drop (i + 1) ops))) (sym e)
-        ∙ ap (λ l. before ++ l) (sym (next_part at_place))
-        ∙ h
-
-    pub held_left : (before all : Issued) → p x ≡ false → before ++ filter p (drop i ops) ≡ all → before ++ filter p (drop (i + 1) ops) ≡ all
-    held_left before all e h =
-        ap (λ b. before ++ cond b (x ∷ filter p (drop (i + 1) ops)) (filter p (drop (i + 1) ops))) (sym e)
-        ∙ ap (λ l. before ++ l) (sym (next_part at_place))
-        ∙ h
-
-    pub first_found : (all : Issued) → p x ≡ true → first_number (filter p (drop i ops)) ≡ first_number all → Some x.0 ≡ first_number all
-    first_found all e h = ap (λ b. first_number (cond b (x ∷ filter p (drop (i + 1) ops)) (filter p (drop (i + 1) ops)))) (sym e) ∙ ap first_number (sym (next_part at_place)) ∙ h
-
-    pub first_later : (all : Issued) → p x ≡ false → first_number (filter p (drop i ops)) ≡ first_number all → first_number (filter p (drop (i + 1) ops)) ≡ first_number all
-    first_later all e h = ap (λ b. first_number (cond b (x ∷ filter p (drop (i + 1) ops)) (filter p (drop (i + 1) ops)))) (sym e) ∙ ap first_number (sym (next_part at_place)) ∙ h
+  pub place_more : (b : Bool) → b ≡ (is_some x.1 && q x.0) → (before after all : List ℕ) → after ≡ cond b (before ++ x.0 ∷ []) before → before ++ keys (filter p (live (drop i slots))) ≡ all → after ++ keys (filter p rest) ≡ all
+  place_more b e before after all more h =
+      ap (λ l. l ++ keys (filter p rest)) (more ∙ ap (λ c. cond c (before ++ x.0 ∷ []) before) e) ∙ by x.1 (q x.0) refl before ∙ sym (ap (λ l. before ++ keys (filter p l)) (live-next slots i x within is)) ∙ h
 
 -- The last place.
 
-pub numbers_end : (ops : Issued) (i : ℕ) (before all : List ℕ) → length ops ≤ i → before ++ keys (drop i ops) ≡ all → before ≡ all
-numbers_end ops i before all l h = sym (append-nil before) ∙ ap (λ d. before ++ keys d) (sym (drop_all i ops l)) ∙ h
+pub part_end : (p : ℕ × Update → Bool) (slots : Slots) (i : ℕ) (before all : List ℕ) → length slots ≤ i → before ++ keys (filter p (live (drop i slots))) ≡ all → before ≡ all
+part_end p slots i before all l h = sym (append-nil before) ∙ ap (λ d. before ++ keys (filter p (live d))) (sym (drop_all i slots l)) ∙ h
 
-pub held_end : (p : ℕ × Update → Bool) (ops : Issued) (i : ℕ) (before all : Issued) → length ops ≤ i → before ++ filter p (drop i ops) ≡ all → before ≡ all
-held_end p ops i before all l h = sym (append-nil before) ∙ ap (λ d. before ++ filter p d) (sym (drop_all i ops l)) ∙ h
+-- All of them are asked for.
 
-pub part_end : (p : ℕ × Update → Bool) (ops : Issued) (i : ℕ) (before all : List ℕ) → length ops ≤ i → before ++ keys (filter p (drop i ops)) ≡ all → before ≡ all
-part_end p ops i before all l h = sym (append-nil before) ∙ ap (λ d. before ++ keys (filter p d)) (sym (drop_all i ops l)) ∙ h
+pub all_asked : (xs : Issued) → filter (is_asked asked_of.All) xs ≡ xs
+all_asked [] = refl
+all_asked (x ∷ xs) = ap (λ l. x ∷ l) (all_asked xs)
 
-pub first_none : (p : ℕ × Update → Bool) (ops : Issued) (i : ℕ) (all : Issued) → length ops ≤ i → first_number (filter p (drop i ops)) ≡ first_number all → None ≡ first_number all
-first_none p ops i all l h = ap (λ d. first_number (filter p d)) (sym (drop_all i ops l)) ∙ h
+same_first : (xs : Issued) → held.first_number xs ≡ first_number xs
+same_first [] = refl
+same_first (x ∷ xs) = refl
+
+pub asked_first : (a : Asked) (xs : Issued) → held.first_number (filter (passes (ask_of a)) xs) ≡ first_number (filter (is_asked a) xs)
+asked_first (asked_of.Object o) xs = same_first (filter (is_asked (asked_of.Object o)) xs)
+asked_first (asked_of.Op n) xs = same_first (filter (is_asked (asked_of.Op n)) xs)
+asked_first asked_of.All xs = same_first (filter (is_asked asked_of.All) xs)
+
+pub first_of_all : (xs : Issued) → held.first_number (filter (passes All) xs) ≡ first_number xs
+first_of_all xs = asked_first asked_of.All xs ∙ ap first_number (all_asked xs)

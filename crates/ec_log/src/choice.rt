@@ -1,17 +1,17 @@
 // The batches under way, and whether a new one begins.
-ghost use Rattle.std.specs.Prelude.{◌≡◌, ◌&&◌, ◌||◌, T, true, filter, IfOk};
-ghost use Rattle.std.specs.Ordering.{nat_cmp};
-ghost use Rattle.std.specs.FinMap.{is_sorted};
+ghost use Rattle.std.specs.Prelude.{◌≡◌, ◌&&◌, ◌||◌, true, not, filter, is_some, IfOk};
 ghost use Rattle.std.specs.List.{list_any};
 ghost use Rattle.ec_base.specs.Tables.{keys, first};
 ghost use Rattle.ec_volume.specs.Update.{member};
+ghost use Rattle.ec_chains.specs.Slots.{live};
 ghost use Rattle.ec_sessions.specs.Windows.{has};
 ghost use Rattle.ec_log.specs.Choice as choice;
 
-use crate::asked::{is_asked_for, update_of};
+use crate::asked::is_asked_for;
 use crate::limits::{MAX_BATCH_OPS, WINDOW_SIZE};
 use crate::state::{Asked, Pick};
 use ec_base::{Duplicate, List, NoMemory, OpNo};
+use ec_chains::{Order, Slot};
 use ec_sessions::Window;
 use ec_volume::Update;
 use std::alloc::Global;
@@ -44,9 +44,8 @@ pub fn first_met(
     batches: &[(u64, List<OpNo>)],
     ops: &[OpNo],
     asked: &Asked,
-    undurable: &[(OpNo, Update)],
+    undurable: &Order,
 ) -> Option<u64>
-    requires { T (is_sorted nat_cmp undurable.now) }
     ensures { result ≡ choice.number_of (first (choice.is_met ops.now asked.now undurable.now) batches.now) }
 {
     match batches {
@@ -61,8 +60,7 @@ pub fn first_met(
     }
 }
 
-fn is_met(members: &[OpNo], ops: &[OpNo], asked: &Asked, undurable: &[(OpNo, Update)]) -> bool
-    requires { T (is_sorted nat_cmp undurable.now) }
+fn is_met(members: &[OpNo], ops: &[OpNo], asked: &Asked, undurable: &Order) -> bool
     ensures { result ≡ list_any (λ n. member n ops.now || member n (choice.numbers_asked asked.now undurable.now)) members.now }
 {
     match members {
@@ -90,15 +88,14 @@ fn full_from(next: u64, batches: &[(u64, List<OpNo>)]) -> Option<u64>
 pub fn those_in(
     alloc: Global,
     members: &[OpNo],
-    ops: &[(OpNo, Update)],
+    undurable: &Order,
 ) -> Result<Vec<(OpNo, Update)>, NoMemory>
-    requires rising { choice.rises members.now ≡ true }
-    requires sorted { T (is_sorted nat_cmp ops.now) }
-    ensures { IfOk result (λ found. found.items ≡ filter (λ op. member op.0 members.now) ops.now) }
+    requires { choice.rises members.now ≡ true }
+    ensures { IfOk result (λ found. found.items ≡ filter (λ op. member op.0 members.now) undurable.now) }
 {
-    let mut found = Vec::new(alloc);
+    let mut found = Vec::with_capacity(alloc, members.len().min(undurable.count()))?;
     'members: for op in members {
-        if let Some(update) = update_of(ops, *op) {
+        if let Some(update) = undurable.get(*op) {
             found.push((*op, update.duplicate()?))?;
         }
     }
@@ -110,17 +107,29 @@ pub fn lost_of(
     alloc: Global,
     window: &Window,
     batches: &[(u64, List<OpNo>)],
-    ops: &[(OpNo, Update)],
+    slots: &[Slot],
 ) -> Result<Vec<OpNo>, NoMemory>
-    ensures { IfOk result (λ lost. lost.items ≡ keys (choice.lost_in window.now batches.now ops.now)) }
+    ensures { IfOk result (λ lost. lost.items ≡ keys (choice.lost_in window.now batches.now (live slots.now))) }
 {
     let mut lost = Vec::new(alloc);
-    for (op, _) in ops {
-        if !is_kept_by(window, batches, *op) {
+    'slots: for (op, update) in slots {
+        if is_lost(window, batches, *op, update) {
             lost.push(*op)?;
         }
     }
     Ok(lost)
+}
+
+// Whether the place has an operation, and it's in no batch that the window has.
+fn is_lost(
+    window: &Window,
+    batches: &[(u64, List<OpNo>)],
+    op: OpNo,
+    update: &Option<Update>,
+) -> bool
+    ensures { result ≡ (is_some update.now && not (list_any (λ b. has window.now b.0 && member op b.1) batches.now)) }
+{
+    update.is_some() && !is_kept_by(window, batches, op)
 }
 
 // Whether the operation is in a batch that the window has.

@@ -1,8 +1,9 @@
 // A clerk's log.
-ghost use Rattle.std.specs.Prelude.{◌≡◌, ◌==◌, ℕ, true, false, List, [], take, Ok, Err, is_some, IfOk, IfSome, OnOk, OnErr};
+ghost use Rattle.std.specs.Prelude.{◌≡◌, ℕ, true, false, List, length, Ok, Err, is_some, IfOk, IfSome, OnOk, OnErr};
 ghost use Rattle.ec_base.specs.Tables.{at, keys};
 ghost use Rattle.ec_base.specs.declared.counter.Counter.{Counter as Kind};
 ghost use Rattle.ec_base.specs.declared.counter.Counter.TheVariants as counter;
+ghost use Rattle.ec_chains.specs.Slots.{live};
 ghost use Rattle.ec_log.specs.Log as log;
 ghost use Rattle.ec_log.specs.declared.state.LogFault.TheVariants as fault;
 ghost use Rattle.ec_log.specs.declared.state.Pick.TheVariants as picked;
@@ -12,7 +13,7 @@ use crate::choice::{choose, first_met, lost_of, those_in};
 use crate::limits::MAX_UNDURABLE;
 use crate::state::{Asked, LogFault, Pick};
 use ec_base::{Counter, Duplicate, LAST_COUNTER, List, NoMemory, OpNo, SortedMap};
-use ec_chains::Order;
+use ec_chains::{Ask, Order, Slot};
 use ec_sessions::Window;
 use ec_volume::Update;
 use std::alloc::Global;
@@ -76,7 +77,7 @@ impl Log {
         ensures full { result ≡ Err fault.Full → log.is_full self.old ≡ true }
         ensures spent { (c : Kind) → result ≡ Err (fault.Spent c) → (c ≡ counter.Op) × (log.is_full self.old ≡ false) × (log.ops_are_spent self.old ≡ true) }
     {
-        if self.undurable.held().len() >= MAX_UNDURABLE {
+        if self.undurable.count() >= MAX_UNDURABLE {
             return Err(LogFault::Full);
         }
         if self.next > LAST_COUNTER {
@@ -102,7 +103,7 @@ impl Log {
     {
         let ops = front_of(&self.undurable, asked)?;
         let batches = self.batches.items();
-        let behind = first_met(batches, &ops, &asked, self.undurable.held());
+        let behind = first_met(batches, &ops, &asked, &self.undurable);
         let made = choose(ops, self.next_batch, batches, behind);
         if let Pick::Batch(no, ops) = &made {
             if self.next_batch > LAST_COUNTER {
@@ -123,7 +124,7 @@ impl Log {
         match self.batches.get(&no) {
             None => Ok(None),
             Some(members) => {
-                let ops = those_in(self.alloc, members.as_slice(), self.undurable.held())?;
+                let ops = those_in(self.alloc, members.as_slice(), &self.undurable)?;
                 Ok(Some(List::of(ops)))
             }
         }
@@ -147,7 +148,7 @@ impl Log {
             self.alloc,
             window,
             self.batches.items(),
-            self.undurable.held(),
+            self.undurable.slots(),
         )
     }
 
@@ -166,9 +167,9 @@ impl Log {
     pub fn floor(&self) -> u64
         ensures { result ≡ log.floor self.now }
     {
-        match self.undurable.held() {
-            [] => self.next,
-            [(op, _), ..] => op.0,
+        match self.undurable.first(Ask::All) {
+            Some(op) => op.0,
+            None => self.next,
         }
     }
 
@@ -176,16 +177,23 @@ impl Log {
     pub fn first(&self, asked: Asked) -> Option<OpNo>
         ensures { result ≡ log.first asked self.now }
     {
-        first_asked(&asked, self.undurable.held())
+        first_asked(&self.undurable, asked)
     }
 
-    /// The operations that aren't known to be durable, in the order of issue: they rise from the
-    /// first one of this session on.
-    pub fn undurable(&self) -> &[(OpNo, Update)]
-        ensures value { result.now ≡ self.now.undurable }
+    /// The operations that aren't known to be durable, in the order of issue, at their places: some
+    /// places are empty, no more than have one. They rise from the first one of this session on.
+    pub fn undurable(&self) -> &[Slot]
+        ensures value { live result.now ≡ self.now.undurable }
         ensures own { log.AreOwn self.now }
     {
-        self.undurable.held()
+        self.undurable.slots()
+    }
+
+    /// How many they are.
+    pub fn count(&self) -> usize
+        ensures { result ≡ length self.now.undurable }
+    {
+        self.undurable.count()
     }
 
     /// The batches under way, by rising number.

@@ -155,7 +155,7 @@ fn issue(
         return Ok(false);
     }
     cache.change(&update)?;
-    if log.undurable().len() >= MAX_UNDURABLE {
+    if log.count() >= MAX_UNDURABLE {
         log.end();
     }
     log.issue(update)?;

@@ -3,5 +3,5 @@ use Rattle.ec_log.specs.Choice.{rises}
 use Rattle.ec_log.proofs.Members.{found_rises}
 use Rattle.ec_log.proofs.log.Log.batch.Goals as goal
 
-pub those_in-requires-clause-rising : goal.those_in-requires-clause-rising
-those_in-requires-clause-rising c = ap rises c.as_slice.ensures ∙ found_rises c.args.no c.in-Some.members.now c.self.inside.batches c.self.invariant.3 c.in-Some.ensures
+pub those_in-requires : goal.those_in-requires
+those_in-requires c = ap rises c.as_slice.ensures ∙ found_rises c.args.no c.in-Some.members.now c.self.inside.batches c.self.invariant.3 c.in-Some.ensures

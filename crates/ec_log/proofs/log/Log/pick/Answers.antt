@@ -1,4 +1,4 @@
-use Rattle.std.proofs.Common.{ap, sym, rules, ◌∙◌}
+use Rattle.std.proofs.Common.{ap, refl, sym, rules, ◌∙◌}
 use Rattle.ec_log.specs.Log.{is_new, pick}
 use Rattle.ec_log.specs.Choice.{rises, all_rise}
 use Rattle.ec_log.proofs.Fronts.{pick-front}
@@ -8,7 +8,7 @@ use Rattle.ec_log.proofs.log.Log.pick.Goals as goal
 pub returns-clause-pick : goal.returns-clause-pick
 returns-clause-pick c =
     pick-front (record { next = c.self.inside.next; first = c.self.inside.first; undurable = c.self.inside.undurable; batches = c.self.inside.batches; next_batch = c.self.inside.next_batch }) c.args.asked c.choose-made.result c.in_ok-ops.ops.items
-    c.deref.result.now c.held.result.now c.items-batches.result.now c.first_met-behind.result c.choose-made.ensures c.first_met-behind.ensures c.deref.ensures.value c.held.ensures.value c.items-batches.ensures.value c.in_ok-ops.ensures
+    c.deref.result.now c.self.inside.undurable c.items-batches.result.now c.first_met-behind.result c.choose-made.ensures c.first_met-behind.ensures c.deref.ensures.value refl c.items-batches.ensures.value c.in_ok-ops.ensures.front
     ∙ ap (λ l. pick c.args.asked l) c.self.view_is
 
 pub returns-then-self-gt-LAST_COUNTER-clause-spent : goal.returns-then-self-gt-LAST_COUNTER-clause-spent
@@ -16,7 +16,7 @@ returns-then-self-gt-LAST_COUNTER-clause-spent c = λ k e. (
   cc e,
   sym (ap is_new (
       pick-front (record { next = c.self.inside.next; first = c.self.inside.first; undurable = c.self.inside.undurable; batches = c.self.inside.batches; next_batch = c.self.inside.next_batch }) c.args.asked c.choose-made.result c.in_ok-ops.ops.items
-      c.deref.result.now c.held.result.now c.items-batches.result.now c.first_met-behind.result c.choose-made.ensures c.first_met-behind.ensures c.deref.ensures.value c.held.ensures.value c.items-batches.ensures.value c.in_ok-ops.ensures
+      c.deref.result.now c.self.inside.undurable c.items-batches.result.now c.first_met-behind.result c.choose-made.ensures c.first_met-behind.ensures c.deref.ensures.value refl c.items-batches.ensures.value c.in_ok-ops.ensures.front
       ∙ ap (λ l. pick c.args.asked l) c.self.view_is))
       ∙ ap is_new c.in-Batch.is,
   search rules,
@@ -29,6 +29,6 @@ invariant_of-self-in-Batch c = (
   c.self.invariant.2,
   ap all_rise c.in_ok-insert.ensures.ok
       ∙ all_rise_put c.in-Batch.no c.in_ok-duplicate.field-0 c.self.inside.batches
-      (ap rises c.in_ok-duplicate.ensures ∙ batch_rises c.args.asked c.self.inside.undurable c.in_ok-ops.ops.items c.in-Batch.ops c.self.inside.next_batch c.in-Batch.no c.items-batches.result.now c.first_met-behind.result c.held.ensures.sorted c.in_ok-ops.ensures (sym c.in-Batch.is ∙ c.choose-made.ensures))
+      (ap rises c.in_ok-duplicate.ensures ∙ batch_rises c.args.asked c.self.inside.undurable c.in_ok-ops.ops.items c.in-Batch.ops c.self.inside.next_batch c.in-Batch.no c.items-batches.result.now c.first_met-behind.result c.in_ok-ops.ensures.sorted c.in_ok-ops.ensures.front (sym c.in-Batch.is ∙ c.choose-made.ensures))
       c.self.invariant.3,
 )

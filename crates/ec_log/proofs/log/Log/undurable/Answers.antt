@@ -7,7 +7,7 @@ pub returns-clause-own : goal.returns-clause-own
 returns-clause-own c =
     subst (λ (l : LogState). AreOwn l) c.self.view_is (record {
       begun = c.self.invariant.0;
-      rising = c.held.ensures.sorted;
+      rising = c.slots.ensures.sorted;
       from = c.self.invariant.1;
       behind = c.self.invariant.2;
     })

@@ -1,6 +1,0 @@
-use Rattle.std.proofs.Common.{◌≤◌, ◌⊎◌, ℕ, T, drop}
-use Rattle.ec_volume.specs.Update.{member}
-use Rattle.ec_chains.proofs.settling.greatest.Given as goal
-
-abbrev pub invariant-each : goal.invariant-each
-invariant-each l = (n : ℕ) → T (member n l.ops) → (n ≤ l.bound) ⊎ T (member n (drop l.op-index l.ops))
