@@ -4,17 +4,20 @@ use Rattle.std.specs.Prelude.{nat_lt, ◌==◌, ◌||◌}
 use Rattle.std.proofs.lemmas.Bool.Decides.{nat_tests}
 use Rattle.ec_plain.specs.declared.call.Outcome.{Outcome}
 use Rattle.ec_laws.proofs.Objects.{holds}
+use Rattle.std.specs.Ordering.{nat_cmp}
+use Rattle.std.specs.FinMap.{is_sorted}
 use Rattle.std.specs.List.{list_all}
 use Rattle.std.proofs.lemmas.List.{take_more, take-append-drop, length-take-le}
 use Rattle.ec_volume.specs.Image.{is_gone}
 use Rattle.ec_volume.specs.Update.{distinct, member, is_sound}
-use Rattle.ec_volume.specs.Volume.{images, after, WellFormed}
+use Rattle.ec_volume.specs.Volume.{after, WellFormed}
+use Rattle.ec_overlay.specs.Shown.{shown}
 use Rattle.ec_formed.specs.Bases.{AreAtLines, LeaveWellFormed, is_bounded_entry}
 use Rattle.ec_formed.proofs.Bases.{base-formatted}
 use Rattle.ec_formed.proofs.Kept.{kept-formed, kept-held}
 use Rattle.ec_formed.proofs.Laws.{kept-reached, call-sound, call-fits}
 use Rattle.ec_formed.proofs.Keeping.{whole, gone}
-use Rattle.ec_history.specs.History.{History, Throughout, Each, updates, kept, outcome}
+use Rattle.ec_history.specs.History.{History, Throughout, Each, updates, of_issue, kept, outcome}
 use Rattle.ec_history.specs.Legal.{IsFull, IsLegal, IsLegalNext, from_formatted}
 use Rattle.ec_history.specs.declared.entry.Answer.{Answer}
 use Rattle.ec_history.specs.declared.entry.Answer.TheVariants as answer
@@ -27,6 +30,7 @@ use Rattle.ec_laws.proofs.Removed.{both, left, right}
 use Rattle.ec_judge.specs.declared.carried.Judge.{Judge}
 use Rattle.ec_judge.specs.Faults.{IsFirstEntry}
 use Rattle.ec_judge.specs.Carried.{Carries, IsReady, Judges}
+use Rattle.ec_judge.proofs.Numbers.{kept-sorted}
 use Rattle.ec_judge.proofs.Volumes.{all-same}
 
 abbrev places : History → List ℕ
@@ -67,13 +71,14 @@ lines-front h g a = record {
 ready : (most : ℕ) (past : History) (e : ℕ × Entry) (j : Judge) → AreAtLines (past ++ e ∷ []) → Carries from_formatted past j → IsLegal from_formatted most past → IsReady j e
 ready most past e j lines h legal =
     let w : LeaveWellFormed from_formatted (kept from_formatted past) = whole kept-formed kept-reached call-sound call-fits kept-held from_formatted base-formatted most past (lines-front past (e ∷ []) lines) legal in
-    let same : after from_formatted.volume (updates (kept from_formatted past)) ≡ images j.volume = sym (all-same (images j.volume) (after from_formatted.volume (updates (kept from_formatted past))) h.volume) in
+    let same : after from_formatted.volume (updates (kept from_formatted past)) ≡ shown j.firm.volume = sym (all-same (shown j.firm.volume) (after from_formatted.volume (updates (kept from_formatted past))) h.volume) in
     record {
       formed = subst WellFormed same w.formed;
       gone = subst (λ v. T (is_gone (v (1 + e.0)))) same (gone kept-formed kept-reached call-sound call-fits kept-held from_formatted base-formatted most past e lines legal);
       bounded = all-last past e lines.bounded;
       sound = subst (λ ks. T (list_all is_sound (updates ks))) (sym h.kept) w.sound;
       firm = h.firm;
+      rising = λ c b. subst (λ ks. T (is_sorted nat_cmp (of_issue c b ks))) (sym h.kept) (kept-sorted from_formatted most c b past legal);
     }
 
 -- The entries up to a place.

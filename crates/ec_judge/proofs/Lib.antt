@@ -11,5 +11,7 @@ pub mod Indexes
 pub mod Volumes
 pub mod Loops
 pub mod Prefixes
+pub mod Tails
+pub mod Outsides
 pub mod Steps
 pub mod Checks

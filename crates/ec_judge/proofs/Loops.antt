@@ -22,7 +22,7 @@ use Rattle.ec_judge.specs.Carried.{op_of, ops_of, IsFront}
 
 -- Two lists with a common number.
 
-any-either : (p q : ℕ → Bool) (xs : List ℕ) → list_any (λ x. p x || q x) xs ≡ (list_any p xs || list_any q xs)
+pub any-either : (p q : ℕ → Bool) (xs : List ℕ) → list_any (λ x. p x || q x) xs ≡ (list_any p xs || list_any q xs)
 any-either p q [] = refl
 any-either p q (x ∷ xs) = ap (λ r. (p x || q x) || r) (any-either p q xs) ∙ go (p x) (q x) (list_any p xs) (list_any q xs)
   where
@@ -37,7 +37,7 @@ any-none : (xs : List ℕ) → false ≡ list_any (λ x. false) xs
 any-none [] = refl
 any-none (x ∷ xs) = any-none xs
 
-any-same : (p q : ℕ → Bool) → ((x : ℕ) → p x ≡ q x) → (xs : List ℕ) → list_any p xs ≡ list_any q xs
+pub any-same : (p q : ℕ → Bool) → ((x : ℕ) → p x ≡ q x) → (xs : List ℕ) → list_any p xs ≡ list_any q xs
 any-same p q h [] = refl
 any-same p q h (x ∷ xs) = ap (λ b. b || list_any p xs) (h x) ∙ ap (λ b. q x || b) (any-same p q h xs)
 

@@ -1,8 +1,10 @@
 -- What the numbers of a legal history's operations say: they rise, none is kept twice, and what is kept wasn't lost.
 use Rattle.std.proofs.Common.{◌≡◌, refl, sym, ap, subst, ◌∙◌, arith, ◌≤◌, ◌<◌, ℕ, T, Bool, true, false, not, ◌==◌, ◌&&◌, ◌||◌, cond, map, List, [], ◌∷◌, ◌++◌, Option, Some, None, append-nil, append_assoc}
 use Rattle.std.specs.Prelude.{nat_lt, ⊤}
-use Rattle.std.specs.Ordering.{nat_cmp}
+use Rattle.std.specs.Ordering.{nat_cmp, is_lt}
 use Rattle.std.specs.FinMap.{is_sorted}
+use Rattle.std.specs.FinMap.Entries.{below_all}
+use Rattle.ec_base.specs.SortedLaws.{first, second}
 use Rattle.std.specs.List.{filter, list_all, list_any}
 use Rattle.std.proofs.lemmas.Bool.{and_parts, eqb-true, true≢false}
 use Rattle.std.proofs.lemmas.Bool.Decides.{nat_tests}
@@ -10,7 +12,7 @@ use Rattle.std.proofs.lemmas.List.Elements.{filter-append}
 use Rattle.ec_volume.specs.Update.{member}
 use Rattle.ec_volume.specs.declared.update.Update.{Update}
 use Rattle.ec_chains.specs.Held.{is_behind}
-use Rattle.ec_chains.proofs.Held.{sorted_more}
+use Rattle.ec_chains.proofs.Rising.{sorted_more}
 use Rattle.ec_history.specs.History.{Base, History, Op, Throughout, Each, Covers, same_start, of_start, is_one_of, of_issue, outcome, kept, kept_next, issued, issued_by, without, is_lost, names}
 use Rattle.ec_history.specs.Legal.{IsLegal, IsLegalNext, leaves, is_call_of_other}
 use Rattle.ec_history.specs.declared.entry.Answer.{Answer}
@@ -19,7 +21,7 @@ use Rattle.ec_history.specs.declared.entry.Entry.TheVariants as entry
 use Rattle.ec_laws.proofs.Cuts.{legal-step, throughout-append}
 use Rattle.ec_laws.proofs.More.{kept-step, issued-step, is_lost-append, count-step}
 use Rattle.ec_laws.proofs.Numbers.{count, IsUpTo, issued-up_to, kept-up_to, kept-each, throughout-issued, covers-up_to, each-append, each-map}
-use Rattle.ec_laws.proofs.Removed.{left, right}
+use Rattle.ec_laws.proofs.Removed.{both, left, right}
 use Rattle.ec_laws.proofs.Objects.{holds, is-true}
 use Rattle.ec_judge.specs.Carried.{IsUncovered, IsUntouched}
 
@@ -215,6 +217,61 @@ module _ (base : Base) (most : ℕ) where
 
     pub issue-sorted : (h : History) → IsLegal base most h → T (is_sorted nat_cmp (of_issue c b (issued base h)))
     issue-sorted = by-steps (λ h. T (is_sorted nat_cmp (of_issue c b (issued base h)))) (λ past e l k h. subst (λ ks. T (is_sorted nat_cmp (of_issue c b ks))) (sym (issued-step base past e)) (issue-next past e l k h)) tt
+
+    -- The same of what is kept.
+
+    abbrev pair-of : Op → ℕ × Update
+    pair-of k = (k.number, k.update)
+
+    below-filter : (m : ℕ) (q : Op → Bool) (ks : List Op) → T (below_all nat_cmp m (of_issue c b ks)) → T (below_all nat_cmp m (of_issue c b (filter q ks)))
+    below-filter m q [] t = t
+    below-filter m q (k ∷ ks) t = go (q k) (of_start c b k) refl t (below-filter m q ks)
+      where
+        own : List Op
+        own = filter (of_start c b) ks
+
+        left-own : List Op
+        left-own = filter (of_start c b) (filter q ks)
+
+        go : (x y : Bool) → of_start c b k ≡ y → T (below_all nat_cmp m (map pair-of (cond y (k ∷ own) own))) → (T (below_all nat_cmp m (map pair-of own)) → T (below_all nat_cmp m (map pair-of left-own))) → T (below_all nat_cmp m (map pair-of (filter (of_start c b) (cond x (k ∷ filter q ks) (filter q ks)))))
+        go true true d u f = subst (λ z. T (below_all nat_cmp m (map pair-of (cond z (k ∷ left-own) left-own)))) (sym d) (both (is_lt (nat_cmp m k.number)) _ (first _ _ u) (f (second _ _ u)))
+        go true false d u f = subst (λ z. T (below_all nat_cmp m (map pair-of (cond z (k ∷ left-own) left-own)))) (sym d) (f u)
+        go false true d u f = f (second _ _ u)
+        go false false d u f = f u
+
+    sorted-filter : (q : Op → Bool) (ks : List Op) → T (is_sorted nat_cmp (of_issue c b ks)) → T (is_sorted nat_cmp (of_issue c b (filter q ks)))
+    sorted-filter q [] t = t
+    sorted-filter q (k ∷ ks) t = go (q k) (of_start c b k) refl t (sorted-filter q ks)
+      where
+        own : List Op
+        own = filter (of_start c b) ks
+
+        left-own : List Op
+        left-own = filter (of_start c b) (filter q ks)
+
+        go : (x y : Bool) → of_start c b k ≡ y → T (is_sorted nat_cmp (map pair-of (cond y (k ∷ own) own))) → (T (is_sorted nat_cmp (map pair-of own)) → T (is_sorted nat_cmp (map pair-of left-own))) → T (is_sorted nat_cmp (map pair-of (filter (of_start c b) (cond x (k ∷ filter q ks) (filter q ks)))))
+        go true true d u f = subst (λ z. T (is_sorted nat_cmp (map pair-of (cond z (k ∷ left-own) left-own)))) (sym d) (both (below_all nat_cmp k.number (map pair-of left-own)) _ (below-filter k.number q ks (first _ _ u)) (f (second _ _ u)))
+        go true false d u f = subst (λ z. T (is_sorted nat_cmp (map pair-of (cond z (k ∷ left-own) left-own)))) (sym d) (f u)
+        go false true d u f = f (second _ _ u)
+        go false false d u f = f u
+
+    kept-sorted-next : (past : History) (e : ℕ × Entry) → IsLegal base most past → IsLegalNext base most past e → T (is_sorted nat_cmp (of_issue c b (kept base past))) → T (is_sorted nat_cmp (of_issue c b (kept_next base (kept base past) e)))
+    kept-sorted-next past (p, entry.Loss d f ns) l k h = sorted-filter (λ j. not (is_one_of d f ns j)) (kept base past) h
+    kept-sorted-next past (p, entry.Call d f li g cl a None) l k h = subst (λ ks. T (is_sorted nat_cmp (of_issue c b ks))) (sym (append-nil (kept base past))) h
+    kept-sorted-next past (p, entry.Call d f li g cl a (Some n)) l k h = go ((outcome base (kept base past) p cl).update)
+      where
+        own : same_start c b d f ≡ true → count c b past < n
+        own e =
+            let parts = and_parts (c == d) (b == f) e in
+            let same : count c b past ≡ count d f past = ap (λ x. count x b past) (eqb-true c d parts.0) ∙ ap (λ x. count d x past) (eqb-true b f parts.1) in
+            omega (arith, k.number, same)
+
+        go : (u : Option Update) → T (is_sorted nat_cmp (of_issue c b (kept base past ++ elim u [ None ↦ [] | Some w ↦ record { clerk = d; boot = f; number = n; place = p; update = w } ∷ [] ])))
+        go None = subst (λ ks. T (is_sorted nat_cmp (of_issue c b ks))) (sym (append-nil (kept base past))) h
+        go (Some w) = issue-more (kept base past) (record { clerk = d; boot = f; number = n; place = p; update = w }) (count c b past) h (kept-up_to base most c b past l) own
+
+    pub kept-sorted : (h : History) → IsLegal base most h → T (is_sorted nat_cmp (of_issue c b (kept base h)))
+    kept-sorted = by-steps (λ h. T (is_sorted nat_cmp (of_issue c b (kept base h)))) (λ past e l k h. subst (λ ks. T (is_sorted nat_cmp (of_issue c b ks))) (sym (kept-step base past e)) (kept-sorted-next past e l k h)) tt
 
     -- What was lost has a number of the start.
 

@@ -1,28 +1,34 @@
 -- The volume behind the first operations, at a call and at a loss.
 use Rattle.std.proofs.Common.{◌≡◌, refl, sym, ap, subst, ◌∙◌, arith, ◌<◌, ◌≤◌, ◌+◌, ℕ, zero, suc, Bool, true, false, not, ◌||◌, cond, List, [], ◌∷◌, ◌++◌, length, take, get_or}
-use Rattle.std.specs.Prelude.{⊤, Option, Some, None, Result, Ok, Err, IfOk, MatchOption}
+use Rattle.std.specs.Prelude.{Result, Ok, Err, IfOk, MatchBool}
 use Rattle.std.specs.List.{filter, list_any}
 use Rattle.std.proofs.lemmas.Bool.{true≢false}
-use Rattle.std.proofs.lemmas.List.{take_more}
+use Rattle.std.proofs.lemmas.List.{take_more, take_all}
 use Rattle.std.proofs.lemmas.List.Folds.{list_any-append}
-use Rattle.ec_volume.specs.Volume.{images, formatted, after, Fits}
+use Rattle.ec_volume.specs.Volume.{Images, images, formatted, after, Fits}
+use Rattle.ec_volume.specs.declared.image.Image.{Image}
+use Rattle.ec_overlay.specs.Shown.{shown}
 use Rattle.ec_history.specs.History.{Op, updates, is_one_of}
 use Rattle.ec_judge.specs.declared.carried.Kept.{Kept}
 use Rattle.ec_judge.specs.declared.carried.Firm.{Firm}
-use Rattle.ec_judge.specs.Carried.{op_of, ops_of, is_among, IsFront, IsFirm, IsBehind}
+use Rattle.ec_judge.specs.Carried.{op_of, ops_of, is_among, IsFront, IsFirm, IsBehind, IsLeft}
 
 -- two tests that agree on the first operations
-front-same : (q r : Op → Bool) (ks js : List Kept) (n : ℕ) (f : Firm) → filter r (ops_of (take n js)) ≡ filter q (ops_of (take n ks)) → IsFront q ks n (images f.volume) → IsFront r js n (images f.volume)
-front-same q r ks js n f e h = record {
+front-same : (q r : Op → Bool) (ks js : List Kept) (n : ℕ) (v : Images) → filter r (ops_of (take n js)) ≡ filter q (ops_of (take n ks)) → IsFront q ks n v → IsFront r js n v
+front-same q r ks js n v e h = record {
   fits = subst (λ l. Fits formatted (updates l)) (sym e) h.fits;
   same = λ o. h.same o ∙ ap (λ l. after formatted (updates l) o) (sym e);
 }
 
-pub firm-begins : (f : Firm) (q : Op → Bool) (ks : List Kept) → f.count ≡ 0 → ((o : ℕ) → images f.volume o ≡ formatted o) → IsFront q ks f.count (images f.volume)
-firm-begins f q ks e h = subst (λ n. IsFront q ks n (images f.volume)) (sym e) (record { fits = λ o. tt; same = h })
+-- another volume of the same images
+pub front-shown : (q : Op → Bool) (ks : List Kept) (n : ℕ) (v w : Images) → ((o : ℕ) → w o ≡ v o) → IsFront q ks n v → IsFront q ks n w
+front-shown q ks n v w e h = record { fits = h.fits; same = λ o. e o ∙ h.same o }
 
-pub firm-new : (f : Firm) (ks : List Kept) → ks ≡ [] → f.count ≡ 0 → ((o : ℕ) → images f.volume o ≡ formatted o) → IsFirm ks f
-firm-new f ks none e h = record { within = omega (arith, e); front = firm-begins f (λ k. true) ks e h }
+pub front-begins : (q : Op → Bool) (ks : List Kept) (n : ℕ) (v : Images) → n ≡ 0 → ((o : ℕ) → v o ≡ formatted o) → IsFront q ks n v
+front-begins q ks n v e h = subst (λ n. IsFront q ks n v) (sym e) (record { fits = λ o. tt; same = h })
+
+pub firm-new : (n : ℕ) (v : Images) (ks : List Kept) → ks ≡ [] → n ≡ 0 → ((o : ℕ) → v o ≡ formatted o) → IsFirm ks n v
+firm-new n v ks none e h = record { within = omega (arith, e); front = front-begins (λ k. true) ks n v e h }
 
 take-front : (ks js : List Kept) (n : ℕ) → n ≤ length ks → take n (ks ++ js) ≡ take n ks
 take-front ks js zero l = refl
@@ -36,14 +42,25 @@ length-front (k ∷ ks) js =
     omega (arith, rest)
 
 -- more operations
-pub firm-more : (ks js : List Kept) (f : Firm) → IsFirm ks f → IsFirm (ks ++ js) f
-firm-more ks js f h =
+pub firm-more : (ks js : List Kept) (n : ℕ) (v : Images) → IsFirm ks n v → IsFirm (ks ++ js) n v
+firm-more ks js n v h =
     let more = length-front ks js in
     let old = h.within in
     record {
       within = omega (arith, more, old);
-      front = front-same (λ k. true) (λ k. true) ks (ks ++ js) f.count f (ap (λ l. filter (λ k. true) (ops_of l)) (take-front ks js f.count old)) h.front;
+      front = front-same (λ k. true) (λ k. true) ks (ks ++ js) n v (ap (λ l. filter (λ k. true) (ops_of l)) (take-front ks js n old)) h.front;
     }
+
+-- what doesn't hold of the first ones doesn't of fewer of them
+any-fewer : (p : Kept → Bool) (ks : List Kept) (m n : ℕ) → m ≤ n → list_any p (take n ks) ≡ false → list_any p (take m ks) ≡ false
+any-fewer p ks zero n l e = refl
+any-fewer p [] (suc m) n l e = refl
+any-fewer p (k ∷ ks) (suc m) zero l e = absurd (omega (arith, l))
+any-fewer p (k ∷ ks) (suc m) (suc n) l e = go (p k) e (any-fewer p ks m n (omega (arith, l)))
+  where
+    go : (x : Bool) → (x || list_any p (take n ks)) ≡ false → (list_any p (take n ks) ≡ false → list_any p (take m ks) ≡ false) → (x || list_any p (take m ks)) ≡ false
+    go true d f = absurd (true≢false d)
+    go false d f = f d
 
 module _ (c b : ℕ) (ns : List ℕ) where
   abbrev q : Op → Bool
@@ -72,23 +89,37 @@ module _ (c b : ℕ) (ns : List ℕ) where
           let below = r.1 in
           (ap (λ l. k ∷ l) r.0, omega (arith, below))
 
-  pub behind-kept : (ks : List Kept) (f : Firm) → IsFirm ks f → list_any (is_among c b ns) (take f.count ks) ≡ false → IsBehind c b ns ks f
-  behind-kept ks f h e = record { within = h.within; front = front-same (λ k. true) q ks ks f.count f (unlost-filter (take f.count ks) e) h.front; unlost = e }
+  -- the volume below is behind operations before the index
+  pub behind-kept : (ks : List Kept) (from n : ℕ) (v : Images) → IsFirm ks n v → n ≤ from → list_any (is_among c b ns) (take from ks) ≡ false → IsBehind c b ns ks n v
+  behind-kept ks from n v h l none =
+      let e = any-fewer (is_among c b ns) ks n from l none in
+      record { within = h.within; front = front-same (λ k. true) q ks ks n v (unlost-filter (take n ks) e) h.front; unlost = e }
 
-  pub behind-begins : (ks : List Kept) (f : Firm) → f.count ≡ 0 → ((o : ℕ) → images f.volume o ≡ formatted o) → IsBehind c b ns ks f
-  behind-begins ks f e h = record { within = omega (arith, e); front = firm-begins f q ks e h; unlost = ap (λ n. list_any (is_among c b ns) (take n ks)) e }
+  pub behind-begins : (ks : List Kept) (n : ℕ) (v : Images) → n ≡ 0 → ((o : ℕ) → v o ≡ formatted o) → IsBehind c b ns ks n v
+  behind-begins ks n v e h = record { within = omega (arith, e); front = front-begins q ks n v e h; unlost = ap (λ n. list_any (is_among c b ns) (take n ks)) e }
 
   -- one operation more
   pub unlost-more : (ks : List Kept) (i : ℕ) (k : Kept) → i < length ks → k ≡ get_or ks i k → list_any (is_among c b ns) (take i ks) ≡ false → is_among c b ns k ≡ false → list_any (is_among c b ns) (take (i + 1) ks) ≡ false
   unlost-more ks i k within is e d = ap (list_any (is_among c b ns)) (take_more ks i k within ∙ ap (λ z. take i ks ++ z ∷ []) (sym is)) ∙ list_any-append (is_among c b ns) (take i ks) (k ∷ []) ∙ ap (λ z. z || (is_among c b ns k || false)) e ∙ ap (λ z. z || false) d
 
   -- behind the loss
-  pub firm-left : (ks : List Kept) (f : Firm) → IsBehind c b ns ks f → IsFirm (filter (λ k. not (is_among c b ns k)) ks) f
-  firm-left ks f h =
-      let left = unlost-take ks f.count h.within h.unlost in
-      record { within = left.1; front = front-same q (λ k. true) ks (filter (λ k. not (is_among c b ns k)) ks) f.count f (ap (λ l. filter (λ k. true) (ops_of l)) left.0 ∙ sym (unlost-filter (take f.count ks) h.unlost)) h.front }
+  firm-left : (ks : List Kept) (n : ℕ) (v : Images) → IsBehind c b ns ks n v → IsFirm (filter (λ k. not (is_among c b ns k)) ks) n v
+  firm-left ks n v h =
+      let left = unlost-take ks n h.within h.unlost in
+      record { within = left.1; front = front-same q (λ k. true) ks (filter (λ k. not (is_among c b ns k)) ks) n v (ap (λ l. filter (λ k. true) (ops_of l)) left.0 ∙ sym (unlost-filter (take n ks) h.unlost)) h.front }
 
-pub any-found : {A E : Type 0} (r : Result (Option A) E) (P : Type 0) → P → IfOk r (λ found. MatchOption found ⊤ (λ x. P))
-any-found (Ok None) P h = tt
-any-found (Ok (Some x)) P h = h
-any-found (Err e) P h = tt
+  left-all : (ks : List Kept) (f : Firm) (n : ℕ) (under : List (ℕ × Image)) → IsFront q ks (length ks) (shown f.volume) → IsBehind c b ns ks n (images under) → f.count ≡ n → f.volume.under ≡ under → IsLeft c b ns ks f
+  left-all ks f n under a h count-is under-is =
+      let whole = take_all (length ks) ks (omega arith) in
+      record {
+        fits = subst (λ l. Fits formatted (updates (filter q (ops_of l)))) whole a.fits;
+        volume = λ o. a.same o ∙ ap (λ l. after formatted (updates (filter q (ops_of l))) o) whole;
+        firm = subst (λ m. IsFirm (filter (λ k. not (is_among c b ns k)) ks) m (images f.volume.under)) (sym count-is) (subst (λ u. IsFirm (filter (λ k. not (is_among c b ns k)) ks) n (images u)) (sym under-is) (firm-left ks n (images under) h));
+      }
+
+  pub left-done : {E : Type 0} (ks : List Kept) (f : Firm) (r : Result Bool E) (n : ℕ) (under : List (ℕ × Image)) → IsBehind c b ns ks n (images under) → f.count ≡ n
+      → IfOk r (λ fits. MatchBool fits (IsFront q ks (length ks) (shown f.volume)) (¬ (Fits formatted (updates (filter q (ops_of ks)))))) → IfOk r (λ fits. f.volume.under ≡ under)
+      → IfOk r (λ fits. MatchBool fits (IsLeft c b ns ks f) (¬ (Fits formatted (updates (filter q (ops_of ks))))))
+  left-done ks f (Ok true) n under h count-is a u = left-all ks f n under a h count-is u
+  left-done ks f (Ok false) n under h count-is a u = a
+  left-done ks f (Err e) n under h count-is a u = tt

@@ -13,6 +13,7 @@ use Rattle.ec_volume.specs.Image.{is_gone}
 use Rattle.ec_volume.specs.Update.{operands, has_operand, member, fits}
 use Rattle.ec_volume.specs.Volume.{Images, images, after, Fits, WellFormed, formatted}
 use Rattle.ec_volume.specs.declared.update.Update.{Update}
+use Rattle.ec_overlay.specs.Shown.{shown}
 use Rattle.ec_plain.specs.Plain.{plain}
 use Rattle.ec_plain.specs.Bounds.{is_bounded}
 use Rattle.ec_plain.specs.declared.call.Call.{Call}
@@ -300,9 +301,9 @@ module _ (most : ℕ) (past : History) (by : Issuer) (l g : ℕ) (cl : Call) (a 
       → s'.clerk ≡ by.clerk → s'.boot ≡ by.boot → s'.count ≡ count_next s.count op → s'.owed.items ≡ filter (λ q. not (meets o cl q)) s.owed.items → s'.pending.items ≡ rest (is_asked w) s.pending.items ++ issues_of by.place op o.update
       → j'.starts.items ≡ set ss at s' → j'.kept.items ≡ j.kept.items ++ keeps_of by op o.update
       → ((x : ℕ) → Tables.at x j'.touches ≡ cond (member x o.touched) (Some (touched_next by.clerk by.turn (Tables.at x j.touches))) (Tables.at x j.touches))
-      → ((x : ℕ) → images j'.volume x ≡ after (images j.volume) (updates (ops_of (keeps_of by op o.update))) x) → j'.firm ≡ j.firm
+      → ((x : ℕ) → shown j'.firm.volume x ≡ after (shown j.firm.volume) (updates (ops_of (keeps_of by op o.update))) x) → j'.firm.count ≡ j.firm.count → j'.firm.volume.under ≡ j.firm.volume.under
       → Carries F (past ++ e ∷ []) j'
-  call-carried j' ss at s s' w o turn same legal-call starts at-is within own pending-same found w-is sc sb count-of owed-of pending-is starts-are kept-are touches-are volume-is firm-is =
+  call-carried j' ss at s s' w o turn same legal-call starts at-is within own pending-same found w-is sc sb count-of owed-of pending-is starts-are kept-are touches-are volume-is count-same under-same =
       let seen : (x : ℕ) → Tables.at x j'.touches ≡ cond (member x out.touched) (Some (touched_next by.clerk by.turn (Tables.at x j.touches))) (Tables.at x j.touches) =
       λ x. touches-are x ∙ ap (λ z. cond (member x z.touched) (Some (touched_next by.clerk by.turn (Tables.at x j.touches))) (Tables.at x j.touches)) same in
       let step : kept F (past ++ e ∷ []) ≡ kept F past ++ issued_by F (kept F past) e = kept-step F past e in
@@ -319,7 +320,7 @@ module _ (most : ℕ) (past : History) (by : Issuer) (l g : ℕ) (cl : Call) (a 
       record {
         volume = λ x.
             volume-is x
-            ∙ ap (λ v. after v (updates (ops_of (keeps_of by op o.update))) x) (all-same (images j.volume) (after F.volume (updates (kept F past))) h.volume)
+            ∙ ap (λ v. after v (updates (ops_of (keeps_of by op o.update))) x) (all-same (shown j.firm.volume) (after F.volume (updates (kept F past))) h.volume)
             ∙ sym (after-append x (F.volume x) (updates (kept F past)) (updates (ops_of (keeps_of by op o.update))))
             ∙ ap (λ us. after F.volume us x) (ap (λ ks. updates (kept F past) ++ updates ks) news ∙ sym (updates-append (kept F past) (issued_by F (kept F past) e)) ∙ ap updates (sym step));
         kept =
@@ -342,7 +343,8 @@ module _ (most : ℕ) (past : History) (by : Issuer) (l g : ℕ) (cl : Call) (a 
         turns = subst (λ n. Each (λ k. k.turn < n) j'.kept.items) (length-more past e) (subst (Each (λ k. k.turn < length past + 1)) (sym kept-are) (each-append (λ k. k.turn < length past + 1) j.kept.items (keeps_of by op o.update)
             (turns-more (length past) j.kept.items h.turns) (turns-new (length past) by op o.update turn)));
         touches = λ x. subst (λ n. AreBelow n (Tables.at x j'.touches)) (length-more past e) (below-next by.clerk by.turn out.touched j.touches j'.touches seen (length past) x turn (h.touches x));
-        firm = subst (IsFirm j'.kept.items) (sym firm-is) (subst (λ ks. IsFirm ks j.firm) (sym kept-are) (firm-more j.kept.items (keeps_of by op o.update) j.firm h.firm));
+        firm = subst (λ n. IsFirm j'.kept.items n (images j'.firm.volume.under)) (sym count-same) (subst (λ u. IsFirm j'.kept.items j.firm.count (images u)) (sym under-same)
+            (subst (λ ks. IsFirm ks j.firm.count (images j.firm.volume.under)) (sym kept-are) (firm-more j.kept.items (keeps_of by op o.update) j.firm.count (images j.firm.volume.under) h.firm)));
       }
 
 -- The rules of a loss.
@@ -461,7 +463,7 @@ module _ (most : ℕ) (past : History) (p c b : ℕ) (ns : List ℕ) (j : Judge)
       → ((c b : ℕ) → pending_of (find (is_start c b) ss) ≡ pending_of (find (is_start c b) j.starts.items)) → find (is_start c b) ss ≡ Some s
       → s'.clerk ≡ c → s'.boot ≡ b → s'.count ≡ s.count → s'.owed.items ≡ s.owed.items ++ pairs_of (filter (is_one_of c b ns) (ops_of j.kept.items)) → s'.pending.items ≡ s.pending.items
       → j'.starts.items ≡ set ss at s' → j'.kept.items ≡ filter (λ k. not (is_among c b ns k)) j.kept.items → j'.touches ≡ j.touches
-      → ((x : ℕ) → images j'.volume x ≡ after formatted (updates (without c b ns (ops_of j.kept.items))) x) → IsFirm (filter (λ k. not (is_among c b ns k)) j.kept.items) j'.firm
+      → ((x : ℕ) → shown j'.firm.volume x ≡ after formatted (updates (without c b ns (ops_of j.kept.items))) x) → IsFirm (filter (λ k. not (is_among c b ns k)) j.kept.items) j'.firm.count (images j'.firm.volume.under)
       → Carries F (past ++ lost ∷ []) j'
   loss-carried j' ss at s s' starts at-is within own pending-same found sc sb count-of owed-of pending-is starts-are kept-are touches-are volume-is firm-is =
       let step : kept F (past ++ lost ∷ []) ≡ without c b ns (kept F past) = kept-step F past lost in
@@ -480,7 +482,7 @@ module _ (most : ℕ) (past : History) (p c b : ℕ) (ns : List ℕ) (j : Judge)
             (subst (Each (IsFlagged F (past ++ lost ∷ []) j'.starts.items j.touches)) (sym kept-are) (each-kept (IsFlagged F past j.starts.items j.touches) (IsFlagged F (past ++ lost ∷ []) j'.starts.items j.touches) (λ k. not (is_among c b ns k)) (λ k e f. loss-flag j'.starts.items as-before k f) j.kept.items h.flags));
         turns = subst (λ n. Each (λ k. k.turn < n) j'.kept.items) (length-more past lost) (subst (Each (λ k. k.turn < length past + 1)) (sym kept-are) (each-kept (λ k. k.turn < length past + 1) (λ k. k.turn < length past + 1) (λ k. not (is_among c b ns k)) (λ k e f. f) j.kept.items (turns-more (length past) j.kept.items h.turns)));
         touches = λ x. subst (λ n. AreBelow n (Tables.at x j'.touches)) (length-more past lost) (subst (λ ts. AreBelow (length past + 1) (Tables.at x ts)) (sym touches-are) (below-more (length past) (Tables.at x j.touches) (h.touches x)));
-        firm = subst (λ ks. IsFirm ks j'.firm) (sym kept-are) firm-is;
+        firm = subst (λ ks. IsFirm ks j'.firm.count (images j'.firm.volume.under)) (sym kept-are) firm-is;
       }
 
 -- What is known of the start at an index.

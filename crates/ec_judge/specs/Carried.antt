@@ -1,5 +1,7 @@
 -- What the judge carries from entry to entry. No public clause cites this module.
 use Rattle.std.specs.Prelude.{◌≡◌, ◌==◌, ◌+◌, ℕ, ◌<◌, ◌≤◌, T, Bool, true, false, not, ◌&&◌, ◌||◌, if◌then◌else◌, nat_lt, nat_le, map, List, [], ◌∷◌, ◌++◌, length, take, Option, Some, None, MatchBool, MatchOption, ⊤}
+use Rattle.std.specs.Ordering.{nat_cmp}
+use Rattle.std.specs.FinMap.{is_sorted}
 use Rattle.std.specs.List.{filter, find, list_any, list_all}
 use Rattle.ec_base.specs.Tables.{Table, at}
 use Rattle.ec_volume.specs.Image.{is_gone}
@@ -9,7 +11,7 @@ use Rattle.ec_volume.specs.declared.update.Update.{Update}
 use Rattle.ec_plain.specs.declared.call.Call.{Call}
 use Rattle.ec_plain.specs.declared.call.Outcome.{Outcome}
 use Rattle.ec_order.specs.Order.{Issued, needs}
-use Rattle.ec_history.specs.History.{Base, History, Op, Owed, Throughout, Each, Covers, updates, meets, same_start, of_start, is_one_of, kept, issued, owed}
+use Rattle.ec_history.specs.History.{Base, History, Op, Owed, Throughout, Each, Covers, updates, meets, same_start, of_start, of_issue, is_one_of, kept, issued, owed}
 use Rattle.ec_history.specs.Legal.{leaves, is_op_of, is_closed, IsLegal, IsLegalNext, from_formatted}
 use Rattle.ec_history.specs.declared.entry.Entry.{Entry}
 use Rattle.ec_history.specs.declared.rule.Rule.{Rule}
@@ -21,6 +23,7 @@ use Rattle.ec_judge.specs.declared.carried.Issue.{Issue}
 use Rattle.ec_judge.specs.declared.carried.Issuer.{Issuer}
 use Rattle.ec_judge.specs.declared.carried.Start.{Start}
 use Rattle.ec_judge.specs.declared.carried.Touches.{Touches}
+use Rattle.ec_overlay.specs.Shown.{shown}
 use Rattle.ec_judge.specs.declared.carried.Firm.{Firm}
 use Rattle.ec_judge.specs.declared.carried.Judge.{Judge}
 use Rattle.ec_judge.specs.declared.covers.Asked.{Asked}
@@ -135,24 +138,30 @@ pub record IsFront (q : Op → Bool) (ks : List Kept) (n : ℕ) (v : Images) : T
   pub same : (o : ℕ) → v o ≡ after formatted (updates (filter q (ops_of (take n ks)))) o
 
 -- the volume behind the first operations
-pub record IsFirm (ks : List Kept) (f : Firm) : Type 0 where
-  pub within : f.count ≤ length ks
-  pub front : IsFront (λ k. true) ks f.count (images f.volume)
+pub record IsFirm (ks : List Kept) (n : ℕ) (v : Images) : Type 0 where
+  pub within : n ≤ length ks
+  pub front : IsFront (λ k. true) ks n v
 
 -- the same, and none of the first operations is lost
-pub record IsBehind (c b : ℕ) (ns : List ℕ) (ks : List Kept) (f : Firm) : Type 0 where
-  pub within : f.count ≤ length ks
-  pub front : IsFront (λ k. not (is_one_of c b ns k)) ks f.count (images f.volume)
-  pub unlost : list_any (is_among c b ns) (take f.count ks) ≡ false
+pub record IsBehind (c b : ℕ) (ns : List ℕ) (ks : List Kept) (n : ℕ) (v : Images) : Type 0 where
+  pub within : n ≤ length ks
+  pub front : IsFront (λ k. not (is_one_of c b ns k)) ks n v
+  pub unlost : list_any (is_among c b ns) (take n ks) ≡ false
+
+-- the volumes without the lost operations
+pub record IsLeft (c b : ℕ) (ns : List ℕ) (ks : List Kept) (f : Firm) : Type 0 where
+  pub fits : Fits formatted (updates (filter (λ k. not (is_one_of c b ns k)) (ops_of ks)))
+  pub volume : (o : ℕ) → shown f.volume o ≡ after formatted (updates (filter (λ k. not (is_one_of c b ns k)) (ops_of ks))) o
+  pub firm : IsFirm (filter (λ k. not (is_among c b ns k)) ks) f.count (images f.volume.under)
 
 pub record Carries (base : Base) (past : History) (j : Judge) : Type 0 where
-  pub volume : (o : ℕ) → images j.volume o ≡ after base.volume (updates (kept base past)) o
+  pub volume : (o : ℕ) → shown j.firm.volume o ≡ after base.volume (updates (kept base past)) o
   pub kept : ops_of j.kept.items ≡ kept base past
   pub starts : (c b : ℕ) → IsStart base past c b (find (is_start c b) j.starts.items)
   pub flags : Each (IsFlagged base past j.starts.items j.touches) j.kept.items
   pub turns : Each (λ k. k.turn < length past) j.kept.items
   pub touches : (o : ℕ) → AreBelow (length past) (at o j.touches)
-  pub firm : IsFirm j.kept.items j.firm
+  pub firm : IsFirm j.kept.items j.firm.count (images j.firm.volume.under)
 
 -- a start's operations by their numbers
 abbrev pub numbered : List Issue → Issued
@@ -210,11 +219,12 @@ pub record KeepsMarks (c b : ℕ) (ns : List ℕ) (pending : List ℕ) (ts : Tab
 
 -- an entry can be judged: the volume is well formed, the fresh id of its place is free, and so on
 pub record IsReady (j : Judge) (e : ℕ × Entry) : Type 0 where
-  pub formed : WellFormed (images j.volume)
-  pub gone : T (is_gone (images j.volume (1 + e.0)))
+  pub formed : WellFormed (shown j.firm.volume)
+  pub gone : T (is_gone (shown j.firm.volume (1 + e.0)))
   pub bounded : T (is_bounded_entry e.1)
   pub sound : T (list_all is_sound (updates (ops_of j.kept.items)))
-  pub firm : IsFirm j.kept.items j.firm
+  pub firm : IsFirm j.kept.items j.firm.count (images j.firm.volume.under)
+  pub rising : (c b : ℕ) → T (is_sorted nat_cmp (of_issue c b (ops_of j.kept.items)))
 
 -- the entry of this turn is legal and carried, or this is the first rule that it breaks
 abbrev pub Judges : ℕ → ℕ → Judge → Judge → ℕ × Entry → Option Rule → Type 0

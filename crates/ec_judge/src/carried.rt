@@ -1,6 +1,7 @@
 // What the judge carries from entry to entry.
 use ec_base::{ClerkId, ObjId, OpNo, SortedMap};
-use ec_volume::{Update, Volume};
+use ec_overlay::Overlay;
+use ec_volume::Update;
 use std::alloc::Global;
 
 /// An operation that is kept so far.
@@ -60,19 +61,20 @@ pub struct Start {
     pub pending: Vec<Issue>,
 }
 
-/// The volume behind the first so many kept operations. A loss hardly names one of these.
+/// The volume behind the kept operations. Below it lies the one behind the first so many of them; a
+/// loss hardly names one of these.
 #[derive(Drop)]
 pub struct Firm {
-    pub volume: Volume,
+    pub volume: Overlay,
     pub count: usize,
+    /// So many of the last kept operations stay out of the volume below.
+    pub recent: usize,
 }
 
 /// What the entries so far come to.
 #[derive(Drop)]
 pub struct Judge {
     pub alloc: Global,
-    /// The volume behind the kept operations.
-    pub volume: Volume,
     pub kept: Vec<Kept>,
     pub firm: Firm,
     pub starts: Vec<Start>,

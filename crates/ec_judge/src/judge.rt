@@ -1,19 +1,21 @@
 // The judge of histories.
 ghost use Rattle.std.specs.Prelude.{◌≡◌, ◌<◌, ◌^◌, [], ℕ, T, IfOk};
 ghost use Rattle.std.specs.List.{list_all};
+ghost use Rattle.std.specs.Ordering.{nat_cmp};
+ghost use Rattle.std.specs.FinMap.{is_sorted};
 ghost use Rattle.ec_volume.specs.Update.{is_sound};
-ghost use Rattle.ec_history.specs.History.{updates};
+ghost use Rattle.ec_volume.specs.Volume.{images};
+ghost use Rattle.ec_history.specs.History.{updates, of_issue};
 ghost use Rattle.ec_history.specs.Legal.{from_formatted};
 ghost use Rattle.ec_history.specs.declared.entry.Entry.TheVariants as entry;
 ghost use Rattle.ec_judge.specs.Carried.{Carries, IsFirm, IsReady, Judges, ops_of};
 
 use crate::carried::{Issuer, Judge};
 use crate::index::Numbers;
-use crate::{calls, covers, losses, rebuilt, starts, touches};
+use crate::{calls, covers, losses, rebuilt, starts, tail, touches};
 use ec_base::{ClerkId, NoMemory, ObjId, OpNo, SortedMap};
 use ec_history::{Answer, Entry, Rule};
 use ec_plain::{Call, Outcome, plain};
-use ec_volume::Volume;
 use std::alloc::Global;
 
 impl Judge {
@@ -23,7 +25,6 @@ impl Judge {
     {
         Ok(Judge {
             alloc,
-            volume: Volume::formatted(alloc)?,
             kept: Vec::new(alloc),
             firm: rebuilt::nothing(alloc)?,
             starts: Vec::new(alloc),
@@ -81,7 +82,7 @@ impl Judge {
         let Some(fresh) = ObjId::new(issuer.place + 1) else {
             unreachable!();
         };
-        let outcome = plain(self.alloc, &self.volume, call, fresh)?;
+        let outcome = plain(self.alloc, &self.firm.volume, call, fresh)?;
         let at = starts::index_of(self.alloc, &mut self.starts, issuer.clerk, issuer.boot)?;
         let start = &self.starts[at];
         if let Some(rule) = calls::broken(self.alloc, most, start, call, &outcome, answer, op)? {
@@ -102,7 +103,14 @@ impl Judge {
             &outcome,
         )?;
         let Outcome { update, .. } = outcome;
-        starts::keep(&mut self.volume, &mut self.kept, issuer, op, update)?;
+        starts::keep(
+            self.alloc,
+            &mut self.firm.volume,
+            &mut self.kept,
+            issuer,
+            op,
+            update,
+        )?;
         Ok(None)
     }
 
@@ -113,7 +121,8 @@ impl Judge {
         ops: &[OpNo],
     ) -> Result<Option<Rule>, NoMemory>
         requires sound { T (list_all is_sound (updates (ops_of self.old.kept.items))) }
-        requires firm { IsFirm self.old.kept.items self.old.firm }
+        requires firm { IsFirm self.old.kept.items self.old.firm.count (images self.old.firm.volume.under) }
+        requires rising { T (is_sorted nat_cmp (of_issue clerk boot (ops_of self.old.kept.items))) }
         ensures { IfOk result (λ found. (most turn p : ℕ) → Judges most turn self.old self.new (p, entry.Loss clerk boot ops.now) found) }
     {
         let ops = Numbers::of(self.alloc, Vec::from_slice(self.alloc, ops)?)?;
@@ -128,16 +137,19 @@ impl Judge {
         ops: &Numbers,
     ) -> Result<Option<Rule>, NoMemory>
         requires sound { T (list_all is_sound (updates (ops_of self.old.kept.items))) }
-        requires firm { IsFirm self.old.kept.items self.old.firm }
+        requires firm { IsFirm self.old.kept.items self.old.firm.count (images self.old.firm.volume.under) }
+        requires rising { T (is_sorted nat_cmp (of_issue clerk boot (ops_of self.old.kept.items))) }
         ensures { IfOk result (λ found. (most turn p : ℕ) → Judges most turn self.old self.new (p, entry.Loss clerk boot ops.now) found) }
     {
         let at = starts::index_of(self.alloc, &mut self.starts, clerk, boot)?;
+        let from = tail::first_of(&self.kept, clerk, boot, ops);
         let start = &self.starts[at];
         let broken = losses::broken(
             self.alloc,
             &self.touches,
             &start.pending,
             &self.kept,
+            from,
             clerk,
             boot,
             ops,
@@ -145,28 +157,28 @@ impl Judge {
         if let Some(rule) = broken {
             return Ok(Some(rule));
         }
-        let rebuilt = rebuilt::volume_without(
+        if !rebuilt::leave(
             self.alloc,
             &mut self.firm,
             &self.kept,
+            from,
             clerk,
             boot,
             ops,
-        )?;
-        let Some(volume) = rebuilt else {
+        )? {
             return Ok(Some(Rule::Fits));
-        };
+        }
         losses::owe_at(
             self.alloc,
             &mut self.starts,
             at,
             &self.kept,
+            from,
             clerk,
             boot,
             ops,
         )?;
-        losses::forget(&mut self.kept, clerk, boot, ops);
-        self.volume = volume;
+        losses::forget(self.alloc, &mut self.kept, from, clerk, boot, ops)?;
         Ok(None)
     }
 }

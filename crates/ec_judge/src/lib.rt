@@ -11,9 +11,11 @@ mod index;
 mod judge;
 mod laws;
 mod losses;
+mod outside;
 mod rebuilt;
 mod replies;
 mod starts;
+mod tail;
 mod touches;
 
 pub use checking::{check, kept, owed};

@@ -1,24 +1,42 @@
 // The rules of a loss.
-ghost use Rattle.std.specs.Prelude.{◌≡◌, ℕ, T, ◌||◌, ◌&&◌, ◌++◌, ◌∷◌, [], ◌<◌, ◌+◌, not, map, drop, length, slice_index_or, slice_set, Some, None, IfOk, OnOk, MatchBool, MatchOption};
+ghost use Rattle.std.specs.Prelude.{◌≡◌, ℕ, T, ◌||◌, ◌&&◌, ◌++◌, ◌∷◌, [], false, ◌<◌, ◌≤◌, ◌+◌, not, map, take, drop, reverse, length, slice_index_or, slice_set, Some, None, IfOk, OnOk, MatchBool, MatchOption};
 ghost use Rattle.std.specs.List.{filter, list_any, list_all};
 ghost use Rattle.ec_volume.specs.Update.{member, operands};
-ghost use Rattle.ec_order.specs.Order as order;
 ghost use Rattle.ec_history.specs.History.{of_start, is_one_of, pairs_of};
 ghost use Rattle.ec_judge.specs.Carried.{ops_of, op_of, is_among, is_touched, numbers_in, are_kept, are_uncovered, are_untouched, are_closed, KeepsMarks, BreaksMarks, IsOwing};
 ghost use Rattle.ec_judge.specs.declared.carried.Start.{Start as StartOf};
 
 use crate::carried::{Issue, Kept, Start, Touches};
 use crate::index::Numbers;
+use crate::outside::Outside;
+use crate::tail::least_of;
 use crate::touches::is_touched;
 use ec_base::{ClerkId, NoMemory, ObjId, OpNo, SortedMap};
-use ec_chains::has_operand;
 use ec_history::Rule;
-use ec_order::is_overwrite;
-use ec_volume::{Update, operands};
+use ec_volume::operands;
 use std::alloc::Global;
 
-/// The first rule that a loss of these operations breaks, but for what is left of the others.
+/// The first rule that a loss of these operations breaks, but for what is left of the others. None of
+/// them is kept before the index.
 pub fn broken(
+    alloc: Global,
+    touches: &SortedMap<ObjId, Touches>,
+    pending: &[Issue],
+    kept: &[Kept],
+    from: usize,
+    clerk: ClerkId,
+    boot: u64,
+    ops: &Numbers,
+) -> Result<Option<Rule>, NoMemory>
+    requires within { from ≤ length kept.now }
+    requires none { list_any (is_among clerk boot ops.now) (take from kept.now) ≡ false }
+    ensures { IfOk result (λ found. MatchOption found (KeepsMarks clerk boot ops.now (numbers_in pending.now) touches.now kept.now) (λ rule. BreaksMarks clerk boot ops.now (numbers_in pending.now) touches.now kept.now rule)) }
+{
+    broken_in(alloc, touches, pending, &kept[from..], clerk, boot, ops)
+}
+
+// The same among all of these.
+fn broken_in(
     alloc: Global,
     touches: &SortedMap<ObjId, Touches>,
     pending: &[Issue],
@@ -100,8 +118,44 @@ fn are_all_in(known: &Numbers, ops: &Numbers) -> bool
     ops.items().iter().all(|op| known.has(*op))
 }
 
-// Whether none of the operations is covered.
+// Whether none of the operations is covered. All of them are among the last pending ones, or else
+// one is covered.
 fn are_uncovered(
+    alloc: Global,
+    pending: &[Issue],
+    kept: &[Kept],
+    clerk: ClerkId,
+    boot: u64,
+    ops: &Numbers,
+) -> Result<bool, NoMemory>
+    ensures { IfOk result (λ are. are ≡ are_uncovered clerk boot ops.now (numbers_in pending.now) kept.now) }
+{
+    let from = recent_from(pending, least_of(ops.items()));
+    if are_among_pending(alloc, &pending[from..], kept, clerk, boot, ops)? {
+        return Ok(true);
+    }
+    are_among_pending(alloc, pending, kept, clerk, boot, ops)
+}
+
+// An index of the last pending operations, from one with at most this number on.
+fn recent_from(pending: &[Issue], least: u64) -> usize
+    ensures { result ≤ length pending.now }
+{
+    let mut at = pending.len();
+    'back: while at > 0 {
+        at -= 1;
+        if is_low(&pending[at], least) {
+            return at;
+        }
+    }
+    0
+}
+
+fn is_low(issue: &Issue, least: u64) -> bool {
+    issue.number.0 <= least
+}
+
+fn are_among_pending(
     alloc: Global,
     pending: &[Issue],
     kept: &[Kept],
@@ -140,7 +194,8 @@ fn are_untouched(
     Ok(true)
 }
 
-// Whether no other operation of the start is ordered after one of these.
+// Whether no other operation of the start is ordered after one of these. Each is looked at once, from
+// the last one on.
 fn are_closed(
     alloc: Global,
     kept: &[Kept],
@@ -150,74 +205,29 @@ fn are_closed(
 ) -> Result<bool, NoMemory>
     ensures { IfOk result (λ closed. closed ≡ are_closed clerk boot ops.now kept.now) }
 {
-    for (at, lost) in kept.iter().enumerate() {
-        if is_among(lost, clerk, boot, ops) {
-            let objs = operands(alloc, &lost.update)?;
-            if !is_last(behind(kept, at), clerk, boot, ops, &lost.update, &objs) {
-                return Ok(false);
-            }
+    let mut outside = Outside::new(alloc);
+    let mut at = kept.len();
+    'back: while at > 0 {
+        at -= 1;
+        let next = &kept[at];
+        if !is_own(next, clerk, boot) {
+            continue;
+        }
+        if !ops.has(next.number) {
+            outside.add(&next.update)?;
+            continue;
+        }
+        if outside.is_after(&next.update)? {
+            return Ok(false);
         }
     }
     Ok(true)
 }
 
-// The operations behind an index.
-fn behind(kept: &[Kept], at: usize) -> &[Kept]
-    requires { at < length kept.now }
-    ensures { result.now ≡ drop (at + 1) kept.now }
+fn is_own(kept: &Kept, clerk: ClerkId, boot: u64) -> bool
+    ensures { result ≡ of_start clerk boot (op_of kept.now) }
 {
-    kept.split_at(at + 1).1
-}
-
-// Whether no other operation of the start among these is ordered after the lost one.
-fn is_last(
-    later: &[Kept],
-    clerk: ClerkId,
-    boot: u64,
-    ops: &Numbers,
-    lost: &Update,
-    objs: &[ObjId],
-) -> bool
-    requires { objs.now ≡ operands lost.now }
-    ensures { result ≡ list_all (λ k. is_one_of clerk boot ops.now k || not (order.before lost.now k.update)) (filter (of_start clerk boot) (ops_of later.now)) }
-{
-    for kept in later {
-        if is_left(kept, clerk, boot, ops, lost, objs) {
-            return false;
-        }
-    }
-    true
-}
-
-// Whether this is another operation of the start, and ordered after the lost one.
-fn is_left(
-    kept: &Kept,
-    clerk: ClerkId,
-    boot: u64,
-    ops: &Numbers,
-    lost: &Update,
-    objs: &[ObjId],
-) -> bool
-    requires { objs.now ≡ operands lost.now }
-    ensures { result ≡ (of_start clerk boot (op_of kept.now) && not (is_one_of clerk boot ops.now (op_of kept.now) || not (order.before lost.now kept.now.update))) }
-{
-    clerk == kept.clerk
-        && boot == kept.boot
-        && !(is_among(kept, clerk, boot, ops) || !is_before(lost, objs, &kept.update))
-}
-
-// Whether the earlier update, with these operands, is ordered before the later one.
-fn is_before(earlier: &Update, objs: &[ObjId], later: &Update) -> bool
-    requires { objs.now ≡ operands earlier.now }
-    ensures { result ≡ order.before earlier.now later.now }
-{
-    shares(objs, later) && !(is_overwrite(earlier) && is_overwrite(later))
-}
-
-fn shares(objs: &[ObjId], update: &Update) -> bool
-    ensures { result ≡ list_any (λ o. member o (operands update.now)) objs.now }
-{
-    objs.iter().any(|obj| has_operand(update, *obj))
+    clerk == kept.clerk && boot == kept.boot
 }
 
 /// Adds the pairs of the lost operations to what the start at this index owes.
@@ -226,15 +236,18 @@ pub fn owe_at(
     starts: &mut Vec<Start>,
     at: usize,
     kept: &[Kept],
+    from: usize,
     clerk: ClerkId,
     boot: u64,
     ops: &Numbers,
 ) -> Result<(), NoMemory>
-    requires { at < length starts.old.items }
+    requires at { at < length starts.old.items }
+    requires within { from ≤ length kept.now }
+    requires none { list_any (is_among clerk boot ops.now) (take from kept.now) ≡ false }
     ensures { OnOk result ((s : StartOf) × IsOwing (pairs_of (filter (is_one_of clerk boot ops.now) (ops_of kept.now))) (slice_index_or starts.old.items at s) s
         × (starts.new.items ≡ slice_set starts.old.items at s)) }
 {
-    owe(alloc, &mut starts[at], kept, clerk, boot, ops)
+    owe(alloc, &mut starts[at], &kept[from..], clerk, boot, ops)
 }
 
 // Adds the pairs of the lost operations to what is owed.
@@ -273,9 +286,54 @@ fn push_pairs(owed: &mut Vec<(OpNo, ObjId)>, op: OpNo, objs: &[ObjId]) -> Result
     Ok(())
 }
 
-/// Takes the lost operations out.
-pub fn forget(kept: &mut Vec<Kept>, clerk: ClerkId, boot: u64, ops: &Numbers)
-    ensures { kept.new.items ≡ filter (λ k. not (is_among clerk boot ops.now k)) kept.old.items }
+/// Takes the lost operations out. None of them stands before the index.
+pub fn forget(
+    alloc: Global,
+    kept: &mut Vec<Kept>,
+    from: usize,
+    clerk: ClerkId,
+    boot: u64,
+    ops: &Numbers,
+) -> Result<(), NoMemory>
+    requires within { from ≤ length kept.old.items }
+    requires none { list_any (is_among clerk boot ops.now) (take from kept.old.items) ≡ false }
+    ensures { OnOk result (kept.new.items ≡ filter (λ k. not (is_among clerk boot ops.now k)) kept.old.items) }
 {
-    kept.retain(|kept| !is_among(kept, clerk, boot, ops));
+    let left = take_behind(alloc, kept, from, clerk, boot, ops)?;
+    put_back(kept, left)
+}
+
+// Takes the operations behind the index out. Those that aren't lost are given, from the last on.
+fn take_behind(
+    alloc: Global,
+    kept: &mut Vec<Kept>,
+    from: usize,
+    clerk: ClerkId,
+    boot: u64,
+    ops: &Numbers,
+) -> Result<Vec<Kept>, NoMemory>
+    requires { from ≤ length kept.old.items }
+    ensures { IfOk result (λ left. (kept.new.items ≡ take from kept.old.items) × (reverse left.items ≡ filter (λ k. not (is_among clerk boot ops.now k)) (drop from kept.old.items))) }
+{
+    let mut left = Vec::new(alloc);
+    'back: while kept.len() > from {
+        let Some(last) = kept.pop() else {
+            break;
+        };
+        if !is_among(&last, clerk, boot, ops) {
+            left.push(last)?;
+        }
+    }
+    Ok(left)
+}
+
+// Puts operations behind, the last one first.
+fn put_back(kept: &mut Vec<Kept>, behind: Vec<Kept>) -> Result<(), NoMemory>
+    ensures { OnOk result (kept.new.items ≡ kept.old.items ++ reverse behind.items) }
+{
+    let mut left = behind;
+    'forth: while let Some(next) = left.pop() {
+        kept.push(next)?;
+    }
+    Ok(())
 }

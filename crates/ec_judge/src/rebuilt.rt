@@ -1,82 +1,89 @@
 // The volume behind what a loss leaves.
-ghost use Rattle.std.specs.Prelude.{◌≡◌, ◌≤◌, ◌<◌, ℕ, T, ◌∷◌, [], true, false, not, length, take, vec_len, Some, None, IfOk, OnOk, MatchBool, MatchOption, ⊤};
+ghost use Rattle.std.specs.Prelude.{◌≡◌, ◌≤◌, ◌<◌, ℕ, T, ◌∷◌, [], true, false, not, length, take, Some, None, IfOk, OnOk, MatchBool};
 ghost use Rattle.std.specs.List.{filter, list_any, list_all};
 ghost use Rattle.ec_volume.specs.Update.{operands, is_sound, first_unfit};
 ghost use Rattle.ec_volume.specs.Volume.{images, formatted, after, Fits};
+ghost use Rattle.ec_overlay.specs.Shown.{shown};
 ghost use Rattle.ec_history.specs.History.{updates, is_one_of};
-ghost use Rattle.ec_judge.specs.Carried.{ops_of, is_among, IsFirm, IsBehind};
+ghost use Rattle.ec_judge.specs.Carried.{ops_of, is_among, IsFront, IsFirm, IsBehind, IsLeft};
 
 use crate::carried::{Firm, Kept};
 use crate::index::Numbers;
 use crate::losses::is_among;
-use ec_base::{ClerkId, Duplicate, NoMemory};
+use ec_base::{ClerkId, NoMemory};
+use ec_overlay::Overlay;
 use ec_volume::{ApplyFault, Update, Volume};
 use std::alloc::Global;
 
-// So many of the last kept operations are carried out anew at each loss.
-const RECENT: usize = 1024;
+// So many of the last kept operations stay out of the volume below at first.
+const RECENT: usize = 64;
 
 /// The volume behind none of the operations.
 pub fn nothing(alloc: Global) -> Result<Firm, NoMemory>
     ensures count { IfOk result (λ firm. firm.count ≡ 0) }
-    ensures volume { IfOk result (λ firm. (o : ℕ) → images firm.volume o ≡ formatted o) }
+    ensures shown { IfOk result (λ firm. (o : ℕ) → shown firm.volume o ≡ formatted o) }
+    ensures under { IfOk result (λ firm. (o : ℕ) → images firm.volume.under o ≡ formatted o) }
 {
     Ok(Firm {
-        volume: Volume::formatted(alloc)?,
+        volume: Overlay::formatted(alloc)?,
         count: 0,
+        recent: RECENT,
     })
 }
 
-/// The volume without the operations, or `None` where the others don't fit.
-pub fn volume_without(
+/// Takes the lost operations out of the volume. None of them is kept before the index. It's false
+/// where the others don't fit.
+pub fn leave(
     alloc: Global,
     firm: &mut Firm,
     kept: &[Kept],
+    from: usize,
     clerk: ClerkId,
     boot: u64,
     ops: &Numbers,
-) -> Result<Option<Volume>, NoMemory>
+) -> Result<bool, NoMemory>
     requires sound { T (list_all is_sound (updates (ops_of kept.now))) }
-    requires firm { IsFirm kept.now firm.old }
-    ensures volume { IfOk result (λ found. MatchOption found (¬ (Fits formatted (updates (filter (λ k. not (is_one_of clerk boot ops.now k)) (ops_of kept.now)))))
-        (λ volume. Fits formatted (updates (filter (λ k. not (is_one_of clerk boot ops.now k)) (ops_of kept.now)))
-        × ((o : ℕ) → images volume o ≡ after formatted (updates (filter (λ k. not (is_one_of clerk boot ops.now k)) (ops_of kept.now))) o))) }
-    ensures firm { IfOk result (λ found. MatchOption found ⊤ (λ _. IsFirm (filter (λ k. not (is_among clerk boot ops.now k)) kept.now) firm.new)) }
+    requires firm { IsFirm kept.now firm.old.count (images firm.old.volume.under) }
+    requires within { from ≤ length kept.now }
+    requires none { list_any (is_among clerk boot ops.now) (take from kept.now) ≡ false }
+    ensures { IfOk result (λ fits. MatchBool fits (IsLeft clerk boot ops.now kept.now firm.new) (¬ (Fits formatted (updates (filter (λ k. not (is_one_of clerk boot ops.now k)) (ops_of kept.now)))))) }
 {
-    begin(alloc, firm, kept, clerk, boot, ops)?;
+    begin(alloc, firm, kept, from, clerk, boot, ops)?;
     if !advance(firm, kept, clerk, boot, ops)? {
-        return Ok(None);
+        return Ok(false);
     }
-    behind(firm, kept, clerk, boot, ops)
+    firm.volume.uncover(alloc);
+    carry_rest(alloc, &mut firm.volume, firm.count, kept, clerk, boot, ops)
 }
 
-// Begins anew where one of the first operations is lost.
+// Begins anew where the volume below is behind the index. From then on twice as many stay out of it.
 fn begin(
     alloc: Global,
     firm: &mut Firm,
     kept: &[Kept],
+    from: usize,
     clerk: ClerkId,
     boot: u64,
     ops: &Numbers,
 ) -> Result<(), NoMemory>
-    requires { IsFirm kept.now firm.old }
-    ensures { OnOk result (IsBehind clerk boot ops.now kept.now firm.new) }
+    requires firm { IsFirm kept.now firm.old.count (images firm.old.volume.under) }
+    requires within { from ≤ length kept.now }
+    requires none { list_any (is_among clerk boot ops.now) (take from kept.now) ≡ false }
+    ensures { OnOk result (IsBehind clerk boot ops.now kept.now firm.new.count (images firm.new.volume.under)) }
 {
-    if !has_lost(&kept[..firm.count], clerk, boot, ops) {
+    if firm.count <= from {
         return Ok(());
     }
-    *firm = nothing(alloc)?;
+    *firm = Firm {
+        volume: Overlay::formatted(alloc)?,
+        count: 0,
+        recent: (kept.len() - from).saturating_mul(2),
+    };
     Ok(())
 }
 
-fn has_lost(kept: &[Kept], clerk: ClerkId, boot: u64, ops: &Numbers) -> bool
-    ensures { result ≡ list_any (is_among clerk boot ops.now) kept.now }
-{
-    kept.iter().any(|kept| is_among(kept, clerk, boot, ops))
-}
-
-// Carries more of the operations out, up to the first lost one, but for recent ones. It's false
-// where one doesn't fit.
+// Carries more of the operations out on the volume below, up to the first lost one, but for recent
+// ones. It's false where one doesn't fit.
 fn advance(
     firm: &mut Firm,
     kept: &[Kept],
@@ -85,15 +92,15 @@ fn advance(
     ops: &Numbers,
 ) -> Result<bool, NoMemory>
     requires sound { T (list_all is_sound (updates (ops_of kept.now))) }
-    requires behind { IsBehind clerk boot ops.now kept.now firm.old }
-    ensures { IfOk result (λ fits. MatchBool fits (IsBehind clerk boot ops.now kept.now firm.new) (¬ (Fits formatted (updates (filter (λ k. not (is_one_of clerk boot ops.now k)) (ops_of kept.now)))))) }
+    requires behind { IsBehind clerk boot ops.now kept.now firm.old.count (images firm.old.volume.under) }
+    ensures { IfOk result (λ fits. MatchBool fits (IsBehind clerk boot ops.now kept.now firm.new.count (images firm.new.volume.under)) (¬ (Fits formatted (updates (filter (λ k. not (is_one_of clerk boot ops.now k)) (ops_of kept.now)))))) }
 {
-    'advance: while firm.count < kept.len() && kept.len() - firm.count > RECENT {
+    'advance: while firm.count < kept.len() && kept.len() - firm.count > firm.recent {
         let next = &kept[firm.count];
         if is_among(next, clerk, boot, ops) {
             return Ok(true);
         }
-        if !carry_out(&mut firm.volume, &next.update)? {
+        if !carry_out(&mut firm.volume.under, &next.update)? {
             return Ok(false);
         }
         firm.count += 1;
@@ -101,31 +108,32 @@ fn advance(
     Ok(true)
 }
 
-// The volume behind the other operations too.
-fn behind(
-    firm: &Firm,
+// Carries out the operations from an index on that aren't lost. It's false where one doesn't fit.
+fn carry_rest(
+    alloc: Global,
+    volume: &mut Overlay,
+    from: usize,
     kept: &[Kept],
     clerk: ClerkId,
     boot: u64,
     ops: &Numbers,
-) -> Result<Option<Volume>, NoMemory>
+) -> Result<bool, NoMemory>
     requires sound { T (list_all is_sound (updates (ops_of kept.now))) }
-    requires behind { IsBehind clerk boot ops.now kept.now firm.now }
-    ensures { IfOk result (λ found. MatchOption found (¬ (Fits formatted (updates (filter (λ k. not (is_one_of clerk boot ops.now k)) (ops_of kept.now)))))
-        (λ volume. Fits formatted (updates (filter (λ k. not (is_one_of clerk boot ops.now k)) (ops_of kept.now)))
-        × ((o : ℕ) → images volume o ≡ after formatted (updates (filter (λ k. not (is_one_of clerk boot ops.now k)) (ops_of kept.now))) o))) }
+    requires within { from ≤ length kept.now }
+    requires behind { IsFront (λ k. not (is_one_of clerk boot ops.now k)) kept.now from (shown volume.old) }
+    ensures images { IfOk result (λ fits. MatchBool fits (IsFront (λ k. not (is_one_of clerk boot ops.now k)) kept.now (length kept.now) (shown volume.new)) (¬ (Fits formatted (updates (filter (λ k. not (is_one_of clerk boot ops.now k)) (ops_of kept.now)))))) }
+    ensures under { IfOk result (λ _. volume.new.under ≡ volume.old.under) }
 {
-    let mut volume = firm.volume.duplicate()?;
-    for at in firm.count..kept.len() {
+    for at in from..kept.len() {
         let next = &kept[at];
         if is_among(next, clerk, boot, ops) {
             continue;
         }
-        if !carry_out(&mut volume, &next.update)? {
-            return Ok(None);
+        if !volume.carry_out(alloc, &next.update)? {
+            return Ok(false);
         }
     }
-    Ok(Some(volume))
+    Ok(true)
 }
 
 // Carries the update out, if it fits.

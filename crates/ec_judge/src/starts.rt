@@ -1,7 +1,8 @@
 // The starts of clerks, each with what it did.
 ghost use Rattle.std.specs.Prelude.{◌≡◌, ◌<◌, ◌++◌, ℕ, not, length, slice_index_or, slice_set, IfOk, OnOk};
 ghost use Rattle.std.specs.List.{filter, find, position_or_len};
-ghost use Rattle.ec_volume.specs.Volume.{images, after};
+ghost use Rattle.ec_volume.specs.Volume.{after};
+ghost use Rattle.ec_overlay.specs.Shown.{shown};
 ghost use Rattle.ec_history.specs.History.{meets, updates};
 ghost use Rattle.ec_judge.specs.Carried.{is_start, count_of, owed_of, pending_of, is_asked, rest, count_next, issues_of, keeps_of, ops_of, IsFitting, IsNoted};
 ghost use Rattle.ec_judge.specs.declared.carried.Start.{Start as StartOf};
@@ -10,8 +11,9 @@ use crate::calls;
 use crate::carried::{Issue, Issuer, Kept, Start};
 use crate::covers::{self, Asked};
 use ec_base::{ClerkId, Duplicate, NoMemory, ObjId, OpNo};
+use ec_overlay::Overlay;
 use ec_plain::{Call, Outcome};
-use ec_volume::{ApplyFault, Update, Volume};
+use ec_volume::Update;
 use std::alloc::Global;
 
 /// The index of a start, which begins here if it isn't there.
@@ -121,14 +123,16 @@ fn report(start: &mut Start, call: &Call, outcome: &Outcome)
 
 /// Carries the operation out, if there is one, and keeps it.
 pub fn keep(
-    volume: &mut Volume,
+    alloc: Global,
+    volume: &mut Overlay,
     kept: &mut Vec<Kept>,
     issuer: &Issuer,
     op: &Option<OpNo>,
     update: Option<Update>,
 ) -> Result<(), NoMemory>
-    requires { IsFitting update (images volume.old) }
-    ensures volume { OnOk result ((o : ℕ) → images volume.new o ≡ after (images volume.old) (updates (ops_of (keeps_of issuer.now op.now update))) o) }
+    requires { IsFitting update (shown volume.old) }
+    ensures volume { OnOk result ((o : ℕ) → shown volume.new o ≡ after (shown volume.old) (updates (ops_of (keeps_of issuer.now op.now update))) o) }
+    ensures under { volume.new.under ≡ volume.old.under }
     ensures kept { OnOk result (kept.new.items ≡ kept.old.items ++ keeps_of issuer.now op.now update) }
 {
     let Some(number) = op else {
@@ -137,10 +141,8 @@ pub fn keep(
     let Some(update) = update else {
         return Ok(());
     };
-    match volume.apply(&update) {
-        Ok(()) => {}
-        Err(ApplyFault::NoMemory) => return Err(NoMemory),
-        Err(ApplyFault::Unfit(_)) => unreachable!(),
+    if !volume.carry_out(alloc, &update)? {
+        unreachable!();
     }
     kept.push(Kept {
         clerk: issuer.clerk,

@@ -1,6 +1,10 @@
-use Rattle.std.proofs.Common.{◌≡◌, drop}
-use Rattle.ec_judge.specs.Carried.{are_closed}
+use Rattle.std.proofs.Common.{◌≤◌, length}
+use Rattle.ec_history.specs.History.{of_start, is_one_of}
+use Rattle.ec_judge.proofs.Outsides.{Closing}
 use Rattle.ec_judge.proofs.losses.are_closed.Given as goal
 
-abbrev pub invariant-loop-at : goal.invariant-loop-at
-invariant-loop-at l = are_closed l.clerk l.boot l.ops l.kept ≡ are_closed l.clerk l.boot l.ops (drop l.at l.kept)
+abbrev pub invariant-back : goal.invariant-back
+invariant-back l = Closing (is_one_of l.clerk l.boot l.ops) (of_start l.clerk l.boot) l.kept l.at l.outside.objs l.outside.others × (l.at ≤ length l.kept)
+
+abbrev pub decreases-back : goal.decreases-back
+decreases-back l = l.at

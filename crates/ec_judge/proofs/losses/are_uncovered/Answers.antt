@@ -1,6 +1,5 @@
-use Rattle.std.proofs.Common.{ap, ◌∙◌}
-use Rattle.ec_judge.specs.Carried.{are_uncovered}
+use Rattle.ec_judge.proofs.Tails.{uncovered-more}
 use Rattle.ec_judge.proofs.losses.are_uncovered.Goals as goal
 
-pub returns : goal.returns
-returns c = c.are_pending.ensures ∙ ap (λ ms. are_uncovered c.args.clerk c.args.boot c.args.ops.now ms c.args.kept.now) (c.in_ok-pending.ensures ∙ c.in_ok-numbers_in.ensures)
+pub returns-then-branch : goal.returns-then-branch
+returns-then-branch c = uncovered-more c.args.clerk c.args.boot c.args.ops.now c.args.pending.now c.recent_from-from.result _ c.args.kept.now (rw c.if-branch.true at c.in_ok-are_among_pending.ensures)

@@ -1,7 +1,10 @@
-use Rattle.std.proofs.Common.{not, rules}
-use Rattle.std.proofs.lemmas.Fn.{filter_same}
-use Rattle.ec_judge.specs.Carried.{is_among}
+use Rattle.std.proofs.Common.{ap, ◌∙◌, ◌++◌}
+use Rattle.std.specs.Prelude.{reverse}
+use Rattle.ec_judge.proofs.Steps.{on-ok}
+use Rattle.ec_judge.proofs.Tails.{forget-tail}
 use Rattle.ec_judge.proofs.losses.forget.Goals as goal
 
 pub returns : goal.returns
-returns c = filter_same _ (λ k. not (is_among c.args.clerk c.args.boot c.args.ops.now k)) _ (λ x b f' k. search rules) _ _ c.retain.ensures.filtered
+returns c =
+    let taken = c.in_ok-left.ensures in
+    on-ok _ _ c.put_back.result (λ e. forget-tail c.args.clerk c.args.boot c.args.ops.now c.args.kept.now.items c.args.from c.requires.none c.in_ok-left.left.items c.put_back.new.kept.items taken.1 (e ∙ ap (λ l. l ++ reverse c.in_ok-left.left.items) taken.0)) c.put_back.ensures

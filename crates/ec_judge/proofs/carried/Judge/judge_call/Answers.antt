@@ -1,7 +1,7 @@
 use Rattle.std.proofs.Common.{refl, ◌++◌, sym, ap, ◌∙◌, not, cond, Some}
 use Rattle.ec_base.specs.Tables as Tables
 use Rattle.ec_volume.specs.Update.{member}
-use Rattle.ec_volume.specs.Volume.{images}
+use Rattle.ec_overlay.specs.Shown.{shown}
 use Rattle.std.specs.List.{filter}
 use Rattle.ec_history.specs.History.{meets}
 use Rattle.ec_judge.specs.Rules.{asked_by_call}
@@ -18,14 +18,14 @@ returns-in-Some-2 c = λ l past turn h legal.
     let ss = c.index_of.new.starts.items in
     let at = c.in_ok-at.ensures in
     let s = c.index-start.result.now in
-    let same = out-same past by.place c.args.call.now (images j.volume) c.in-Some.fresh o h.volume c.in-Some.ensures.some c.in_ok-outcome.ensures in
+    let same = out-same past by.place c.args.call.now (shown j.firm.volume) c.in-Some.fresh o h.volume c.in-Some.ensures.some c.in_ok-outcome.ensures in
     let own = own-at past j h ss at.count at.owed at.pending by.clerk by.boot c.in_ok-at.at s at.found at.within c.index-start.ensures in
     call-broken c.args.most past by.place by.clerk by.boot c.args.call.now c.args.answer.now c.args.op.now s.count s.owed.items o own.count own.owed same c.in-Some-2.rule (rw c.in-Some-2.is at c.in_ok-rule.ensures)
 
 pub keep-requires : goal.keep-requires
 keep-requires c =
     let ready = c.requires.ready 0 in
-    out-fits (images c.args.self.now.volume) c.args.call.now c.in-Some.fresh c.args.issuer.now.place c.in_ok-outcome.outcome c.in-Some.ensures.some c.in_ok-outcome.ensures ready.formed ready.gone ready.bounded
+    out-fits (shown c.args.self.now.firm.volume) c.args.call.now c.in-Some.fresh c.args.issuer.now.place c.in_ok-outcome.outcome c.in-Some.ensures.some c.in_ok-outcome.ensures ready.formed ready.gone ready.bounded
 
 pub returns : goal.returns
 returns c = λ l past turn h legal.
@@ -38,7 +38,7 @@ returns c = λ l past turn h legal.
     let ss = c.index_of.new.starts.items in
     let at = c.in_ok-at.ensures in
     let s = c.index-start.result.now in
-    let same = out-same past by.place cl (images j.volume) c.in-Some.fresh o h.volume c.in-Some.ensures.some c.in_ok-outcome.ensures in
+    let same = out-same past by.place cl (shown j.firm.volume) c.in-Some.fresh o h.volume c.in-Some.ensures.some c.in_ok-outcome.ensures in
     let own = own-at past j h ss at.count at.owed at.pending by.clerk by.boot c.in_ok-at.at s at.found at.within c.index-start.ensures in
     let fine = call-legal c.args.most past by.place by.clerk by.boot cl a op s.count s.owed.items o own.count own.owed same (rw c.in_default-2.is at c.in_ok-rule.ensures) in
     let noted = c.in_ok-note_at.ensures in
@@ -52,5 +52,5 @@ returns c = λ l past turn h legal.
           (noted.1.pending ∙ ap (λ t. rest (is_asked c.wanted-asked.result) t.pending.items ++ issues_of by.place op o.update) old) noted.2
           c.in_ok-keep.ensures.kept
           (λ x. c.in_ok-touch_all.ensures x ∙ ap (λ os. cond (member x os) (Some (touched_next by.clerk by.turn (Tables.at x j.touches))) (Tables.at x j.touches)) c.as_slice-touched.ensures)
-          c.in_ok-keep.ensures.volume refl,
+          c.in_ok-keep.ensures.volume refl c.in_ok-keep.ensures.under,
     )

@@ -1,6 +1,7 @@
 use Rattle.std.proofs.Common.{◌≡◌, refl, ◌++◌, ap, sym, subst, ◌∙◌, not}
 use Rattle.std.specs.List.{filter}
 use Rattle.ec_volume.specs.Volume.{images, after, Fits, formatted}
+use Rattle.ec_overlay.specs.Shown.{shown}
 use Rattle.ec_history.specs.History.{updates, is_one_of, pairs_of}
 use Rattle.ec_judge.specs.Carried.{ops_of, is_among, IsFirm, numbers_in, is_start, pending_of, KeepsMarks, BreaksMarks}
 use Rattle.ec_judge.proofs.AllStarts.{found-at}
@@ -13,20 +14,20 @@ returns-in-Some c = λ most turn p past at-turn h legal.
     let at = c.in_ok-at.ensures in
     let s = c.index-start.result.now in
     let found = found-at (is_start c.args.clerk c.args.boot) ss c.in_ok-at.at s at.found at.within c.index-start.ensures in
-    let is = ap numbers_in (c.deref.ensures.value ∙ ap pending_of (sym found) ∙ at.pending c.args.clerk c.args.boot) in
-    loss-broken most past p c.args.clerk c.args.boot c.args.ops.now c.args.self.now h (numbers_in c.deref.result.now) is c.in-Some.rule
-    (subst (λ ks. BreaksMarks c.args.clerk c.args.boot c.args.ops.now (numbers_in c.deref.result.now) c.args.self.now.touches ks c.in-Some.rule) c.deref-2.ensures.value (rw c.in-Some.is at c.in_ok-broken.ensures))
+    let is = ap numbers_in (c.deref-2.ensures.value ∙ ap pending_of (sym found) ∙ at.pending c.args.clerk c.args.boot) in
+    loss-broken most past p c.args.clerk c.args.boot c.args.ops.now c.args.self.now h (numbers_in c.deref-2.result.now) is c.in-Some.rule
+    (subst (λ ks. BreaksMarks c.args.clerk c.args.boot c.args.ops.now (numbers_in c.deref-2.result.now) c.args.self.now.touches ks c.in-Some.rule) c.deref-3.ensures.value (rw c.in-Some.is at c.in_ok-broken.ensures))
 
-pub returns-in_default-rebuilt : goal.returns-in_default-rebuilt
-returns-in_default-rebuilt c = λ most turn p past at-turn h legal.
+pub returns-then-not-branch : goal.returns-then-not-branch
+returns-then-not-branch c = λ most turn p past at-turn h legal.
     let ss = c.index_of.new.starts.items in
     let at = c.in_ok-at.ensures in
     let s = c.index-start.result.now in
     let found = found-at (is_start c.args.clerk c.args.boot) ss c.in_ok-at.at s at.found at.within c.index-start.ensures in
-    let is = ap numbers_in (c.deref.ensures.value ∙ ap pending_of (sym found) ∙ at.pending c.args.clerk c.args.boot) in
-    loss-unfit most past p c.args.clerk c.args.boot c.args.ops.now c.args.self.now h (numbers_in c.deref.result.now) is
-    (subst (KeepsMarks c.args.clerk c.args.boot c.args.ops.now (numbers_in c.deref.result.now) c.args.self.now.touches) c.deref-2.ensures.value (rw c.in_default.is at c.in_ok-broken.ensures))
-    (subst (λ ks. ¬ (Fits formatted (updates (filter (λ k. not (is_one_of c.args.clerk c.args.boot c.args.ops.now k)) (ops_of ks))))) c.deref-3.ensures.value (rw c.in_default-rebuilt.is at c.in_ok-rebuilt.ensures.volume))
+    let is = ap numbers_in (c.deref-2.ensures.value ∙ ap pending_of (sym found) ∙ at.pending c.args.clerk c.args.boot) in
+    loss-unfit most past p c.args.clerk c.args.boot c.args.ops.now c.args.self.now h (numbers_in c.deref-2.result.now) is
+    (subst (KeepsMarks c.args.clerk c.args.boot c.args.ops.now (numbers_in c.deref-2.result.now) c.args.self.now.touches) c.deref-3.ensures.value (rw c.in_default.is at c.in_ok-broken.ensures))
+    (subst (λ ks. ¬ (Fits formatted (updates (filter (λ k. not (is_one_of c.args.clerk c.args.boot c.args.ops.now k)) (ops_of ks))))) c.deref-4.ensures.value (rw c.if-not-branch.true at c.in_ok-leave.ensures))
 
 pub returns : goal.returns
 returns c = λ most turn p past at-turn h legal.
@@ -36,21 +37,21 @@ returns c = λ most turn p past at-turn h legal.
     let at = c.in_ok-at.ensures in
     let s = c.index-start.result.now in
     let found-start = found-at (is_start c.args.clerk c.args.boot) ss c.in_ok-at.at s at.found at.within c.index-start.ensures in
-    let is = ap numbers_in (c.deref.ensures.value ∙ ap pending_of (sym found-start) ∙ at.pending c.args.clerk c.args.boot) in
+    let is = ap numbers_in (c.deref-2.ensures.value ∙ ap pending_of (sym found-start) ∙ at.pending c.args.clerk c.args.boot) in
     let owing = c.in_ok-owe_at.ensures in
     let old = same-at ss c.in_ok-at.at owing.0 s at.within ∙ sym c.index-start.ensures in
-    let marks = subst (KeepsMarks c.args.clerk c.args.boot ns (numbers_in c.deref.result.now) j.touches) c.deref-2.ensures.value (rw c.in_default.is at c.in_ok-broken.ensures) in
-    let found = rw c.in-Some-rebuilt.is at c.in_ok-rebuilt.ensures.volume in
+    let marks = subst (KeepsMarks c.args.clerk c.args.boot ns (numbers_in c.deref-2.result.now) j.touches) c.deref-3.ensures.value (rw c.in_default.is at c.in_ok-broken.ensures) in
+    let left = rw c.if-not-branch.false at c.in_ok-leave.ensures in
     let mine = is-own c.args.clerk c.args.boot ss c.in_ok-at.at s at.found at.within c.index-start.ensures in (
-      loss-lawful most past p c.args.clerk c.args.boot ns j h (numbers_in c.deref.result.now) is marks (subst (λ ks. Fits formatted (updates (filter (λ k. not (is_one_of c.args.clerk c.args.boot ns k)) (ops_of ks)))) c.deref-3.ensures.value found.0),
-      loss-carried most past p c.args.clerk c.args.boot ns j h (numbers_in c.deref.result.now) is _ ss c.in_ok-at.at s owing.0 (starts-now past j h ss at.count at.owed at.pending) at.found at.within
+      loss-lawful most past p c.args.clerk c.args.boot ns j h (numbers_in c.deref-2.result.now) is marks (subst (λ ks. Fits formatted (updates (filter (λ k. not (is_one_of c.args.clerk c.args.boot ns k)) (ops_of ks)))) c.deref-4.ensures.value left.fits),
+      loss-carried most past p c.args.clerk c.args.boot ns j h (numbers_in c.deref-2.result.now) is _ ss c.in_ok-at.at s owing.0 (starts-now past j h ss at.count at.owed at.pending) at.found at.within
           (own-at past j h ss at.count at.owed at.pending c.args.clerk c.args.boot c.in_ok-at.at s at.found at.within c.index-start.ensures)
           at.pending found-start
           (owing.1.clerk ∙ ap (λ t. t.clerk) old ∙ mine.0) (owing.1.boot ∙ ap (λ t. t.boot) old ∙ mine.1) (owing.1.count ∙ ap (λ t. t.count) old)
-          (owing.1.owed ∙ ap (λ t. t.owed.items ++ pairs_of (filter (is_one_of c.args.clerk c.args.boot ns) (ops_of c.deref-4.result.now))) old ∙ ap (λ ks. s.owed.items ++ pairs_of (filter (is_one_of c.args.clerk c.args.boot ns) (ops_of ks))) c.deref-4.ensures.value)
+          (owing.1.owed ∙ ap (λ t. t.owed.items ++ pairs_of (filter (is_one_of c.args.clerk c.args.boot ns) (ops_of c.deref-5.result.now))) old ∙ ap (λ ks. s.owed.items ++ pairs_of (filter (is_one_of c.args.clerk c.args.boot ns) (ops_of ks))) c.deref-5.ensures.value)
           (owing.1.pending ∙ ap (λ t. t.pending.items) old) owing.2
-          c.forget.ensures
+          c.in_ok-forget.ensures
           refl
-          (λ x. subst (λ ks. images c.in-Some-rebuilt.volume x ≡ after formatted (updates (filter (λ k. not (is_one_of c.args.clerk c.args.boot ns k)) (ops_of ks))) x) c.deref-3.ensures.value (found.1 x))
-          (subst (λ ks. IsFirm (filter (λ k. not (is_among c.args.clerk c.args.boot ns k)) ks) c.volume_without.new.firm) c.deref-3.ensures.value (rw c.in-Some-rebuilt.is at c.in_ok-rebuilt.ensures.firm)),
+          (λ x. subst (λ ks. shown c.leave.new.firm.volume x ≡ after formatted (updates (filter (λ k. not (is_one_of c.args.clerk c.args.boot ns k)) (ops_of ks))) x) c.deref-4.ensures.value (left.volume x))
+          (subst (λ ks. IsFirm (filter (λ k. not (is_among c.args.clerk c.args.boot ns k)) ks) c.leave.new.firm.count (images c.leave.new.firm.volume.under)) c.deref-4.ensures.value left.firm),
     )

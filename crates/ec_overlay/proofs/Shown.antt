@@ -1,0 +1,115 @@
+-- What is shown behind an update.
+use Rattle.std.proofs.Common.{◌≤◌, ◌-◌, length, take, drop, get_or, ◌≡◌, refl, sym, ap, subst, ◌∙◌, arith, ℕ, T, Bool, true, false, not, cond, ◌==◌, ◌||◌, ◌&&◌, List, [], ◌∷◌, Option, Some, None}
+use Rattle.std.specs.Prelude.{Result, Ok, Err, IfOk, MatchBool}
+use Rattle.std.specs.Ordering.{nat_cmp}
+use Rattle.std.specs.Cmp.{nat_cmp_total, unsigned_ties}
+use Rattle.std.specs.FinMap.Entries.{find-put}
+use Rattle.std.proofs.lemmas.List.{take_all}
+use Rattle.std.proofs.lemmas.Bool.{true≢false, and_parts, eqb-true}
+use Rattle.std.proofs.lemmas.Bool.Decides.{nat_tests}
+use Rattle.ec_base.specs.Tables.{Table, at, put}
+use Rattle.ec_volume.specs.Update.{member, fits, effect, first_unfit, distinct}
+use Rattle.ec_volume.specs.Volume.{Images, images}
+use Rattle.ec_volume.specs.declared.image.Image.{Image}
+use Rattle.ec_volume.specs.declared.update.Update.{Update}
+use Rattle.ec_overlay.specs.Shown.{laid}
+
+at-put : (j k : ℕ) (x : Image) (es : Table Image) → at j (put k x es) ≡ cond (j == k) (Some x) (at j es)
+at-put j k x es = find-put nat_cmp nat_cmp_total j k x es ∙ ap (λ b. cond b (Some x) (at j es)) (sym (unsigned_ties j k))
+
+abbrev over-or : List (ℕ × Image) → ℕ → Option Image → Image
+over-or under o t = elim t [ None ↦ images under o | Some i ↦ i ]
+
+laid-put : (under : List (ℕ × Image)) (es : Table Image) (k : ℕ) (x : Image) (o : ℕ) → laid under (put k x es) o ≡ cond (o == k) x (laid under es o)
+laid-put under es k x o = ap (over-or under o) (at-put o k x es) ∙ go (o == k)
+  where
+    go : (b : Bool) → over-or under o (cond b (Some x) (at o es)) ≡ cond b x (over-or under o (at o es))
+    go true = refl
+    go false = refl
+
+-- the others are shown as before
+pub others-taken : (under : List (ℕ × Image)) (es new : Table Image) (k : ℕ) (x : Image) → new ≡ put k x es → (o : ℕ) → (o == k) ≡ false → laid under new o ≡ laid under es o
+others-taken under es new k x is o e = ap (λ t. laid under t o) is ∙ laid-put under es k x o ∙ ap (λ b. cond b x (laid under es o)) e
+
+module _ (u : Update) where
+  pub one-changed : (k : ℕ) (v : Images) (under : List (ℕ × Image)) (es new : Table Image) (i j : Image) → i ≡ v k → j ≡ effect u k i → ((o : ℕ) → (o == k) ≡ false → laid under es o ≡ v o) → new ≡ put k j es
+      → (o : ℕ) → laid under new o ≡ cond (o == k) (effect u k (v k)) (v o)
+  one-changed k v under es new i j old next others is o = ap (λ t. laid under t o) is ∙ laid-put under es k j o ∙ go (o == k) refl
+    where
+      go : (b : Bool) → (o == k) ≡ b → cond b j (laid under es o) ≡ cond b (effect u k (v k)) (v o)
+      go true e = next ∙ ap (effect u k) old
+      go false e = others o e
+
+  unfit-same : (v w : Images) (os : List ℕ) → ((o : ℕ) → T (member o os) → v o ≡ w o) → first_unfit u v os ≡ first_unfit u w os
+  unfit-same v w [] h = refl
+  unfit-same v w (o ∷ os) h =
+      ap (λ i. cond (fits u o i) (first_unfit u v os) (Some o)) (h o (holds _ (own o)))
+      ∙ ap (λ r. cond (fits u o (w o)) r (Some o)) (unfit-same v w os (λ p m. h p (more p (p == o) m)))
+    where
+      own : (p : ℕ) → (p == p || member p os) ≡ true
+      own p = ap (λ b. b || member p os) (same p)
+        where
+          same : (m : ℕ) → (m == m) ≡ true
+          same m = grind (arith, nat_tests)
+
+      holds : (b : Bool) → b ≡ true → T b
+      holds b e = subst T (sym e) tt
+
+      more : (p : ℕ) (b : Bool) → T (member p os) → T (b || member p os)
+      more p true m = tt
+      more p false m = m
+
+  -- the images of these operands, and no others
+  abbrev pub Changes : Images → List ℕ → Images → Type 0
+  Changes v os w = (first_unfit u v os ≡ None) × ((o : ℕ) → w o ≡ cond (member o os) (effect u o (v o)) (v o))
+
+  abbrev pub Unfit : Images → List ℕ → Type 0
+  Unfit v os = (o : ℕ) × (first_unfit u v os ≡ Some o)
+
+  pub none-changed : (v : Images) (os : List ℕ) → os ≡ [] → Changes v os v
+  none-changed v os e = (ap (first_unfit u v) e, λ o. ap (λ l. cond (member o l) (effect u o (v o)) (v o)) (sym e))
+
+  module _ (k : ℕ) (os rest : List ℕ) (split : os ≡ k ∷ rest) (v : Images) where
+    pub first-fails : fits u k (v k) ≡ false → Unfit v os
+    first-fails f = (k, ap (first_unfit u v) split ∙ ap (λ b. cond b (first_unfit u v rest) (Some k)) f)
+
+    module _ (w : Images) (apart : distinct os ≡ true) (fit : fits u k (v k) ≡ true) (one : (o : ℕ) → w o ≡ cond (o == k) (effect u k (v k)) (v o)) where
+      absent : member k rest ≡ false
+      absent = go (member k rest) (and_parts (not (member k rest)) (distinct rest) (ap distinct (sym split) ∙ apart)).0
+        where
+          go : (b : Bool) → not b ≡ true → b ≡ false
+          go true e = sym e
+          go false e = refl
+
+      other : (o : ℕ) → T (member o rest) → (o == k) ≡ false
+      other o m = go (o == k) refl
+        where
+          go : (b : Bool) → (o == k) ≡ b → b ≡ false
+          go false e = refl
+          go true e = absurd (subst T (ap (λ x. member x rest) (eqb-true o k e) ∙ absent) m)
+
+      same : first_unfit u v os ≡ first_unfit u w rest
+      same = ap (first_unfit u v) split ∙ ap (λ b. cond b (first_unfit u v rest) (Some k)) fit ∙ unfit-same v w rest (λ o m. sym (one o ∙ ap (λ b. cond b (effect u k (v k)) (v o)) (other o m)))
+
+      changes : (x : Images) → Changes w rest x → Changes v os x
+      changes x h = (
+        same ∙ h.0,
+        λ o. h.1 o ∙ go o (o == k) refl ∙ sym (ap (λ l. cond (member o l) (effect u o (v o)) (v o)) split),
+      )
+        where
+          go : (o : ℕ) (b : Bool) → (o == k) ≡ b → cond (member o rest) (effect u o (w o)) (w o) ≡ cond (b || member o rest) (effect u o (v o)) (v o)
+          go o true e =
+              let is : o ≡ k = eqb-true o k e in
+              ap (λ b. cond b (effect u o (w o)) (w o)) (ap (λ y. member y rest) is ∙ absent)
+              ∙ one o ∙ ap (λ b. cond b (effect u k (v k)) (v o)) e ∙ ap (λ y. effect u y (v y)) (sym is)
+          go o false e = ap (λ i. cond (member o rest) (effect u o i) i) (one o ∙ ap (λ b. cond b (effect u k (v k)) (v o)) e)
+
+      pub all-changed : {E : Type 0} (r : Result Bool E) (x : Images) → IfOk r (λ b. MatchBool b (Changes w rest x) (Unfit w rest)) → IfOk r (λ b. MatchBool b (Changes v os x) (Unfit v os))
+      all-changed (Ok true) x h = changes x h
+      all-changed (Ok false) x h = (h.0, same ∙ h.1)
+      all-changed (Err e) x h = tt
+
+-- the first of a list and the others
+pub split_first : (ks : List ℕ) (k : ℕ) → k ≡ get_or ks 0 k → 1 ≤ length ks → ks ≡ k ∷ take (length ks - 1) (drop 1 ks)
+split_first [] k e l = absurd (omega (arith, l))
+split_first (j ∷ ks) k e l = ap (λ i. i ∷ ks) (sym e) ∙ ap (λ r. k ∷ r) (sym (take_all (length (j ∷ ks) - 1) ks (omega arith)))

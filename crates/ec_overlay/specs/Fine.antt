@@ -1,0 +1,9 @@
+-- Images that may be laid over a volume.
+use Rattle.std.specs.Prelude.{Bool, ◌||◌}
+use Rattle.ec_volume.specs.Image.{is_gone}
+use Rattle.ec_volume.specs.Held.{is_held}
+use Rattle.ec_volume.specs.declared.image.Image.{Image}
+
+-- Gone, or within the limits
+abbrev pub is_fine : Image → Bool
+is_fine i = is_gone i || is_held i

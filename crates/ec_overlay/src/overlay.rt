@@ -1,0 +1,118 @@
+// A volume with changed images laid over it.
+ghost use Rattle.std.specs.Prelude.{◌≡◌, ◌==◌, ◌∷◌, [], true, false, if◌then◌else◌, ℕ, T, None, Some, IfOk, MatchBool};
+ghost use Rattle.ec_volume.specs.Update.{is_sound, member, operands, distinct, first_unfit, fits, effect};
+ghost use Rattle.ec_volume.specs.Volume.{images, formatted, after};
+ghost use Rattle.ec_overlay.specs.Fine.{is_fine};
+ghost use Rattle.ec_overlay.specs.Shown.{shown};
+
+use crate::changed::Changed;
+use ec_base::{Duplicate, NoMemory, ObjId};
+use ec_volume::{Image, Look, Update, Volume, operands};
+use std::alloc::Global;
+
+/// A volume, and the images of the objects that updates changed since. The volume below keeps.
+#[derive(Drop)]
+pub struct Overlay {
+    pub under: Volume,
+    pub over: Changed,
+}
+
+impl Look for Overlay {
+    ghost images = { shown };
+
+    fn look(&self, id: ObjId) -> Option<&Image> {
+        match self.over.get(id) {
+            None => self.under.look(id),
+            Some(Image::Gone) => None,
+            Some(image) => Some(image),
+        }
+    }
+}
+
+impl Overlay {
+    /// The formatted volume.
+    pub fn formatted(alloc: Global) -> Result<Overlay, NoMemory>
+        ensures shown { IfOk result (λ overlay. (o : ℕ) → shown overlay o ≡ formatted o) }
+        ensures under { IfOk result (λ overlay. (o : ℕ) → images overlay.under o ≡ formatted o) }
+    {
+        Ok(Overlay {
+            under: Volume::formatted(alloc)?,
+            over: Changed::new(alloc),
+        })
+    }
+
+    /// The volume below shows again.
+    pub fn uncover(&mut self, alloc: Global)
+        ensures shown { (o : ℕ) → shown self.new o ≡ images self.old.under o }
+        ensures under { self.new.under ≡ self.old.under }
+    {
+        self.over = Changed::new(alloc);
+    }
+
+    /// Carries the update out, if it fits each of its operands. Where it doesn't, its operands'
+    /// images are lost.
+    pub fn carry_out(&mut self, alloc: Global, update: &Update) -> Result<bool, NoMemory>
+        requires { T (is_sound update.now) }
+        ensures images { IfOk result (λ fits. MatchBool fits ((first_unfit update.now (shown self.old) (operands update.now) ≡ None)
+            × ((o : ℕ) → shown self.new o ≡ after (shown self.old) (update.now ∷ []) o)) ((o : ℕ) × (first_unfit update.now (shown self.old) (operands update.now) ≡ Some o))) }
+        ensures under { self.new.under ≡ self.old.under }
+    {
+        let objs = operands(alloc, update)?;
+        self.change_all(alloc, update, &objs)
+    }
+
+    // Makes of the images of these operands what the update makes of them.
+    fn change_all(
+        &mut self,
+        alloc: Global,
+        update: &Update,
+        objs: &[ObjId],
+    ) -> Result<bool, NoMemory>
+        requires sound { T (is_sound update.now) }
+        requires distinct { distinct objs.now ≡ true }
+        ensures images { IfOk result (λ fits. MatchBool fits ((first_unfit update.now (shown self.old) objs.now ≡ None)
+            × ((o : ℕ) → shown self.new o ≡ (if member o objs.now then effect update.now o (shown self.old o) else shown self.old o))) ((o : ℕ) × (first_unfit update.now (shown self.old) objs.now ≡ Some o))) }
+        ensures under { self.new.under ≡ self.old.under }
+    {
+        match objs {
+            [] => Ok(true),
+            [obj, rest @ ..] => {
+                if !self.change(alloc, update, *obj)? {
+                    return Ok(false);
+                }
+                self.change_all(alloc, update, rest)
+            }
+        }
+    }
+
+    fn change(&mut self, alloc: Global, update: &Update, obj: ObjId) -> Result<bool, NoMemory>
+        requires { T (is_sound update.now) }
+        ensures images { IfOk result (λ done. MatchBool done ((fits update.now obj (shown self.old obj) ≡ true)
+            × ((o : ℕ) → shown self.new o ≡ (if o == obj then effect update.now obj (shown self.old obj) else shown self.old o))) (fits update.now obj (shown self.old obj) ≡ false)) }
+        ensures under { self.new.under ≡ self.old.under }
+    {
+        let mut image = self.take(obj)?;
+        if !image.fits(update, obj) {
+            return Ok(false);
+        }
+        image.effect(alloc, update, obj)?;
+        self.over.put(obj, image)?;
+        Ok(true)
+    }
+
+    // The image of the object, which isn't shown any more.
+    fn take(&mut self, obj: ObjId) -> Result<Image, NoMemory>
+        ensures image { IfOk result (λ image. image ≡ shown self.old obj) }
+        ensures fine { IfOk result (λ image. is_fine image ≡ true) }
+        ensures others { (o : ℕ) → (o == obj) ≡ false → shown self.new o ≡ shown self.old o }
+        ensures under { self.new.under ≡ self.old.under }
+    {
+        if let Some(image) = self.over.take(obj) {
+            return Ok(image);
+        }
+        match self.under.look(obj) {
+            Some(image) => image.duplicate(),
+            None => Ok(Image::Gone),
+        }
+    }
+}
