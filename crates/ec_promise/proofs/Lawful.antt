@@ -3,6 +3,7 @@ use Rattle.std.proofs.Common.{◌≡◌, ◌≤◌, ◌⊎◌, ℕ, zero, suc, L
 use Rattle.std.specs.List.{filter}
 use Rattle.std.proofs.Math.Logic.{∥∥₁_map}
 use Rattle.ec_base.specs.declared.counter.Counter.{Counter}
+use Rattle.ec_disk.specs.Disk.{View}
 use Rattle.ec_volume.specs.Volume.{images}
 use Rattle.ec_volume.specs.declared.image.Image.TheVariants.{Gone}
 use Rattle.ec_history.specs.Placing.{EachLine}
@@ -18,13 +19,16 @@ use Rattle.ec_headline.specs.Headline as headline
 use Rattle.ec_steps.specs.Drills.{AreFit, IsUnspent}
 use Rattle.ec_whole.specs.Runs.{RunShows}
 use Rattle.ec_lawful.proofs.Shows.{runs-show}
-use Rattle.ec_drill.specs.Drill.{Outside, Drilled, IsCut, IsCutClean, RanWhole, RanInPart, end_of, state_after}
+use Rattle.ec_drill.specs.Drill.{Outside, Drilled, IsCut, IsCutClean, IsToldAll, RanWhole, RanInPart, end_of, state_after}
+use Rattle.ec_drill.specs.Left.{LeavesOf, at_end}
 use Rattle.ec_drill.specs.declared.status.Status.{Status}
 use Rattle.ec_drill.specs.declared.status.Status.TheVariants as own
 use Rattle.ec_reached.proofs.Runs.{run-in-order}
-use Rattle.ec_promise.specs.Promise.{AreLawfulOn, AreStoredOn, AreWholeOn, CutIsLawful, DrillsAreLawful, CleanIsLawful, IsLawful, PartIsLawful, SpentIsLawful, WholeIsLawful, base_on}
+use Rattle.ec_promise.specs.Left.{EndsStored, IsStoredIn, LeavesStored}
+use Rattle.ec_promise.specs.Promise.{AreInOrder, AreLawfulOn, AreStoredOn, AreWholeOn, CutIsLawful, DrillsAreLawful, CleanIsLawful, IsLawful, MomentsAreStored, PartIsLawful, SpentIsLawful, WholeIsLawful, WholeState, base_on}
 use Rattle.ec_promise.proofs.Fit.{fit_script}
 use Rattle.ec_promise.proofs.Greatest.{greatest-id}
+use Rattle.ec_promise.proofs.Moments.{moment-stored, one-last}
 use Rattle.ec_promise.proofs.Spared.{lose-nothing}
 
 -- Lists.
@@ -63,23 +67,18 @@ same-joined : (pieces : List (List Shown)) → headline.joined pieces ≡ joined
 same-joined [] = refl
 same-joined (p ∷ ps) = ap (λ (ls : List Shown). p ++ ls) (same-joined ps)
 
-one-last : (e : Ending) → length (last_line e) ≤ 1
-one-last Done = omega arith
-one-last (BadLine n k) = omega arith
-one-last (TooMany n) = omega arith
-one-last (IsSpent n) = omega arith
-
 -- a front of lawful lines is lawful
 lawful-front : (reads : List Read) (state : Durable) (all xs more : List Shown) → AreLawfulOn reads state all → xs ++ more ≡ all → AreLawfulOn reads state xs
 lawful-front reads state all xs more a e = go (cut-front xs more a.told a.last (e ∙ a.written) a.at_most_one)
   where
     go : ((rest : List Shown) × (xs ++ rest ≡ a.told)) ⊎ (xs ≡ a.told ++ a.last) → AreLawfulOn reads state xs
-    go (inr q) = record { told = a.told; last = a.last; written = q; at_most_one = a.at_most_one; lines = a.lines; front = a.front; own_calls = a.own_calls; top = a.top; greatest = a.greatest; fronts = a.fronts }
+    go (inr q) = record { told = a.told; last = a.last; written = q; at_most_one = a.at_most_one; why = a.why; lines = a.lines; front = a.front; own_calls = a.own_calls; top = a.top; greatest = a.greatest; fronts = a.fronts }
     go (inl (rest, q)) = record {
       told = xs;
       last = [];
       written = sym (append-nil xs);
       at_most_one = omega arith;
+      why = tt;
       lines = a.lines;
       front = a.front;
       own_calls = each-front (headline.InScript a.lines) xs rest (subst (EachLine (headline.InScript a.lines)) (sym q) a.own_calls);
@@ -106,6 +105,7 @@ module _ (reads : List Read) (fates : List Fates) (d : Durable) (wf : WellFormed
     last = show.Spent n ∷ [];
     written = refl;
     at_most_one = omega arith;
+    why = (tt, tt);
     lines = [];
     front = refl;
     own_calls = tt;
@@ -143,7 +143,8 @@ module _ (reads : List Read) (fates : List Fates) (d : Durable) (wf : WellFormed
       told = headline.joined (close ran.ending ran).pieces;
       last = last_line (close ran.ending ran).ending;
       written = ap (λ (ls : List Shown). ls ++ last_line (close ran.ending ran).ending) (sym (same-joined (close ran.ending ran).pieces));
-      at_most_one = one-last (close ran.ending ran).ending;
+      at_most_one = (one-last (close ran.ending ran).ending).0;
+      why = (one-last (close ran.ending ran).ending).1;
       lines = shows.lines;
       front = shows.front;
       own_calls = shows.own_calls;
@@ -195,7 +196,23 @@ pub machine-lawful : DrillsAreLawful
 machine-lawful reads fates d is fit =
     (all-lawful reads fates d is.formed is.slots is.from_one fit, λ not. all-stored reads fates d is.formed is.slots is.from_one fit (drill reads fates d).1 refl not, λ w o n. run-in-order d is.formed is.slots is.from_one w o reads fates fit n)
 
+-- Each moment of its run is stored, and so is its end.
+pub machine-stored : MomentsAreStored
+machine-stored reads fates d is fit start o w shown m =
+    let highest = greatest-id d is.formed in
+    moment-stored d is.formed is.slots is.from_one highest.0 highest.1 start o reads fates fit w shown m
+
+ends-stored : (reads : List Read) (fates : List Fates) (d : Durable) → WholeState d → AreFit reads → EndsStored reads fates d (drill reads fates d).0
+ends-stored reads fates d is fit = ((is.formed).volume, λ start o. subst (λ x. IsStoredIn d (end_of reads fates start) (drill_in reads fates x).0) (sym o) (machine-stored reads fates d is fit start o (end_of reads fates start) _ (at_end (run_from (bound reads) 1 reads fates start) refl refl refl)))
+
+leaves-stored : (now : View) (reads : List Read) (fates : List Fates) (d : Durable) → WholeState d → AreFit reads → (written : List Shown) → (o : Result World Counter) → open_world d ≡ o → LeavesOf now reads fates d o written → LeavesStored now reads fates d o written
+leaves-stored now reads fates d is fit written (Err n) q left = ((is.formed).volume, left)
+leaves-stored now reads fates d is fit written (Ok start) q left = λ image may. (let at = left image may in (at, machine-stored reads fates d is fit start q at.world at.shown at.moment))
+
 -- The same of what a drill did.
+
+whole-state : (d : Durable) → WellFormed d → length d.sessions ≡ 16 → images d.volume 0 ≡ Gone → WholeState d
+whole-state d formed slots from_one = record { formed = formed; slots = slots; from_one = from_one }
 
 whole-lawful : (most number : ℕ) (w : Outside) (r : RanWhole most number w) → (number ≡ 15 → ⊥) → WholeIsLawful most number w r
 whole-lawful most number w r not told =
@@ -210,17 +227,31 @@ spent-lawful : (most number : ℕ) (w : Outside) (r : RanWhole most number w) �
 spent-lawful most number w r told =
     let is = (r.opens).whole in
     let fit = fit_script _ r.reads (r.given).read in
-    ∥∥₁_map is.formed (λ wf. (subst (AreWholeOn r.reads r.state) (r.lines told) (all-lawful r.reads r.fates r.state wf is.slots is.from_one fit), λ v o n. run-in-order r.state wf is.slots is.from_one v o r.reads r.fates fit n))
-
-part-lawful : (most : ℕ) (w : Outside) (last : List ℕ) (r : RanInPart most w last) → PartIsLawful most w last r
-part-lawful most w last r told =
-    let is = (r.opens).whole in
-    let f = r.front told in
-    let fit = fit_script _ r.reads (r.given).read in
     ∥∥₁_map is.formed (λ wf. (
-      lawful-front r.reads r.state (drill r.reads r.fates r.state).0 r.shown (r.unwritten ++ f.0) (all-lawful r.reads r.fates r.state wf is.slots is.from_one fit).lawful (sym f.1),
+      subst (AreWholeOn r.reads r.state) (r.lines told) (all-lawful r.reads r.fates r.state wf is.slots is.from_one fit),
+      subst (EndsStored r.reads r.fates r.state) (r.lines told) (ends-stored r.reads r.fates r.state (whole-state r.state wf is.slots is.from_one) fit),
       λ v o n. run-in-order r.state wf is.slots is.from_one v o r.reads r.fates fit n,
     ))
+
+part-lawful : (most : ℕ) (w : Outside) (last : List ℕ) (r : RanInPart most w last) → PartIsLawful most w last r
+part-lawful most w last r = (lawful, stored)
+  where
+    fit : AreFit r.reads
+    fit = fit_script _ r.reads (r.given).read
+
+    lawful : IsToldAll w → ∥ AreLawfulOn r.reads r.state r.shown × AreInOrder r.reads r.fates r.state ∥₁
+    lawful told =
+        let is = (r.opens).whole in
+        let f = r.front told in
+        ∥∥₁_map is.formed (λ wf. (
+          lawful-front r.reads r.state (drill r.reads r.fates r.state).0 r.shown (r.unwritten ++ f.0) (all-lawful r.reads r.fates r.state wf is.slots is.from_one fit).lawful (sym f.1),
+          λ v o n. run-in-order r.state wf is.slots is.from_one v o r.reads r.fates fit n,
+        ))
+
+    stored : w.tells → ∥ LeavesStored w.disk_after r.reads r.fates r.state (open_world r.state) r.shown ∥₁
+    stored tells =
+        let is = (r.opens).whole in
+        ∥∥₁_map is.formed (λ wf. leaves-stored w.disk_after r.reads r.fates r.state (whole-state r.state wf is.slots is.from_one) fit r.shown (open_world r.state) refl (r.left tells))
 
 cut-lawful : (most : ℕ) (w : Outside) (c : IsCut most w) → CutIsLawful most w c
 cut-lawful most w (inl part) = part-lawful most w part.0 part.1

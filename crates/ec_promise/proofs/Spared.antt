@@ -1,6 +1,6 @@
 -- Where no line crashes a clerk or ends a session, nothing is lost.
 use Rattle.std.proofs.Common.{◌≡◌, ◌≤◌, ℕ, zero, suc, Bool, true, false, T, List, [], ◌∷◌, ◌++◌, length, take, refl, sym, ap, subst, ◌∙◌, arith}
-use Rattle.std.specs.Prelude.{◌==◌, ◌&&◌, if◌then◌else◌, not, ⊤, is_some}
+use Rattle.std.specs.Prelude.{◌==◌, ◌&&◌, if◌then◌else◌, not, is_some}
 use Rattle.std.specs.List.{filter, list_all}
 use Rattle.ec_history.specs.History.{History}
 use Rattle.ec_history.specs.Placing.{EachLine, call_entry, line_entries, place, place_from, watch}

@@ -1,2 +1,3 @@
 pub mod Spared
+pub mod Left
 pub mod Promise

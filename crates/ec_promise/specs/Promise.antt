@@ -19,7 +19,9 @@ use Rattle.ec_headline.specs.Headline.{AreEndsAsked, ArePieces, FrontsAreLawful,
 use Rattle.ec_steps.specs.Drills.{AreFit, lines_in}
 use Rattle.ec_reached.specs.Reached.{IsInOrder}
 use Rattle.ec_promise.specs.Spared.{LosesNothing, spares}
+use Rattle.ec_promise.specs.Left.{EndsStored, IsStoredIn, LeavesStored, SaysWhy}
 use Rattle.ec_drill.specs.Drill.{Outside, Drilled, IsCut, IsCutClean, IsToldAll, RanWhole, RanInPart, state_after}
+use Rattle.ec_drill.specs.Left.{Moment}
 use Rattle.ec_drill.specs.declared.status.Status.{Status}
 use Rattle.ec_drill.specs.declared.status.Status.TheVariants as status
 
@@ -40,6 +42,7 @@ pub record AreLawfulOn (reads : List Read) (state : Durable) (shown : List Shown
   pub last : List Shown
   pub written : shown ≡ told ++ last
   pub at_most_one : length last ≤ 1
+  pub why : EachLine SaysWhy last
   -- each call in them is that of its line in the script, of which the first ones were carried out
   pub lines : Lines
   pub front : lines ≡ take (length lines) (lines_in reads)
@@ -75,15 +78,18 @@ pub record AreStoredOn (reads : List Read) (state end : Durable) (shown : List S
 abbrev pub AreInOrder : List Read → List Fates → Durable → Type 0
 AreInOrder reads fates state = (w : World) → open_world state ≡ Ok w → (n : ℕ) → IsInOrder (images state.volume) state.max_objects (run_from (bound reads) 1 (take n reads) fates w).world
 
--- Where it's known what the disk did: of a run that ended by itself, also of one that a spent counter ended, and of one that was cut off.
+-- Where it's known what the disk did: of a run that ended by itself, also of one that a spent counter ended, and of one that was cut off. What the last two left
+-- of the volume is told of a disk that tells its content.
 abbrev pub WholeIsLawful : (most number : ℕ) (w : Outside) → RanWhole most number w → Type 0
 WholeIsLawful most number w r = IsToldAll w → ∥ AreStoredOn r.reads r.state (state_after r.reads r.fates r.state) r.shown × AreInOrder r.reads r.fates r.state ∥₁
 
 abbrev pub SpentIsLawful : (most number : ℕ) (w : Outside) → RanWhole most number w → Type 0
-SpentIsLawful most number w r = IsToldAll w → ∥ AreWholeOn r.reads r.state r.shown × AreInOrder r.reads r.fates r.state ∥₁
+SpentIsLawful most number w r = IsToldAll w → ∥ AreWholeOn r.reads r.state r.shown × EndsStored r.reads r.fates r.state r.shown × AreInOrder r.reads r.fates r.state ∥₁
 
 abbrev pub PartIsLawful : (most : ℕ) (w : Outside) (last : List ℕ) → RanInPart most w last → Type 0
-PartIsLawful most w last r = IsToldAll w → ∥ AreLawfulOn r.reads r.state r.shown × AreInOrder r.reads r.fates r.state ∥₁
+PartIsLawful most w last r =
+    (IsToldAll w → ∥ AreLawfulOn r.reads r.state r.shown × AreInOrder r.reads r.fates r.state ∥₁)
+    × (w.tells → ∥ LeavesStored w.disk_after r.reads r.fates r.state (open_world r.state) r.shown ∥₁)
 
 abbrev pub CutIsLawful : (most : ℕ) (w : Outside) → IsCut most w → Type 0
 CutIsLawful most w (inl part) = PartIsLawful most w part.0 part.1
@@ -112,3 +118,8 @@ IsLawful most status.BadDisk w d = ⊤
 abbrev pub DrillsAreLawful : Type 0
 DrillsAreLawful = (reads : List Read) (fates : List Fates) (d : Durable) → WholeState d → AreFit reads
     → AreWholeOn reads d (drill reads fates d).0 × (((drill reads fates d).1 ≡ 15 → ⊥) → AreStoredOn reads d (state_after reads fates d) (drill reads fates d).0) × AreInOrder reads fates d
+
+-- And at each moment of its run.
+abbrev pub MomentsAreStored : Type 0
+MomentsAreStored = (reads : List Read) (fates : List Fates) (d : Durable) → WholeState d → AreFit reads
+    → (start : World) → open_world d ≡ Ok start → (w : World) (shown : List Shown) → Moment (bound reads) reads fates start w shown → IsStoredIn d w shown

@@ -2,9 +2,15 @@
 //! law.
 #![tactic(auto)]
 
-ghost use Rattle.ec_promise.specs.Promise.{DrillsAreLawful};
+ghost use Rattle.ec_promise.specs.Promise.{DrillsAreLawful, MomentsAreStored};
 
 /// Whatever a drill did, the lines that it wrote stand in one legal history of one uncached volume.
 pub fn drills_are_lawful()
     ensures { DrillsAreLawful }
+{}
+
+/// At each moment of its run the volume in store has the shape that the operations leave which `durable`
+/// lines have named by then, with that of a record in doubt behind them.
+pub fn moments_are_stored()
+    ensures { MomentsAreStored }
 {}
