@@ -1,2 +1,3 @@
 pub mod Pushed
 pub mod Framed
+pub mod Promised

@@ -20,3 +20,7 @@ refused spawned.NoMemory = 0
 abbrev pub faults_of : Spawner → ℕ
 faults_of (by.Threads s) = faults_in s.happened
 faults_of (by.Fails s) = faults_in s.happened
+
+-- what this job gives is a result of the jobs' own
+abbrev pub IsPromised : {J O S H : Type 0} → (H → J) → (J → O → Type 0) → (S → O → Type 0) → S → H → Type 0
+IsPromised {O} job_of gives owns jobs handle = (out : O) → gives (job_of handle) out → owns jobs out

@@ -3,6 +3,7 @@ ghost use Rattle.std.specs.Prelude.{◌≡◌, ℕ, ◌+◌, ◌≤◌, Bool, Li
 ghost use Rattle.ec_frame.specs.Frames.{IsBody};
 ghost use Rattle.ec_link.specs.declared.link.Sent.TheVariants as sent;
 ghost use Rattle.ec_link.specs.Links.{Heard, failed, fault_of, close_of, heard, carried, added, Reads};
+ghost use Rattle.ec_link.specs.Nets.{faulted};
 
 use crate::around::Around;
 use crate::bell::Bell;
@@ -77,8 +78,14 @@ pub trait Link {
     fn is_clear(&self) -> bool
         ensures { result ≡ clear self.now };
 
-    /// What threads wait on for this link. It rings whenever `recv` may have something new.
-    fn bell<R: Around>(&mut self, rt: &R) -> Result<Self::Bell, NetFault>
+    /// Ends the link for the other end, which finds it closed behind what it gets still. Nothing more goes to it.
+    fn hang_up(&mut self)
         ensures counts { (faults self.new ≡ faults self.old) × (closes self.new ≡ closes self.old) }
+        ensures bodies { (given self.new ≡ given self.old) × (got self.new ≡ got self.old) × (held self.new ≡ held self.old) };
+
+    /// What threads wait on for this link. It rings whenever `recv` may have something new. `Failed` is a fault of the link.
+    fn bell<R: Around>(&mut self, rt: &R) -> Result<Self::Bell, NetFault>
+        ensures faults { faults self.old + faulted result ≤ faults self.new }
+        ensures closes { closes self.new ≡ closes self.old }
         ensures bodies { (given self.new ≡ given self.old) × (got self.new ≡ got self.old) × (held self.new ≡ held self.old) };
 }

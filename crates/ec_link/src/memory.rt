@@ -39,7 +39,8 @@ pub struct MemLink {
 // What joins one end of a pair to the other.
 #[derive(Drop)]
 pub struct Line {
-    to: Sender<Vec<u8>>,
+    // None behind a `hang_up`.
+    to: Option<Sender<Vec<u8>>>,
     from: Receiver<Vec<u8>>,
     here: Arc<AtomicU64>,
     // It knocks behind the drop of `to`.
@@ -56,13 +57,13 @@ pub fn lines(alloc: Global) -> Result<(Line, Line), NoMemory> {
     let (to_left, from_right) = unbounded(alloc)?;
     let (at_left, at_right) = (no_rings(alloc)?, no_rings(alloc)?);
     let left = Line {
-        to: to_right,
+        to: Some(to_right),
         from: from_right,
         here: Arc::try_clone(&at_left)?,
         there: Knocker::new(Arc::try_clone(&at_right)?),
     };
     let right = Line {
-        to: to_left,
+        to: Some(to_left),
         from: from_left,
         here: at_right,
         there: Knocker::new(at_left),
@@ -108,7 +109,10 @@ impl MemLink {
         ensures { self.new ≡ self.old }
     {
         let piece = Vec::from_slice(self.alloc, bytes)?;
-        match self.line.to.send(rt, piece) {
+        let Some(to) = &self.line.to else {
+            return Ok(());
+        };
+        match to.send(rt, piece) {
             Err(refused) if refused.is_out_of_memory() => Err(NoMemory),
             _ => {
                 self.line.there.knock();
@@ -134,7 +138,10 @@ impl MemLink {
         ensures held { self.new.frames.left ≡ self.old.frames.left }
     {
         let copy = Snapshot::of(&bytes);
-        match self.line.to.send(rt, bytes) {
+        let Some(to) = &self.line.to else {
+            return self.fail();
+        };
+        match to.send(rt, bytes) {
             Ok(()) => {
                 self.line.there.knock();
                 self.happened.got(copy);
@@ -243,6 +250,11 @@ impl Link for MemLink {
     // The other end's line has room for all.
     fn is_clear(&self) -> bool {
         true
+    }
+
+    fn hang_up(&mut self) {
+        self.line.to = None;
+        self.line.there.knock();
     }
 
     fn bell<R: Around>(&mut self, _rt: &R) -> Result<MemBell, NetFault> {

@@ -14,8 +14,8 @@ use crate::tcp_bell::TcpBell;
 use ec_frame::{FrameFault, Frames, frame};
 use mio::Poll;
 use std::alloc::Global;
-use std::io::{ErrorKind, Read, Write};
-use std::net::TcpStream;
+use std::io::{self, ErrorKind, Read, Write};
+use std::net::{Shutdown, TcpStream};
 use std::snapshot::Snapshot;
 use std::sync::Wait;
 use std::time::{Clock, Duration, Instant};
@@ -219,6 +219,10 @@ fn take_piece(stream: &mut TcpStream, into: &mut Vec<u8>) -> Piece {
     }
 }
 
+fn bell_of(alloc: Global, poll: io::Result<Poll>, stream: &TcpStream) -> io::Result<TcpBell> {
+    TcpBell::new(alloc, poll?, stream)
+}
+
 impl Link for TcpLink {
     type Bell = TcpBell;
 
@@ -247,7 +251,7 @@ impl Link for TcpLink {
     }
 
     fn recv<R: Wait + Clock>(&mut self, rt: &R) -> Got {
-        if !self.flush(rt) {
+        if !self.flush(rt) || self.is_silent(rt) {
             self.happened.fault();
             return Got::Failed;
         }
@@ -263,10 +267,17 @@ impl Link for TcpLink {
         self.unsent.is_empty()
     }
 
+    fn hang_up(&mut self) {
+        let _ = self.stream.shutdown(Shutdown::Both);
+    }
+
     fn bell<R: Around>(&mut self, rt: &R) -> Result<TcpBell, NetFault> {
-        let poll = Poll::new(rt).ok().ok_or(NetFault::Failed)?;
-        TcpBell::new(rt.alloc(), poll, &self.stream)
-            .ok()
-            .ok_or(NetFault::Failed)
+        match bell_of(rt.alloc(), Poll::new(rt), &self.stream) {
+            Ok(bell) => Ok(bell),
+            Err(_) => {
+                self.happened.fault();
+                Err(NetFault::Failed)
+            }
+        }
     }
 }
