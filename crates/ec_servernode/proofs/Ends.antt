@@ -18,11 +18,13 @@ use Rattle.ec_servernode.specs.declared.step.Step.{Step}
 use Rattle.ec_link.specs.Links.{added}
 use Rattle.ec_servernode.specs.declared.state.Outbox.{Outbox}
 use Rattle.ec_servernode.specs.declared.state.Node.{Node}
+use Rattle.ec_servernode.specs.declared.state.Told.{Told}
 use Rattle.ec_servernode.specs.declared.fault.ServeFault.{ServeFault}
 use Rattle.ec_servernode.specs.declared.fault.ServeFault.TheVariants as fault
 use Rattle.ec_servernode.specs.Run.{Halts, hello_in, hello_of, or_else, clerk_by, sender}
 use Rattle.ec_servernode.specs.Node.{CountsUp}
 use Rattle.ec_servernode.specs.Steps.{Grew, Stops, Refuses, halt_in, spends}
+use Rattle.ec_servernode.specs.Told.{IsToldOf}
 use Rattle.ec_servernode.specs.Turns.{More, TakeFails, Takes, Gives, fault_of}
 use Rattle.ec_servernode.proofs.Runs.{clerk-push}
 
@@ -66,11 +68,11 @@ next_clerk pass c bytes m served old new server keeper g from =
 pub no_more : {K : Type 0} (pass : ℕ) (old new : Node K) → new.trace.items ≡ old.trace.items → More pass old new []
 no_more pass old new e = (e ∙ sym (append-nil old.trace.items), tt)
 
-pub grew_takes : {K A : Type 0} (pass c : ℕ) (bytes : Snapshot (Vec ℕ Global)) (m : Msg) (served : Served) (old new : Node K) (server : Server) (keeper : K) (told : A) → old.halt ≡ None
-    → Grew pass c bytes m served (record old { server = server; keeper = keeper }) new → Takes pass bytes.value.items old new (Ok told)
-grew_takes pass c bytes m served old new server keeper told none g =
+pub grew_takes : {K : Type 0} (pass c : ℕ) (bytes : Snapshot (Vec ℕ Global)) (m : Msg) (served : Served) (old new : Node K) (server : Server) (keeper : K) (told : Told) → old.halt ≡ None
+    → Grew pass c bytes m served (record old { server = server; keeper = keeper }) new → IsToldOf told served.sent → Takes pass bytes.value.items old new (Ok told)
+grew_takes pass c bytes m served old new server keeper told none g is =
     let x : Step = record { pass = pass; deed = Took c bytes g.shot g.copy } in
-    ((x, (g.list, (refl, tt)), refl), g.halt_is ∙ none)
+    ((x, (g.list, (refl, tt)), refl, subst (λ (s : Served). IsToldOf told s.sent) (sym g.copy_is) is), g.halt_is ∙ none)
 
 pub stop_fails : {K : Type 0} (pass c : ℕ) (bytes : Snapshot (Vec ℕ Global)) (m : Snapshot Msg) (h : Halt) (old new : Node K) (server : Server) (keeper : K) (f : ServeFault) → f ≡ fault_of h
     → Stops pass c bytes m h (record old { server = server; keeper = keeper }) new → TakeFails pass bytes.value.items old new f

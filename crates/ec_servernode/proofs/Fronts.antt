@@ -1,5 +1,5 @@
 -- Passes of the lock, the value that it's made with, and what is handed back.
-use Rattle.std.proofs.Common.{◌≡◌, ℕ, ◌<◌, ◌⊎◌, false, List, [], length, Some, None, sym, refl, ap, ◌∙◌, subst, ⊎_elim, arith}
+use Rattle.std.proofs.Common.{◌≡◌, ℕ, ◌<◌, ◌⊎◌, false, List, [], length, Some, None, sym, refl, ap, ◌∙◌, subst, ⊎_elim, inl, arith}
 use mathlib.Core.List.{IsPrefix}
 use Rattle.ec_base.specs.Limits.{clerk_count}
 use Rattle.ec_disk.specs.Disk.{Counts}
@@ -13,7 +13,7 @@ use Rattle.ec_lock.specs.declared.types.TracedLock.{TracedLock}
 use Rattle.ec_servernode.specs.declared.step.Step.{Step}
 use Rattle.ec_servernode.specs.declared.state.Node.{Node}
 use Rattle.ec_servernode.specs.Run.{number_of, last_hello, clerk_by, leads, records, halted, box_from, owner, IsRun}
-use Rattle.ec_servernode.specs.Node.{queue_at, owner_at, Chain, CountsUp, state_of, Since}
+use Rattle.ec_servernode.specs.Node.{queue_at, owner_at, Chain, ChainInDoubt, CountsUp, state_of, Since}
 use Rattle.ec_servernode.specs.Turns.{More, RunsFrom, IsServerPass, Finished}
 use Rattle.ec_servernode.proofs.Lists.{prefix_trans}
 use Rattle.ec_servernode.proofs.Runs.{no_run}
@@ -48,18 +48,19 @@ module _ {K : Type 0} (kept : K → Durable) (lock : TracedLock (Node K) Step) w
     below = subst (λ n. n < clerk_count) (sym e) (omega arith);
   }
 
-module _ {K : Type 0} (kept : K → Durable) (counts : K → Counts) (did : K → Record → K → Type 0) where
-  pub reached_run : (start : Node K) (steps : List Step) → Reached (λ (n : Node K). n.trace.items) (Since kept counts did) start steps → RunsFrom kept start steps
+module _ {K : Type 0} (kept : K → Durable) (counts : K → Counts) (did breaks : K → Record → K → Type 0) where
+  pub reached_run : (start : Node K) (steps : List Step) → Reached (λ (n : Node K). n.trace.items) (Since kept counts did breaks) start steps → RunsFrom kept start steps
   reached_run start steps r = subst (RunsFrom kept start) r.2 r.1.run
 
   -- the value that a lock is made with
-  pub begins : (n : Node K) → n.trace.items ≡ [] → n.steps ≡ 0 → n.halt ≡ None → StandsOn (kept n.keeper) n.server → length n.boxes.items ≡ clerk_count → ((c : ℕ) → owner_at n.boxes.items c ≡ None) → Since kept counts did n n
+  pub begins : (n : Node K) → n.trace.items ≡ [] → n.steps ≡ 0 → n.halt ≡ None → StandsOn (kept n.keeper) n.server → length n.boxes.items ≡ clerk_count → ((c : ℕ) → owner_at n.boxes.items c ≡ None) → Since kept counts did breaks n n
   begins n list steps halt stands sized owners = record {
     run = subst (IsRun (state_of kept n) (queue_at n.boxes.items)) (sym list) (no_run (state_of kept n) (queue_at n.boxes.items));
     counted = steps ∙ sym (ap length list);
     leads_to = λ up. ap (leads (state_of kept n)) list;
     stands = stands;
     chain = λ up. subst (λ l. Chain did (records l) n.keeper n.keeper) (sym list) refl;
+    doubt = (n.keeper, subst (λ l. Chain did (records l) n.keeper n.keeper) (sym list) refl, inl refl);
     sized = sized;
     boxes = λ up c le. sym (ap (box_from c (queue_at n.boxes.items c)) list);
     owners = λ up c le. owners c ∙ sym (ap (owner c) list);
@@ -67,9 +68,12 @@ module _ {K : Type 0} (kept : K → Durable) (counts : K → Counts) (did : K �
     counted_up = subst (λ h. CountsUp h (counts n.keeper) (counts n.keeper)) (sym (ap halted list)) (no_halt_up (counts n.keeper));
   }
 
-  module _ (start v : Node K) (steps : List Step) (is : steps ≡ v.trace.items) (s : Since kept counts did start v) where
-    pub finished_none : Finished kept counts did start steps None v.keeper
-    finished_none = subst (λ l. CountsUp (halted l) (counts start.keeper) (counts v.keeper)) (sym is) s.counted_up
+  module _ (start v : Node K) (steps : List Step) (is : steps ≡ v.trace.items) (s : Since kept counts did breaks start v) where
+    counted : CountsUp (halted steps) (counts start.keeper) (counts v.keeper)
+    counted = subst (λ l. CountsUp (halted l) (counts start.keeper) (counts v.keeper)) (sym is) s.counted_up
 
-    pub finished_some : v.broken ≡ false → Finished kept counts did start steps (Some v.server) v.keeper
-    finished_some up = (ap (leads (state_of kept start)) is ∙ s.leads_to up, subst (λ l. Chain did (records l) start.keeper v.keeper) (sym is) (s.chain up), finished_none)
+    pub finished_none : Finished kept counts did breaks start steps None v.keeper
+    finished_none = (subst (λ l. ChainInDoubt did breaks (records l) start.keeper v.keeper) (sym is) s.doubt, counted)
+
+    pub finished_some : v.broken ≡ false → Finished kept counts did breaks start steps (Some v.server) v.keeper
+    finished_some up = (ap (leads (state_of kept start)) is ∙ s.leads_to up, subst (λ l. Chain did (records l) start.keeper v.keeper) (sym is) (s.chain up), counted)

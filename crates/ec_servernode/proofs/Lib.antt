@@ -6,3 +6,4 @@ pub mod Served
 pub mod Boxes
 pub mod Ends
 pub mod Fronts
+pub mod Tells

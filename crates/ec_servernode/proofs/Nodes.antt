@@ -1,5 +1,5 @@
 -- One step more keeps what the value says of its list.
-use Rattle.std.proofs.Common.{◌≡◌, ◌==◌, ℕ, ◌+◌, ◌<◌, true, false, not, cond, [], ◌∷◌, ◌++◌, length, drop, Some, None, Result, Ok, Err, Vec, sym, ap, ◌∙◌, subst, length-append, append-nil}
+use Rattle.std.proofs.Common.{◌≡◌, ◌==◌, ◌⊎◌, ℕ, ◌+◌, ◌<◌, true, false, not, cond, [], ◌∷◌, ◌++◌, length, drop, Some, None, Result, Ok, Err, Vec, sym, ap, ◌∙◌, subst, length-append, append-nil, refl, inl, inr, ⊎_elim}
 use Rattle.std.specs.declared.alloc.Global.{Global}
 use Rattle.std.specs.declared.snapshot.Snapshot.{Snapshot}
 use Rattle.ec_base.specs.Limits.{clerk_count}
@@ -8,8 +8,9 @@ use Rattle.ec_wire.specs.Codes.{said}
 use Rattle.ec_wire.specs.declared.msg.Msg.{Msg}
 use Rattle.ec_durable.specs.declared.state.Durable.{Durable}
 use Rattle.ec_durable.specs.declared.record.Record.{Record}
+use Rattle.ec_protocol.specs.Server.{Serving}
 use Rattle.ec_protocol.specs.declared.server.Served.{Served}
-use Rattle.ec_server.specs.Keepers.{Did}
+use Rattle.ec_server.specs.Keepers.{Did, Hurts, SpendsNothing}
 use Rattle.ec_server.specs.Servers.{standing, Does, StandsOn}
 use Rattle.ec_server.specs.declared.server.Server.{Server}
 use Rattle.ec_server.specs.declared.fault.ServerFault.{ServerFault}
@@ -20,14 +21,14 @@ use Rattle.ec_servernode.specs.declared.step.Step.{Step}
 use Rattle.ec_servernode.specs.declared.state.Node.{Node}
 use Rattle.ec_servernode.specs.Folded.{taken}
 use Rattle.ec_servernode.specs.Run.{first_of, hello_in, owner_now, sender, clerk_by, is_for, owner, put_all, for_clerk, box_from, leads, records, records_of, halted, Halts, Came, IsStep, IsRun}
-use Rattle.ec_servernode.specs.Node.{queue_at, owner_at, Chain, CountsUp, state_of, Since, Keeps}
+use Rattle.ec_servernode.specs.Node.{queue_at, owner_at, Chain, Doubt, CountsUp, state_of, Since, Keeps}
 use Rattle.ec_servernode.specs.Steps.{Grew, Stops, Refuses, halt_in, spends}
 use Rattle.ec_servernode.proofs.Lists.{each-push}
 use Rattle.ec_servernode.proofs.Runs.{run_push, leads-push, box-push, owner-push, halted-push, chain-push}
 use Rattle.ec_servernode.proofs.Counts.{then_up}
 use Rattle.ec_servernode.proofs.Ends.{fault_up, halts_by}
 
-module _ {K : Type 0} (kept : K → Durable) (counts : K → Counts) (did : K → Record → K → Type 0) where
+module _ {K : Type 0} (kept : K → Durable) (counts : K → Counts) (did breaks : K → Record → K → Type 0) where
   -- the server took the message m of the clerk c from this body
   pub record Taken (pass c : ℕ) (bytes : Snapshot (Vec ℕ Global)) (m : Msg) (served : Served) (old : Node K) (server : Server) (keeper : K) : Type 0 where
     pub up : old.broken ≡ false
@@ -40,7 +41,7 @@ module _ {K : Type 0} (kept : K → Durable) (counts : K → Counts) (did : K �
     pub stands : StandsOn (kept keeper) server
 
   pub took : (pass c : ℕ) (bytes : Snapshot (Vec ℕ Global)) (m : Msg) (served : Served) (old new : Node K) (server : Server) (keeper : K) → Taken pass c bytes m served old server keeper
-      → Grew pass c bytes m served (record old { server = server; keeper = keeper }) new → Keeps kept counts did old new
+      → Grew pass c bytes m served (record old { server = server; keeper = keeper }) new → Keeps kept counts did breaks old new
   took pass c bytes m served old new server keeper t g first s =
       let xs = old.trace.items in
       let s0 = state_of kept first in
@@ -58,6 +59,7 @@ module _ {K : Type 0} (kept : K → Durable) (counts : K → Counts) (did : K �
         leads_to = λ _. ap (leads s0) g.list ∙ (leads-push s0 xs x ∙ (ap (λ d. d.server) done ∙ (ap (λ y. standing (kept keeper) y) (sym g.server) ∙ ap (λ k. standing (kept k) new.server) (sym g.keeper))));
         stands = subst (λ k. StandsOn (kept k) new.server) (sym g.keeper) (subst (StandsOn (kept keeper)) (sym g.server) t.stands);
         chain = λ _. chain_is first s g;
+        doubt = (new.keeper, chain_is first s g, inl refl);
         sized = g.sized;
         boxes = λ up k le. g.posted up k ∙ (ap (λ q. put_all q (for_clerk k served.sent)) (s.boxes t.up k le) ∙ (ap (λ y. put_all (box_from k (queue_at first.boxes.items k) xs) (for_clerk k y.sent)) (sym g.copy_is)
             ∙ sym (ap (box_from k (queue_at first.boxes.items k)) g.list ∙ box-push k (queue_at first.boxes.items k) xs x)));
@@ -68,14 +70,14 @@ module _ {K : Type 0} (kept : K → Durable) (counts : K → Counts) (did : K �
         x_of : Grew pass c bytes m served (record old { server = server; keeper = keeper }) new → Step
         x_of g = record { pass = pass; deed = Took c bytes g.shot g.copy }
 
-        chain_is : (first : Node K) → Since kept counts did first old → (g : Grew pass c bytes m served (record old { server = server; keeper = keeper }) new) → Chain did (records new.trace.items) first.keeper new.keeper
+        chain_is : (first : Node K) → Since kept counts did breaks first old → (g : Grew pass c bytes m served (record old { server = server; keeper = keeper }) new) → Chain did (records new.trace.items) first.keeper new.keeper
         chain_is first s g =
             let xs = old.trace.items in
             let one = chain-push did (records xs) g.copy.value.rec first.keeper old.keeper keeper (s.chain t.up) (subst (λ y. Did did y.rec old.keeper keeper) (sym g.copy_is) t.did_so) in
             subst (Chain did (records new.trace.items) first.keeper) (sym g.keeper)
             (subst (λ l. Chain did l first.keeper keeper) (sym (ap records g.list ∙ each-push (λ (y : Step). records_of y.deed) xs (x_of g))) one)
 
-        up_is : (first : Node K) → Since kept counts did first old → (g : Grew pass c bytes m served (record old { server = server; keeper = keeper }) new) → halted old.trace.items ≡ None
+        up_is : (first : Node K) → Since kept counts did breaks first old → (g : Grew pass c bytes m served (record old { server = server; keeper = keeper }) new) → halted old.trace.items ≡ None
             → CountsUp (halted new.trace.items) (counts first.keeper) (counts new.keeper)
         up_is first s g none =
             let before : CountsUp None (counts first.keeper) (counts old.keeper) = subst (λ h. CountsUp h (counts first.keeper) (counts old.keeper)) none s.counted_up in
@@ -93,9 +95,10 @@ module _ {K : Type 0} (kept : K → Durable) (counts : K → Counts) (did : K �
     pub same : not (spends h) ≡ false → (standing (kept keeper) server ≡ state_of kept old) × (keeper ≡ old.keeper)
     pub counted : CountsUp (Some h) (counts old.keeper) (counts keeper)
     pub stands : StandsOn (kept keeper) server
+    pub doubt : Doubt did breaks old.keeper keeper
 
   pub stopped : (pass c : ℕ) (bytes : Snapshot (Vec ℕ Global)) (m : Msg) (shot : Snapshot Msg) (h : Halt) (old new : Node K) (server : Server) (keeper : K) → shot.value ≡ m → Halting pass c bytes m h old server keeper
-      → Stops pass c bytes shot h (record old { server = server; keeper = keeper }) new → Keeps kept counts did old new
+      → Stops pass c bytes shot h (record old { server = server; keeper = keeper }) new → Keeps kept counts did breaks old new
   stopped pass c bytes m shot h old new server keeper shot_is t g first s =
       let xs = old.trace.items in
       let s0 = state_of kept first in
@@ -117,6 +120,11 @@ module _ {K : Type 0} (kept : K → Durable) (counts : K → Counts) (did : K �
         stands = subst (λ k. StandsOn (kept k) new.server) (sym keeper_is) (subst (StandsOn (kept keeper)) (sym server_is) t.stands);
         chain = λ e. subst (λ l. Chain did l first.keeper new.keeper) (sym (ap records g.list ∙ (each-push (λ (y : Step). records_of y.deed) xs x ∙ append-nil (records xs))))
             (subst (Chain did (records xs) first.keeper) (sym (keeper_is ∙ (t.same (up_then e)).1)) (s.chain t.up));
+        doubt = (
+          old.keeper,
+          subst (λ l. Chain did l first.keeper old.keeper) (sym (ap records g.list ∙ (each-push (λ (y : Step). records_of y.deed) xs x ∙ append-nil (records xs)))) (s.chain t.up),
+          subst (Doubt did breaks old.keeper) (sym keeper_is) t.doubt,
+        );
         sized = ap (λ b. length b.items) boxes_are ∙ s.sized;
         boxes = λ e k le. ap (λ b. queue_at b.items k) boxes_are ∙ (s.boxes t.up k le ∙ sym (ap (box_from k (queue_at first.boxes.items k)) g.list ∙ box-push k (queue_at first.boxes.items k) xs x));
         owners = λ e k le. ap (λ b. owner_at b.items k) boxes_are ∙ (s.owners t.up k le ∙ sym (ap (owner k) g.list ∙ owner-push k None xs x));
@@ -125,10 +133,18 @@ module _ {K : Type 0} (kept : K → Durable) (counts : K → Counts) (did : K �
             (then_up (Some h) (counts first.keeper) (counts old.keeper) (counts keeper) (subst (λ o. CountsUp o (counts first.keeper) (counts old.keeper)) none s.counted_up) t.counted));
       }
 
+  -- what a fault leaves of the keeper
+  pub in_doubt : (f : ServerFault) (done : Serving) (old new : K) → Hurts SpendsNothing did breaks f done old new → Doubt did breaks old new
+  in_doubt (ended.Spent n) done old new h = inl h
+  in_doubt ended.DiskFailed done old new h = inr (h.1.0, inr h.1.2)
+  in_doubt ended.DiskStopped done old new h = inr (h.1.0, inr h.1.2)
+  in_doubt ended.NoMemory done old new h = ⊎_elim (λ (same : new ≡ old). inl same) (λ (t : SpendsNothing done × ((r : Record) × (done.rec ≡ Some r) × (did old r new ⊎ breaks old r new))). inr (t.1.0, t.1.2)) h
+
   pub halting : (pass c : ℕ) (bytes : Snapshot (Vec ℕ Global)) (m : Msg) (f : ServerFault) (h : Halt) (old : Node K) (server : Server) (keeper : K) (r : Result Served ServerFault) → old.broken ≡ false → old.halt ≡ None → said bytes.value.items ≡ Ok m
       → c ≡ sender m (clerk_by pass old.trace.items) → r ≡ Err f → halt_in f ≡ Some h → Refuses f (taken c m (state_of kept old)) (state_of kept old) (standing (kept keeper) server) old.keeper keeper
-      → Counted (counts old.keeper) (counts keeper) (r ≡ Err ended.DiskFailed) (r ≡ Err ended.DiskStopped) → StandsOn (kept keeper) server → Halting pass c bytes m h old server keeper
-  halting pass c bytes m f h old server keeper r up none said_so from is e refuses counted stands =
+      → Counted (counts old.keeper) (counts keeper) (r ≡ Err ended.DiskFailed) (r ≡ Err ended.DiskStopped) → StandsOn (kept keeper) server
+      → Hurts SpendsNothing did breaks f (taken c m (state_of kept old)) old.keeper keeper → Halting pass c bytes m h old server keeper
+  halting pass c bytes m f h old server keeper r up none said_so from is e refuses counted stands hurts =
       let by = halts_by f h (taken c m (state_of kept old)) (state_of kept old) (standing (kept keeper) server) old.keeper keeper e refuses in
       record {
         up = up;
@@ -139,12 +155,13 @@ module _ {K : Type 0} (kept : K → Durable) (counts : K → Counts) (did : K �
         same = by.1;
         counted = fault_up r f h (counts old.keeper) (counts keeper) is e counted;
         stands = stands;
+        doubt = in_doubt f (taken c m (state_of kept old)) old.keeper keeper hurts;
       }
 
   -- memory was wanting in the server's step
-  pub broke : (old new : Node K) (server : Server) (keeper : K) → old.halt ≡ None → CountsUp None (counts old.keeper) (counts keeper) → StandsOn (kept keeper) server
-      → new ≡ record old { server = server; keeper = keeper; broken = true } → Keeps kept counts did old new
-  broke old new server keeper no_halt counted stands e first s =
+  pub broke : (old new : Node K) (server : Server) (keeper : K) → old.halt ≡ None → CountsUp None (counts old.keeper) (counts keeper) → StandsOn (kept keeper) server → old.broken ≡ false → Doubt did breaks old.keeper keeper
+      → new ≡ record old { server = server; keeper = keeper; broken = true } → Keeps kept counts did breaks old new
+  broke old new server keeper no_halt counted stands was_up doubt e first s =
       let list : new.trace.items ≡ old.trace.items = ap (λ n. n.trace.items) e in
       let keeper_is : new.keeper ≡ keeper = ap (λ n. n.keeper) e in
       let server_is : new.server ≡ server = ap (λ n. n.server) e in
@@ -156,6 +173,7 @@ module _ {K : Type 0} (kept : K → Durable) (counts : K → Counts) (did : K �
         leads_to = λ up. absurd (two (sym down ∙ up));
         stands = subst (λ k. StandsOn (kept k) new.server) (sym keeper_is) (subst (StandsOn (kept keeper)) (sym server_is) stands);
         chain = λ up. absurd (two (sym down ∙ up));
+        doubt = (old.keeper, subst (λ l. Chain did (records l) first.keeper old.keeper) (sym list) (s.chain was_up), subst (Doubt did breaks old.keeper) (sym keeper_is) doubt);
         sized = ap (λ n. length n.boxes.items) e ∙ s.sized;
         boxes = λ up. absurd (two (sym down ∙ up));
         owners = λ up. absurd (two (sym down ∙ up));
@@ -180,7 +198,7 @@ module _ {K : Type 0} (kept : K → Durable) (counts : K → Counts) (did : K �
     pub list : new.trace.items ≡ old.trace.items ++ (record { pass = pass; deed = Gave c m }) ∷ []
     pub others : new ≡ record old { boxes = new.boxes; trace = new.trace; steps = old.steps + 1 }
 
-  pub gave : (pass c : ℕ) (m : Snapshot Msg) (old new : Node K) → Giving pass c m old new → Keeps kept counts did old new
+  pub gave : (pass c : ℕ) (m : Snapshot Msg) (old new : Node K) → Giving pass c m old new → Keeps kept counts did breaks old new
   gave pass c m old new g first s =
       let xs = old.trace.items in
       let s0 = state_of kept first in
@@ -199,6 +217,11 @@ module _ {K : Type 0} (kept : K → Durable) (counts : K → Counts) (did : K �
         stands = subst (λ k. StandsOn (kept k) new.server) (sym keeper_is) (subst (StandsOn (kept old.keeper)) (sym server_is) s.stands);
         chain = λ e. subst (λ l. Chain did l first.keeper new.keeper) (sym (ap records g.list ∙ (each-push (λ (y : Step). records_of y.deed) xs x ∙ append-nil (records xs))))
             (subst (Chain did (records xs) first.keeper) (sym keeper_is) (s.chain g.up));
+        doubt = (
+          old.keeper,
+          subst (λ l. Chain did l first.keeper old.keeper) (sym (ap records g.list ∙ (each-push (λ (y : Step). records_of y.deed) xs x ∙ append-nil (records xs)))) (s.chain g.up),
+          inl keeper_is,
+        );
         sized = g.sized;
         boxes = λ e k le. g.dropped k ∙ (ap (λ q. cond (c == k) (drop 1 q) q) (s.boxes g.up k le) ∙ sym (ap (box_from k (queue_at first.boxes.items k)) g.list ∙ box-push k (queue_at first.boxes.items k) xs x));
         owners = λ e k le. g.owners k ∙ (s.owners g.up k le ∙ sym (ap (owner k) g.list ∙ owner-push k None xs x));

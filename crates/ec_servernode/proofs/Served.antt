@@ -18,17 +18,18 @@ use Rattle.ec_lock.specs.declared.types.TracedLock.{TracedLock}
 use Rattle.ec_servernode.specs.declared.step.Halt.{Halt}
 use Rattle.ec_servernode.specs.declared.step.Step.{Step}
 use Rattle.ec_servernode.specs.declared.state.Node.{Node}
+use Rattle.ec_servernode.specs.declared.state.Told.{Told}
 use Rattle.ec_servernode.specs.declared.fault.ServeFault.{ServeFault}
 use Rattle.ec_servernode.specs.declared.fault.ServeFault.TheVariants as fault
 use Rattle.ec_servernode.specs.declared.shared.Turned.{Turned}
 use Rattle.ec_servernode.specs.declared.shared.Turned.TheVariants as turned
 use Rattle.ec_servernode.specs.Run.{number_of, is_for, first_of, owner, box_from, halted, last_hello, clerk_by, sender}
 use Rattle.ec_servernode.specs.Node.{queue_at, owner_at, Since}
-use Rattle.ec_servernode.specs.Turns.{More, Takes, Gives, turned_of, peer_of, Adds, HearFails, TakesMessage, Looked, Hears, HasNone, HasNext, NextFails, GivesNext, GaveBody, GaveNone, ServeFails, Serves, RunsFrom, IsServerPass}
+use Rattle.ec_servernode.specs.Turns.{More, Takes, Gives, turned_of, peer_of, Adds, HearFails, TakesMessage, Looked, Hears, HasNone, HasNext, NextFails, GivesNext, GaveBody, GaveNone, WasClear, ServeFails, Serves, RunsFrom, IsServerPass}
 use Rattle.ec_servernode.proofs.Lists.{of-append, of_others, none_more}
 
 -- only steps of the pass were added
-pub takes_more : {K A : Type 0} (pass : ℕ) (bytes : List ℕ) (v w : Node K) (r : Result A ServeFault) → Takes pass bytes v w r → (more : List Step) × More pass v w more
+pub takes_more : {K : Type 0} (pass : ℕ) (bytes : List ℕ) (v w : Node K) (r : Result Told ServeFault) → Takes pass bytes v w r → (more : List Step) × More pass v w more
 takes_more pass bytes v w (Ok told) t = (t.0.0 ∷ [], t.0.1)
 takes_more pass bytes v w (Err fault.DiskFailed) t = (t.0 ∷ [], t.1)
 takes_more pass bytes v w (Err fault.DiskStopped) t = (t.0 ∷ [], t.1)
@@ -84,8 +85,8 @@ module _ {K : Type 0} (pass : ℕ) (before after : List Step) (v w : Node K) (la
   pub looked_down : {A : Type 0} (h : Halt) (otherwise : Result A ServeFault) → w.trace.items ≡ v.trace.items → w.halt ≡ Some h → Looked pass before after otherwise (Err fault.Down)
   looked_down h otherwise same e = (adds [] (same ∙ sym (append-nil v.trace.items), tt), inr (refl, (h, halted_is (Some h) e)))
 
-  pub takes : {A : Type 0} (bytes : List ℕ) (r : Result A ServeFault) → Takes pass bytes v w r → TakesMessage pass bytes before after r
-  takes bytes (Ok told) t = ((t.0.0, adds (t.0.0 ∷ []) t.0.1, t.0.2), halted_is None t.1)
+  pub takes : (bytes : List ℕ) (r : Result Told ServeFault) → Takes pass bytes v w r → TakesMessage pass bytes before after r
+  takes bytes (Ok told) t = ((t.0.0, adds (t.0.0 ∷ []) t.0.1, t.0.2, t.0.3), halted_is None t.1)
   takes bytes (Err fault.DiskFailed) t = (t.0, adds (t.0 ∷ []) t.1, t.2)
   takes bytes (Err fault.DiskStopped) t = (t.0, adds (t.0 ∷ []) t.1, t.2)
   takes bytes (Err (fault.Spent n)) t = (t.0, adds (t.0 ∷ []) t.1, t.2)
@@ -163,7 +164,7 @@ module _ {L : Type 0} (faults closes : L → ℕ) (given : L → Option (List He
   hear_fails bytes g (fault.Long n) h = absurd h
 
   pub heard_body : (bytes : List ℕ) (r : Result Turned ServeFault) → GaveBody faults closes given got_by held before after bytes → Hears pass bytes old new r → Serves faults closes given got_by held clear boxes pass clerk old new before after r
-  heard_body bytes (Ok (turned.Took told)) g h = ((h.0.0, bytes, h.0.1, h.0.2, g), h.1)
+  heard_body bytes (Ok (turned.Took told)) g h = ((h.0.0, bytes, h.0.1, h.0.2, h.0.3, g), h.1)
   heard_body bytes (Ok turned.Gave) g h = absurd h
   heard_body bytes (Ok turned.Idle) g h = absurd h
   heard_body bytes (Ok turned.Busy) g h = absurd h
@@ -177,9 +178,12 @@ module _ {L : Type 0} (faults closes : L → ℕ) (given : L → Option (List He
       (λ (e : (r ≡ Err fault.Down) × ((why : Halt) × (halted new ≡ Some why))). subst (Serves faults closes given got_by held clear boxes pass clerk old new before after) (sym e.0) (h.0, e.1, same)) h.1
 
   module _ (mid : L) (none : given mid ≡ added (given before) []) (reads : Reads (held before) (held mid) got.Nothing) (got_same : got_by mid ≡ got_by before) (faults_up : faults before ≤ faults mid)
-      (given_same : given after ≡ given mid) (held_same : held after ≡ held mid) where
+      (given_same : given after ≡ given mid) (held_same : held after ≡ held mid) (is_clear : clear mid ≡ true) where
     is_none : GaveNone faults closes given got_by held before after
     is_none = (given_same ∙ none, subst (λ l. Reads (held before) l got.Nothing) (sym held_same) reads)
+
+    was_clear : WasClear faults closes given got_by held clear before after
+    was_clear = (mid, (none, reads), got_same, given_same, held_same, is_clear)
 
     next_fails : (f : ServeFault) → NextFails faults got_by boxes pass clerk old new mid after f × (got_by after ≡ got_by mid) → ServeFails faults closes given got_by held boxes pass clerk old new before after f
     next_fails fault.Net h = let more = h.0.1 in (h.0.0, omega arith, h.1 ∙ got_same, inr (is_none, h.0.2), h.0.3)
@@ -192,17 +196,17 @@ module _ {L : Type 0} (faults closes : L → ℕ) (given : L → Option (List He
     next_fails (fault.Long n) h = absurd h.0
 
     pub heard_none : (r : Result Turned ServeFault) → GivesNext faults got_by boxes pass clerk old new mid after r → Serves faults closes given got_by held clear boxes pass clerk old new before after r
-    heard_none (Ok turned.Gave) h = ((h.0.0, h.0.1, h.0.2, h.0.3, h.0.4 ∙ ap (λ o. added o (msg_code.spell h.0.1 ∷ [])) got_same), is_none, h.1)
+    heard_none (Ok turned.Gave) h = ((h.0.0, h.0.1, h.0.2, h.0.3, h.0.4 ∙ ap (λ o. added o (msg_code.spell h.0.1 ∷ [])) got_same), is_none, was_clear, h.1)
     heard_none (Ok turned.Idle) h = (h.0, h.1, is_none, h.2 ∙ got_same, h.3)
     heard_none (Ok (turned.Took told)) h = absurd h
     heard_none (Ok turned.Busy) h = absurd h
     heard_none (Ok turned.Closed) h = absurd h
     heard_none (Err f) h = next_fails f h
 
-module _ {K : Type 0} (kept : K → Durable) (counts : K → Counts) (did : K → Record → K → Type 0) (lock : TracedLock (Node K) Step) where
+module _ {K : Type 0} (kept : K → Durable) (counts : K → Counts) (did breaks : K → Record → K → Type 0) (lock : TracedLock (Node K) Step) where
   -- a pass behind a turn
   pub pass_is : (old new : Pass (Node K) Step) (clerk now : ℕ) (v w : Node K) → IsServerPass kept lock old clerk → IsPassOf lock new → new.number ≡ old.number → front new ≡ w.trace.items → of number_of old.number (front old) ≡ of number_of old.number v.trace.items
-      → Since kept counts did (first lock) w → now < clerk_count → (clerk ≡ clerk_by old.number v.trace.items → now ≡ clerk_by old.number w.trace.items) → IsServerPass kept lock new now
+      → Since kept counts did breaks (first lock) w → now < clerk_count → (clerk ≡ clerk_by old.number v.trace.items → now ≡ clerk_by old.number w.trace.items) → IsServerPass kept lock new now
   pass_is old new clerk now v w p is number list own since below next = record {
     is_pass = is;
     run = subst (RunsFrom kept (first lock)) (sym list) since.run;
@@ -210,7 +214,7 @@ module _ {K : Type 0} (kept : K → Durable) (counts : K → Counts) (did : K �
     below = below;
   }
 
-  pub since_of : (v : Node K) → Since kept counts did (first lock) v → (start : Node K) × Since kept counts did start v
+  pub since_of : (v : Node K) → Since kept counts did breaks (first lock) v → (start : Node K) × Since kept counts did breaks start v
   since_of v s = (first lock, s)
 
   -- the clerk of a message, by what the pass knows

@@ -2,5 +2,6 @@ pub mod Folded
 pub mod Run
 pub mod Node
 pub mod Steps
+pub mod Told
 pub mod Turns
 pub mod Floors

@@ -24,12 +24,14 @@ use Rattle.ec_servernode.specs.declared.step.Deed.{Deed}
 use Rattle.ec_servernode.specs.declared.step.Deed.TheVariants.{Took, Gave, Halted}
 use Rattle.ec_servernode.specs.declared.step.Step.{Step}
 use Rattle.ec_servernode.specs.declared.state.Node.{Node}
+use Rattle.ec_servernode.specs.declared.state.Told.{Told}
 use Rattle.ec_servernode.specs.declared.fault.ServeFault.{ServeFault}
 use Rattle.ec_servernode.specs.declared.fault.ServeFault.TheVariants as fault
 use Rattle.ec_servernode.specs.declared.shared.Turned.{Turned}
 use Rattle.ec_servernode.specs.declared.shared.Turned.TheVariants as turned
 use Rattle.ec_servernode.specs.Run.{IsRun, By, number_of, clerk_by, is_for, first_of, owner, box_from, halted, leads, records}
-use Rattle.ec_servernode.specs.Node.{queue_at, owner_at, state_of, Chain, CountsUp}
+use Rattle.ec_servernode.specs.Node.{queue_at, owner_at, state_of, Chain, ChainInDoubt, CountsUp}
+use Rattle.ec_servernode.specs.Told.{IsToldOf}
 
 abbrev pub fault_of : Halt → ServeFault
 fault_of halt.DiskFailed = fault.DiskFailed
@@ -43,6 +45,12 @@ abbrev pub IsTaking : List ℕ → Deed → Type 0
 IsTaking bytes (Took c b m served) = b.value.items ≡ bytes
 IsTaking bytes (Gave c m) = ⊥
 IsTaking bytes (Halted c b m h) = ⊥
+
+-- told are the clerks to which the taking sent something
+abbrev pub Tells : Told → Deed → Type 0
+Tells told (Took c b m served) = IsToldOf told served.value.sent
+Tells told (Gave c m) = ⊥
+Tells told (Halted c b m h) = ⊥
 
 -- this message of the clerk's outbox was sent
 abbrev pub IsGiving : ℕ → Msg → Deed → Type 0
@@ -72,8 +80,8 @@ TakeFails pass bytes old new fault.NoMemory = More pass old new []
 TakeFails pass bytes old new _ = ⊥
 
 -- the message of this body was taken
-abbrev pub Takes : {K A : Type 0} → ℕ → List ℕ → Node K → Node K → Result A ServeFault → Type 0
-Takes pass bytes old new (Ok told) = ((x : Step) × More pass old new (x ∷ []) × IsTaking bytes x.deed) × (new.halt ≡ None)
+abbrev pub Takes : {K : Type 0} → ℕ → List ℕ → Node K → Node K → Result Told ServeFault → Type 0
+Takes pass bytes old new (Ok told) = ((x : Step) × More pass old new (x ∷ []) × IsTaking bytes x.deed × Tells told x.deed) × (new.halt ≡ None)
 Takes pass bytes old new (Err f) = TakeFails pass bytes old new f
 
 -- a link failed by a send, so there was something for it
@@ -121,12 +129,12 @@ HearFails pass bytes old new fault.NoMemory = Adds pass old new []
 HearFails pass bytes old new _ = ⊥
 
 -- the message of this body was taken
-abbrev pub TakesMessage : {A : Type 0} → ℕ → List ℕ → List Step → List Step → Result A ServeFault → Type 0
-TakesMessage pass bytes old new (Ok told) = ((x : Step) × Adds pass old new (x ∷ []) × IsTaking bytes x.deed) × (halted new ≡ None)
+abbrev pub TakesMessage : ℕ → List ℕ → List Step → List Step → Result Told ServeFault → Type 0
+TakesMessage pass bytes old new (Ok told) = ((x : Step) × Adds pass old new (x ∷ []) × IsTaking bytes x.deed × Tells told x.deed) × (halted new ≡ None)
 TakesMessage pass bytes old new (Err f) = HearFails pass bytes old new f
 
 abbrev pub Hears : ℕ → List ℕ → List Step → List Step → Result Turned ServeFault → Type 0
-Hears pass bytes old new (Ok (turned.Took told)) = ((x : Step) × Adds pass old new (x ∷ []) × IsTaking bytes x.deed) × (halted new ≡ None)
+Hears pass bytes old new (Ok (turned.Took told)) = ((x : Step) × Adds pass old new (x ∷ []) × IsTaking bytes x.deed × Tells told x.deed) × (halted new ≡ None)
 Hears pass bytes old new (Ok _) = ⊥
 Hears pass bytes old new (Err f) = HearFails pass bytes old new f
 
@@ -180,10 +188,14 @@ module _ {L : Type 0} (faults closes : L → ℕ) (given : L → Option (List He
   ServeFails boxes pass clerk old new before after fault.Down = Adds pass old new [] × ((h : Halt) × (halted new ≡ Some h)) × (got_by after ≡ got_by before)
   ServeFails boxes pass clerk old new before after fault.NoMemory = Adds pass old new [] × (got_by after ≡ got_by before)
 
+  -- behind the read, which gave nothing, the link kept back nothing of what it got
+  abbrev pub WasClear : (L → Bool) → L → L → Type 0
+  WasClear clear before after = (mid : L) × GaveNone before mid × (got_by mid ≡ got_by before) × (given after ≡ given mid) × (held after ≡ held mid) × (clear mid ≡ true)
+
   -- What the answer says of the steps added and of the link: a message taken is what the body says that the link gave, and a message given is the one that it got.
   abbrev pub Serves : (L → Bool) → (ℕ → List Msg) → ℕ → ℕ → List Step → List Step → L → L → Result Turned ServeFault → Type 0
-  Serves clear boxes pass clerk old new before after (Ok (turned.Took told)) = ((x : Step) × (bytes : List ℕ) × Adds pass old new (x ∷ []) × IsTaking bytes x.deed × GaveBody before after bytes) × (halted new ≡ None)
-  Serves clear boxes pass clerk old new before after (Ok turned.Gave) = ((x : Step) × (msg : Msg) × Adds pass old new (x ∷ []) × IsGiving clerk msg x.deed × (got_by after ≡ added (got_by before) (msg_code.spell msg ∷ []))) × GaveNone before after × (halted new ≡ None)
+  Serves clear boxes pass clerk old new before after (Ok (turned.Took told)) = ((x : Step) × (bytes : List ℕ) × Adds pass old new (x ∷ []) × IsTaking bytes x.deed × Tells told x.deed × GaveBody before after bytes) × (halted new ≡ None)
+  Serves clear boxes pass clerk old new before after (Ok turned.Gave) = ((x : Step) × (msg : Msg) × Adds pass old new (x ∷ []) × IsGiving clerk msg x.deed × (got_by after ≡ added (got_by before) (msg_code.spell msg ∷ []))) × GaveNone before after × WasClear clear before after × (halted new ≡ None)
   Serves clear boxes pass clerk old new before after (Ok turned.Idle) = Adds pass old new [] × HasNone boxes pass clerk new × GaveNone before after × (got_by after ≡ got_by before) × (halted new ≡ None)
   Serves clear boxes pass clerk old new before after (Ok turned.Busy) = Adds pass old new [] × (clear after ≡ false) × GaveNone before after × (got_by after ≡ got_by before) × (halted new ≡ None)
   Serves clear boxes pass clerk old new before after (Ok turned.Closed) = Adds pass old new [] × (closes before + 1 ≤ closes after) × (given after ≡ added (given before) []) × (got_by after ≡ got_by before) × (halted new ≡ None)
@@ -205,9 +217,9 @@ module _ {K : Type 0} (kept : K → Durable) where
   abbrev pub IsServerNote : TracedLock (Node K) Step → Note (Node K) Step → Type 0
   IsServerNote lock note = IsNoteOf lock note × RunsFrom (first lock) (note_view note).front
 
--- What is handed back, by the whole list. There is no server where memory was wanting or the disk failed in a step; else the keeper is the one at first, with all records
--- committed.
-abbrev pub Finished : {K : Type 0} → (K → Durable) → (K → Counts) → (K → Record → K → Type 0) → Node K → List Step → Option Server → K → Type 0
-Finished kept counts did first steps None keeper = CountsUp (halted steps) (counts first.keeper) (counts keeper)
-Finished kept counts did first steps (Some server) keeper = (leads (state_of kept first) steps ≡ standing (kept keeper) server) × Chain did (records steps) first.keeper keeper
+-- What is handed back, by the whole list. There is no server where memory was wanting or the disk failed in a step, and the keeper is then in doubt; else it's the one at first,
+-- with all records committed.
+abbrev pub Finished : {K : Type 0} → (K → Durable) → (K → Counts) → (did breaks : K → Record → K → Type 0) → Node K → List Step → Option Server → K → Type 0
+Finished kept counts did breaks first steps None keeper = ChainInDoubt did breaks (records steps) first.keeper keeper × CountsUp (halted steps) (counts first.keeper) (counts keeper)
+Finished kept counts did breaks first steps (Some server) keeper = (leads (state_of kept first) steps ≡ standing (kept keeper) server) × Chain did (records steps) first.keeper keeper
     × CountsUp (halted steps) (counts first.keeper) (counts keeper)

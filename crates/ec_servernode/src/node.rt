@@ -11,10 +11,11 @@ ghost use Rattle.ec_servernode.specs.declared.fault.ServeFault.TheVariants as fa
 ghost use Rattle.ec_servernode.specs.Node.{Since, Keeps};
 ghost use Rattle.ec_servernode.specs.Run.{sender, clerk_by};
 ghost use Rattle.ec_servernode.specs.Steps.{Grew, Stops, halt_in, spends};
+ghost use Rattle.ec_servernode.specs.Told.{IsToldOf};
 ghost use Rattle.ec_servernode.specs.Turns.{Takes, Gives, fault_of};
 
 use crate::fault::{ServeFault, halted};
-use crate::outbox::{drop_first, next_for, own, post_all};
+use crate::outbox::{drop_first, next_for, own, post_all, told_of};
 use crate::server::take;
 use crate::state::{Node, Told};
 use crate::step::{Deed, Halt, Step};
@@ -94,17 +95,19 @@ impl<K: Keeper + Drop> Node<K> {
     ) -> Told
         requires steps { self.old.steps < last_counter }
         requires sized { length self.old.boxes.items ≡ clerk_count }
-        ensures { Grew pass from body msg.now served self.old self.new }
+        ensures grew { Grew pass from body msg.now served self.old self.new }
+        ensures told { IsToldOf result served.sent }
     {
         let deed = Deed::Took(from, body, Snapshot::of(msg), Snapshot::of(&served));
+        let told = told_of(served.sent.as_slice());
         own(&mut self.boxes, msg, pass);
-        let told = post_all(&mut self.boxes, served.sent.into_vec());
+        let posted = post_all(&mut self.boxes, served.sent.into_vec());
         self.add(Step { pass, deed });
-        match told {
-            Some(told) => told,
+        match posted {
+            Some(()) => told,
             None => {
                 self.broken = true;
-                Told::nobody()
+                told
             }
         }
     }
@@ -142,8 +145,8 @@ impl<K: Keeper + Drop> Node<K> {
         requires sound { IsTrue (is_sound msg.now) }
         requires said { said body.value.items ≡ Ok msg.now }
         requires from { from ≡ sender msg.now (clerk_by pass self.old.trace.items) }
-        requires since { (first : Value K) × Since K.kept K.counts K.did first self.old }
-        ensures keeps { Keeps K.kept K.counts K.did self.old self.new }
+        requires since { (first : Value K) × Since K.kept K.counts K.did K.broke first self.old }
+        ensures keeps { Keeps K.kept K.counts K.did K.broke self.old self.new }
         ensures takes { Takes pass body.value.items self.old self.new result }
         ensures clerk { IfOk result (λ _. clerk_by pass self.new.trace.items ≡ from) }
         ensures same_clerk { IfErr result (λ _. clerk_by pass self.new.trace.items ≡ clerk_by pass self.old.trace.items) }
@@ -172,8 +175,8 @@ impl<K: Keeper + Drop> Node<K> {
     ) -> Result<bool, ServeFault>
         requires clerk { clerk ≡ clerk_by pass self.old.trace.items }
         requires below { clerk < clerk_count }
-        requires since { (first : Value K) × Since K.kept K.counts K.did first self.old }
-        ensures keeps { Keeps K.kept K.counts K.did self.old self.new }
+        requires since { (first : Value K) × Since K.kept K.counts K.did K.broke first self.old }
+        ensures keeps { Keeps K.kept K.counts K.did K.broke self.old self.new }
         ensures gives { Gives L.faults L.got pass clerk self.old self.new link.old link.new result }
         ensures same_clerk { clerk_by pass self.new.trace.items ≡ clerk_by pass self.old.trace.items }
         ensures given { (L.given link.new ≡ L.given link.old) × (L.held link.new ≡ L.held link.old) }

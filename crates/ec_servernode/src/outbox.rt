@@ -3,6 +3,7 @@ ghost use Rattle.std.specs.Prelude.{◌≡◌, ◌==◌, ℕ, ◌<◌, ◌⊎◌
 ghost use Rattle.ec_base.specs.Limits.{clerk_count};
 ghost use Rattle.ec_servernode.specs.Node.{queue_at, owner_at};
 ghost use Rattle.ec_servernode.specs.Run.{put, put_all, for_clerk, is_for, first_of, hello_in, owner_now};
+ghost use Rattle.ec_servernode.specs.Told.{IsToldOf};
 
 use crate::state::{Outbox, Told};
 use ec_base::{CLERK_COUNT, ClerkId};
@@ -67,15 +68,25 @@ fn post(boxes: &mut Vec<Outbox>, clerk: ClerkId, msg: Msg) -> bool
     boxes[clerk.get() as usize].put(msg)
 }
 
+/// The clerks to which something is sent.
+pub fn told_of(sent: &[(ClerkId, Msg)]) -> Told
+    ensures { IsToldOf result sent.now }
+{
+    let mut told = Told::nobody();
+    'sent: for one in sent {
+        told = told.and(one.0);
+    }
+    told
+}
+
 /// Puts each message last in its clerk's outbox, where there is room for it. `None` for want of memory.
-pub fn post_all(boxes: &mut Vec<Outbox>, sent: Vec<(ClerkId, Msg)>) -> Option<Told>
+pub fn post_all(boxes: &mut Vec<Outbox>, sent: Vec<(ClerkId, Msg)>) -> Option<()>
     requires { length boxes.old.items ≡ clerk_count }
     ensures sized { length boxes.new.items ≡ clerk_count }
     ensures put { IfSome result (λ _. (c : ℕ) → queue_at boxes.new.items c ≡ put_all (queue_at boxes.old.items c) (for_clerk c sent.items)) }
     ensures owners { (c : ℕ) → owner_at boxes.new.items c ≡ owner_at boxes.old.items c }
 {
     let mut sent = sent;
-    let mut told = Told::nobody();
     // the next one is taken from the end
     sent.reverse();
     'sent: while let Some(one) = sent.pop() {
@@ -83,9 +94,8 @@ pub fn post_all(boxes: &mut Vec<Outbox>, sent: Vec<(ClerkId, Msg)>) -> Option<To
         if !post(boxes, clerk, msg) {
             return None;
         }
-        told = told.and(clerk);
     }
-    Some(told)
+    Some(())
 }
 
 /// An outbox for each clerk, with the first messages to it, for any pass. `None` for want of memory.

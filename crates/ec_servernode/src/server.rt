@@ -3,7 +3,7 @@ ghost use Rattle.std.specs.Prelude.{◌≡◌, IfOk, IfErr, OnOk, IsTrue, Err};
 ghost use Rattle.ec_disk.specs.Disk.{Counted};
 ghost use Rattle.ec_wire.specs.Messages.{is_sound};
 ghost use Rattle.ec_server.specs.Servers.{standing, Does, StandsOn};
-ghost use Rattle.ec_server.specs.Keepers.{Did};
+ghost use Rattle.ec_server.specs.Keepers.{Did, Hurts, SpendsNothing};
 ghost use Rattle.ec_server.specs.declared.fault.ServerFault.TheVariants as fault;
 ghost use Rattle.ec_servernode.specs.Folded.{taken};
 ghost use Rattle.ec_servernode.specs.Steps.{Refuses};
@@ -26,6 +26,7 @@ pub fn take<K: Keeper>(
     ensures ok { IfOk result (λ served. Does (taken from msg.now (standing (K.kept keeper.old) server.old)) (K.kept keeper.new) server.new served) }
     ensures did { IfOk result (λ served. Did K.did served.rec keeper.old keeper.new) }
     ensures err { IfErr result (λ f. Refuses f (taken from msg.now (standing (K.kept keeper.old) server.old)) (standing (K.kept keeper.old) server.old) (standing (K.kept keeper.new) server.new) keeper.old keeper.new) }
+    ensures hurts { IfErr result (λ f. Hurts SpendsNothing K.did K.broke f (taken from msg.now (standing (K.kept keeper.old) server.old)) keeper.old keeper.new) }
     ensures counts { Counted (K.counts keeper.old) (K.counts keeper.new) (result ≡ Err fault.DiskFailed) (result ≡ Err fault.DiskStopped) }
     ensures stands { StandsOn (K.kept keeper.new) server.new }
 {

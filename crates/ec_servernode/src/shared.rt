@@ -8,14 +8,14 @@ ghost use Rattle.ec_lock.specs.Passes.{first, front, numbers, Same};
 ghost use Rattle.ec_server.specs.Servers.{StandsOn};
 ghost use Rattle.ec_servernode.specs.Floors.{no_floor};
 ghost use Rattle.ec_servernode.specs.Node.{Since, queue_at};
-ghost use Rattle.ec_servernode.specs.Run.{sender, put_all, for_clerk};
+ghost use Rattle.ec_servernode.specs.Run.{sender, put_all, for_clerk, halted};
 ghost use Rattle.ec_servernode.specs.Turns.{IsServerPass, Looked, peer_of, turned_of, Hears, TakesMessage, GivesNext, Serves, RunsFrom, Finished};
 
 use crate::fault::ServeFault;
 use crate::outbox::filled_boxes;
 use crate::passes::{ServerPass, first_clerk};
 use crate::state::{Node, Told};
-use crate::step::Step;
+use crate::step::{Halt, Step};
 use ec_base::{ClerkId, NoMemory};
 use ec_link::{Got, Link};
 use ec_lock::{Traced, TracedLock};
@@ -37,7 +37,7 @@ impl<K: Keeper + Drop> Traced for Node<K> {
 
     ghost floor = { λ steps. 0 };
 
-    ghost since = { Since K.kept K.counts K.did };
+    ghost since = { Since K.kept K.counts K.did K.broke };
 
     fn steps(&self) -> u64 {
         self.steps
@@ -56,7 +56,7 @@ pub struct SharedServer<K: Keeper + Drop> {
 /// What a turn with a link did.
 #[derive(Clone, Copy, Debug, Drop, PartialEq, Eq)]
 pub enum Turned {
-    /// A message was taken. Something came to the outboxes of these clerks.
+    /// A message was taken. These are the clerks to which something was sent, whose outboxes have something.
     Took(Told),
     /// The first message of the outbox was sent.
     Gave,
@@ -111,7 +111,7 @@ fn clerk_behind(told: &Result<Told, ServeFault>, from: ClerkId, clerk: ClerkId) 
 }
 
 impl<K: Keeper + Drop> SharedServer<K> {
-    /// A server that has taken no step since its start, which gave `begun`, and its keeper. The first pass has the number 0.
+    /// As `over`. Where memory is wanting the keeper is dropped.
     pub fn new(
         alloc: Global,
         server: Server,
@@ -124,8 +124,29 @@ impl<K: Keeper + Drop> SharedServer<K> {
         ensures server { IfOk result (λ made. ((first made.0.lock).server ≡ server) × ((first made.0.lock).keeper ≡ keeper)) }
         ensures boxes { IfOk result (λ made. (c : ℕ) → queue_at (first made.0.lock).boxes.items c ≡ put_all [] (for_clerk c begun.sent)) }
     {
+        match SharedServer::over(alloc, server, begun, keeper) {
+            Ok(made) => Ok(made),
+            Err(_) => Err(NoMemory),
+        }
+    }
+
+    /// A server that has taken no step since its start, which gave `begun`, and its keeper, which comes back for want of memory. The first pass
+    /// has the number 0.
+    pub fn over(
+        alloc: Global,
+        server: Server,
+        begun: Served,
+        keeper: K,
+    ) -> Result<(SharedServer<K>, ServerPass<K>), K>
+        requires { StandsOn (K.kept keeper) server }
+        ensures pass { IfOk result (λ made. IsServerPass K.kept made.0.lock made.1.pass made.1.clerk) }
+        ensures number { IfOk result (λ made. (front made.1.pass ≡ []) × (made.1.pass.number ≡ 0) × (numbers made.1.pass ≡ 0 ∷ [])) }
+        ensures server { IfOk result (λ made. ((first made.0.lock).server ≡ server) × ((first made.0.lock).keeper ≡ keeper)) }
+        ensures boxes { IfOk result (λ made. (c : ℕ) → queue_at (first made.0.lock).boxes.items c ≡ put_all [] (for_clerk c begun.sent)) }
+        ensures err { IfErr result (λ back. back ≡ keeper) }
+    {
         let Some(boxes) = filled_boxes(alloc, begun.sent.into_vec()) else {
-            return Err(NoMemory);
+            return Err(keeper);
         };
         let node = Node {
             server,
@@ -136,11 +157,13 @@ impl<K: Keeper + Drop> SharedServer<K> {
             steps: 0,
             trace: Trace::new(),
         };
-        let Ok((lock, pass)) = TracedLock::new(alloc, node) else {
-            return Err(NoMemory);
-        };
-        let clerk = first_clerk();
-        Ok((SharedServer { lock, alloc }, ServerPass { pass, clerk }))
+        match TracedLock::new(alloc, node) {
+            Ok((lock, pass)) => {
+                let clerk = first_clerk();
+                Ok((SharedServer { lock, alloc }, ServerPass { pass, clerk }))
+            }
+            Err(node) => Err(node.keeper),
+        }
     }
 
     // Ends a turn in which the server does nothing. It looks whether the server is down.
@@ -266,20 +289,33 @@ impl<K: Keeper + Drop> SharedServer<K> {
         }
     }
 
-    /// Hands the server and its keeper back. The pass's front is the whole list then. There is no server where memory was wanting or the disk
-    /// failed in a step.
+    /// Hands the server and its keeper back, and tells whether the server is down and why. The pass's front is the whole list then. There is no
+    /// server where memory was wanting or the disk failed in a step.
+    pub fn end<R: Wait>(self, rt: &R, pass: &mut ServerPass<K>) -> (Option<Server>, K, Option<Halt>)
+        requires pass { IsServerPass K.kept self.lock pass.old.pass pass.old.clerk }
+        ensures same { Same pass.old.pass pass.new.pass }
+        ensures later { IsPrefix (front pass.old.pass) (front pass.new.pass) }
+        ensures run { RunsFrom K.kept (first self.lock) (front pass.new.pass) }
+        ensures finished { Finished K.kept K.counts K.did K.broke (first self.lock) (front pass.new.pass) result.0 result.1 }
+        ensures halt { result.2 ≡ halted (front pass.new.pass) }
+    {
+        let turn = self.lock.enter(rt, &mut pass.pass);
+        let node = turn.into_value();
+        if node.broken {
+            return (None, node.keeper, node.halt);
+        }
+        (Some(node.server), node.keeper, node.halt)
+    }
+
+    /// As `end`, without the reason.
     pub fn finish<R: Wait>(self, rt: &R, pass: &mut ServerPass<K>) -> (Option<Server>, K)
         requires pass { IsServerPass K.kept self.lock pass.old.pass pass.old.clerk }
         ensures same { Same pass.old.pass pass.new.pass }
         ensures later { IsPrefix (front pass.old.pass) (front pass.new.pass) }
         ensures run { RunsFrom K.kept (first self.lock) (front pass.new.pass) }
-        ensures finished { Finished K.kept K.counts K.did (first self.lock) (front pass.new.pass) result.0 result.1 }
+        ensures finished { Finished K.kept K.counts K.did K.broke (first self.lock) (front pass.new.pass) result.0 result.1 }
     {
-        let turn = self.lock.enter(rt, &mut pass.pass);
-        let node = turn.into_value();
-        if node.broken {
-            return (None, node.keeper);
-        }
-        (Some(node.server), node.keeper)
+        let (server, keeper, _) = self.end(rt, pass);
+        (server, keeper)
     }
 }

@@ -1,4 +1,7 @@
 // The value behind the lock: the server, what keeps its state, an outbox for each clerk, and the list of steps.
+ghost use Rattle.std.specs.Prelude.{◌≡◌, ◌==◌, ◌||◌, ℕ, false};
+ghost use Rattle.ec_servernode.specs.Told.{tells};
+
 use crate::step::{Halt, Step};
 use ec_base::ClerkId;
 use ec_server::{Keeper, Server};
@@ -28,26 +31,32 @@ pub struct Node<K: Keeper + Drop> {
     pub trace: Trace<Step>,
 }
 
-/// The clerks to whose outboxes something came.
+/// The clerks to which a step sent something.
 #[derive(Clone, Copy, Debug, Drop, PartialEq, Eq)]
 pub struct Told {
     clerks: u16,
 }
 
 impl Told {
-    pub fn nobody() -> Told {
+    pub fn nobody() -> Told
+        ensures { (c : ℕ) → tells result c ≡ false }
+    {
         Told { clerks: 0 }
     }
 
     /// These, and this one.
-    pub fn and(self, clerk: ClerkId) -> Told {
+    pub fn and(self, clerk: ClerkId) -> Told
+        ensures { (c : ℕ) → tells result c ≡ (tells self c || (clerk == c)) }
+    {
         Told {
             clerks: self.clerks | (1u16 << clerk.get()),
         }
     }
 
-    /// Whether something came to this clerk's outbox.
-    pub fn has(self, clerk: ClerkId) -> bool {
-        self.clerks & (1u16 << clerk.get()) != 0
+    /// Whether something was sent to this clerk.
+    pub fn has(self, clerk: ClerkId) -> bool
+        ensures { result ≡ tells self clerk }
+    {
+        (self.clerks >> clerk.get()) & 1 == 1
     }
 }

@@ -17,7 +17,7 @@ pub give-gave-requires-clause-below : goal.give-gave-requires-clause-below
 give-gave-requires-clause-below g c κs within = c.requires.pass.below
 
 pub give-gave-requires-clause-since : goal.give-gave-requires-clause-since
-give-gave-requires-clause-since g c κs within = since_of g.K.Keeper.kept g.K.Keeper.counts g.K.Keeper.did c.args.self.now.lock c.enter-turn.result.value c.enter-turn.ensures.since
+give-gave-requires-clause-since g c κs within = since_of g.K.Keeper.kept g.K.Keeper.counts g.K.Keeper.did g.K.Keeper.broke c.args.self.now.lock c.enter-turn.result.value c.enter-turn.ensures.since
 
 pub leave-requires-clause-turn : goal.leave-requires-clause-turn
 leave-requires-clause-turn g c = c.enter-turn.ensures.turn
@@ -44,7 +44,7 @@ returns-clause-pass g c =
     let v = c.enter-turn.result.value in
     let w = c.give-gave.new.self in
     let num = c.number-number.ensures in
-    pass_is g.K.Keeper.kept g.K.Keeper.counts g.K.Keeper.did c.args.self.now.lock pass c.leave.new.pass c.args.pass.now.clerk c.args.pass.now.clerk v w c.requires.pass c.leave.ensures.pass (c.leave.ensures.same.0 ∙ c.enter-turn.ensures.same.0)
+    pass_is g.K.Keeper.kept g.K.Keeper.counts g.K.Keeper.did g.K.Keeper.broke c.args.self.now.lock pass c.leave.new.pass c.args.pass.now.clerk c.args.pass.now.clerk v w c.requires.pass c.leave.ensures.pass (c.leave.ensures.same.0 ∙ c.enter-turn.ensures.same.0)
     c.leave.ensures.front (c.enter-turn.ensures.own pass.number c.requires.pass.is_pass.1) (c.give-gave.ensures.keeps (first c.args.self.now.lock) c.enter-turn.ensures.since) c.requires.pass.below
     (λ e. e ∙ (ap (λ n. clerk_by n v.trace.items) (sym num) ∙ (sym c.give-gave.ensures.same_clerk ∙ ap (λ n. clerk_by n w.trace.items) num)))
 

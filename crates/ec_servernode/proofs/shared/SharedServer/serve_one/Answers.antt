@@ -25,7 +25,7 @@ returns-then-is_clear-clause-serves g c =
     let pass = c.args.pass.now.pass in
     let boxes = queue_at (first c.args.self.now.lock).boxes.items in
     heard_none g.L.Link.faults g.L.Link.closes g.L.Link.given g.L.Link.got g.L.Link.held g.L.Link.clear boxes pass.number c.args.pass.now.clerk (front pass) (front c.give.new.pass.pass) c.args.link.now c.give.new.link c.recv.new.self
-    c.in-Nothing.ensures.given c.in-Nothing.ensures.read c.recv.ensures.got (grows _ _ _ c.recv.ensures.faults) c.give.ensures.given.0 c.give.ensures.given.1 c.give.result c.give.ensures.gives
+    c.in-Nothing.ensures.given c.in-Nothing.ensures.read c.recv.ensures.got (grows _ _ _ c.recv.ensures.faults) c.give.ensures.given.0 c.give.ensures.given.1 (sym c.is_clear.ensures ∙ c.if-is_clear.true) c.give.result c.give.ensures.gives
 
 pub returns-else-is_clear-clause-counts : goal.returns-else-is_clear-clause-counts
 returns-else-is_clear-clause-counts g c = (grows _ _ _ c.recv.ensures.faults, grows _ _ _ c.recv.ensures.closes)

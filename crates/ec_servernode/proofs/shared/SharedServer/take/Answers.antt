@@ -10,11 +10,11 @@ pub take-told-requires-clause-from : goal.take-told-requires-clause-from
 take-told-requires-clause-from g c =
     let pass = c.args.pass.now.pass in
     let v = c.enter-turn.result.value in
-    from_is g.K.Keeper.kept g.K.Keeper.counts g.K.Keeper.did c.args.self.now.lock pass c.args.pass.now.clerk c.sender_of-from.result c.args.msg.now v c.requires.pass (c.enter-turn.ensures.own pass.number c.requires.pass.is_pass.1)
+    from_is g.K.Keeper.kept g.K.Keeper.counts g.K.Keeper.did g.K.Keeper.broke c.args.self.now.lock pass c.args.pass.now.clerk c.sender_of-from.result c.args.msg.now v c.requires.pass (c.enter-turn.ensures.own pass.number c.requires.pass.is_pass.1)
     c.sender_of-from.ensures ∙ ap (λ n. sender c.args.msg.now (clerk_by n v.trace.items)) (sym c.number-number.ensures)
 
 pub take-told-requires-clause-since : goal.take-told-requires-clause-since
-take-told-requires-clause-since g c = since_of g.K.Keeper.kept g.K.Keeper.counts g.K.Keeper.did c.args.self.now.lock c.enter-turn.result.value c.enter-turn.ensures.since
+take-told-requires-clause-since g c = since_of g.K.Keeper.kept g.K.Keeper.counts g.K.Keeper.did g.K.Keeper.broke c.args.self.now.lock c.enter-turn.result.value c.enter-turn.ensures.since
 
 pub leave-requires-clause-turn : goal.leave-requires-clause-turn
 leave-requires-clause-turn g c = c.enter-turn.ensures.turn
@@ -41,7 +41,7 @@ returns-clause-pass g c =
     let v = c.enter-turn.result.value in
     let w = c.take-told.new.self in
     let num = c.number-number.ensures in
-    pass_is g.K.Keeper.kept g.K.Keeper.counts g.K.Keeper.did c.args.self.now.lock pass c.leave.new.pass c.args.pass.now.clerk c.clerk_behind-pass.result v w c.requires.pass c.leave.ensures.pass (c.leave.ensures.same.0 ∙ c.enter-turn.ensures.same.0)
+    pass_is g.K.Keeper.kept g.K.Keeper.counts g.K.Keeper.did g.K.Keeper.broke c.args.self.now.lock pass c.leave.new.pass c.args.pass.now.clerk c.clerk_behind-pass.result v w c.requires.pass c.leave.ensures.pass (c.leave.ensures.same.0 ∙ c.enter-turn.ensures.same.0)
     c.leave.ensures.front (c.enter-turn.ensures.own pass.number c.requires.pass.is_pass.1) (c.take-told.ensures.keeps (first c.args.self.now.lock) c.enter-turn.ensures.since)
     c.clerk_behind-pass.ensures.below
     (λ e. behind c.take-told.result c.clerk_behind-pass.result c.sender_of-from.result c.args.pass.now.clerk (clerk_by c.number-number.result v.trace.items) (clerk_by c.number-number.result w.trace.items) c.clerk_behind-pass.ensures.behind

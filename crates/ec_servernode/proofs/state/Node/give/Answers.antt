@@ -43,7 +43,7 @@ returns-in_err-check-clause-counts g c = (omega arith, omega arith)
 pub returns-in-Done-clause-keeps : goal.returns-in-Done-clause-keeps
 returns-in-Done-clause-keeps g c =
     let bs = c.deref.ensures.value in
-    gave g.K.Keeper.kept g.K.Keeper.counts g.K.Keeper.did c.args.pass c.args.clerk c.of-shot.result c.args.self.now c.add.new.self
+    gave g.K.Keeper.kept g.K.Keeper.counts g.K.Keeper.did g.K.Keeper.broke c.args.pass c.args.clerk c.of-shot.result c.args.self.now c.add.new.self
     (record {
       up = c.in_ok-check.ensures.ok.1;
       none = c.in_ok-check.ensures.ok.0;

@@ -1,7 +1,9 @@
 use Rattle.std.proofs.Common.{true, refl, sym, ◌∙◌, rules}
 use Rattle.ec_servernode.specs.declared.step.Deed.TheVariants.{Halted}
 use Rattle.ec_servernode.specs.declared.step.Step.{Step}
-use Rattle.ec_servernode.proofs.Nodes.{took, stopped, broke, halting}
+use Rattle.ec_servernode.specs.Folded.{taken}
+use Rattle.ec_servernode.specs.Node.{state_of}
+use Rattle.ec_servernode.proofs.Nodes.{took, stopped, broke, halting, in_doubt}
 use Rattle.ec_servernode.proofs.Ends.{no_fault_up, same_clerk, next_clerk, no_more, grew_takes, stop_fails, check_takes}
 use Rattle.ec_servernode.proofs.state.Node.take.Goals as goal
 
@@ -21,7 +23,7 @@ returns-in_err-check-clause-takes g c =
 
 pub returns-in-Ok-clause-keeps : goal.returns-in-Ok-clause-keeps
 returns-in-Ok-clause-keeps g c =
-    took g.K.Keeper.kept g.K.Keeper.counts g.K.Keeper.did c.args.pass c.args.from c.args.body c.args.msg.now c.in-Ok.served c.args.self.now c.took.new.self c.take.new.server c.take.new.keeper
+    took g.K.Keeper.kept g.K.Keeper.counts g.K.Keeper.did g.K.Keeper.broke c.args.pass c.args.from c.args.body c.args.msg.now c.in-Ok.served c.args.self.now c.took.new.self c.take.new.server c.take.new.keeper
     (record {
       up = c.in_ok-check.ensures.ok.1;
       none = c.in_ok-check.ensures.ok.0;
@@ -32,20 +34,20 @@ returns-in-Ok-clause-keeps g c =
       counted = no_fault_up _ _ _ _ c.take.ensures.counts;
       stands = c.take.ensures.stands;
     })
-    c.took.ensures
+    c.took.ensures.grew
 
 pub returns-in-Ok-clause-takes : goal.returns-in-Ok-clause-takes
 returns-in-Ok-clause-takes g c =
-    grew_takes c.args.pass c.args.from c.args.body c.args.msg.now c.in-Ok.served c.args.self.now c.took.new.self c.take.new.server c.take.new.keeper c.took.result c.in_ok-check.ensures.ok.0 c.took.ensures
+    grew_takes c.args.pass c.args.from c.args.body c.args.msg.now c.in-Ok.served c.args.self.now c.took.new.self c.take.new.server c.take.new.keeper c.took.result c.in_ok-check.ensures.ok.0 c.took.ensures.grew c.took.ensures.told
 
 pub returns-in-Ok-clause-clerk : goal.returns-in-Ok-clause-clerk
-returns-in-Ok-clause-clerk g c = next_clerk c.args.pass c.args.from c.args.body c.args.msg.now c.in-Ok.served c.args.self.now c.took.new.self c.take.new.server c.take.new.keeper c.took.ensures c.requires.from
+returns-in-Ok-clause-clerk g c = next_clerk c.args.pass c.args.from c.args.body c.args.msg.now c.in-Ok.served c.args.self.now c.took.new.self c.take.new.server c.take.new.keeper c.took.ensures.grew c.requires.from
 
 pub returns-in-Some-clause-keeps : goal.returns-in-Some-clause-keeps
 returns-in-Some-clause-keeps g c =
-    stopped g.K.Keeper.kept g.K.Keeper.counts g.K.Keeper.did c.args.pass c.args.from c.args.body c.args.msg.now c.of.result c.in-Some.halt c.args.self.now c.stop.new.self c.take.new.server c.take.new.keeper c.of.ensures
-    (halting g.K.Keeper.kept g.K.Keeper.counts g.K.Keeper.did c.args.pass c.args.from c.args.body c.args.msg.now c.in-Err.fault c.in-Some.halt c.args.self.now c.take.new.server c.take.new.keeper c.take.result c.in_ok-check.ensures.ok.1 c.in_ok-check.ensures.ok.0
-    c.requires.said c.requires.from c.in-Err.is (sym c.halt_of.ensures ∙ c.in-Some.is) c.in-Err.ensures.err c.take.ensures.counts c.take.ensures.stands)
+    stopped g.K.Keeper.kept g.K.Keeper.counts g.K.Keeper.did g.K.Keeper.broke c.args.pass c.args.from c.args.body c.args.msg.now c.of.result c.in-Some.halt c.args.self.now c.stop.new.self c.take.new.server c.take.new.keeper c.of.ensures
+    (halting g.K.Keeper.kept g.K.Keeper.counts g.K.Keeper.did g.K.Keeper.broke c.args.pass c.args.from c.args.body c.args.msg.now c.in-Err.fault c.in-Some.halt c.args.self.now c.take.new.server c.take.new.keeper c.take.result c.in_ok-check.ensures.ok.1 c.in_ok-check.ensures.ok.0
+    c.requires.said c.requires.from c.in-Err.is (sym c.halt_of.ensures ∙ c.in-Some.is) c.in-Err.ensures.err c.take.ensures.counts c.take.ensures.stands c.in-Err.ensures.hurts)
     c.stop.ensures.stops
 
 pub returns-in-Some-clause-takes : goal.returns-in-Some-clause-takes
@@ -59,8 +61,9 @@ returns-in-Some-clause-same_clerk g c =
 
 pub returns-in-None-clause-keeps : goal.returns-in-None-clause-keeps
 returns-in-None-clause-keeps g c =
-    broke g.K.Keeper.kept g.K.Keeper.counts g.K.Keeper.did c.args.self.now (record c.args.self.now { server = c.take.new.server; keeper = c.take.new.keeper; broken = true }) c.take.new.server c.take.new.keeper c.in_ok-check.ensures.ok.0
-    (no_fault_up _ _ _ _ c.take.ensures.counts) c.take.ensures.stands refl
+    broke g.K.Keeper.kept g.K.Keeper.counts g.K.Keeper.did g.K.Keeper.broke c.args.self.now (record c.args.self.now { server = c.take.new.server; keeper = c.take.new.keeper; broken = true }) c.take.new.server c.take.new.keeper c.in_ok-check.ensures.ok.0
+    (no_fault_up _ _ _ _ c.take.ensures.counts) c.take.ensures.stands c.in_ok-check.ensures.ok.1
+    (in_doubt g.K.Keeper.kept g.K.Keeper.counts g.K.Keeper.did g.K.Keeper.broke c.in-Err.fault (taken c.args.from c.args.msg.now (state_of g.K.Keeper.kept c.args.self.now)) c.args.self.now.keeper c.take.new.keeper c.in-Err.ensures.hurts) refl
 
 pub returns-in-None-clause-takes : goal.returns-in-None-clause-takes
 returns-in-None-clause-takes g c = no_more c.args.pass c.args.self.now (record c.args.self.now { server = c.take.new.server; keeper = c.take.new.keeper; broken = true }) refl

@@ -4,7 +4,7 @@ use Rattle.ec_lock.specs.Passes.{first, front}
 use Rattle.ec_servernode.specs.Node.{Since}
 use Rattle.ec_servernode.specs.Turns.{RunsFrom}
 use Rattle.ec_servernode.proofs.Fronts.{finished_none, finished_some}
-use Rattle.ec_servernode.proofs.shared.SharedServer.finish.Goals as goal
+use Rattle.ec_servernode.proofs.shared.SharedServer.end.Goals as goal
 
 pub returns-then-node-clause-later : goal.returns-then-node-clause-later
 returns-then-node-clause-later g c = subst (IsPrefix (front c.args.pass.now.pass)) (sym c.enter-turn.ensures.front) c.enter-turn.ensures.later
@@ -16,8 +16,8 @@ pub returns-then-node-clause-finished : goal.returns-then-node-clause-finished
 returns-then-node-clause-finished g c =
     let same = c.into_value-node.ensures in
     let start = first c.args.self.lock in
-    let since = subst (Since g.K.Keeper.kept g.K.Keeper.counts g.K.Keeper.did start) (sym same) c.enter-turn.ensures.since in
-    finished_none g.K.Keeper.kept g.K.Keeper.counts g.K.Keeper.did start c.into_value-node.result (front c.enter-turn.new.pass) (c.enter-turn.ensures.front ∙ ap (λ n. n.trace.items) (sym same)) since
+    let since = subst (Since g.K.Keeper.kept g.K.Keeper.counts g.K.Keeper.did g.K.Keeper.broke start) (sym same) c.enter-turn.ensures.since in
+    finished_none g.K.Keeper.kept g.K.Keeper.counts g.K.Keeper.did g.K.Keeper.broke start c.into_value-node.result (front c.enter-turn.new.pass) (c.enter-turn.ensures.front ∙ ap (λ n. n.trace.items) (sym same)) since
 
 pub returns-clause-later : goal.returns-clause-later
 returns-clause-later g c = subst (IsPrefix (front c.args.pass.now.pass)) (sym c.enter-turn.ensures.front) c.enter-turn.ensures.later
@@ -29,5 +29,5 @@ pub returns-clause-finished : goal.returns-clause-finished
 returns-clause-finished g c =
     let same = c.into_value-node.ensures in
     let start = first c.args.self.lock in
-    let since = subst (Since g.K.Keeper.kept g.K.Keeper.counts g.K.Keeper.did start) (sym same) c.enter-turn.ensures.since in
-    finished_some g.K.Keeper.kept g.K.Keeper.counts g.K.Keeper.did start c.into_value-node.result (front c.enter-turn.new.pass) (c.enter-turn.ensures.front ∙ ap (λ n. n.trace.items) (sym same)) since (search rules)
+    let since = subst (Since g.K.Keeper.kept g.K.Keeper.counts g.K.Keeper.did g.K.Keeper.broke start) (sym same) c.enter-turn.ensures.since in
+    finished_some g.K.Keeper.kept g.K.Keeper.counts g.K.Keeper.did g.K.Keeper.broke start c.into_value-node.result (front c.enter-turn.new.pass) (c.enter-turn.ensures.front ∙ ap (λ n. n.trace.items) (sym same)) since (search rules)
