@@ -33,14 +33,14 @@ among_left : {A : Type 0} (x : A) (xs ys : List A) → Among x xs → Among x (x
 among_left x [] ys m = absurd m
 among_left x (y ∷ xs) ys m = ⊎_elim (λ (e : y ≡ x). inl e) (λ (r : Among x xs). inr (among_left x xs ys r)) m
 
-marks-left : (f : NodeFault) (xs ys : List Step) → Among f (marks xs) → Among f (marks (xs ++ ys))
+pub marks-left : (f : NodeFault) (xs ys : List Step) → Among f (marks xs) → Among f (marks (xs ++ ys))
 marks-left f xs ys m = subst (Among f) (sym (each-append (λ (s : Step). mark_of_deed s.deed ++ mark_of_end s.end) xs ys)) (among_left f (marks xs) (marks ys) m)
 
 first_stays : (xs ys : List Age) (a : Age) → first_of xs ≡ Some a → first_of (xs ++ ys) ≡ Some a
 first_stays [] ys a e = absurd (cc e)
 first_stays (x ∷ xs) ys a e = e
 
-old_boot_stays : (now after : List Step) (a : Age) → IsPrefix now after → old_boot now ≡ Some a → old_boot after ≡ Some a
+pub old_boot_stays : (now after : List Step) (a : Age) → IsPrefix now after → old_boot now ≡ Some a → old_boot after ≡ Some a
 old_boot_stays now after a p e = ap old_boot (sym p.1) ∙ (ap first_of (each-append old_boots_in now p.0) ∙ first_stays (each old_boots_in now) (each old_boots_in p.0) a e)
 
 -- a mark between two fronts stands between wider ones

@@ -1,6 +1,8 @@
 -- From one turn at the lock to what the pass knows.
 use Rattle.std.proofs.Common.{◌≡◌, ℕ, ◌+◌, ◌≤◌, ◌⊎◌, false, cond, IfOk, List, [], ◌∷◌, ◌++◌, length, Option, Some, None, Result, Ok, Err, IfSome, slice_get, sym, refl, ap, ◌∙◌, subst, inl, inr, ⊎_elim, arith, eq-eqb, ne_eqb, append_assoc, append-nil}
+use Rattle.std.specs.Prelude.{Bool, true, if◌then◌else◌}
 use mathlib.Core.List.{IsPrefix}
+use Rattle.ec_protocol.specs.declared.clerk.Clerk.{Clerk}
 use Rattle.std.specs.List.{All}
 use Rattle.std.proofs.lemmas.List.Elements.{All-nil}
 use Rattle.ec_base.specs.declared.ids.Age.{Age}
@@ -8,8 +10,8 @@ use Rattle.ec_log.specs.declared.state.Asked.{Asked}
 use Rattle.ec_plain.specs.declared.call.Call.{Call}
 use Rattle.ec_protocol.specs.declared.clerk.Flushed.{Flushed}
 use Rattle.ec_link.specs.Links.{Heard, added}
-use Rattle.ec_lock.specs.Passes.{first, front, raised, IsPassOf, Same, Marked}
-use Rattle.ec_lock.specs.Steps.{of}
+use Rattle.ec_lock.specs.Passes.{first, front, numbers, raised, IsPassOf, Same, Marked}
+use Rattle.ec_lock.specs.Steps.{Member, of}
 use Rattle.ec_lock.specs.declared.types.Pass.{Pass}
 use Rattle.ec_lock.specs.declared.types.TracedLock.{TracedLock}
 use Rattle.ec_clerknode.specs.declared.fault.NodeFault.{NodeFault}
@@ -37,7 +39,7 @@ of_others pass n (s ∷ ss) h ne = ap (λ b. cond b (s ∷ of number_of n ss) (o
 pub calls-append : (xs ys : List Step) → calls (xs ++ ys) ≡ calls xs ++ calls ys
 calls-append xs ys = each-append (λ (s : Step). call_of s.deed) xs ys
 
-among_right : {A : Type 0} (x : A) (xs ys : List A) → Among x ys → Among x (xs ++ ys)
+pub among_right : {A : Type 0} (x : A) (xs ys : List A) → Among x ys → Among x (xs ++ ys)
 among_right x [] ys m = m
 among_right x (y ∷ xs) ys m = inr (among_right x xs ys m)
 
@@ -103,8 +105,10 @@ module _ {L : Type 0} where
 
     -- a turn at the lock
     pub turned : (lock : TracedLock (Node L) Step) (old mid new : Pass (Node L) Step) (v w : Node L) → Since counts given got (first lock) w → IsPrefix (front old) v.trace.items → IsPrefix v.trace.items w.trace.items
-        → Same old mid → Marked old (highest v.trace.items) → IsPassOf lock new → front new ≡ w.trace.items → Stays mid new → highest (front new) ≤ raised new → Turned lock old new
-    turned lock old mid new v w since later more same marked is_pass is stays raises =
+        → Same old mid → Marked old (highest v.trace.items) → IsPassOf lock new → front new ≡ w.trace.items → Stays mid new → highest (front new) ≤ raised new
+        → front mid ≡ v.trace.items → ((n : ℕ) → Member n (numbers old) → of number_of n (front old) ≡ of number_of n v.trace.items)
+        → ((n : ℕ) → ¬ (n ≡ mid.number) → of number_of n (front mid) ≡ of number_of n w.trace.items) → Turned lock old new
+    turned lock old mid new v w since later more same marked is_pass is stays raises begun own others =
         let up : highest v.trace.items ≤ highest (front new) = subst (λ l. highest v.trace.items ≤ highest l) (sym is) (highest_grows v.trace.items w.trace.items more) in
         let same_raised = same.2 in
         let rises = stays.3 in
@@ -116,6 +120,7 @@ module _ {L : Type 0} where
           goes = (subst (IsRun (first lock).clerk) (sym is) since.run, subst (IsPrefix (front old)) (sym is) (prefix_trans (front old) v.trace.items w.trace.items later more));
           marked = (omega arith, omega arith);
           raises = raises;
+          others = λ n m ne. own n m ∙ (ap (of number_of n) (sym begun) ∙ (others n (λ e. ne (e ∙ same.0)) ∙ ap (of number_of n) (sym is)));
         }
 
     pub turned_both : (lock : TracedLock (Node L) Step) (old mid new : Pass (Node L) Step) → Turned lock old mid → Turned lock mid new → Turned lock old new
@@ -133,6 +138,7 @@ module _ {L : Type 0} where
           goes = (q.goes.0, prefix_trans (front old) (front mid) (front new) p.goes.1 q.goes.1);
           marked = (omega arith, omega arith);
           raises = q.raises;
+          others = λ n m ne. p.others n m ne ∙ q.others n (subst (Member n) (sym a.1) m) (λ e. ne (e ∙ a.0));
         }
 
     module _ (first : Node L) (pass : ℕ) (before after : List Step) (v w : Node L) (sv : Since counts given got first v) (sw : Since counts given got first w) (later : IsPrefix before v.trace.items)
@@ -234,16 +240,31 @@ module _ {L : Type 0} where
       nets_are : nets steps + counts start.link ≤ counts v.link
       nets_are = let net = s.net in omega (arith, ap nets is)
 
-      pub finished_none : Finished counts given got start steps None v.link
+      finished_none : Finished counts given got start steps None v.link
       finished_none = (subst (IsRun start.clerk) (sym is) s.run, nets_are, s.sent ∙ ap (λ l. added (got start.link) (said_by l)) (sym is), tt)
 
-      pub finished_some : v.broken ≡ false → Finished counts given got start steps (Some v.clerk) v.link
+      finished_some : v.broken ≡ false → Finished counts given got start steps (Some v.clerk) v.link
       finished_some up = (
         subst (IsRun start.clerk) (sym is) s.run,
         nets_are,
         s.sent ∙ ap (λ l. added (got start.link) (said_by l)) (sym is),
         (ap (leads start.clerk) is ∙ s.leads_to up, s.heard up ∙ ap (λ l. added (given start.link) (heard_by l)) (sym is)),
       )
+
+      finished_by : (b : Bool) → v.broken ≡ b → Finished counts given got start steps (if b then None else Some v.clerk) v.link
+      finished_by true e = finished_none
+      finished_by false e = finished_some e
+
+      -- there is no clerk where memory was wanting
+      pub finished : (c : Option Clerk) → c ≡ (if v.broken then None else Some v.clerk) → Finished counts given got start steps c v.link
+      finished c e = subst (λ o. Finished counts given got start steps o v.link) (sym e) (finished_by v.broken refl)
+
+      told_if : (b : Bool) → v.broken ≡ b → IfSome (if b then None else Some v.clerk) (λ _. v.told.items ≡ told_by steps)
+      told_if true e = tt
+      told_if false e = s.told e ∙ ap told_by (sym is)
+
+      pub told_then : (c : Option Clerk) → c ≡ (if v.broken then None else Some v.clerk) → IfSome c (λ _. v.told.items ≡ told_by steps)
+      told_then c e = subst (λ o. IfSome o (λ _. v.told.items ≡ told_by steps)) (sym e) (told_if v.broken refl)
 
       pub losses_told : {A : Type 0} (f : A → List (List ℕ)) (r : Result A NodeFault) → IfOk r (λ lists. (first : Node L) → Since counts given got first v → f lists ≡ told_by v.trace.items) → IfOk r (λ lists. f lists ≡ told_by steps)
       losses_told f (Ok lists) h = h start s ∙ ap told_by (sym is)

@@ -9,7 +9,7 @@ use Rattle.ec_protocol.specs.declared.clerk.Clerk.{Clerk}
 use Rattle.ec_protocol.specs.declared.clerk.Flushed.{Flushed}
 use Rattle.ec_link.specs.Links.{Heard, added}
 use Rattle.ec_lock.specs.Passes.{first, front, numbers, raised, answered, IsPassOf, Marked}
-use Rattle.ec_lock.specs.Steps.{of}
+use Rattle.ec_lock.specs.Steps.{Member, of}
 use Rattle.ec_lock.specs.declared.types.Pass.{Pass}
 use Rattle.ec_lock.specs.declared.types.TracedLock.{TracedLock}
 use Rattle.ec_clerknode.specs.declared.fault.NodeFault.{NodeFault}
@@ -38,13 +38,15 @@ module _ {L : Type 0} where
   Stays old new = (new.number ≡ old.number) × (numbers new ≡ numbers old) × (answered new ≡ answered old) × (raised old ≤ raised new)
 
   -- the pass had turns at the lock. Its front is a run from the clerk that the lock was made with, and goes on from the front before. The floor of the
-  -- new front is at least each number that the pass raised or was answered before, and the pass has raised it.
+  -- new front is at least each number that the pass raised or was answered before, and the pass has raised it. The steps of the passes that were joined
+  -- into it are as before.
   pub record Turned (lock : TracedLock (Node L) Step) (old new : Pass (Node L) Step) : Type 0 where
     pub is_pass : IsPassOf lock new
     pub stays : Stays old new
     pub goes : Goes (first lock).clerk (front old) (front new)
     pub marked : Marked old (highest (front new))
     pub raises : highest (front new) ≤ raised new
+    pub others : (n : ℕ) → Member n (numbers old) → ¬ (n ≡ old.number) → of number_of n (front old) ≡ of number_of n (front new)
 
 -- the step at this place is the pass's, and began the call with this number
 abbrev pub BeganAt : ℕ → List Step → ℕ → Call → ℕ → Type 0

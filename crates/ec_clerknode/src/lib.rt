@@ -16,8 +16,9 @@ mod state;
 mod step;
 
 pub use fault::NodeFault;
+pub use kept::send_all;
 pub use lane::{Gate, Reply};
 pub use lanes::{run_lane_ops, run_lanes};
 pub use shared::SharedClerk;
-pub use state::Node;
+pub use state::{Closing, Node};
 pub use step::{Deed, Step};

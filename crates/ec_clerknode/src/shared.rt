@@ -1,5 +1,5 @@
 // The clerk that several threads share.
-ghost use Rattle.std.specs.Prelude.{◌≡◌, ℕ, ◌+◌, ◌<◌, ◌≤◌, ◌⊎◌, max, List, [], ◌∷◌, ◌++◌, length, Some, None, IfOk, IfErr, IfSome, IfNone, Option};
+ghost use Rattle.std.specs.Prelude.{◌≡◌, ℕ, ◌+◌, ◌<◌, ◌≤◌, ◌⊎◌, max, List, [], ◌∷◌, ◌++◌, length, Some, None, if◌then◌else◌, IfOk, IfErr, IfSome, IfNone, Option};
 ghost use mathlib.Core.List.{IsPrefix};
 ghost use Rattle.ec_base.specs.Limits.{last_counter};
 ghost use Rattle.ec_lock.specs.Passes.{first, front, numbers, next_number, raised, answered, note_view, HasTurn, IsPassOf, IsNoteOf, Same};
@@ -12,7 +12,7 @@ ghost use Rattle.ec_clerknode.specs.Run.{highest, old_boot, told_by};
 ghost use Rattle.ec_clerknode.specs.Turns.{number_of, Stays, Turned, Starts, Waits, Called, CalledPlain, Worked, Asks, FlushTurned, Finished};
 
 use crate::fault::NodeFault;
-use crate::state::Node;
+use crate::state::{Closing, Node};
 use crate::step::Step;
 use ec_base::{Age, List, OpNo};
 use ec_clerk::Clerk;
@@ -288,11 +288,33 @@ impl<L: Link + Drop> SharedClerk<L> {
         ensures later { IsPrefix (front pass.old) (front pass.new) }
         ensures finished { Finished (λ l. L.faults l + L.closes l) L.given L.got (first self.lock) (front pass.new) result.0 result.1 }
     {
+        let Closing { clerk, link, .. } = self.close(rt, pass);
+        (clerk, link)
+    }
+
+    /// The same, with what the whole list tells besides.
+    pub fn close<R: Wait>(self, rt: &R, pass: &mut Pass<Node<L>>) -> Closing<L>
+        requires pass { IsPassOf self.lock pass.old }
+        ensures same { Same pass.old pass.new }
+        ensures later { IsPrefix (front pass.old) (front pass.new) }
+        ensures own { (n : ℕ) → Member n (numbers pass.old) → of number_of n (front pass.old) ≡ of number_of n (front pass.new) }
+        ensures finished { Finished (λ l. L.faults l + L.closes l) L.given L.got (first self.lock) (front pass.new) result.clerk result.link }
+        ensures told { IfSome result.clerk (λ _. result.told.items ≡ told_by (front pass.new)) }
+        ensures boot { result.boot ≡ old_boot (front pass.new) }
+    {
         let turn = self.lock.enter(rt, pass);
         let node = turn.into_value();
-        if node.broken {
-            return (None, node.link);
+        Closing {
+            clerk: unless_broken(node.clerk, node.broken),
+            link: node.link,
+            told: node.told,
+            boot: node.boot,
         }
-        (Some(node.clerk), node.link)
     }
+}
+
+fn unless_broken(clerk: Clerk, broken: bool) -> Option<Clerk>
+    ensures { result ≡ if broken then None else Some clerk }
+{
+    if broken { None } else { Some(clerk) }
 }

@@ -30,3 +30,15 @@ pub struct Node<L> {
     pub top: u64,
     pub trace: Trace<Step>,
 }
+
+/// What a shared clerk hands back.
+#[derive(Drop)]
+pub struct Closing<L> {
+    /// There is none where a call met want of memory.
+    pub clerk: Option<Clerk>,
+    pub link: L,
+    /// The operations that were told lost, as each session ended. Where there is no clerk, some may be wanting.
+    pub told: Vec<List<OpNo>>,
+    /// The first greater age of this clerk that the server told.
+    pub boot: Option<Age>,
+}

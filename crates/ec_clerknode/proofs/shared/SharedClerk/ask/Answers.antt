@@ -17,7 +17,8 @@ returns-clause-turned g c =
     let w = c.read_and_flush-result.new.self in
     turned (λ l. g.L.Link.faults l + g.L.Link.closes l) g.L.Link.given g.L.Link.got c.args.self.now.lock c.args.pass.now c.enter-turn.new.pass c.end.new.pass v w (c.read_and_flush-result.ensures.keeps (first c.args.self.now.lock) c.enter-turn.ensures.since) c.enter-turn.ensures.later
     (grown c.number-number.result v w (flushed_more (λ l. g.L.Link.faults l + g.L.Link.closes l) g.L.Link.given g.L.Link.got c.number-number.result c.args.asked v w c.read_and_flush-result.result c.read_and_flush-result.ensures.flushes))
-    c.enter-turn.ensures.same c.enter-turn.ensures.mark c.end.ensures.pass c.end.ensures.front c.end.ensures.stays c.end.ensures.raises
+    c.enter-turn.ensures.same c.enter-turn.ensures.mark c.end.ensures.pass c.end.ensures.front c.end.ensures.stays c.end.ensures.raises c.enter-turn.ensures.front c.enter-turn.ensures.own
+    (own_only c.number-number.result c.enter-turn.new.pass.number (front c.enter-turn.new.pass) v w c.enter-turn.ensures.front (c.enter-turn.ensures.same.0 ∙ sym c.number-number.ensures) (flushed_more (λ l. g.L.Link.faults l + g.L.Link.closes l) g.L.Link.given g.L.Link.got c.number-number.result c.args.asked v w c.read_and_flush-result.result c.read_and_flush-result.ensures.flushes))
 
 pub returns-clause-asks : goal.returns-clause-asks
 returns-clause-asks g c =

@@ -17,7 +17,8 @@ pub returns-clause-turned : goal.returns-clause-turned
 returns-clause-turned g c =
     let v = c.enter-turn.result.value in
     turned (λ l. g.L.Link.faults l + g.L.Link.closes l) g.L.Link.given g.L.Link.got c.args.self.now.lock c.args.pass.now c.enter-turn.new.pass c.end.new.pass v v c.enter-turn.ensures.since c.enter-turn.ensures.later (prefix_self v.trace.items)
-    c.enter-turn.ensures.same c.enter-turn.ensures.mark c.end.ensures.pass c.end.ensures.front c.end.ensures.stays c.end.ensures.raises
+    c.enter-turn.ensures.same c.enter-turn.ensures.mark c.end.ensures.pass c.end.ensures.front c.end.ensures.stays c.end.ensures.raises c.enter-turn.ensures.front c.enter-turn.ensures.own
+    (λ n other. ap (of number_of n) c.enter-turn.ensures.front)
 
 pub returns-clause-own : goal.returns-clause-own
 returns-clause-own g c n m = c.enter-turn.ensures.own n m ∙ ap (of number_of n) (sym c.end.ensures.front)

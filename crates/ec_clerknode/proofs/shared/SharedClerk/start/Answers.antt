@@ -17,7 +17,8 @@ returns-clause-turned g c =
     let w = c.start_call-result.new.self in
     turned (λ l. g.L.Link.faults l + g.L.Link.closes l) g.L.Link.given g.L.Link.got c.args.self.now.lock c.args.pass.now c.enter-turn.new.pass c.end.new.pass v w (c.start_call-result.ensures.keeps (first c.args.self.now.lock) c.enter-turn.ensures.since) c.enter-turn.ensures.later
     (grown c.number-number.result v w (started_more (λ l. g.L.Link.faults l + g.L.Link.closes l) g.L.Link.given g.L.Link.got c.number-number.result c.args.call v w c.start_call-result.result c.start_call-result.ensures.started))
-    c.enter-turn.ensures.same c.enter-turn.ensures.mark c.end.ensures.pass c.end.ensures.front c.end.ensures.stays c.end.ensures.raises
+    c.enter-turn.ensures.same c.enter-turn.ensures.mark c.end.ensures.pass c.end.ensures.front c.end.ensures.stays c.end.ensures.raises c.enter-turn.ensures.front c.enter-turn.ensures.own
+    (own_only c.number-number.result c.enter-turn.new.pass.number (front c.enter-turn.new.pass) v w c.enter-turn.ensures.front (c.enter-turn.ensures.same.0 ∙ sym c.number-number.ensures) (started_more (λ l. g.L.Link.faults l + g.L.Link.closes l) g.L.Link.given g.L.Link.got c.number-number.result c.args.call v w c.start_call-result.result c.start_call-result.ensures.started))
 
 pub returns-clause-starts : goal.returns-clause-starts
 returns-clause-starts g c =

@@ -17,7 +17,8 @@ returns-clause-turned g c =
     let w = c.wait_call-result.new.self in
     turned (λ l. g.L.Link.faults l + g.L.Link.closes l) g.L.Link.given g.L.Link.got c.args.self.now.lock c.args.pass.now c.enter-turn.new.pass c.end.new.pass v w (c.wait_call-result.ensures.keeps (first c.args.self.now.lock) c.enter-turn.ensures.since) c.enter-turn.ensures.later
     (grown c.number-mine.result v w (works_more c.number-mine.result v w c.wait_call-result.result c.wait_call-result.ensures.works))
-    c.enter-turn.ensures.same c.enter-turn.ensures.mark c.end.ensures.pass c.end.ensures.front c.end.ensures.stays c.end.ensures.raises
+    c.enter-turn.ensures.same c.enter-turn.ensures.mark c.end.ensures.pass c.end.ensures.front c.end.ensures.stays c.end.ensures.raises c.enter-turn.ensures.front c.enter-turn.ensures.own
+    (own_only c.number-mine.result c.enter-turn.new.pass.number (front c.enter-turn.new.pass) v w c.enter-turn.ensures.front (c.enter-turn.ensures.same.0 ∙ sym c.number-mine.ensures) (works_more c.number-mine.result v w c.wait_call-result.result c.wait_call-result.ensures.works))
 
 pub returns-clause-waits : goal.returns-clause-waits
 returns-clause-waits g c =
