@@ -1,0 +1,10 @@
+pub mod Steps
+pub mod Verdicts
+pub mod Tried
+pub mod Begun
+pub mod Beside
+pub mod Opening
+pub mod Evicted
+pub mod Taking
+pub mod Going
+pub mod Granting

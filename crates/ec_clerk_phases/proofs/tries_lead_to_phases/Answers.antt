@@ -1,0 +1,9 @@
+use Rattle.ec_clerk_phases.proofs.Going.{goes}
+use Rattle.ec_clerk_phases.proofs.Granting.{grants-go-on}
+use Rattle.ec_clerk_phases.proofs.tries_lead_to_phases.Goals as goal
+
+pub returns-clause-ready : goal.returns-clause-ready
+returns-clause-ready z j sc p q alone noted rest main-rest sl k r w calls waits counters touches = goes j sc p q alone noted rest main-rest sl k r w calls waits counters touches
+
+pub returns-clause-grants : goal.returns-clause-grants
+returns-clause-grants z j sc x h n rest q head out may = grants-go-on j sc x h n rest q head out may

@@ -1,0 +1,5 @@
+pub mod Tries
+pub mod Frames
+pub mod Evictions
+pub mod Takings
+pub mod Goes

@@ -1,0 +1,41 @@
+-- The line's clerk takes a token, as contracts name it.
+use Rattle.std.specs.Prelude.{◌≡◌, ◌≤◌, ℕ, [], ◌∷◌, length, None, Some}
+use Rattle.ec_base.specs.Tables.{at, put}
+use Rattle.ec_base.specs.declared.ids.Hold.{Hold}
+use Rattle.ec_history.specs.History.{Each}
+use Rattle.ec_volume.specs.Volume.{images}
+use Rattle.ec_sessions.specs.declared.slot.Slot.{Slot}
+use Rattle.ec_wire.specs.declared.msg.Msg.TheVariants.{Grant}
+use Rattle.ec_cache.specs.Cache as cache
+use Rattle.ec_protocol.specs.Clerk.{Doing, doing, max_tokens, settle, with_cache}
+use Rattle.ec_protocol.specs.declared.clerk.Clerk.{Clerk}
+use Rattle.ec_quiet.specs.Facts.{IsAnswered, Lacks}
+use Rattle.ec_quiet.specs.Phases.{Grants, InPhase, IsWorking}
+use Rattle.ec_quiet.specs.Scenes.{Mail, Scene, delivered, done_by}
+use Rattle.ec_quiet.specs.Works.{HasTask, Work}
+
+-- It stands before the try of its call: it has the tokens that the server has recorded, each want was answered, and nothing is asked for or under way.
+pub record IsReady (j : Work) (sc : Scene) (sl : Slot) (k : Clerk) : Type 0 where
+  pub working : IsWorking [] j sc sl k
+  pub task : HasTask j.task k
+  pub asking : k.asking ≡ None
+  pub batches : k.log.batches ≡ []
+  pub window : Lacks 0 sl k.log
+  pub grants : sl.grants ≡ k.got
+  pub answered : Each (IsAnswered k.cache) k.wanted
+
+-- the step that takes it, before the try
+abbrev pub taking : ℕ → Hold → ℕ → Scene → Clerk → Doing
+taking x h n sc k = with_cache (cache.take x h n (images sc.server.durable.volume x)) (doing k)
+
+abbrev pub with_clerk_at : Work → Doing → Mail → Scene → Scene
+with_clerk_at j d rest sc = record sc { clerks = put j.clerk d.clerk sc.clerks; mail = rest }
+
+-- A grant that comes is taken, and then the call is tried, where there are no more tokens than the clerk keeps, and the server gave the number out.
+abbrev pub GrantsAreTaken : Type 0
+GrantsAreTaken = (j : Work) (sc : Scene) (x : ℕ) (h : Hold) (n : ℕ) (rest : Mail) → InPhase j sc (Grants x h n)
+    → sc.mail ≡ (j.clerk, Grant j.session sc.server.durable.epoch x n h (images sc.server.durable.volume x)) ∷ rest → n ≤ sc.server.number
+    → ((k : Clerk) → at j.clerk sc.clerks ≡ Some k → length (taking x h n sc k).clerk.cache.held ≤ max_tokens)
+    → (k : Clerk) × (sl : Slot) × (at j.clerk sc.clerks ≡ Some k)
+    × (delivered j.clerk (Grant j.session sc.server.durable.epoch x n h (images sc.server.durable.volume x)) rest sc ≡ done_by j.clerk (settle (taking x h n sc k)) rest sc)
+    × IsReady j (with_clerk_at j (taking x h n sc k) rest sc) sl (taking x h n sc k).clerk

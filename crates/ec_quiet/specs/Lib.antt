@@ -1,0 +1,10 @@
+pub mod Scenes
+pub mod Works
+pub mod Facts
+pub mod Phases
+pub mod Measure
+pub mod Quiet
+pub mod Sums
+pub mod Tests
+pub mod Trials
+pub mod Scripts
