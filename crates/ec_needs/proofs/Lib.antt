@@ -1,0 +1,5 @@
+pub mod Few
+pub mod Needing
+pub mod Closing
+pub mod Once
+pub mod Evicting
