@@ -88,112 +88,212 @@ fn disk_over<F: FileExt + OpenFile + Drop>(alloc: Global, file: F) -> io::Result
     }
 }
 
+// A call on a disk.
+#[derive(Clone, Copy)]
+enum Call<'a> {
+    Write(u64, &'a [u8]),
+    Sync,
+    Len,
+    Arm(u64),
+    Disarm,
+    Cut(Choice),
+}
+
+use Call::*;
+
+// What it answers.
+#[derive(Clone, Copy, PartialEq)]
+enum Told {
+    Is(DiskAnswer),
+    HasLen(DiskLen),
+    Nothing,
+}
+
+const DONE: Told = Told::Is(DiskAnswer::Done);
+
+const FAILED: Told = Told::Is(DiskAnswer::Failed);
+
+const STOPPED: Told = Told::Is(DiskAnswer::Stopped);
+
+const NOTHING: Told = Told::Nothing;
+
+fn bytes(len: u64) -> Told {
+    Told::HasLen(DiskLen::Len(len))
+}
+
+fn answer<D: CrashDisk>(disk: &mut D, call: Call) -> Told {
+    match call {
+        Write(at, piece) => Told::Is(disk.write_at(at, piece)),
+        Sync => Told::Is(disk.sync()),
+        Len => Told::HasLen(disk.len()),
+        Arm(calls) => {
+            disk.arm(calls);
+            Told::Nothing
+        }
+        Disarm => {
+            disk.disarm();
+            Told::Nothing
+        }
+        Cut(choice) => Told::Is(disk.power_cut(choice)),
+    }
+}
+
+// The place of the first call that answers otherwise.
+fn first_wrong<D: CrashDisk>(disk: &mut D, calls: &[(Call, Told)]) -> Option<usize> {
+    for (place, (call, told)) in calls.iter().enumerate() {
+        if answer(disk, *call) != *told {
+            return Some(place);
+        }
+    }
+    None
+}
+
+fn byte_at(disk: &mut FileDisk<File>, at: u64) -> Option<u8> {
+    let mut byte = [0];
+    if disk.read_at(at, &mut byte) == DiskAnswer::Done {
+        Some(byte[0])
+    } else {
+        None
+    }
+}
+
+// A write and a sync are taken back to what the last good sync kept.
+const BEFORE_A_CUT: [(Call<'static>, Told); 9] = [
+    (Write(0, b"abcd"), DONE),
+    (Sync, DONE),
+    (Write(1, b"xyz"), DONE),
+    (Arm(1), NOTHING),
+    (Write(1, b"XYZ"), STOPPED),
+    (Sync, STOPPED),
+    (Disarm, NOTHING),
+    (Write(6, b"QR"), DONE),
+    (Write(8, b"S"), DONE),
+];
+
+// What a cut leaves in the file.
+fn left(rt: HostRuntime, path: &str, choice: Choice, len: u64) -> io::Result<Option<Vec<u8>>> {
+    let mut disk = disk_over(rt.alloc(), file_of(rt, path, b"")?)?;
+    let is_right = is_cut(&mut disk, choice, len);
+    drop(disk);
+    let image = fs::read(&rt, path)?;
+    fs::remove_file(&rt, path)?;
+    Ok(if is_right { Some(image) } else { None })
+}
+
+fn is_cut(disk: &mut FileDisk<File>, choice: Choice, len: u64) -> bool {
+    first_wrong(disk, &BEFORE_A_CUT).is_none()
+        && byte_at(disk, 6) == Some(b'Q')
+        && byte_at(disk, 9).is_none()
+        && first_wrong(disk, &[(Cut(choice), DONE), (Len, bytes(len))]).is_none()
+}
+
+fn is_image(image: io::Result<Option<Vec<u8>>>, want: &[u8]) -> bool {
+    match image {
+        Ok(Some(image)) => image.as_slice() == want,
+        _ => false,
+    }
+}
+
 #[test]
-fn cuts_leave_old_new_or_torn_in_the_file(rt: HostRuntime) -> io::Result<()> {
+fn cuts_leave_old_new_or_torn_in_the_file(rt: HostRuntime) {
     let cases = [
         (Choice::Old, "old.img", b"abcd".as_slice()),
         (Choice::New, "new.img", b"aXYZ\0\0QRS".as_slice()),
         (Choice::Torn, "torn.img", b"abYd\0\0Q\0S".as_slice()),
     ];
     for (choice, path, want) in cases {
-        let mut disk = disk_over(rt.alloc(), file_of(rt, path, b"")?)?;
-        assert_eq!(rt; disk.write_at(0, b"abcd"), DiskAnswer::Done);
-        assert_eq!(rt; disk.sync(), DiskAnswer::Done);
-        assert_eq!(rt; disk.write_at(1, b"xyz"), DiskAnswer::Done);
-        disk.arm(1);
-        assert_eq!(rt; disk.write_at(1, b"XYZ"), DiskAnswer::Stopped);
-        assert_eq!(rt; disk.sync(), DiskAnswer::Stopped);
-        disk.disarm();
-        assert_eq!(rt; disk.write_at(6, b"QR"), DiskAnswer::Done);
-        assert_eq!(rt; disk.write_at(8, b"S"), DiskAnswer::Done);
-        let mut byte = [0];
-        assert_eq!(rt; disk.read_at(6, &mut byte), DiskAnswer::Done);
-        assert_eq!(rt; byte, [b'Q']);
-        assert_eq!(rt; disk.read_at(9, &mut byte), DiskAnswer::Failed);
-        assert_eq!(rt; disk.power_cut(choice), DiskAnswer::Done);
-        assert_eq!(rt; disk.len(), DiskLen::Len(want.len() as u64));
-        drop(disk);
-        let image = fs::read(&rt, path)?;
-        assert_eq!(rt; image.as_slice(), want, "after {choice:?}");
-        fs::remove_file(&rt, path)?;
+        let image = left(rt, path, choice, want.len() as u64);
+        assert!(rt; is_image(image, want), "after {choice:?}");
     }
-    Ok(())
 }
 
-#[test]
-fn length_is_that_of_the_file(rt: HostRuntime) -> io::Result<()> {
-    let path = "length.img";
+// Writes inside, over the end, behind the end, and of nothing behind the end, and then a cut.
+const LENGTHS: [(Call<'static>, u64); 5] = [
+    (Write(0, b"x"), 3),
+    (Write(2, b"yz"), 4),
+    (Write(6, b"q"), 7),
+    (Write(9, b""), 9),
+    (Cut(Choice::Old), 3),
+];
+
+// Whether disk and file have this length behind each call.
+fn have_lengths(rt: HostRuntime, disk: &mut FileDisk<File>, path: &str) -> io::Result<bool> {
+    for (call, len) in LENGTHS {
+        let is_right = first_wrong(disk, &[(call, DONE), (Len, bytes(len))]).is_none();
+        if !is_right || fs::metadata(&rt, path)?.len() != len {
+            return Ok(false);
+        }
+    }
+    Ok(true)
+}
+
+fn cut_back(rt: HostRuntime, path: &str) -> io::Result<Option<Vec<u8>>> {
     let mut disk = disk_over(rt.alloc(), file_of(rt, path, b"abc")?)?;
-    assert_eq!(rt; disk.len(), DiskLen::Len(3));
-    // inside, over the end, behind the end, and nothing behind the end
-    let writes = [
-        (0, b"x".as_slice(), 3),
-        (2, b"yz", 4),
-        (6, b"q", 7),
-        (9, b"", 9),
+    let is_right = have_lengths(rt, &mut disk, path)?;
+    drop(disk);
+    let image = fs::read(&rt, path)?;
+    fs::remove_file(&rt, path)?;
+    Ok(if is_right { Some(image) } else { None })
+}
+
+#[test]
+fn length_is_that_of_the_file(rt: HostRuntime) {
+    assert!(rt; is_image(cut_back(rt, "length.img"), b"abc"));
+}
+
+// Calls over a watched file, and how many syncs it saw behind each.
+fn are_synced(watch: &Watch, disk: &mut FileDisk<Watched>) -> bool {
+    let calls = [
+        (false, Write(0, b"x"), DONE, 0),
+        (false, Sync, DONE, 1),
+        (false, Write(1, b"y"), DONE, 1),
+        (true, Sync, FAILED, 2),
+        // A sync that failed keeps what it would have to take back.
+        (false, Cut(Choice::Old), DONE, 3),
     ];
-    for (at, piece, len) in writes {
-        assert_eq!(rt; disk.write_at(at, piece), DiskAnswer::Done);
-        assert_eq!(rt; disk.len(), DiskLen::Len(len));
-        assert_eq!(rt; fs::metadata(&rt, path)?.len(), len);
+    for (is_failing, call, told, syncs) in calls {
+        watch.is_sync_failing.set(is_failing);
+        if answer(disk, call) != told || watch.syncs.get() != syncs {
+            return false;
+        }
     }
-    assert_eq!(rt; disk.power_cut(Choice::Old), DiskAnswer::Done);
-    assert_eq!(rt; disk.len(), DiskLen::Len(3));
-    let image = fs::read(&rt, path)?;
-    assert_eq!(rt; image.as_slice(), b"abc".as_slice());
-    fs::remove_file(&rt, path)
+    true
 }
 
-#[test]
-fn syncs_reach_the_file(rt: HostRuntime) -> io::Result<()> {
-    let path = "syncs.img";
-    let watch = Watch::new();
-    let file = file_of(rt, path, b"abcd")?;
-    let mut disk = disk_over(
-        rt.alloc(),
-        Watched {
-            file,
-            watch: &watch,
-        },
-    )?;
-    assert_eq!(rt; disk.write_at(0, b"x"), DiskAnswer::Done);
-    assert_eq!(rt; watch.syncs.get(), 0);
-    assert_eq!(rt; disk.sync(), DiskAnswer::Done);
-    assert_eq!(rt; watch.syncs.get(), 1);
-    assert_eq!(rt; disk.write_at(1, b"y"), DiskAnswer::Done);
-    watch.is_sync_failing.set(true);
-    assert_eq!(rt; disk.sync(), DiskAnswer::Failed);
-    assert_eq!(rt; watch.syncs.get(), 2);
-    // A sync that failed keeps what it would have to take back.
-    watch.is_sync_failing.set(false);
-    assert_eq!(rt; disk.power_cut(Choice::Old), DiskAnswer::Done);
-    assert_eq!(rt; watch.syncs.get(), 3);
-    let image = fs::read(&rt, path)?;
-    assert_eq!(rt; image.as_slice(), b"xbcd".as_slice());
-    fs::remove_file(&rt, path)
-}
-
-#[test]
-fn write_that_fails_in_its_middle_is_taken_back(rt: HostRuntime) -> io::Result<()> {
-    let path = "failed.img";
-    let watch = Watch::new();
-    let file = file_of(rt, path, b"abcd")?;
-    let mut disk = disk_over(
-        rt.alloc(),
-        Watched {
-            file,
-            watch: &watch,
-        },
-    )?;
+// A write for which there is no room in its middle is taken back.
+fn is_taken_back(watch: &Watch, disk: &mut FileDisk<Watched>) -> bool {
     watch.room.set(3);
-    assert_eq!(rt; disk.write_at(3, b"WXYZ"), DiskAnswer::Failed);
-    assert_eq!(rt; disk.len(), DiskLen::Len(6));
+    let has_failed = first_wrong(disk, &[(Write(3, b"WXYZ"), FAILED), (Len, bytes(6))]).is_none();
     watch.room.set(usize::MAX);
-    assert_eq!(rt; disk.power_cut(Choice::Old), DiskAnswer::Done);
-    assert_eq!(rt; disk.len(), DiskLen::Len(4));
+    has_failed && first_wrong(disk, &[(Cut(Choice::Old), DONE), (Len, bytes(4))]).is_none()
+}
+
+// What is left in a watched file of `abcd`, which has no room in a write, or whose syncs are counted.
+fn left_in(rt: HostRuntime, path: &str, is_full: bool) -> io::Result<Option<Vec<u8>>> {
+    let watch = Watch::new();
+    let file = file_of(rt, path, b"abcd")?;
+    let mut disk = disk_over(
+        rt.alloc(),
+        Watched {
+            file,
+            watch: &watch,
+        },
+    )?;
+    let is_right = if is_full {
+        is_taken_back(&watch, &mut disk)
+    } else {
+        are_synced(&watch, &mut disk)
+    };
+    drop(disk);
     let image = fs::read(&rt, path)?;
-    assert_eq!(rt; image.as_slice(), b"abcd".as_slice());
-    fs::remove_file(&rt, path)
+    fs::remove_file(&rt, path)?;
+    Ok(if is_right { Some(image) } else { None })
+}
+
+#[test]
+fn syncs_reach_the_file(rt: HostRuntime) {
+    assert!(rt; is_image(left_in(rt, "syncs.img", false), b"xbcd"));
+    assert!(rt; is_image(left_in(rt, "failed.img", true), b"abcd"));
 }
 
 // All bytes of a disk in memory.
@@ -206,47 +306,58 @@ fn contents(alloc: Global, disk: &mut MemDisk) -> Result<Vec<u8>, AllocError> {
     Ok(bytes)
 }
 
-#[test]
-fn stop_takes_back_what_no_sync_kept(rt: HostRuntime) {
-    let fails = Vec::new(rt.alloc());
-    let mut disk = MemDisk::new(rt.alloc(), fails).expect(&rt, "memory");
-    assert_eq!(rt; disk.write_at(0, b"abc"), DiskAnswer::Done);
-    disk.arm(1);
-    assert_eq!(rt; disk.sync(), DiskAnswer::Stopped);
-    assert_eq!(rt; disk.len(), DiskLen::Stopped);
-    assert_eq!(rt; disk.power_cut(Choice::Old), DiskAnswer::Done);
-    assert_eq!(rt; disk.len(), DiskLen::Len(0));
-    assert_eq!(rt; disk.steps().len(), 2);
-}
-
-#[test]
-fn cuts_leave_old_new_or_torn(rt: HostRuntime) {
-    let cases = [
-        (Choice::Old, b"abcd".as_slice()),
-        (Choice::New, b"aXYZ\0\0QR".as_slice()),
-        (Choice::Torn, b"abYd\0\0Q\0".as_slice()),
-    ];
-    for (choice, want) in cases {
-        let fails = Vec::new(rt.alloc());
-        let mut disk = MemDisk::new(rt.alloc(), fails).expect(&rt, "memory");
-        assert_eq!(rt; disk.write_at(0, b"abcd"), DiskAnswer::Done);
-        assert_eq!(rt; disk.sync(), DiskAnswer::Done);
-        assert_eq!(rt; disk.write_at(1, b"xyz"), DiskAnswer::Done);
-        assert_eq!(rt; disk.write_at(1, b"XYZ"), DiskAnswer::Done);
-        assert_eq!(rt; disk.write_at(6, b"QR"), DiskAnswer::Done);
-        assert_eq!(rt; disk.power_cut(choice), DiskAnswer::Done);
-        let bytes = contents(rt.alloc(), &mut disk).expect(&rt, "memory");
-        assert_eq!(rt; bytes.as_slice(), want, "after {choice:?}");
+fn holds(alloc: Global, disk: &mut MemDisk, want: &[u8]) -> bool {
+    match contents(alloc, disk) {
+        Ok(bytes) => bytes.as_slice() == want,
+        Err(_) => false,
     }
 }
 
+// Whether the calls on a new disk in memory, of which the first and the third fail where that's asked, answer so, and leave these bytes.
+fn goes(alloc: Global, fails: &[u64], calls: &[(Call, Told)], want: &[u8]) -> bool {
+    let Ok(fails) = fails.to_vec(alloc) else {
+        return false;
+    };
+    match MemDisk::new(alloc, fails) {
+        Ok(mut disk) => first_wrong(&mut disk, calls).is_none() && holds(alloc, &mut disk, want),
+        Err(_) => false,
+    }
+}
+
+fn written(choice: Choice) -> [(Call<'static>, Told); 6] {
+    [
+        (Write(0, b"abcd"), DONE),
+        (Sync, DONE),
+        (Write(1, b"xyz"), DONE),
+        (Write(1, b"XYZ"), DONE),
+        (Write(6, b"QR"), DONE),
+        (Cut(choice), DONE),
+    ]
+}
+
 #[test]
-fn listed_call_fails_and_changes_nothing(rt: HostRuntime) {
-    let fails = vec![in rt.alloc(); 3, 1].expect(&rt, "memory");
-    let mut disk = MemDisk::new(rt.alloc(), fails).expect(&rt, "memory");
-    assert_eq!(rt; disk.len(), DiskLen::Failed);
-    assert_eq!(rt; disk.write_at(0, b"a"), DiskAnswer::Done);
-    assert_eq!(rt; disk.write_at(0, b"b"), DiskAnswer::Failed);
-    let bytes = contents(rt.alloc(), &mut disk).expect(&rt, "memory");
-    assert_eq!(rt; bytes.as_slice(), b"a".as_slice());
+fn disks_in_memory(rt: HostRuntime) {
+    let stopped = [
+        (Write(0, b"abc"), DONE),
+        (Arm(1), NOTHING),
+        (Sync, STOPPED),
+        (Len, Told::HasLen(DiskLen::Stopped)),
+        (Cut(Choice::Old), DONE),
+        (Len, bytes(0)),
+    ];
+    let failing = [
+        (Len, Told::HasLen(DiskLen::Failed)),
+        (Write(0, b"a"), DONE),
+        (Write(0, b"b"), FAILED),
+    ];
+    let cases: [(&[u64], &[(Call, Told)], &[u8]); 5] = [
+        (&[], &stopped, b""),
+        (&[1, 3], &failing, b"a"),
+        (&[], &written(Choice::Old), b"abcd"),
+        (&[], &written(Choice::New), b"aXYZ\0\0QR"),
+        (&[], &written(Choice::Torn), b"abYd\0\0Q\0"),
+    ];
+    for (fails, calls, want) in cases {
+        assert!(rt; goes(rt.alloc(), fails, calls, want));
+    }
 }

@@ -5,41 +5,68 @@ use ec_disk::{Choice, CrashDisk, Disk, DiskAnswer, DiskLen, MemDisk};
 use ec_journal::{Journal, JournalFault, write_synced};
 use std::alloc::Global;
 
-// A synced disk of 20 zero bytes, made by its calls 1 and 2.
-fn zeros(alloc: Global) -> Result<MemDisk, JournalFault> {
-    zeros_failing(alloc, &[])
-}
-
-// The same, whose calls of these numbers fail.
-fn zeros_failing(alloc: Global, fails: &[u64]) -> Result<MemDisk, JournalFault> {
+// A synced disk of 20 zero bytes, made by its calls 1 and 2, whose calls of these numbers fail.
+fn zeros(alloc: Global, fails: &[u64]) -> Result<MemDisk, JournalFault> {
     let mut disk = MemDisk::new(alloc, fails.to_vec(alloc)?)?;
     write_synced(&mut disk, 0, &[0; 20])?;
     Ok(disk)
 }
 
-fn bodies_on(alloc: Global, disk: &mut MemDisk) -> Result<Vec<List<u8>>, JournalFault> {
+// How many bodies are on the disk. Each has to be `abcd`.
+fn bodies_on(alloc: Global, disk: &mut MemDisk) -> Result<usize, JournalFault> {
     match disk.len() {
         DiskLen::Len(len) if len >= 20 => {
             let (_, bodies) = Journal::open(alloc, disk, 0, 20)?;
-            Ok(bodies)
+            count(bodies.as_slice())
         }
         _ => Err(JournalFault::DiskFailed),
     }
 }
 
+fn count(bodies: &[List<u8>]) -> Result<usize, JournalFault> {
+    if bodies
+        .iter()
+        .all(|body| body.as_slice() == b"abcd".as_slice())
+    {
+        Ok(bodies.len())
+    } else {
+        Err(JournalFault::NoMemory)
+    }
+}
+
+// What two appends answer, and the steps of the disk behind them.
+fn append_two(
+    alloc: Global,
+    disk: &mut MemDisk,
+) -> (Result<(), JournalFault>, Result<(), JournalFault>, usize) {
+    let mut journal = Journal::new(0, 20, 0);
+    let first = journal.append(alloc, disk, b"abcd");
+    let second = journal.append(alloc, disk, &[7; 14]);
+    (first, second, disk.steps().len())
+}
+
 #[test]
 fn full_journal_keeps_what_it_has(rt: HostRuntime) {
-    let mut disk = zeros(rt.alloc()).expect(&rt, "disk");
-    let mut journal = Journal::new(0, 20, 0);
-    assert_eq!(rt; journal.append(rt.alloc(), &mut disk, b"abcd"), Ok(()));
+    let mut disk = zeros(rt.alloc(), &[]).expect(&rt, "disk");
     let full = Err(JournalFault::NoRoom(20, 11));
-    assert_eq!(rt; journal.append(rt.alloc(), &mut disk, &[7; 14]), full);
-    assert_eq!(rt; disk.steps().len(), 6);
-    let bodies = bodies_on(rt.alloc(), &mut disk).expect(&rt, "bodies");
-    assert_eq!(rt; bodies.len(), 1);
-    for body in &bodies {
-        assert_eq!(rt; body.as_slice(), b"abcd".as_slice());
+    assert_eq!(rt; append_two(rt.alloc(), &mut disk), (Ok(()), full, 6));
+    assert_eq!(rt; bodies_on(rt.alloc(), &mut disk), Ok(1));
+}
+
+fn append(alloc: Global, disk: &mut MemDisk) -> Result<(), JournalFault> {
+    let mut journal = Journal::new(0, 20, 0);
+    journal.append(alloc, disk, b"abcd")
+}
+
+// An append that stops in one of its calls, and a cut: whether it was answered, and the bodies that are left.
+fn left(alloc: Global, calls: u64, choice: Choice) -> Result<(bool, usize), JournalFault> {
+    let mut disk = zeros(alloc, &[])?;
+    disk.arm(calls);
+    let is_done = append(alloc, &mut disk).is_ok();
+    if disk.power_cut(choice) != DiskAnswer::Done {
+        return Err(JournalFault::DiskFailed);
     }
+    Ok((is_done, bodies_on(alloc, &mut disk)?))
 }
 
 #[test]
@@ -47,50 +74,57 @@ fn stop_in_each_call_leaves_all_or_nothing(rt: HostRuntime) {
     // The call that stops, and the bodies that are left by an old and by a new or torn cut.
     for (calls, old, new) in [(1, 0, 0), (2, 0, 0), (3, 0, 1), (4, 0, 1), (5, 1, 1)] {
         for (choice, want) in [(Choice::Old, old), (Choice::New, new), (Choice::Torn, new)] {
-            let mut disk = zeros(rt.alloc()).expect(&rt, "disk");
-            let mut journal = Journal::new(0, 20, 0);
-            disk.arm(calls);
-            let answer = journal.append(rt.alloc(), &mut disk, b"abcd");
-            assert_eq!(rt; answer.is_ok(), calls == 5);
-            assert_eq!(rt; disk.power_cut(choice), DiskAnswer::Done);
-            let bodies = bodies_on(rt.alloc(), &mut disk).expect(&rt, "bodies");
-            assert_eq!(rt; bodies.len(), want, "{choice:?} in call {calls}");
+            let found = left(rt.alloc(), calls, choice);
+            assert_eq!(rt; found, Ok((calls == 5, want)), "{choice:?} in call {calls}");
         }
     }
 }
 
+// What an opening finds where the length of the record doesn't fit into the journal.
+fn open_long(alloc: Global) -> Result<usize, JournalFault> {
+    let mut disk = zeros(alloc, &[])?;
+    append(alloc, &mut disk)?;
+    if disk.write_at(9, b"O\0\0\0\x06") != DiskAnswer::Done {
+        return Err(JournalFault::DiskFailed);
+    }
+    bodies_on(alloc, &mut disk)
+}
+
 #[test]
 fn record_past_the_journal_is_bad(rt: HostRuntime) {
-    let mut disk = zeros(rt.alloc()).expect(&rt, "disk");
-    let mut journal = Journal::new(0, 20, 0);
-    assert_eq!(rt; journal.append(rt.alloc(), &mut disk, b"abc"), Ok(()));
-    assert_eq!(rt; disk.write_at(8, b"O\0\0\0\x07"), DiskAnswer::Done);
-    let bad = bodies_on(rt.alloc(), &mut disk).err();
-    assert_eq!(rt; bad, Some(JournalFault::Bad(8)));
+    assert_eq!(rt; open_long(rt.alloc()), Err(JournalFault::Bad(9)));
+}
+
+fn append_failing(alloc: Global, number: u64) -> Result<(), JournalFault> {
+    let mut disk = zeros(alloc, &[number])?;
+    append(alloc, &mut disk)
+}
+
+fn open_failing(alloc: Global, number: u64) -> Result<usize, JournalFault> {
+    let mut disk = zeros(alloc, &[number])?;
+    bodies_on(alloc, &mut disk)
+}
+
+fn open_stopped(alloc: Global) -> Result<usize, JournalFault> {
+    let mut disk = zeros(alloc, &[])?;
+    disk.arm(1);
+    bodies_on(alloc, &mut disk)
 }
 
 #[test]
 fn fault_of_the_disk_is_shown(rt: HostRuntime) {
     // The four calls of an append have the numbers 3 to 6.
-    for number in 3..=7 {
-        let mut disk = zeros_failing(rt.alloc(), &[number]).expect(&rt, "disk");
-        let mut journal = Journal::new(0, 20, 0);
-        let answer = journal.append(rt.alloc(), &mut disk, b"abcd");
-        let want = if number < 7 {
-            Err(JournalFault::DiskFailed)
-        } else {
-            Ok(())
-        };
-        assert_eq!(rt; answer, want, "at call {number}");
+    for number in 3..=6 {
+        let failed = Err(JournalFault::DiskFailed);
+        assert_eq!(rt;
+            append_failing(rt.alloc(), number),
+            failed,
+            "at call {number}"
+        );
     }
+    assert_eq!(rt; append_failing(rt.alloc(), 7), Ok(()));
     // The question for the length has the number 3, and the one call of an opening the number 4.
-    for (number, want) in [(4, Some(JournalFault::DiskFailed)), (5, None)] {
-        let mut disk = zeros_failing(rt.alloc(), &[number]).expect(&rt, "disk");
-        let answer = bodies_on(rt.alloc(), &mut disk).err();
-        assert_eq!(rt; answer, want, "at call {number}");
-    }
-    let mut disk = zeros(rt.alloc()).expect(&rt, "disk");
-    disk.arm(1);
-    let answer = bodies_on(rt.alloc(), &mut disk).err();
-    assert_eq!(rt; answer, Some(JournalFault::DiskStopped));
+    assert_eq!(rt; open_failing(rt.alloc(), 4), Err(JournalFault::DiskFailed));
+    assert_eq!(rt; open_failing(rt.alloc(), 5), Ok(0));
+    assert_eq!(rt; open_stopped(rt.alloc()), Err(JournalFault::DiskStopped));
 }

@@ -31,29 +31,70 @@ fn bytes_at(
     }
 }
 
+fn has(alloc: Global, disk: &mut MemDisk, at: u64, want: &[u8]) -> Result<bool, JournalFault> {
+    let bytes = bytes_at(alloc, disk, at, want.len() as u64)?;
+    Ok(bytes.as_slice() == want)
+}
+
+const HEAD: [u8; 16] = *b"ECHOFS1\n\0\0\0 \0\x01\0\0";
+
 #[test]
 fn head_stands_in_front(rt: HostRuntime) {
     let mut disk = laid_out(rt.alloc()).expect(&rt, "disk");
-    let head = bytes_at(rt.alloc(), &mut disk, 0, 16).expect(&rt, "head");
-    assert_eq!(rt; head.as_slice(), b"ECHOFS1\n\0\0\0 \0\x01\0\0".as_slice());
-    let mut bytes = [0; 16];
-    if head.len() == 16 {
-        bytes.copy_from_slice(head.as_slice());
-    }
+    assert_eq!(rt; has(rt.alloc(), &mut disk, 0, &HEAD), Ok(true));
+    assert_eq!(rt; disk.steps().len(), 8);
     let want = Head {
         has_first_word: true,
         max_objects: 32,
         side: Side::Even,
         has_form: true,
     };
-    assert_eq!(rt; Head::read(&bytes), want);
-    assert_eq!(rt; disk.steps().len(), 8);
+    assert_eq!(rt; Head::read(&HEAD), want);
 }
 
 #[test]
 fn free_slots_are_the_others(rt: HostRuntime) {
     let free = free_slots(rt.alloc(), 6, &[4, 0, 1]).expect(&rt, "free");
     assert_eq!(rt; free.as_slice(), [2, 3, 5].as_slice());
+}
+
+// A checkpoint of slot 1 on the odd side.
+fn write_leaf(alloc: Global, disk: &mut MemDisk) -> Result<DiskAnswer, JournalFault> {
+    let mut pieces = Vec::new(alloc);
+    pieces.push((1, b"leaf".to_vec(alloc)?))?;
+    Ok(write_checkpoint(disk, Side::Odd, pieces.as_slice(), b"table 2"))
+}
+
+fn side_of(alloc: Global, disk: &mut MemDisk) -> Result<Side, JournalFault> {
+    let select = bytes_at(alloc, disk, SELECT_AT, 1)?;
+    match select.as_slice() {
+        [byte] => Ok(Side::picked_by(*byte)),
+        _ => Err(JournalFault::NoMemory),
+    }
+}
+
+// Whether what the side names is there.
+fn is_whole(alloc: Global, disk: &mut MemDisk, side: Side) -> Result<bool, JournalFault> {
+    let root = has(alloc, disk, slot_at(0), b"root")?;
+    match side {
+        Side::Even => Ok(root && has(alloc, disk, side.table_at(), b"table 1")?),
+        Side::Odd => {
+            let leaf = has(alloc, disk, slot_at(1), b"leaf")?;
+            Ok(root && leaf && has(alloc, disk, side.table_at(), b"table 2")?)
+        }
+    }
+}
+
+// A checkpoint that stops in one of its calls, and a cut: whether it was answered, the side that is selected, and whether what that names is there.
+fn left(alloc: Global, call: u64, choice: Choice) -> Result<(bool, Side, bool), JournalFault> {
+    let mut disk = laid_out(alloc)?;
+    disk.arm(call);
+    let is_done = write_leaf(alloc, &mut disk)? == DiskAnswer::Done;
+    if disk.power_cut(choice) != DiskAnswer::Done {
+        return Err(JournalFault::DiskFailed);
+    }
+    let side = side_of(alloc, &mut disk)?;
+    Ok((is_done, side, is_whole(alloc, &mut disk, side)?))
 }
 
 #[test]
@@ -68,27 +109,12 @@ fn stop_in_each_call_of_a_checkpoint_leaves_one_side(rt: HostRuntime) {
         (7, Side::Odd, Side::Odd),
     ] {
         for (choice, want) in [(Choice::Old, old), (Choice::New, new), (Choice::Torn, new)] {
-            let mut disk = laid_out(rt.alloc()).expect(&rt, "disk");
-            let mut pieces = Vec::new(rt.alloc());
-            let leaf = b"leaf".to_vec(rt.alloc()).expect(&rt, "leaf");
-            pieces.push((1, leaf)).expect(&rt, "pieces");
-            disk.arm(call);
-            let answer = write_checkpoint(&mut disk, Side::Odd, pieces.as_slice(), b"table 2");
-            assert_eq!(rt; answer == DiskAnswer::Done, call == 7);
-            assert_eq!(rt; disk.power_cut(choice), DiskAnswer::Done);
-            let select = bytes_at(rt.alloc(), &mut disk, SELECT_AT, 1).expect(&rt, "select");
-            let side = Side::picked_by(*select.get(0).expect(&rt, "byte"));
-            assert_eq!(rt; side, want, "{choice:?} in call {call}");
-            let table = bytes_at(rt.alloc(), &mut disk, side.table_at(), 7).expect(&rt, "table");
-            let slots = match side {
-                Side::Even => [(0, b"root", b"table 1"), (0, b"root", b"table 1")],
-                Side::Odd => [(0, b"root", b"table 2"), (1, b"leaf", b"table 2")],
-            };
-            for (slot, image, named_by) in slots {
-                assert_eq!(rt; table.as_slice(), named_by.as_slice());
-                let found = bytes_at(rt.alloc(), &mut disk, slot_at(slot), 4).expect(&rt, "slot");
-                assert_eq!(rt; found.as_slice(), image.as_slice());
-            }
+            let found = left(rt.alloc(), call, choice);
+            assert_eq!(rt;
+                found,
+                Ok((call == 7, want, true)),
+                "{choice:?} in call {call}"
+            );
         }
     }
 }

@@ -1,8 +1,8 @@
 //! A window, and the sessions of one clerk.
 
-use ec_base::{Age, ClerkId, ObjId, SessionNo};
-use ec_sessions::{Greeting, Marked, Sessions, Window};
-use std::test::*;
+use ec_base::{Age, ClerkId, NoMemory, ObjId, SessionNo};
+use ec_sessions::{Greeting, Marked, Sessions, Slot, Window};
+use std::alloc::Global;
 
 #[test]
 #[tactic(auto, unfolding(ec_sessions::specs::Windows::marked))]
@@ -17,66 +17,81 @@ fn five_marks(rt: HostRuntime) {
     assert!(rt; window.has(10) && !window.has(3));
 }
 
-#[test]
-fn one_clerk(rt: HostRuntime) -> Result<(), Fail> {
-    let clerk = ClerkId::new(0).ok_or("a clerk")?;
-    let first = ObjId::new(2).ok_or("an id")?;
-    let mut sessions = Sessions::new(rt.alloc()).ok().ok_or("no memory")?;
-    assert!(rt; sessions.slot(clerk).is_none());
-    sessions
-        .open(clerk, Age { boot: 2, round: 0 }, SessionNo(1))
-        .ok()
-        .ok_or("no memory")?;
-    assert_eq!(rt;
-        sessions.hello(clerk, Age { boot: 1, round: 0 }),
-        Greeting::OldBoot(Age { boot: 2, round: 0 })
-    );
-    assert_eq!(rt;
-        sessions.hello(clerk, Age { boot: 2, round: 0 }),
-        Greeting::Same(SessionNo(1))
-    );
-    assert_eq!(rt;
-        sessions.hello(clerk, Age { boot: 3, round: 0 }),
-        Greeting::Greater(Some(SessionNo(1)))
-    );
+fn age(boot: u64) -> Age {
+    Age { boot, round: 0 }
+}
 
-    sessions.reserve(clerk, first).ok().ok_or("no memory")?;
-    assert!(rt; sessions.spend(clerk, first));
-    assert!(rt; !sessions.spend(clerk, first));
-    assert_eq!(rt; sessions.reserved(), 15);
+// What an older, the same and a greater age are told.
+fn greetings(sessions: &Sessions, clerk: ClerkId) -> [Greeting; 3] {
+    [
+        sessions.hello(clerk, age(1)),
+        sessions.hello(clerk, age(2)),
+        sessions.hello(clerk, age(3)),
+    ]
+}
 
-    let slots = sessions.into_slots();
-    assert_eq!(rt; slots.iter().flatten().count(), 1);
-    let again = Sessions::of(slots).ok().ok_or("no memory")?;
-    let slot = again.slot(clerk).ok_or("a slot")?;
-    assert!(rt; slot.is_open);
-    assert_eq!(rt;
-        (slot.age, slot.session, slot.window),
-        (
-            Age { boot: 2, round: 0 },
-            SessionNo(1),
-            Window { low: 0, mask: 0 }
-        )
-    );
-    assert_eq!(rt; (slot.grants, slot.last_first), (1, Some(first)));
-    assert!(rt; slot.unspent.as_slice().iter().map(|id| id.get()).eq(3..18));
-    Ok(())
+fn has_fifteen_ids_left(slot: &Slot, first: ObjId) -> bool {
+    slot.is_open
+        && slot.age == age(2)
+        && slot.session == SessionNo(1)
+        && slot.window == (Window { low: 0, mask: 0 })
+        && (slot.grants, slot.last_first) == (1, Some(first))
+        && slot.unspent.as_slice().iter().map(|id| id.get()).eq(3..18)
+}
+
+fn again(sessions: Sessions) -> Result<Sessions, NoMemory> {
+    Sessions::of(sessions.into_slots())
+}
+
+fn is_in_its_slot(sessions: &Sessions, clerk: ClerkId, first: ObjId) -> bool {
+    match sessions.slot(clerk) {
+        Some(slot) => has_fifteen_ids_left(slot, first),
+        None => false,
+    }
+}
+
+fn spends(sessions: &mut Sessions, clerk: ClerkId, first: ObjId) -> bool {
+    sessions.spend(clerk, first) && !sessions.spend(clerk, first) && sessions.reserved() == 15
+}
+
+// Clerk A's first session, which has the ids from 2 on.
+fn opened(alloc: Global) -> Option<Sessions> {
+    let (clerk, first) = (ClerkId::new(0)?, ObjId::new(2)?);
+    let mut sessions = Sessions::new(alloc).ok()?;
+    sessions.open(clerk, age(2), SessionNo(1)).ok()?;
+    sessions.reserve(clerk, first).ok()?;
+    Some(sessions)
 }
 
 #[test]
-fn one_end(rt: HostRuntime) -> Result<(), Fail> {
-    let clerk = ClerkId::new(15).ok_or("a clerk")?;
-    let mut sessions = Sessions::new(rt.alloc()).ok().ok_or("no memory")?;
+fn one_clerk(rt: HostRuntime) {
+    let clerk = ClerkId::new(0).expect(&rt, "a clerk");
+    let first = ObjId::new(2).expect(&rt, "an id");
+    let mut sessions = opened(rt.alloc()).expect(&rt, "memory");
+    let want = [
+        Greeting::OldBoot(age(2)),
+        Greeting::Same(SessionNo(1)),
+        Greeting::Greater(Some(SessionNo(1))),
+    ];
+    assert_eq!(rt; greetings(&sessions, clerk), want);
+    assert!(rt; spends(&mut sessions, clerk, first));
+    let sessions = again(sessions).expect(&rt, "memory");
+    assert!(rt; is_in_its_slot(&sessions, clerk, first));
+}
+
+#[test]
+fn one_end(rt: HostRuntime) {
+    let clerk = ClerkId::new(15).expect(&rt, "a clerk");
+    let mut sessions = Sessions::new(rt.alloc()).expect(&rt, "memory");
     sessions
-        .open(clerk, Age { boot: 1, round: 0 }, SessionNo(7))
-        .ok()
-        .ok_or("no memory")?;
-    assert_eq!(rt; sessions.mark(clerk, 1), Marked::Marked);
-    assert_eq!(rt; sessions.end(clerk), Some(SessionNo(7)));
-    assert_eq!(rt; sessions.end(clerk), None);
+        .open(clerk, age(1), SessionNo(7))
+        .expect(&rt, "memory");
+    let marked = sessions.mark(clerk, 1);
+    let ended = (sessions.end(clerk), sessions.end(clerk));
     assert_eq!(rt;
-        sessions.hello(clerk, Age { boot: 1, round: 0 }),
-        Greeting::Ended(SessionNo(7), Window { low: 1, mask: 0 })
+        (marked, ended),
+        (Marked::Marked, (Some(SessionNo(7)), None))
     );
-    Ok(())
+    let greeting = Greeting::Ended(SessionNo(7), Window { low: 1, mask: 0 });
+    assert_eq!(rt; sessions.hello(clerk, age(1)), greeting);
 }

@@ -1,45 +1,71 @@
 //! Tokens that sessions are granted, claim and give back.
-ghost use Rattle.std.specs.Prelude.{◌≡◌};
 
-use ec_base::{Hold, ObjId, SessionNo};
+use ec_base::{Hold, NoMemory, ObjId, SessionNo};
 use ec_tokens::{ClaimFault, Tokens};
-use std::test::Fail;
+use std::alloc::Global;
 
-fn object(rt: &impl std::process::Abort, number: u32) -> ObjId
-    ensures { result ≡ number }
-{
-    ObjId::new(number).expect(rt, "an id")
+const FIVE: u32 = 5;
+
+fn is_only(rows: &[(SessionNo, Hold, u64)], want: Option<(u64, Hold, u64)>) -> bool {
+    rows.iter()
+        .map(|(session, hold, number)| (session.0, *hold, *number))
+        .eq(want)
 }
 
-#[test]
-fn a_reader_conflicts_with_a_writer(rt: HostRuntime) -> Result<(), Fail> {
-    let five = object(&rt, 5);
-    let mut tokens = Tokens::new(rt.alloc())?;
-    assert!(rt; tokens.is_clear(SessionNo(1), five, Hold::Read));
-    tokens.grant(SessionNo(1), five, Hold::Read, 1)?;
-    assert_eq!(rt; tokens.token(SessionNo(1), five), Some((Hold::Read, 1)));
-    let reader = [(SessionNo(1), Hold::Read, 1)];
-    assert_eq!(rt;
-        tokens
-            .conflicts(SessionNo(2), five, Hold::Write)?
-            .as_slice(),
-        reader.as_slice()
-    );
-    assert_eq!(rt; tokens.holders(five)?.as_slice(), reader.as_slice());
-    let clash = tokens.claim(SessionNo(2), &[(five, Hold::Write)]);
-    assert_eq!(rt; clash, Err(ClaimFault::Clash(five, SessionNo(1))));
-    Ok(())
+fn conflicts_with(tokens: &Tokens, obj: ObjId, want: (u64, Hold, u64)) -> Result<bool, NoMemory> {
+    let rows = tokens.conflicts(SessionNo(2), obj, Hold::Write)?;
+    Ok(is_only(rows.as_slice(), Some(want)))
 }
 
-#[test]
-fn a_session_claims_lowers_and_drops(rt: HostRuntime) -> Result<(), Fail> {
-    let five = object(&rt, 5);
-    let mut tokens = Tokens::new(rt.alloc())?;
-    tokens.claim(SessionNo(1), &[(five, Hold::Write)])?;
-    assert!(rt; !tokens.give_back(SessionNo(1), five, 1, Hold::Read));
-    assert!(rt; tokens.give_back(SessionNo(1), five, 0, Hold::Read));
-    assert_eq!(rt; tokens.token(SessionNo(1), five), Some((Hold::Read, 0)));
+fn is_held_by(
+    tokens: &Tokens,
+    obj: ObjId,
+    want: Option<(u64, Hold, u64)>,
+) -> Result<bool, NoMemory> {
+    let rows = tokens.holders(obj)?;
+    Ok(is_only(rows.as_slice(), want))
+}
+
+// A reader is in a writer's way, whose claim tells the clash.
+fn reads(tokens: &mut Tokens, obj: ObjId) -> Result<[bool; 4], NoMemory> {
+    if !tokens.is_clear(SessionNo(1), obj, Hold::Read) {
+        return Ok([false; 4]);
+    }
+    tokens.grant(SessionNo(1), obj, Hold::Read, 1)?;
+    let clash = tokens.claim(SessionNo(2), &[(obj, Hold::Write)]);
+    Ok([
+        tokens.token(SessionNo(1), obj) == Some((Hold::Read, 1)),
+        conflicts_with(tokens, obj, (1, Hold::Read, 1))?,
+        is_held_by(tokens, obj, Some((1, Hold::Read, 1)))?,
+        clash == Err(ClaimFault::Clash(obj, SessionNo(1))),
+    ])
+}
+
+// A session claims, gives back by the right number alone, and leaves.
+fn claims(tokens: &mut Tokens, obj: ObjId) -> Result<[bool; 4], NoMemory> {
+    if tokens.claim(SessionNo(1), &[(obj, Hold::Write)]).is_err() {
+        return Err(NoMemory);
+    }
+    let by_another_number = tokens.give_back(SessionNo(1), obj, 1, Hold::Read);
+    let by_its_number = tokens.give_back(SessionNo(1), obj, 0, Hold::Read);
+    let is_lowered = tokens.token(SessionNo(1), obj) == Some((Hold::Read, 0));
     tokens.drop_session(SessionNo(1));
-    assert!(rt; tokens.holders(five)?.is_empty());
-    Ok(())
+    Ok([
+        !by_another_number,
+        by_its_number,
+        is_lowered,
+        is_held_by(tokens, obj, None)?,
+    ])
+}
+
+fn all(alloc: Global) -> Result<([bool; 4], [bool; 4]), NoMemory> {
+    let obj = ObjId::new(FIVE).ok_or(NoMemory)?;
+    let mut read = Tokens::new(alloc)?;
+    let mut claimed = Tokens::new(alloc)?;
+    Ok((reads(&mut read, obj)?, claims(&mut claimed, obj)?))
+}
+
+#[test]
+fn sessions_hold_claim_and_give_back(rt: HostRuntime) {
+    assert_eq!(rt; all(rt.alloc()), Ok(([true; 4], [true; 4])));
 }

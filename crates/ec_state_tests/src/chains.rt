@@ -1,12 +1,16 @@
 //! Closures among three operations that a forder ties.
 
-use ec_base::{List, ObjId, OpNo};
-use ec_chains::{Order, OrderFault};
+use ec_base::{List, NoMemory, ObjId, OpNo};
+use ec_chains::{Ask, Order, OrderFault};
 use ec_volume::Update;
 use std::alloc::Global;
-use std::test::*;
 
-fn overwrite(alloc: Global, obj: ObjId) -> Result<Update, Fail> {
+// The files 2 and 3.
+fn file(number: u32) -> ObjId {
+    ObjId::new(number).unwrap_or(ObjId::root())
+}
+
+fn overwrite(alloc: Global, obj: ObjId) -> Result<Update, NoMemory> {
     Ok(Update::Put {
         obj,
         at: 0,
@@ -15,32 +19,61 @@ fn overwrite(alloc: Global, obj: ObjId) -> Result<Update, Fail> {
     })
 }
 
-#[test]
-fn a_forder_ties_two_files(rt: HostRuntime) -> Result<(), Fail> {
-    let alloc = rt.alloc();
-    let a = ObjId::new(2).ok_or("an id")?;
-    let b = ObjId::new(3).ok_or("an id")?;
+// Operations 5 on file 2 and 7 on file 3, and the forder 6 between them.
+fn tied(alloc: Global) -> Result<Order, NoMemory> {
     let mut order = Order::new(alloc)?;
-    order.add(OpNo(5), &overwrite(alloc, a)?)?;
-    let objs = List::of(Vec::from_slice(alloc, &[a, b])?);
+    order.add(OpNo(5), &overwrite(alloc, file(2))?)?;
+    let objs = List::of(Vec::from_slice(alloc, &[file(2), file(3)])?);
     order.hold(OpNo(6), Update::Order { objs })?;
-    order.add(OpNo(7), &overwrite(alloc, b)?)?;
-    let all = [OpNo(5), OpNo(6), OpNo(7)];
-    assert_eq!(rt; order.closure_of_object(b)?.as_slice(), all.as_slice());
-    assert_eq!(rt;
-        order.closure_of_op(OpNo(5))?.as_slice(),
-        [OpNo(5)].as_slice()
-    );
-    assert!(rt;
-        matches!(
-            order.closure_of_op(OpNo(9)),
-            Err(OrderFault::NoSuchOp(OpNo(9)))
-        )
-    );
-    order.settle(&[OpNo(5), OpNo(6)]);
-    assert_eq!(rt;
-        order.closure_of_object(b)?.as_slice(),
-        [OpNo(7)].as_slice()
-    );
-    Ok(())
+    order.add(OpNo(7), &overwrite(alloc, file(3))?)?;
+    Ok(order)
+}
+
+fn is_closure(ops: &[OpNo], want: &[u64]) -> bool {
+    ops.iter().map(|op| op.0).eq(want.iter().copied())
+}
+
+fn is_of_object(order: &Order, obj: ObjId, want: &[u64]) -> bool {
+    match order.closure_of_object(obj) {
+        Ok(ops) => is_closure(ops.as_slice(), want),
+        Err(_) => false,
+    }
+}
+
+fn is_of_op(order: &Order, op: u64, want: &[u64]) -> bool {
+    match order.closure_of_op(OpNo(op)) {
+        Ok(ops) => is_closure(ops.as_slice(), want),
+        Err(_) => false,
+    }
+}
+
+fn lacks_the_ninth(order: &Order) -> bool {
+    matches!(
+        order.closure_of_op(OpNo(9)),
+        Err(OrderFault::NoSuchOp(OpNo(9)))
+    )
+}
+
+fn without(mut order: Order, op: u64) -> Order {
+    order.settle(&[OpNo(op)]);
+    order
+}
+
+// Whether the sixth operation left an empty place between the others.
+fn is_emptied(order: &Order) -> bool {
+    order.count() == 2
+        && order.get(OpNo(6)).is_none()
+        && order.first(Ask::Object(file(3))) == Some(OpNo(7))
+}
+
+#[test]
+fn a_forder_ties_two_files(rt: HostRuntime) {
+    let order = tied(rt.alloc()).expect(&rt, "memory");
+    assert!(rt; is_of_object(&order, file(3), &[5, 6, 7]));
+    assert!(rt; is_of_op(&order, 5, &[5]));
+    assert!(rt; lacks_the_ninth(&order));
+    let order = without(order, 6);
+    assert!(rt; is_emptied(&order));
+    let order = without(order, 5);
+    assert!(rt; is_of_object(&order, file(3), &[7]));
 }

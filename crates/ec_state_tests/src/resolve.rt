@@ -3,14 +3,13 @@
 ghost use Rattle.std.specs.Prelude.{◌≡◌, true};
 ghost use Rattle.ec_cache.specs.Held.{is_within};
 
-use ec_base::{Hold, List, ObjId, OpNo, Path};
+use ec_base::{Hold, List, NoMemory, ObjId, OpNo, Path};
 use ec_cache::Cache;
 use ec_plain::Call;
 use ec_report::Report;
 use ec_resolve::{Verdict, evaluate};
 use ec_volume::{Entries, Image};
 use std::alloc::Global;
-use std::test::*;
 
 fn root(alloc: Global) -> Image
     ensures { is_within result ≡ true }
@@ -23,52 +22,88 @@ fn root(alloc: Global) -> Image
     }
 }
 
-fn asks_for(verdict: &Verdict, obj: ObjId, hold: Hold) -> bool {
+// What a verdict asks for or tells, without its lists.
+#[derive(Clone, Copy, Debug, PartialEq)]
+enum Told {
+    Need(u32, Hold),
+    Done,
+    NeedIds(usize),
+    Lost(usize, usize),
+}
+
+fn short(verdict: &Verdict) -> Told {
     match verdict {
-        Verdict::Need(needed, mode) => *needed == obj && *mode == hold,
-        _ => false,
+        Verdict::Need(obj, mode) => Told::Need(obj.get(), *mode),
+        Verdict::Done(_) => Told::Done,
+        Verdict::NeedIds(objs) => Told::NeedIds(objs.as_slice().len()),
+        Verdict::Lost(lost, objs) => Told::Lost(lost.as_slice().len(), objs.as_slice().len()),
     }
 }
 
-fn is_done(verdict: &Verdict) -> bool {
-    matches!(verdict, Verdict::Done(_))
+fn asked(alloc: Global, cache: &Cache, owed: &Report, call: &Call) -> Result<Told, NoMemory> {
+    let verdict = evaluate(alloc, cache, owed, call, None)?;
+    Ok(short(&verdict))
 }
 
-fn wants_an_id(verdict: &Verdict, touched: &[ObjId]) -> bool {
-    match verdict {
-        Verdict::NeedIds(objs) => objs.as_slice() == touched,
-        _ => false,
-    }
+// `stat /` and `create /f`.
+#[derive(Drop)]
+struct Calls {
+    stat: Call,
+    create: Call,
 }
 
-fn reports(verdict: &Verdict, ops: &[OpNo], touched: &[ObjId]) -> bool {
-    match verdict {
-        Verdict::Lost(lost, objs) => lost.as_slice() == ops && objs.as_slice() == touched,
-        _ => false,
-    }
+fn both(alloc: Global) -> Option<Calls> {
+    let root = Path::read(alloc, b"/").ok()?;
+    let file = Path::read(alloc, b"/f").ok()?;
+    Some(Calls {
+        stat: Call::Stat(root),
+        create: Call::Create(file),
+    })
+}
+
+// Operation 5 is owed on the root.
+fn owing(alloc: Global) -> Result<Report, NoMemory> {
+    let mut owed = Report::new(alloc)?;
+    let lost = List::of(Vec::from_slice(alloc, &[ObjId::root()])?);
+    owed.owe(&[(OpNo(5), lost)])?;
+    Ok(owed)
+}
+
+// The verdicts on `stat /` without a token and with one for reading, on `create /f` with it, and with one for writing.
+fn verdicts(alloc: Global, cache: &mut Cache, calls: &Calls) -> Result<[Told; 4], NoMemory> {
+    let none = Report::new(alloc)?;
+    let unread = asked(alloc, cache, &none, &calls.stat)?;
+    cache.take(ObjId::root(), Hold::Read, 1, root(alloc))?;
+    let read = asked(alloc, cache, &none, &calls.stat)?;
+    let unwritten = asked(alloc, cache, &none, &calls.create)?;
+    cache.take(ObjId::root(), Hold::Write, 2, root(alloc))?;
+    let without_id = asked(alloc, cache, &none, &calls.create)?;
+    Ok([unread, read, unwritten, without_id])
+}
+
+fn reported(alloc: Global, cache: &Cache, calls: &Calls) -> Result<Told, NoMemory> {
+    let owing = owing(alloc)?;
+    asked(alloc, cache, &owing, &calls.create)
+}
+
+// The same, and that on `create /f` where a loss is owed.
+fn over_a_cache(alloc: Global, calls: &Calls) -> Result<([Told; 4], Told), NoMemory> {
+    let mut cache = Cache::new(alloc, 16)?;
+    let told = verdicts(alloc, &mut cache, calls)?;
+    Ok((told, reported(alloc, &cache, calls)?))
 }
 
 #[test]
-fn a_clerk_asks_for_the_root_and_then_answers(rt: HostRuntime) -> Result<(), Fail> {
-    let alloc = rt.alloc();
-    let mut cache = Cache::new(alloc, 16)?;
-    let mut owed = Report::new(alloc)?;
-    let stat = Call::Stat(Path::read(alloc, b"/")?);
-    let create = Call::Create(Path::read(alloc, b"/f")?);
-    let top = ObjId::root();
-    let unread = evaluate(alloc, &cache, &owed, &stat, None)?;
-    assert!(rt; asks_for(&unread, top, Hold::Read));
-    cache.take(top, Hold::Read, 1, root(alloc))?;
-    let read = evaluate(alloc, &cache, &owed, &stat, None)?;
-    assert!(rt; is_done(&read));
-    let unwritten = evaluate(alloc, &cache, &owed, &create, None)?;
-    assert!(rt; asks_for(&unwritten, top, Hold::Write));
-    cache.take(top, Hold::Write, 2, root(alloc))?;
-    let idless = evaluate(alloc, &cache, &owed, &create, None)?;
-    assert!(rt; wants_an_id(&idless, &[top]));
-    let lost = List::of(Vec::from_slice(alloc, &[top])?);
-    owed.owe(&[(OpNo(5), lost)])?;
-    let reported = evaluate(alloc, &cache, &owed, &create, None)?;
-    assert!(rt; reports(&reported, &[OpNo(5)], &[top]));
-    Ok(())
+fn a_clerk_asks_for_the_root_and_then_answers(rt: HostRuntime) {
+    let want = [
+        Told::Need(1, Hold::Read),
+        Told::Done,
+        Told::Need(1, Hold::Write),
+        Told::NeedIds(1),
+    ];
+    let calls = both(rt.alloc()).expect(&rt, "memory");
+    assert_eq!(rt;
+        over_a_cache(rt.alloc(), &calls),
+        Ok((want, Told::Lost(1, 1)))
+    );
 }

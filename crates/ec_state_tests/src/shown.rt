@@ -1,13 +1,12 @@
 //! Lines that are read, and lines that aren't.
 
-use ec_base::{List, OpNo};
+use ec_base::{List, NoMemory, OpNo};
 use ec_history::{Answer, Shown};
 use ec_plain::{Call, Reply};
 use ec_script::LineFault;
 use ec_shown::read;
 use ec_text::{print, print_answer, print_call};
 use std::alloc::Global;
-use std::test::*;
 
 // Whether the line is read, and is printed so again.
 fn reads(alloc: Global, line: &[u8]) -> bool {
@@ -32,39 +31,33 @@ fn refused(alloc: Global, line: &[u8]) -> Option<u32> {
 }
 
 #[test]
-fn calls_that_are_read(rt: HostRuntime) {
-    let alloc = rt.alloc();
-    assert!(rt; reads(alloc, b"1 A create /f -> waits"));
-    assert!(rt; reads(alloc, b"1 A create /f -> ok op 1"));
-    assert!(rt; reads(alloc, b"2 A chown /f 7 -> ok op 2"));
-    assert!(rt; reads(alloc, b"3 A stat /f -> stat file 0644 0 0 owner 7"));
-    assert!(rt; reads(alloc, b"3 A stat / -> stat dir 0755 9 2"));
-    assert!(rt; reads(alloc, b"4 B write /f 0 -> -> ok op 3"));
-    assert!(rt; reads(alloc, b"4 P forder /a /b -> ok op 3"));
-}
-
-#[test]
-fn answers_that_are_read(rt: HostRuntime) {
-    let alloc = rt.alloc();
-    assert!(rt; reads(alloc, b"5 A read /%C3%A9 0 9 -> data 3 a%20%25"));
-    assert!(rt; reads(alloc, b"5 A read /f 0 9 -> data 0"));
-    assert!(rt; reads(alloc, b"6 A list / -> names 2 a b%25"));
-    assert!(rt; reads(alloc, b"9 A list /c/b -> names 1 a"));
-    assert!(rt; reads(alloc, b"7 A sync -> refused NotFound 1"));
-    assert!(rt; reads(alloc, b"7 A create /x -> noroom 32 0"));
-}
-
-#[test]
-fn lines_without_calls(rt: HostRuntime) {
-    let alloc = rt.alloc();
-    assert!(rt; reads(alloc, b"8 A sync -> lost 1 2 7"));
-    assert!(rt; reads(alloc, b"durable A 5"));
-    assert!(rt; reads(alloc, b"ended A lost -"));
-    assert!(rt; reads(alloc, b"told B lost 1 2"));
-    assert!(rt; reads(alloc, b"bad 3 col 12"));
-    assert!(rt; reads(alloc, b"disk bad 0"));
-    assert!(rt; reads(alloc, b"limit bytes 1048577"));
-    assert!(rt; reads(alloc, b"spent Id"));
+fn lines_that_are_read(rt: HostRuntime) {
+    let lines: [&[u8]; 21] = [
+        b"1 A create /f -> waits",
+        b"1 A create /f -> ok op 1",
+        b"2 A chown /f 7 -> ok op 2",
+        b"3 A stat /f -> stat file 0644 0 0 owner 7",
+        b"3 A stat / -> stat dir 0755 9 2",
+        b"4 B write /f 0 -> -> ok op 3",
+        b"4 P forder /a /b -> ok op 3",
+        b"5 A read /%C3%A9 0 9 -> data 3 a%20%25",
+        b"5 A read /f 0 9 -> data 0",
+        b"6 A list / -> names 2 a b%25",
+        b"9 A list /c/b -> names 1 a",
+        b"7 A sync -> refused NotFound 1",
+        b"7 A create /x -> noroom 32 0",
+        b"8 A sync -> lost 1 2 7",
+        b"durable A 5",
+        b"ended A lost -",
+        b"told B lost 1 2",
+        b"bad 3 col 12",
+        b"disk bad 0",
+        b"limit bytes 1048577",
+        b"spent Id",
+    ];
+    for line in lines {
+        assert!(rt; reads(rt.alloc(), line));
+    }
 }
 
 #[test]
@@ -94,15 +87,31 @@ fn lines_that_are_refused(rt: HostRuntime) {
     }
 }
 
+fn is_text(text: Result<Vec<u8>, NoMemory>, want: &[u8]) -> bool {
+    match text {
+        Ok(text) => text.as_slice() == want,
+        Err(_) => false,
+    }
+}
+
+fn losses(alloc: Global) -> Result<Answer, NoMemory> {
+    let mut ops = Vec::new(alloc);
+    ops.push(OpNo(1))?;
+    ops.push(OpNo(4))?;
+    Ok(Answer::Lost(List::of(ops)))
+}
+
+fn prints_losses(alloc: Global) -> bool {
+    match losses(alloc) {
+        Ok(lost) => is_text(print_answer(alloc, &lost, None), b"lost 1 4"),
+        Err(_) => false,
+    }
+}
+
 #[test]
-fn parts_of_a_line(rt: HostRuntime) -> Result<(), Fail> {
-    let alloc = rt.alloc();
-    let call = print_call(alloc, &Call::Sync)?;
-    assert_eq!(rt; call.as_slice(), b"sync".as_slice());
-    let answer = print_answer(alloc, &Answer::Reply(Reply::Ok), Some(OpNo(7)))?;
-    assert_eq!(rt; answer.as_slice(), b"ok op 7".as_slice());
-    let lost = Answer::Lost(List::of(vec![in alloc; OpNo(1), OpNo(4)]?));
-    let answer = print_answer(alloc, &lost, None)?;
-    assert_eq!(rt; answer.as_slice(), b"lost 1 4".as_slice());
-    Ok(())
+fn parts_of_a_line(rt: HostRuntime) {
+    assert!(rt; is_text(print_call(rt.alloc(), &Call::Sync), b"sync"));
+    let answered = print_answer(rt.alloc(), &Answer::Reply(Reply::Ok), Some(OpNo(7)));
+    assert!(rt; is_text(answered, b"ok op 7"));
+    assert!(rt; prints_losses(rt.alloc()));
 }

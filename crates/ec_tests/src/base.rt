@@ -9,7 +9,7 @@ use ec_base::{
     ClerkId, Duplicate, Gave, List, MemSink, MemSource, Name, NameFault, NoMemory, ObjId, Path,
     PathFault, Sink, SortedMap, Source, StdSink, StdSource, Took, next,
 };
-use std::test::Fail;
+use std::alloc::{AllocError, Global};
 
 fn size_of(sizes: &SortedMap<ObjId, u64>, id: ObjId) -> Option<u64>
     ensures { result ≡ find nat_cmp id sizes.now }
@@ -42,17 +42,34 @@ fn ids(rt: HostRuntime) {
     assert!(rt; next(1 << 62) == None);
 }
 
-#[test]
-fn lists(rt: HostRuntime) -> Result<(), Fail> {
-    let list = List::of(vec![in rt.alloc(); 3u8, 4]?);
-    assert!(rt; list.duplicate()? == list);
-    assert!(rt; list.as_slice() == [3, 4].as_slice());
-    assert!(rt; list.into_vec().len() == 2);
-    Ok(())
+// A copy is the list again, and the list gives its items back.
+fn copies(alloc: Global) -> Result<bool, NoMemory> {
+    let list = List::of(Vec::from_slice(alloc, &[3u8, 4])?);
+    let copy = list.duplicate()?;
+    Ok(copy == list && is_three_and_four(list))
+}
+
+fn is_three_and_four(list: List<u8>) -> bool {
+    list.as_slice() == [3, 4].as_slice() && list.into_vec().len() == 2
 }
 
 #[test]
-fn paths(rt: HostRuntime) -> Result<(), Fail> {
+fn lists(rt: HostRuntime) {
+    assert_eq!(rt; copies(rt.alloc()), Ok(true));
+}
+
+fn fault_of(alloc: Global, bytes: &[u8]) -> Option<PathFault> {
+    Path::read(alloc, bytes).err()
+}
+
+fn copies_a_path(alloc: Global, bytes: &[u8]) -> Option<bool> {
+    let path = Path::read(alloc, bytes).ok()?;
+    let copy = path.duplicate().ok()?;
+    Some(copy == path && path.names().len() == 1)
+}
+
+#[test]
+fn paths(rt: HostRuntime) {
     let deep = b"/a/a/a/a/a/a/a/a/a/a/a/a/a/a/a/a/a".as_slice();
     for (bytes, fault) in [
         (b"".as_slice(), Some(PathFault::NotRooted)),
@@ -61,70 +78,120 @@ fn paths(rt: HostRuntime) -> Result<(), Fail> {
         (b"/../x", Some(PathFault::Name(1, NameFault::DotName))),
         (deep, Some(PathFault::Deep)),
     ] {
-        assert!(rt; Path::read(rt.alloc(), bytes).err() == fault);
+        assert!(rt; fault_of(rt.alloc(), bytes) == fault);
     }
-    let path = Path::read(rt.alloc(), b"/a")?;
-    assert!(rt; path.duplicate()? == path && path.names().len() == 1);
-    Ok(())
+    assert_eq!(rt; copies_a_path(rt.alloc(), b"/a"), Some(true));
+}
+
+fn link_new(alloc: Global, entries: &mut SortedMap<Name, ObjId>, bytes: &[u8]) -> Option<()> {
+    let name = Name::read(alloc, bytes).ok()?;
+    link(entries, name, ObjId::root()).ok()
+}
+
+fn has_entry(alloc: Global, entries: &SortedMap<Name, ObjId>, bytes: &[u8]) -> Option<bool> {
+    let name = Name::read(alloc, bytes).ok()?;
+    Some(entry(entries, &name) == Some(ObjId::root()))
+}
+
+fn is_last(entries: &SortedMap<Name, ObjId>, bytes: &[u8]) -> bool {
+    entries.at(1).is_some_and(|(last, _)| last.bytes() == bytes)
+}
+
+fn again(entries: SortedMap<Name, ObjId>) -> usize {
+    SortedMap::of(entries.into_vec()).len()
+}
+
+// Two names, put in against their order: whether one is found, and is the last one, and how many there are.
+fn two_names(alloc: Global) -> Option<(bool, bool, usize)> {
+    let mut entries = SortedMap::new(alloc);
+    link_new(alloc, &mut entries, b"b")?;
+    link_new(alloc, &mut entries, b"a")?;
+    let is_found = has_entry(alloc, &entries, b"b")?;
+    let comes_last = is_last(&entries, b"b");
+    Some((is_found, comes_last, again(entries)))
 }
 
 #[test]
-fn names_in_a_map(rt: HostRuntime) -> Result<(), Fail> {
-    let name = Name::read(rt.alloc(), b"b")?;
-    let mut entries = SortedMap::new(rt.alloc());
-    link(&mut entries, name.duplicate()?, ObjId::root())?;
-    link(&mut entries, Name::read(rt.alloc(), b"a")?, ObjId::root())?;
-    assert!(rt; entry(&entries, &name) == Some(ObjId::root()));
-    assert!(rt;
-        entries
-            .at(1)
-            .is_some_and(|(last, _)| last.bytes() == name.bytes())
-    );
-    assert!(rt; SortedMap::of(entries.into_vec()).len() == 2);
-    Ok(())
+fn names_in_a_map(rt: HostRuntime) {
+    assert_eq!(rt; two_names(rt.alloc()), Some((true, true, 2)));
 }
 
-#[test]
-fn ids_in_a_map(rt: HostRuntime) -> Result<(), Fail> {
+fn is_copied(sizes: &SortedMap<ObjId, u64>) -> Result<bool, NoMemory> {
+    let copy = sizes.duplicate()?;
+    Ok(copy == *sizes)
+}
+
+// One id, whose value is put, replaced and removed.
+fn one_id(alloc: Global) -> Result<(bool, bool, Option<u64>, Option<u64>, bool), NoMemory> {
     let one = ObjId::root();
-    let mut sizes = SortedMap::new(rt.alloc());
+    let mut sizes = SortedMap::new(alloc);
     sizes.insert_both((one, 7), (one, 8))?;
-    assert!(rt; sizes.duplicate()? == sizes && sizes.contains(&one));
-    assert!(rt; sizes.replace(&one, 9) == Some(8));
-    assert!(rt; size_of(&sizes, one) == Some(9));
+    let is_copied = is_copied(&sizes)?;
+    let contains = sizes.contains(&one);
+    let replaced = sizes.replace(&one, 9);
+    let size = size_of(&sizes, one);
     forget(&mut sizes, one);
-    assert!(rt; sizes.is_empty());
-    Ok(())
+    Ok((is_copied, contains, replaced, size, sizes.is_empty()))
 }
 
 #[test]
-fn source_fails_first_and_in_mid_stream(rt: HostRuntime) -> Result<(), Fail> {
+fn ids_in_a_map(rt: HostRuntime) {
+    assert_eq!(rt;
+        one_id(rt.alloc()),
+        Ok((true, true, Some(8), Some(9), true))
+    );
+}
+
+fn source(alloc: Global) -> Result<MemSource, AllocError> {
+    let bytes = Vec::from_slice(alloc, &[1u8, 2, 3])?;
+    Ok(MemSource::new(bytes, Vec::from_slice(alloc, &[1u64, 3])?))
+}
+
+// What the last takes left of two bytes, where they answer so.
+fn takes(source: &mut MemSource, answers: &[Took]) -> Option<[u8; 2]> {
     let mut into = [0; 2];
-    let fails = vec![in rt.alloc(); 1u64, 3]?;
-    let mut source = MemSource::new(vec![in rt.alloc(); 1u8, 2, 3]?, fails);
-    for answer in [
+    for answer in answers {
+        if source.take(&mut into) != *answer {
+            return None;
+        }
+    }
+    Some(into)
+}
+
+#[test]
+fn source_fails_first_and_in_mid_stream(rt: HostRuntime) {
+    let mut source = source(rt.alloc()).expect(&rt, "memory");
+    let answers = [
         Took::Failed,
         Took::Bytes(2),
         Took::Failed,
         Took::Bytes(1),
         Took::End,
-    ] {
-        assert!(rt; source.take(&mut into) == answer);
-    }
-    assert!(rt; into == [3, 2]);
+    ];
+    assert!(rt; takes(&mut source, &answers) == Some([3, 2]));
+    let mut into = [0; 2];
     let mut reader = StdSource::new(b"x".as_slice());
     assert!(rt; reader.take(&mut into) == Took::Bytes(1));
-    Ok(())
+}
+
+fn gives(sink: &mut MemSink, answers: &[Gave]) -> bool {
+    for answer in answers {
+        if sink.give(b"ab") != *answer {
+            return false;
+        }
+    }
+    sink.bytes() == b"abab".as_slice()
+}
+
+// A sink whose second call fails.
+fn sink(alloc: Global) -> Result<MemSink, AllocError> {
+    Ok(MemSink::new(alloc, Vec::from_slice(alloc, &[2u64])?))
 }
 
 #[test]
-fn sink_fails_in_mid_stream(rt: HostRuntime) -> Result<(), Fail> {
-    let mut sink = MemSink::new(rt.alloc(), vec![in rt.alloc(); 2u64]?);
-    for answer in [Gave::Bytes(2), Gave::Failed, Gave::Bytes(2)] {
-        assert!(rt; sink.give(b"ab") == answer);
-    }
-    assert!(rt; sink.bytes() == b"abab".as_slice());
+fn sink_fails_in_mid_stream(rt: HostRuntime) {
+    let mut sink = sink(rt.alloc()).expect(&rt, "memory");
+    assert!(rt; gives(&mut sink, &[Gave::Bytes(2), Gave::Failed, Gave::Bytes(2)]));
     let mut writer = StdSink::new(Vec::new(rt.alloc()));
     assert!(rt; writer.give(b"xy") == Gave::Bytes(2));
-    Ok(())
 }

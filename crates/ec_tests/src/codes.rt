@@ -1,82 +1,122 @@
 //! Updates and images by their bytes.
 ghost use Rattle.std.specs.Prelude.{◌≡◌, true};
 ghost use Rattle.ec_volume.specs.Update.{is_sound};
+ghost use Rattle.ec_codes.specs.Images.{is_sound_image};
 
 use ec_base::{List, Name, ObjId};
 use ec_codes::{CodeFault, get_image, get_image_v1, get_update, put_image, put_update};
 use ec_volume::{Image, Kind, Update};
 use std::alloc::Global;
-use std::test::*;
 
-fn id(number: u32) -> Result<ObjId, Fail> {
-    Ok(ObjId::new(number).ok_or("an id")?)
-}
-
-fn code_of(alloc: Global, update: &Update) -> Result<Vec<u8>, Fail>
+fn code_of(alloc: Global, update: &Update) -> Option<Vec<u8>>
     requires { is_sound update.now ≡ true }
 {
     let mut bytes = Vec::new(alloc);
-    put_update(update, &mut bytes).ok().ok_or("memory")?;
-    Ok(bytes)
+    put_update(update, &mut bytes).ok()?;
+    Some(bytes)
+}
+
+fn writes(alloc: Global, update: &Update, code: &[u8]) -> Option<bool> {
+    if !update.sound() {
+        return None;
+    }
+    let bytes = code_of(alloc, update)?;
+    Some(bytes.as_slice() == code)
+}
+
+// Whether the code is read up to its end, and is written so again.
+fn reads(alloc: Global, code: &[u8]) -> Option<bool> {
+    let (read, place) = get_update(alloc, code, 0).ok()?;
+    Some(place == code.len() && writes(alloc, &read, code)?)
+}
+
+fn make(alloc: Global) -> Option<Update> {
+    Some(Update::Make {
+        dir: ObjId::root(),
+        name: Name::read(alloc, b"f").ok()?,
+        obj: ObjId::new(2)?,
+        kind: Kind::File,
+    })
+}
+
+fn makes(alloc: Global, code: &[u8]) -> Option<bool> {
+    writes(alloc, &make(alloc)?, code)
 }
 
 // The code of a new file in the root.
 #[test]
-fn a_make(rt: HostRuntime) -> Result<(), Fail> {
-    let make = Update::Make {
-        dir: ObjId::root(),
-        name: Name::read(rt.alloc(), b"f").ok().ok_or("a name")?,
-        obj: id(2)?,
-        kind: Kind::File,
-    };
-    assert!(rt; make.sound());
-    let bytes = code_of(rt.alloc(), &make)?;
-    assert_eq!(rt;
-        bytes.as_slice(),
-        [1, 0, 0, 0, 1, 0, 0, 0, 2, 1, 1, 102].as_slice()
-    );
-    let (read, place) = get_update(rt.alloc(), &bytes, 0).ok().ok_or("an update")?;
-    assert_eq!(rt; place, 12);
-    assert!(rt; read.sound());
-    let again = code_of(rt.alloc(), &read)?;
-    assert_eq!(rt; again.as_slice(), bytes.as_slice());
-    Ok(())
+fn a_make(rt: HostRuntime) {
+    let code = [1, 0, 0, 0, 1, 0, 0, 0, 2, 1, 1, 102];
+    assert_eq!(rt; makes(rt.alloc(), &code), Some(true));
+    assert_eq!(rt; reads(rt.alloc(), &code), Some(true));
 }
 
-// The codes of no object and of a file with an owner; an image of version 1 has owner 0.
-#[test]
-fn images(rt: HostRuntime) -> Result<(), Fail> {
-    let mut bytes = Vec::new(rt.alloc());
-    put_image(&Image::Gone, &mut bytes).ok().ok_or("memory")?;
-    assert_eq!(rt; bytes.as_slice(), [0].as_slice());
-    assert!(rt; matches!(get_image(rt.alloc(), &[0], 0), Ok((Image::Gone, 1))));
-    assert!(rt; matches!(get_image(rt.alloc(), &[3], 0), Err(CodeFault::Field(0))));
+fn writes_image(alloc: Global, image: &Image, code: &[u8]) -> Option<bool>
+    requires { is_sound_image image.now ≡ true }
+{
+    let mut bytes = Vec::new(alloc);
+    put_image(image, &mut bytes).ok()?;
+    Some(bytes.as_slice() == code)
+}
+
+// An image, without what it holds: no object, a file's owner or a directory's.
+#[derive(Clone, Copy, Debug, PartialEq)]
+enum Kept {
+    Gone,
+    File(u32),
+    Dir(u32),
+}
+
+fn without_bytes(image: &Image) -> Kept {
+    match image {
+        Image::Gone => Kept::Gone,
+        Image::File { owner, .. } => Kept::File(*owner),
+        Image::Dir { owner, .. } => Kept::Dir(*owner),
+    }
+}
+
+fn short(read: Result<(Image, usize), CodeFault>) -> Result<(Kept, usize), CodeFault> {
+    let (image, place) = read?;
+    Ok((without_bytes(&image), place))
+}
+
+const FILE: [u8; 21] = [
+    1, 1, 164, 0, 0, 0, 0, 0, 0, 0, 0, 0, 0, 0, 7, 0, 0, 0, 2, 104, 105,
+];
+
+fn writes_file(alloc: Global) -> Option<bool> {
     let file = Image::File {
         mode: 0o644,
         stamp: 0,
         owner: 7,
-        bytes: List::of(Vec::from_slice(rt.alloc(), b"hi")?),
+        bytes: List::of(Vec::from_slice(alloc, b"hi").ok()?),
     };
-    let mut bytes = Vec::new(rt.alloc());
-    put_image(&file, &mut bytes).ok().ok_or("memory")?;
-    let code = [
-        1, 1, 164, 0, 0, 0, 0, 0, 0, 0, 0, 0, 0, 0, 7, 0, 0, 0, 2, 104, 105,
-    ];
-    assert_eq!(rt; bytes.as_slice(), code.as_slice());
-    assert!(rt;
-        matches!(
-            get_image(rt.alloc(), &code, 0),
-            Ok((Image::File { owner: 7, .. }, 21))
-        )
+    writes_image(alloc, &file, &FILE)
+}
+
+// The codes of no object and of a file with an owner; an image of version 1 has owner 0.
+#[test]
+fn images(rt: HostRuntime) {
+    assert_eq!(rt; writes_image(rt.alloc(), &Image::Gone, &[0]), Some(true));
+    assert_eq!(rt; writes_file(rt.alloc()), Some(true));
+    assert_eq!(rt; short(get_image(rt.alloc(), &[0], 0)), Ok((Kept::Gone, 1)));
+    assert_eq!(rt;
+        short(get_image(rt.alloc(), &[3], 0)),
+        Err(CodeFault::Field(0))
+    );
+    assert_eq!(rt;
+        short(get_image(rt.alloc(), &FILE, 0)),
+        Ok((Kept::File(7), 21))
     );
     let old = [2, 1, 237, 0, 0, 0, 0, 0, 0, 0, 0, 0];
-    assert!(rt;
-        matches!(
-            get_image_v1(rt.alloc(), &old, 0),
-            Ok((Image::Dir { owner: 0, .. }, 12))
-        )
+    assert_eq!(rt;
+        short(get_image_v1(rt.alloc(), &old, 0)),
+        Ok((Kept::Dir(0), 12))
     );
-    Ok(())
+}
+
+fn refusal(alloc: Global, bytes: &[u8]) -> Option<CodeFault> {
+    get_update(alloc, bytes, 0).err()
 }
 
 // Each refusal of an update once.
@@ -106,6 +146,6 @@ fn refused_updates(rt: HostRuntime) {
         (&[8, 2, 0, 0, 0, 2, 0, 0, 0, 2], CodeFault::Field(6)),
     ];
     for (bytes, fault) in rows {
-        assert_eq!(rt; get_update(rt.alloc(), bytes, 0).err(), Some(fault));
+        assert_eq!(rt; refusal(rt.alloc(), bytes), Some(fault));
     }
 }

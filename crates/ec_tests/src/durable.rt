@@ -4,7 +4,8 @@ use ec_base::{Age, ClerkId, List, Name, ObjId, OpNo, SessionNo};
 use ec_codes::CodeFault;
 use ec_durable::{Durable, Record, RecordFault, decode, encode};
 use ec_volume::{Kind, Update};
-use std::test::*;
+use std::alloc::Global;
+use std::test::Fail;
 
 // The code of a batch that makes a file in the root.
 const BATCH: [u8; 39] = [
@@ -22,36 +23,54 @@ const IDS: [u8; 18] = [4, 0, 0, 0, 0, 0, 0, 0, 0, 1, 0, 0, 0, 5, 0, 0, 0, 18];
 
 const EPOCH: [u8; 9] = [5, 0, 0, 0, 0, 0, 0, 0, 6];
 
+// A record without its operations, clerk and ids.
+#[derive(Clone, Copy, Debug, PartialEq)]
+enum Short {
+    Batch(u64, u64),
+    Open(Age, u64),
+    End(u64),
+    Ids(u64, u32),
+    Epoch(u64),
+}
+
+fn without_lists(record: &Record) -> Short {
+    match record {
+        Record::Batch(_, session, number, _) => Short::Batch(session.0, *number),
+        Record::Open(_, age, session) => Short::Open(*age, session.0),
+        Record::End(_, session) => Short::End(session.0),
+        Record::Ids(_, session, grants, _) => Short::Ids(session.0, *grants),
+        Record::Epoch(epoch) => Short::Epoch(*epoch),
+    }
+}
+
+// What is read from the bytes, where that is written so again.
+fn read(alloc: Global, code: &[u8]) -> Option<Short> {
+    let record = decode(alloc, code).ok()?;
+    let again = encode(alloc, &record).ok()?;
+    if again.as_slice() == code {
+        Some(without_lists(&record))
+    } else {
+        None
+    }
+}
+
 // Each record is read and written again.
 #[test]
-fn each_record(rt: HostRuntime) -> Result<(), Fail> {
-    let rows: [&[u8]; 5] = [&BATCH, &OPEN, &END, &IDS, &EPOCH];
-    for code in rows {
-        let read = decode(rt.alloc(), code).ok().ok_or("a record")?;
-        let again = encode(rt.alloc(), &read).ok().ok_or("memory")?;
-        assert_eq!(rt; again.as_slice(), code);
+fn each_record(rt: HostRuntime) {
+    let rows: [(&[u8], Short); 5] = [
+        (&BATCH, Short::Batch(1, 2)),
+        (&OPEN, Short::Open(Age { boot: 1, round: 2 }, 3)),
+        (&END, Short::End(4)),
+        (&IDS, Short::Ids(1, 5)),
+        (&EPOCH, Short::Epoch(6)),
+    ];
+    for (code, want) in rows {
+        assert_eq!(rt; read(rt.alloc(), code), Some(want));
     }
-    assert!(rt;
-        matches!(
-            decode(rt.alloc(), &BATCH),
-            Ok(Record::Batch(_, SessionNo(1), 2, _))
-        )
-    );
-    assert!(rt;
-        matches!(
-            decode(rt.alloc(), &OPEN),
-            Ok(Record::Open(_, Age { boot: 1, round: 2 }, SessionNo(3)))
-        )
-    );
-    assert!(rt; matches!(decode(rt.alloc(), &END), Ok(Record::End(_, SessionNo(4)))));
-    assert!(rt;
-        matches!(
-            decode(rt.alloc(), &IDS),
-            Ok(Record::Ids(_, SessionNo(1), 5, _))
-        )
-    );
-    assert!(rt; matches!(decode(rt.alloc(), &EPOCH), Ok(Record::Epoch(6))));
-    Ok(())
+}
+
+fn refusal(alloc: Global, bytes: &[u8]) -> Option<CodeFault> {
+    decode(alloc, bytes).err()
 }
 
 // Each refusal once.
@@ -78,7 +97,7 @@ fn refused_records(rt: HostRuntime) {
         ),
     ];
     for (bytes, fault) in rows {
-        assert_eq!(rt; decode(rt.alloc(), bytes).err(), Some(fault));
+        assert_eq!(rt; refusal(rt.alloc(), bytes), Some(fault));
     }
 }
 

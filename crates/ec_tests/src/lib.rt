@@ -8,7 +8,6 @@ mod codes;
 #[cfg(test)]
 mod durable;
 #[cfg(test)]
-#[cfg(test)]
 mod generator;
 #[cfg(test)]
 mod plain;

@@ -2,49 +2,95 @@
 
 use ec_base::{Duplicate, List, ObjId, Path};
 use ec_plain::{Call, Outcome, Refusal, Reply, plain};
-use ec_volume::{Kind, Volume};
+use ec_volume::{Update, Volume};
 use std::alloc::Global;
-use std::test::Fail;
+
+// A reply, without a list.
+#[derive(Clone, Copy, Debug, PartialEq)]
+enum Short {
+    Ok,
+    Refused(Refusal),
+    Data(usize, Option<u8>),
+    Size(u32),
+    Other,
+}
+
+fn without_list(reply: &Reply) -> Short {
+    match reply {
+        Reply::Ok => Short::Ok,
+        Reply::Refused(refusal) => Short::Refused(*refusal),
+        Reply::Data(bytes) => Short::Data(bytes.as_slice().len(), bytes.as_slice().last().copied()),
+        Reply::Stat { size, .. } => Short::Size(*size),
+        _ => Short::Other,
+    }
+}
+
+fn carry_out(volume: &mut Volume, update: &Update) -> Option<()> {
+    if !update.sound() {
+        return None;
+    }
+    volume.apply(update).ok()
+}
 
 // The reply of a call, whose update, if any, is carried out.
-fn reply(alloc: Global, volume: &mut Volume, call: &Call) -> Result<Reply, Fail> {
-    let fresh = ObjId::new(2).unwrap();
-    let Outcome { reply, update, .. } = plain(alloc, volume, &call.duplicate()?, fresh)?;
+fn reply(alloc: Global, volume: &mut Volume, call: &Call) -> Option<Short> {
+    let Outcome { reply, update, .. } = plain(alloc, volume, call, ObjId::new(2)?).ok()?;
     if let Some(update) = update {
-        if update.sound() {
-            volume.apply(&update)?;
-        }
+        carry_out(volume, &update)?;
     }
-    Ok(reply.duplicate()?)
+    Some(without_list(&reply))
+}
+
+fn file(alloc: Global) -> Option<Path> {
+    Path::read(alloc, b"/f").ok()
+}
+
+fn write(alloc: Global) -> Option<Call> {
+    let bytes = List::of(Vec::from_slice(alloc, b"hi").ok()?);
+    Some(Call::Write(file(alloc)?, 1, bytes))
+}
+
+fn create(alloc: Global) -> Option<Call> {
+    Some(Call::Create(file(alloc)?))
+}
+
+fn read(alloc: Global) -> Option<Call> {
+    Some(Call::Read(file(alloc)?, 0, 9))
+}
+
+fn stat(alloc: Global) -> Option<Call> {
+    Some(Call::Stat(file(alloc)?))
+}
+
+fn reply_to(alloc: Global, volume: &mut Volume, call: Option<Call>) -> Option<Short> {
+    let call = call?;
+    reply(alloc, volume, &call)
+}
+
+// The replies to two creates, a write, a read and a stat of one file.
+fn replies(alloc: Global, volume: &mut Volume) -> [Option<Short>; 5] {
+    let first = reply_to(alloc, volume, create(alloc));
+    let again = reply_to(alloc, volume, create(alloc));
+    let written = reply_to(alloc, volume, write(alloc));
+    let read = reply_to(alloc, volume, read(alloc));
+    [
+        first,
+        again,
+        written,
+        read,
+        reply_to(alloc, volume, stat(alloc)),
+    ]
 }
 
 #[test]
-fn creates_writes_and_reads(rt: HostRuntime) -> Result<(), Fail> {
-    let alloc = rt.alloc();
-    let mut volume = Volume::formatted(alloc)?;
-    let path = || Path::read(alloc, b"/f");
-    let create = Call::Create(path()?);
-    assert!(rt; matches!(reply(alloc, &mut volume, &create)?, Reply::Ok));
-    let again = reply(alloc, &mut volume, &create)?;
-    assert!(rt; matches!(again, Reply::Refused(Refusal::Exists)));
-    let bytes = List::of(vec![in alloc; 104u8, 105]?);
-    let write = Call::Write(path()?, 1, bytes);
-    assert!(rt; matches!(reply(alloc, &mut volume, &write)?, Reply::Ok));
-    let Reply::Data(bytes) = reply(alloc, &mut volume, &Call::Read(path()?, 0, 9))? else {
-        assert!(rt; false);
-        return Ok(());
-    };
-    assert!(rt; bytes.as_slice() == [0, 104, 105].as_slice());
-    let stat = reply(alloc, &mut volume, &Call::Stat(path()?))?;
-    assert!(rt;
-        matches!(
-            stat,
-            Reply::Stat {
-                kind: Kind::File,
-                size: 3,
-                ..
-            }
-        )
-    );
-    Ok(())
+fn creates_writes_and_reads(rt: HostRuntime) {
+    let mut volume = Volume::formatted(rt.alloc()).expect(&rt, "memory");
+    let want = [
+        Some(Short::Ok),
+        Some(Short::Refused(Refusal::Exists)),
+        Some(Short::Ok),
+        Some(Short::Data(3, Some(b'i'))),
+        Some(Short::Size(3)),
+    ];
+    assert_eq!(rt; replies(rt.alloc(), &mut volume), want);
 }

@@ -4,7 +4,6 @@ use ec_base::OpNo;
 use ec_plain::Call;
 use ec_script::{Line, LineFault, count_lines, read_lane, read_line, split_line};
 use std::alloc::Global;
-use std::test::*;
 
 fn column(alloc: Global, line: &[u8]) -> u32 {
     match read_line(alloc, line) {
@@ -13,26 +12,36 @@ fn column(alloc: Global, line: &[u8]) -> u32 {
     }
 }
 
+fn pushes_the_first(alloc: Global, line: &[u8]) -> bool {
+    matches!(read_line(alloc, line), Ok(Line::Push(_, OpNo(1))))
+}
+
+fn owner(alloc: Global, line: &[u8]) -> Option<u32> {
+    match read_line(alloc, line) {
+        Ok(Line::Call(_, Call::Chown(_, owner))) => Some(owner),
+        _ => None,
+    }
+}
+
+fn lane(alloc: Global, line: &[u8]) -> Result<u8, LineFault> {
+    let (lane, _) = read_lane(alloc, line)?;
+    Ok(lane)
+}
+
 #[test]
 fn lines_of_each_form(rt: HostRuntime) {
-    let alloc = rt.alloc();
-    assert!(rt; matches!(read_line(alloc, b"push A 1"), Ok(Line::Push(_, OpNo(1)))));
-    assert_eq!(rt; column(alloc, b"push A"), 7);
-    assert_eq!(rt; column(alloc, b"push A x"), 8);
-    assert_eq!(rt; column(alloc, b"push A 1 2"), 10);
-    assert!(rt;
-        matches!(
-            read_line(alloc, b"P chown /a%2Fb 7"),
-            Ok(Line::Call(_, Call::Chown(_, 7)))
-        )
-    );
-    assert!(rt; matches!(read_lane(alloc, b"8 sync"), Ok((8, Call::Sync))));
-    assert!(rt; matches!(read_lane(alloc, b"9 sync"), Err(LineFault::At(1))));
+    assert!(rt; pushes_the_first(rt.alloc(), b"push A 1"));
+    assert_eq!(rt; owner(rt.alloc(), b"P chown /a%2Fb 7"), Some(7));
+    assert_eq!(rt; lane(rt.alloc(), b"8 sync"), Ok(8));
+    assert_eq!(rt; lane(rt.alloc(), b"9 sync"), Err(LineFault::At(1)));
 }
 
 #[test]
 fn columns_of_bad_lines(rt: HostRuntime) {
     let cases = [
+        (b"push A".as_slice(), 7),
+        (b"push A x".as_slice(), 8),
+        (b"push A 1 2".as_slice(), 10),
         (b"Q stat /".as_slice(), 1),
         (b"A".as_slice(), 2),
         (b"A  sync".as_slice(), 3),
