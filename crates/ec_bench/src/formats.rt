@@ -1,5 +1,4 @@
 // One line or one message, read or written again and again.
-use anyhow::bail;
 use ec_base::NoMemory;
 use ec_history::Shown;
 use ec_script::{LineFault, read_line};
@@ -16,27 +15,37 @@ const GRANT: [u8; 45] = [
 
 /// Reads or writes one thing of so many bytes so many times. The format is `read_line` or `print`,
 /// `read` for a transcript line, or `recode` for a message that is decoded and encoded again.
-pub fn repeat(alloc: Global, format: &str, size: u32, rounds: u32) -> anyhow::Result<()> {
-    if format == "read_line" {
-        let line = padded(alloc, b"A write /file 0 ", size, b"")?;
-        read_lines(alloc, &line, rounds)?;
-    } else if format == "read" {
-        let line = padded(alloc, b"1 A write /file 0 ", size, b" -> ok op 1")?;
-        read_shown(alloc, &line, rounds)?;
-    } else if format == "print" {
-        let line = padded(alloc, b"1 A write /file 0 ", size, b" -> ok op 1")?;
-        let shown = read(alloc, &line)?;
-        print_lines(alloc, &shown, rounds)?;
-    } else if format == "recode" {
-        let bytes = grant(alloc, size)?;
-        let again = recode(alloc, bytes, rounds)?;
-        if again.is_empty() {
-            bail!("no bytes");
+pub fn repeat(alloc: Global, format: &str, size: u32, rounds: u32) -> Option<u64> {
+    match format {
+        "read_line" => {
+            let line = padded(alloc, b"A write /file 0 ", size, b"").ok()?;
+            read_lines(alloc, &line, rounds).ok()?;
         }
-    } else {
-        bail!("no such format");
+        "read" => {
+            let line = answered(alloc, size).ok()?;
+            read_shown(alloc, &line, rounds).ok()?;
+        }
+        "print" => {
+            let line = answered(alloc, size).ok()?;
+            print_read(alloc, &line, rounds)?;
+        }
+        "recode" => {
+            let bytes = grant(alloc, size).ok()?;
+            recode(alloc, bytes, rounds).ok()?;
+        }
+        _ => return None,
     }
-    Ok(())
+    Some(u64::from(rounds))
+}
+
+// A transcript line of an answered write of so many bytes.
+fn answered(alloc: Global, size: u32) -> Result<Vec<u8>, NoMemory> {
+    padded(alloc, b"1 A write /file 0 ", size, b" -> ok op 1")
+}
+
+fn print_read(alloc: Global, line: &[u8], rounds: u32) -> Option<()> {
+    let shown = read(alloc, line).ok()?;
+    print_lines(alloc, &shown, rounds).ok()
 }
 
 // So many bytes between these.

@@ -55,35 +55,47 @@ struct OnDisk {
 }
 
 /// Formats the disk, makes a file, and commits so many batches of 64 updates, each of which writes so many bytes to the file.
-pub fn commit_all(alloc: Global, disk: FileDisk, commits: u32, bytes: u32) -> Result<(), NotDone> {
-    let mut on = begin(alloc, disk)?;
-    grant(alloc, &mut on, 0)?;
+pub fn commit_all(alloc: Global, disk: FileDisk, commits: u32, bytes: u32) -> Option<u64> {
+    let mut on = begin(alloc, disk).ok()?;
+    commit_many(alloc, &mut on, commits, bytes.min(1_024) as u16).ok()?;
+    Some(u64::from(commits))
+}
+
+fn commit_many(alloc: Global, on: &mut OnDisk, commits: u32, bytes: u16) -> Result<(), NotDone> {
+    grant(alloc, on, 0)?;
     for _ in 0..commits {
-        put_all(alloc, &mut on, 10, 64, bytes.min(1_024) as u16)?;
+        put_all(alloc, on, 10, 64, bytes)?;
     }
     Ok(())
 }
 
 /// Formats the disk, and fills it with files of 64 KiB.
-pub fn fill(alloc: Global, disk: FileDisk) -> Result<(), NotDone> {
-    let mut on = begin(alloc, disk)?;
+pub fn fill(alloc: Global, disk: FileDisk) -> Option<u64> {
+    let mut on = begin(alloc, disk).ok()?;
     for got in 0..GRANTS {
-        grant(alloc, &mut on, got)?;
-        for quarter in 0..4 {
-            let first = got * IDS_PER_GRANT + 2 + quarter * 4;
-            if first >= DIRECTORIES + 2 {
-                put_all(alloc, &mut on, first, PIECES, 4_096)?;
-            }
+        fill_some(alloc, &mut on, got).ok()?;
+    }
+    Some(u64::from(GRANTS))
+}
+
+// The objects of one grant, each file of them full.
+fn fill_some(alloc: Global, on: &mut OnDisk, got: u32) -> Result<(), NotDone> {
+    grant(alloc, on, got)?;
+    for quarter in 0..4 {
+        let first = got
+            .saturating_mul(IDS_PER_GRANT)
+            .saturating_add(2 + quarter * 4);
+        if first >= DIRECTORIES + 2 {
+            put_all(alloc, on, first, PIECES, 4_096)?;
         }
     }
     Ok(())
 }
 
 /// Opens the disk, and tells how many objects it holds.
-pub fn open(alloc: Global, disk: FileDisk) -> Result<u32, NotDone> {
-    let mut disk = disk;
-    let store = Store::open(alloc, &mut disk)?;
-    Ok(store.view().volume.live())
+pub fn open(alloc: Global, mut disk: FileDisk) -> Option<u64> {
+    let store = Store::open(alloc, &mut disk).ok()?;
+    Some(u64::from(store.view().volume.live()))
 }
 
 fn begin(alloc: Global, disk: FileDisk) -> Result<OnDisk, NotDone> {
