@@ -21,7 +21,8 @@ use Rattle.ec_history.specs.declared.entry.Entry.{Entry}
 use Rattle.ec_history.specs.declared.entry.Entry.TheVariants as entry
 use Rattle.ec_laws.proofs.More.{issued-step, owed-step, count-next}
 use Rattle.ec_judge.specs.declared.carried.Start.{Start}
-use Rattle.ec_judge.specs.Carried.{IsStart, IsUpward, issue_of, issues_in, issues_of, is_in, is_start, count_of, owed_of, pending_of}
+use Rattle.ec_judge.specs.Carried.{IsStart, IsUpward, issue_of, issues_in, is_start, count_of, owed_of, pending_of}
+use Rattle.ec_pending.specs.Pending.{issues_of, is_in}
 
 -- the clerk and the start of an entry
 abbrev pub clerk_of : Entry → ℕ
@@ -176,7 +177,7 @@ module _ (q : Start → Bool) (ss : List Start) (i : ℕ) (s : Start) (within : 
 
 -- What is pending where one start is changed.
 pub pending-set : (c b : ℕ) (ss : List Start) (i : ℕ) (s : Start) → i ≡ position_or_len (is_start c b) ss → i < length ss → s.clerk ≡ c → s.boot ≡ b
-    → (d f : ℕ) → pending_of (find (is_start d f) (set ss i s)) ≡ cond (same_start c b d f) s.pending.items (pending_of (find (is_start d f) ss))
+    → (d f : ℕ) → pending_of (find (is_start d f) (set ss i s)) ≡ cond (same_start c b d f) s.pending.1 (pending_of (find (is_start d f) ss))
 pending-set c b ss i s at within sc sb d f = go (same_start c b d f) refl
   where
     mine : is_start c b s ≡ true
@@ -188,7 +189,7 @@ pending-set c b ss i s at within sc sb d f = go (same_start c b d f) refl
     flip : (x y : ℕ) → (x == y) ≡ (y == x)
     flip x y = grind (arith, nat_tests)
 
-    go : (x : Bool) → same_start c b d f ≡ x → pending_of (find (is_start d f) (set ss i s)) ≡ cond x s.pending.items (pending_of (find (is_start d f) ss))
+    go : (x : Bool) → same_start c b d f ≡ x → pending_of (find (is_start d f) (set ss i s)) ≡ cond x s.pending.1 (pending_of (find (is_start d f) ss))
     go true y =
         let parts = and_parts (c == d) (b == f) y in
         ap (λ x. pending_of (find (is_start x f) (set ss i s))) (sym (eqb-true c d parts.0)) ∙ ap (λ x. pending_of (find (is_start c x) (set ss i s))) (sym (eqb-true b f parts.1)) ∙ ap pending_of (find-set (is_start c b) ss i s at within mine)

@@ -22,9 +22,10 @@ use Rattle.ec_history.specs.Legal.{IsReply}
 use Rattle.ec_history.specs.declared.entry.Answer.{Answer}
 use Rattle.ec_history.specs.declared.entry.Answer.TheVariants as answer
 use Rattle.ec_history.specs.declared.entry.Entry.TheVariants as entry
-use Rattle.ec_judge.specs.declared.carried.Issue.{Issue}
-use Rattle.ec_judge.specs.declared.covers.Asked.TheVariants as asked
-use Rattle.ec_judge.specs.Carried.{issue_of, issues_in, numbers_in, numbered, is_asked}
+use Rattle.ec_pending.specs.declared.issue.Issue.{Issue}
+use Rattle.ec_pending.specs.declared.asked.Asked.TheVariants as asked
+use Rattle.ec_judge.specs.Carried.{issue_of, issues_in}
+use Rattle.ec_pending.specs.Pending.{numbers_in, numbered, is_asked}
 use Rattle.ec_judge.specs.Rules.{asked_on, asked_by_call}
 
 regroup : (p q r : Op → Bool) (ks : List Op) → filter (λ k. (p k && q k) && r k) ks ≡ filter (λ k. p k && (q k && r k)) ks

@@ -1,26 +1,24 @@
 -- Which operations of a start are pending, one more call.
-use Rattle.std.proofs.Common.{◌≡◌, refl, sym, ap, subst, ◌∙◌, arith, ◌<◌, ℕ, T, Bool, true, false, not, ◌==◌, ◌&&◌, ◌||◌, cond, map, List, [], ◌∷◌, ◌++◌, length, append-nil, append_assoc}
-use Rattle.std.specs.Prelude.{⊤, reverse}
+use Rattle.std.proofs.Common.{◌≡◌, refl, sym, ap, subst, ◌∙◌, arith, ◌<◌, ℕ, T, Bool, true, false, not, ◌==◌, ◌&&◌, ◌||◌, cond, map, List, [], ◌∷◌, ◌++◌}
+use Rattle.std.specs.Prelude.{⊤}
 use Rattle.std.specs.Ordering.{nat_cmp, is_lt}
 use Rattle.std.specs.FinMap.{is_sorted}
 use Rattle.std.specs.FinMap.Entries.{below_all}
 use Rattle.std.specs.List.{filter, list_any}
 use Rattle.std.proofs.lemmas.Bool.{eqb-true, true≢false}
 use Rattle.std.proofs.lemmas.Bool.Decides.{nat_tests}
-use Rattle.std.proofs.lemmas.List.{reverse-append}
 use Rattle.std.proofs.lemmas.List.Elements.{filter-append}
 use Rattle.ec_base.specs.SortedLaws.{first, second}
 use Rattle.ec_volume.specs.Update.{member}
 use Rattle.ec_volume.specs.declared.update.Update.{Update}
 use Rattle.ec_order.specs.Order.{needs, closure}
-use Rattle.ec_chains.specs.Needed.{Others, Ranges, is_needed}
-use Rattle.ec_chains.proofs.Needs.{nothing_needed}
 use Rattle.ec_history.specs.History.{Each}
 use Rattle.ec_laws.proofs.Numbers.{each-append, each-filter, each-map}
 use Rattle.ec_laws.proofs.Objects.{holds, is-true}
 use Rattle.ec_laws.proofs.Removed.{both, left, right}
-use Rattle.ec_judge.specs.declared.carried.Issue.{Issue}
-use Rattle.ec_judge.specs.Carried.{numbers_in, is_in, numbered, taken, rest, IsUpward}
+use Rattle.ec_pending.specs.declared.issue.Issue.{Issue}
+use Rattle.ec_judge.specs.Carried.{IsUpward}
+use Rattle.ec_pending.specs.Pending.{numbers_in, is_in, numbered, taken, rest}
 use Rattle.ec_judge.proofs.Numbers.{each-both}
 
 -- Numbers.
@@ -333,60 +331,3 @@ passing p (i ∷ is) r = (head (p i) refl, each-map (λ j. (i.number < j.number)
 
 pub taken-closure : (p : Issue → Bool) (is : List Issue) → Rising is → numbers_in (taken p is) ≡ map (λ x. x.0) (closure (λ n. member n (numbers_in (filter p is))) (numbered is))
 taken-closure p is r = numbers-firsts (taken p is) ∙ ap (map (λ x. x.0)) (pairs-taken p (λ n. member n (numbers_in (filter p is))) is (passing p is r))
-
--- nothing is asked
-pub rest-none : (is : List Issue) → is ≡ rest (λ i. false) is
-rest-none [] = refl
-rest-none (i ∷ is) = ap (λ l. i ∷ l) (rest-none is) ∙ sym (ap (λ l. cond (list_any (λ j. needs i.update j.update) l) (rest (λ i. false) is) (i ∷ rest (λ i. false) is)) (none is))
-  where
-    none : (is : List Issue) → taken (λ i. false) is ≡ []
-    none [] = refl
-    none (i ∷ is) = ap (λ l. cond (list_any (λ j. needs i.update j.update) l) (i ∷ l) l) (none is)
-
--- The walk from the last operation to the first.
-module _ (p : Issue → Bool) (all : List Issue) where
-  -- the operations behind the front are walked over: these are left, from the last on, and the maps tell what the others need
-  pub record Walked (front left : List Issue) (others : Others) (ranges : Ranges) : Type 0 where
-    pub back : List Issue
-    pub parts : front ++ back ≡ all
-    pub found : reverse left ≡ rest p back
-    pub needed : (x : Update) → is_needed others ranges x ≡ list_any (λ j. needs x j.update) (taken p back)
-
-  pub walk-begins : (left : List Issue) (others : Others) (ranges : Ranges) → left ≡ [] → others ≡ [] → ranges ≡ [] → Walked all left others ranges
-  walk-begins left others ranges a b c = record {
-    back = [];
-    parts = append-nil all;
-    found = ap reverse a;
-    needed = λ x. ap (λ m. is_needed m ranges x) b ∙ ap (λ m. is_needed [] m x) c ∙ nothing_needed x;
-  }
-
-  module _ (front left : List Issue) (others : Others) (ranges : Ranges) (w : Walked front left others ranges) where
-    module _ (i : Issue) (front' : List Issue) (is : front ≡ front' ++ i ∷ []) where
-      parts-next : front' ++ i ∷ w.back ≡ all
-      parts-next = sym (append_assoc front' (i ∷ []) w.back) ∙ ap (λ l. l ++ w.back) (sym is) ∙ w.parts
-
-      test : (b : Bool) → (p i || is_needed others ranges i.update) ≡ b → (p i || list_any (λ j. needs i.update j.update) (taken p w.back)) ≡ b
-      test b e = ap (λ z. p i || z) (sym (w.needed i.update)) ∙ e
-
-      pub walk-takes : (p i || is_needed others ranges i.update) ≡ true → (others' : Others) (ranges' : Ranges) → ((z : Update) → is_needed others' ranges' z ≡ (needs z i.update || is_needed others ranges z)) → Walked front' left others' ranges'
-      walk-takes e others' ranges' h = record {
-        back = i ∷ w.back;
-        parts = parts-next;
-        found = w.found ∙ sym (ap (λ b. cond b (rest p w.back) (i ∷ rest p w.back)) (test true e));
-        needed = λ z. h z ∙ ap (λ b. needs z i.update || b) (w.needed z) ∙ sym (ap (λ b. list_any (λ j. needs z j.update) (cond b (i ∷ taken p w.back) (taken p w.back))) (test true e));
-      }
-
-      pub walk-passes : (p i || is_needed others ranges i.update) ≡ false → (left' : List Issue) → left' ≡ left ++ i ∷ [] → Walked front' left' others ranges
-      walk-passes e left' more = record {
-        back = i ∷ w.back;
-        parts = parts-next;
-        found = ap reverse more ∙ reverse-append left (i ∷ []) ∙ ap (λ l. i ∷ l) w.found ∙ sym (ap (λ b. cond b (rest p w.back) (i ∷ rest p w.back)) (test false e));
-        needed = λ z. w.needed z ∙ sym (ap (λ b. list_any (λ j. needs z j.update) (cond b (i ∷ taken p w.back) (taken p w.back))) (test false e));
-      }
-
-    pub walk-ends : front ≡ [] → reverse left ≡ rest p all
-    walk-ends none = w.found ∙ ap (rest p) (ap (λ l. l ++ w.back) (sym none) ∙ w.parts)
-
-pub no-items : {A : Type 0} (xs : List A) → length xs ≡ 0 → xs ≡ []
-no-items [] e = refl
-no-items (x ∷ xs) e = absurd (omega (arith, e))

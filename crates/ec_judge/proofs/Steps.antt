@@ -38,11 +38,12 @@ use Rattle.ec_judge.specs.declared.carried.Touches.{Touches}
 use Rattle.ec_judge.specs.declared.carried.Judge.{Judge}
 use Rattle.ec_judge.proofs.Touched.{any-since, below-next, none-since}
 use Rattle.ec_judge.specs.Faults.{BreaksCall, BreaksLoss, AreKept, AreClosed, LeaveFitting}
-use Rattle.ec_judge.specs.declared.carried.Issue.{Issue}
-use Rattle.ec_judge.specs.declared.covers.Asked.{Asked}
+use Rattle.ec_pending.specs.declared.issue.Issue.{Issue}
+use Rattle.ec_pending.specs.declared.asked.Asked.{Asked}
 use Rattle.ec_judge.specs.Rules.{IsNumbered, KeepsRules, BreaksRule, due_of, asked_on, asked_by_call}
 use Rattle.ec_judge.specs.Carried as Carried
-use Rattle.ec_judge.specs.Carried.{op_of, ops_of, issue_of, issues_in, numbers_in, is_in, is_asked, taken, rest, is_among, is_start, count_of, owed_of, pending_of, is_covered, numbered, IsUpward, IsStart, IsFlagged, IsUncovered, IsUntouched, IsFirm, Carries, touched_next, is_touched, AreBelow, count_next, issues_of, keeps_of, IsFitting, are_kept, are_uncovered, are_closed, BreaksMarks, KeepsMarks}
+use Rattle.ec_judge.specs.Carried.{op_of, ops_of, issue_of, issues_in, is_among, is_start, count_of, owed_of, pending_of, is_covered, IsUpward, IsStart, IsFlagged, IsUncovered, IsUntouched, IsFirm, Carries, touched_next, is_touched, AreBelow, count_next, keeps_of, IsFitting, are_kept, are_uncovered, are_closed, BreaksMarks, KeepsMarks}
+use Rattle.ec_pending.specs.Pending.{numbers_in, is_in, is_asked, taken, rest, numbered, issues_of}
 use Rattle.ec_judge.proofs.Numbers.{each-kept, only, unlost, kept-only, kept-unlost, issue-sorted, new-uncovered, new-untouched}
 use Rattle.ec_judge.proofs.Flags.{flag-step, through-more, through-front, through-last, touched-one, covered-one}
 use Rattle.ec_judge.proofs.Asked.{asks-same, asked-same, issue-same}
@@ -298,7 +299,7 @@ module _ (most : ℕ) (past : History) (by : Issuer) (l g : ℕ) (cl : Call) (a 
       → by.turn ≡ length past → o ≡ out → IsCall F most past by.clerk by.boot by.place cl a op
       → ((c b : ℕ) → IsStart F past c b (find (is_start c b) ss)) → at ≡ position_or_len (is_start by.clerk by.boot) ss → at < length ss → IsStart F past by.clerk by.boot (Some s)
       → ((c b : ℕ) → pending_of (find (is_start c b) ss) ≡ pending_of (find (is_start c b) j.starts.items)) → find (is_start by.clerk by.boot) ss ≡ Some s → w ≡ asked_by_call o.touched g cl a
-      → s'.clerk ≡ by.clerk → s'.boot ≡ by.boot → s'.count ≡ count_next s.count op → s'.owed.items ≡ filter (λ q. not (meets o cl q)) s.owed.items → s'.pending.items ≡ rest (is_asked w) s.pending.items ++ issues_of by.place op o.update
+      → s'.clerk ≡ by.clerk → s'.boot ≡ by.boot → s'.pending.0 ≡ count_next s.pending.0 op → s'.owed.items ≡ filter (λ q. not (meets o cl q)) s.owed.items → s'.pending.1 ≡ rest (is_asked w) s.pending.1 ++ issues_of by.place op o.update
       → j'.starts.items ≡ set ss at s' → j'.kept.items ≡ j.kept.items ++ keeps_of by op o.update
       → ((x : ℕ) → Tables.at x j'.touches ≡ cond (member x o.touched) (Some (touched_next by.clerk by.turn (Tables.at x j.touches))) (Tables.at x j.touches))
       → ((x : ℕ) → shown j'.firm.volume x ≡ after (shown j.firm.volume) (updates (ops_of (keeps_of by op o.update))) x) → j'.firm.count ≡ j.firm.count → j'.firm.volume.under ≡ j.firm.volume.under
@@ -308,10 +309,10 @@ module _ (most : ℕ) (past : History) (by : Issuer) (l g : ℕ) (cl : Call) (a 
       λ x. touches-are x ∙ ap (λ z. cond (member x z.touched) (Some (touched_next by.clerk by.turn (Tables.at x j.touches))) (Tables.at x j.touches)) same in
       let step : kept F (past ++ e ∷ []) ≡ kept F past ++ issued_by F (kept F past) e = kept-step F past e in
       let news : ops_of (keeps_of by op o.update) ≡ issued_by F (kept F past) e = keeps-issued (kept F past) by l g cl a op o same in
-      let before : s.pending.items ≡ was = ap (λ x. pending_of x) (sym found) ∙ pending-same by.clerk by.boot in
+      let before : s.pending.1 ≡ was = ap (λ x. pending_of x) (sym found) ∙ pending-same by.clerk by.boot in
       let asks-are : w ≡ asked_on (after F.volume (updates (kept F past))) g cl a = w-is ∙ ap (λ z. asked_by_call z.touched g cl a) same ∙ asked-same (after F.volume (updates (kept F past))) (F.fresh by.place) out g cl a op refl legal-call.reply in
-      let pending : s'.pending.items ≡ rest wants was ++ new =
-      pending-is ∙ ap (λ z. rest (is_asked z) s.pending.items ++ issues_of by.place op o.update) asks-are ∙ ap (λ is. rest wants is ++ issues_of by.place op o.update) before ∙ ap (λ z. rest wants was ++ issues_of by.place op z.update) same in
+      let pending : s'.pending.1 ≡ rest wants was ++ new =
+      pending-is ∙ ap (λ z. rest (is_asked z) s.pending.1 ++ issues_of by.place op o.update) asks-are ∙ ap (λ is. rest wants is ++ issues_of by.place op o.update) before ∙ ap (λ z. rest wants was ++ issues_of by.place op z.update) same in
       let mine : IsStart F past by.clerk by.boot (find (is_start by.clerk by.boot) j.starts.items) = h.starts by.clerk by.boot in
       let whole : issues_in by.clerk by.boot (issued F (past ++ e ∷ [])) ≡ all ++ new = own-issued F past by.place by.clerk by.boot l g cl a op out refl in
       let pending-are : (c b : ℕ) → Carried.pending_of (find (is_start c b) j'.starts.items) ≡ cond (same_start by.clerk by.boot c b) (rest wants was ++ new) (Carried.pending_of (find (is_start c b) j.starts.items)) =
@@ -330,7 +331,7 @@ module _ (most : ℕ) (past : History) (by : Issuer) (l g : ℕ) (cl : Call) (a 
             ∙ ap (λ ks. kept F past ++ ks) news
             ∙ sym step;
         starts = λ c b. subst (λ ts. IsStart F (past ++ e ∷ []) c b (find (is_start c b) ts)) (sym starts-are) (starts-next F past e ss at s' starts at-is within sc sb (record {
-          count = count-of ∙ count-is op s.count own.count legal-call.number ∙ sym (own-count past by.place by.clerk by.boot l g cl a op);
+          count = count-of ∙ count-is op s.pending.0 own.count legal-call.number ∙ sym (own-count past by.place by.clerk by.boot l g cl a op);
           owed = owed-of ∙ ap (λ x. filter (λ q. not (meets x cl q)) s.owed.items) same ∙ ap (filter (λ q. not (meets out cl q))) own.owed ∙ own-met F past by.place by.clerk by.boot l g cl a op;
           pending = subst (λ is. is ≡ filter (λ i. is_in is i.number) (issues_in by.clerk by.boot (issued F (past ++ e ∷ [])))) (sym pending) (pending-own wants was all mine.pending mine.upward rise new (far-all legal-call.number) (own-new by.place op out.update) ∙ ap (filter (λ i. is_in (rest wants was ++ new) i.number)) (sym whole));
           upward = subst (λ is. IsUpward (is_in is) (issues_in by.clerk by.boot (issued F (past ++ e ∷ [])))) (sym pending) (subst (IsUpward (is_in (rest wants was ++ new))) (sym whole) (upward-own wants was all mine.pending mine.upward rise new (far-all legal-call.number) (own-new by.place op out.update)));
@@ -369,10 +370,10 @@ ops-without c b ns (k ∷ ks) = go (is_among c b ns k) (ops-without c b ns ks)
     go false r = ap (λ l. op_of k ∷ l) r
 
 -- a start whose pending operations stay
-unchanged : (c b d f : ℕ) (ss : List Start) (s s' : Start) → find (is_start c b) ss ≡ Some s → s'.pending.items ≡ s.pending.items → cond (same_start c b d f) s'.pending.items (pending_of (find (is_start d f) ss)) ≡ pending_of (find (is_start d f) ss)
+unchanged : (c b d f : ℕ) (ss : List Start) (s s' : Start) → find (is_start c b) ss ≡ Some s → s'.pending.1 ≡ s.pending.1 → cond (same_start c b d f) s'.pending.1 (pending_of (find (is_start d f) ss)) ≡ pending_of (find (is_start d f) ss)
 unchanged c b d f ss s s' found is = go (same_start c b d f) refl
   where
-    go : (x : Bool) → same_start c b d f ≡ x → cond x s'.pending.items (pending_of (find (is_start d f) ss)) ≡ pending_of (find (is_start d f) ss)
+    go : (x : Bool) → same_start c b d f ≡ x → cond x s'.pending.1 (pending_of (find (is_start d f) ss)) ≡ pending_of (find (is_start d f) ss)
     go true e =
         let parts = and_parts (c == d) (b == f) e in
         is ∙ ap pending_of (sym found) ∙ ap (λ x. pending_of (find (is_start x b) ss)) (eqb-true c d parts.0) ∙ ap (λ x. pending_of (find (is_start d x) ss)) (eqb-true b f parts.1)
@@ -461,7 +462,7 @@ module _ (most : ℕ) (past : History) (p c b : ℕ) (ns : List ℕ) (j : Judge)
   pub loss-carried : (j' : Judge) (ss : List Start) (at : ℕ) (s s' : Start)
       → ((c b : ℕ) → IsStart F past c b (find (is_start c b) ss)) → at ≡ position_or_len (is_start c b) ss → at < length ss → IsStart F past c b (Some s)
       → ((c b : ℕ) → pending_of (find (is_start c b) ss) ≡ pending_of (find (is_start c b) j.starts.items)) → find (is_start c b) ss ≡ Some s
-      → s'.clerk ≡ c → s'.boot ≡ b → s'.count ≡ s.count → s'.owed.items ≡ s.owed.items ++ pairs_of (filter (is_one_of c b ns) (ops_of j.kept.items)) → s'.pending.items ≡ s.pending.items
+      → s'.clerk ≡ c → s'.boot ≡ b → s'.pending.0 ≡ s.pending.0 → s'.owed.items ≡ s.owed.items ++ pairs_of (filter (is_one_of c b ns) (ops_of j.kept.items)) → s'.pending.1 ≡ s.pending.1
       → j'.starts.items ≡ set ss at s' → j'.kept.items ≡ filter (λ k. not (is_among c b ns k)) j.kept.items → j'.touches ≡ j.touches
       → ((x : ℕ) → shown j'.firm.volume x ≡ after formatted (updates (without c b ns (ops_of j.kept.items))) x) → IsFirm (filter (λ k. not (is_among c b ns k)) j.kept.items) j'.firm.count (images j'.firm.volume.under)
       → Carries F (past ++ lost ∷ []) j'
@@ -475,8 +476,8 @@ module _ (most : ℕ) (past : History) (p c b : ℕ) (ns : List ℕ) (j : Judge)
         starts = λ d f. subst (λ ts. IsStart F (past ++ lost ∷ []) d f (find (is_start d f) ts)) (sym starts-are) (starts-next F past lost ss at s' starts at-is within sc sb (record {
           count = count-of ∙ own.count ∙ sym (count-next c b past lost);
           owed = owed-of ∙ ap (λ qs. qs ++ pairs_of (filter (is_one_of c b ns) (ops_of j.kept.items))) own.owed ∙ ap (λ ks. owed F past c b ++ pairs_of (filter (is_one_of c b ns) ks)) h.kept ∙ own-lost F past p c b ns;
-          pending = subst (λ l. l ≡ filter (λ i. is_in l i.number) (issues_in c b (issued F (past ++ lost ∷ [])))) (sym pending-is) (own.pending ∙ ap (filter (λ i. is_in s.pending.items i.number)) (sym (lost-issued F past p c b c b ns)));
-          upward = subst (λ l. IsUpward (is_in l) (issues_in c b (issued F (past ++ lost ∷ [])))) (sym pending-is) (subst (IsUpward (is_in s.pending.items)) (sym (lost-issued F past p c b c b ns)) own.upward);
+          pending = subst (λ l. l ≡ filter (λ i. is_in l i.number) (issues_in c b (issued F (past ++ lost ∷ [])))) (sym pending-is) (own.pending ∙ ap (filter (λ i. is_in s.pending.1 i.number)) (sym (lost-issued F past p c b c b ns)));
+          upward = subst (λ l. IsUpward (is_in l) (issues_in c b (issued F (past ++ lost ∷ [])))) (sym pending-is) (subst (IsUpward (is_in s.pending.1)) (sym (lost-issued F past p c b c b ns)) own.upward);
         }) d f);
         flags = subst (λ ts. Each (IsFlagged F (past ++ lost ∷ []) j'.starts.items ts) j'.kept.items) (sym touches-are)
             (subst (Each (IsFlagged F (past ++ lost ∷ []) j'.starts.items j.touches)) (sym kept-are) (each-kept (IsFlagged F past j.starts.items j.touches) (IsFlagged F (past ++ lost ∷ []) j'.starts.items j.touches) (λ k. not (is_among c b ns k)) (λ k e f. loss-flag j'.starts.items as-before k f) j.kept.items h.flags));

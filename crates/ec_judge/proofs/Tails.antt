@@ -1,9 +1,8 @@
 -- The kept operations from an index on, before which none is lost.
-use Rattle.std.proofs.Common.{◌≡◌, refl, sym, ap, subst, ◌∙◌, inl, inr, arith, ◌<◌, ◌≤◌, ◌+◌, ◌-◌, ℕ, zero, suc, T, Bool, true, false, not, ◌==◌, ◌&&◌, ◌||◌, cond, map, List, [], ◌∷◌, ◌++◌, length, take, drop, get_or, append-nil, append_assoc, Option, Some, None}
+use Rattle.std.proofs.Common.{◌≡◌, refl, sym, ap, subst, ◌∙◌, inl, inr, arith, ◌<◌, ◌≤◌, ◌+◌, ◌-◌, ℕ, T, Bool, true, false, not, ◌==◌, ◌&&◌, ◌||◌, cond, map, List, [], ◌∷◌, ◌++◌, length, take, drop, get_or, append-nil, append_assoc, Option, Some, None}
 use Rattle.std.specs.Prelude.{nat_le, reverse, Result, Ok, Err, IfOk, MatchOption}
 use Rattle.std.specs.Ordering.{nat_cmp}
 use Rattle.std.specs.FinMap.{is_sorted}
-use Rattle.std.specs.FinMap.Entries.{below_all}
 use Rattle.std.specs.List.{filter, list_all, list_any}
 use Rattle.std.proofs.lemmas.Bool.{and_parts, true≢false, eqb-true}
 use Rattle.std.proofs.lemmas.Bool.Decides.{nat_tests}
@@ -22,10 +21,9 @@ use Rattle.ec_history.specs.declared.rule.Rule.{Rule}
 use Rattle.ec_history.specs.declared.rule.Rule.TheVariants as rule
 use Rattle.ec_laws.proofs.Objects.{holds, is-true}
 use Rattle.ec_judge.specs.declared.carried.Kept.{Kept}
-use Rattle.ec_judge.specs.declared.carried.Issue.{Issue}
 use Rattle.ec_judge.proofs.Loops.{cut-at}
 use Rattle.ec_judge.specs.declared.carried.Touches.{Touches}
-use Rattle.ec_judge.specs.Carried.{op_of, ops_of, is_among, is_touched, numbers_in, are_kept, are_uncovered, are_untouched, are_closed, KeepsMarks, BreaksMarks}
+use Rattle.ec_judge.specs.Carried.{op_of, ops_of, is_among, is_touched, are_kept, are_uncovered, are_untouched, are_closed, KeepsMarks, BreaksMarks}
 
 -- The least of some numbers.
 
@@ -303,33 +301,3 @@ back-more kept left kept' left' start k h is more =
 
 pub back-ends : (kept left start : List Kept) → kept ++ reverse left ≡ start → left ≡ [] → kept ≡ start
 back-ends kept left start h e = sym (append-nil kept) ∙ ap (λ l. kept ++ reverse l) (sym e) ∙ h
-
--- What is among the last pending ones is pending.
-
-member-take : (n m : ℕ) (ps : List Issue) → T (member n (numbers_in (take m ps))) → T (member n (numbers_in ps))
-member-take n zero ps t = absurd t
-member-take n (suc m) [] t = t
-member-take n (suc m) (p ∷ ps) t = go (n == p.number) t (member-take n m ps)
-  where
-    go : (b : Bool) → T (b || member n (numbers_in (take m ps))) → (T (member n (numbers_in (take m ps))) → T (member n (numbers_in ps))) → T (b || member n (numbers_in ps))
-    go true u f = tt
-    go false u f = f u
-
-member-drop : (n i : ℕ) (ps : List Issue) → T (member n (numbers_in (drop i ps))) → T (member n (numbers_in ps))
-member-drop n zero ps t = t
-member-drop n (suc i) [] t = t
-member-drop n (suc i) (p ∷ ps) t = go (n == p.number) (member-drop n i ps t)
-  where
-    go : (b : Bool) → T (member n (numbers_in ps)) → T (b || member n (numbers_in ps))
-    go true u = tt
-    go false u = u
-
-pub uncovered-more : (c b : ℕ) (ns : List ℕ) (ps : List Issue) (i m : ℕ) (ks : List Kept) → true ≡ are_uncovered c b ns (numbers_in (take m (drop i ps))) ks → true ≡ are_uncovered c b ns (numbers_in ps) ks
-uncovered-more c b ns ps i m [] e = refl
-uncovered-more c b ns ps i m (k ∷ ks) e =
-    let parts = and_parts (not (is_among c b ns k) || member k.number (numbers_in (take m (drop i ps)))) (are_uncovered c b ns (numbers_in (take m (drop i ps))) ks) (sym e) in
-    sym (ap (λ z. z && are_uncovered c b ns (numbers_in ps) ks) (one (is_among c b ns k) parts.0) ∙ sym (uncovered-more c b ns ps i m ks (sym parts.1)))
-  where
-    one : (x : Bool) → (not x || member k.number (numbers_in (take m (drop i ps)))) ≡ true → (not x || member k.number (numbers_in ps)) ≡ true
-    one false d = refl
-    one true d = is-true _ (member-drop k.number i ps (member-take k.number m (drop i ps) (holds d)))

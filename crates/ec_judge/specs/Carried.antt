@@ -1,16 +1,16 @@
 -- What the judge carries from entry to entry. No public clause cites this module.
-use Rattle.std.specs.Prelude.{◌≡◌, ◌==◌, ◌+◌, ℕ, ◌<◌, ◌≤◌, T, Bool, true, false, not, ◌&&◌, ◌||◌, if◌then◌else◌, nat_lt, nat_le, map, List, [], ◌∷◌, ◌++◌, length, take, Option, Some, None, MatchBool, MatchOption, ⊤}
+use Rattle.std.specs.Prelude.{◌≡◌, ◌==◌, ◌+◌, ℕ, ◌<◌, ◌≤◌, T, Bool, true, false, not, ◌&&◌, ◌||◌, if◌then◌else◌, nat_lt, map, List, [], ◌∷◌, ◌++◌, length, take, Option, Some, None, MatchBool, MatchOption, ⊤}
 use Rattle.std.specs.Ordering.{nat_cmp}
 use Rattle.std.specs.FinMap.{is_sorted}
 use Rattle.std.specs.List.{filter, find, list_any, list_all}
 use Rattle.ec_base.specs.Tables.{Table, at}
 use Rattle.ec_volume.specs.Image.{is_gone}
-use Rattle.ec_volume.specs.Update.{member, operands, has_operand, is_sound, first_unfit}
+use Rattle.ec_volume.specs.Update.{member, operands, is_sound, first_unfit}
 use Rattle.ec_volume.specs.Volume.{Images, images, after, formatted, Fits, WellFormed}
 use Rattle.ec_volume.specs.declared.update.Update.{Update}
 use Rattle.ec_plain.specs.declared.call.Call.{Call}
 use Rattle.ec_plain.specs.declared.call.Outcome.{Outcome}
-use Rattle.ec_order.specs.Order.{Issued, needs}
+use Rattle.ec_order.specs.Order.{needs}
 use Rattle.ec_history.specs.History.{Base, History, Op, Owed, Throughout, Each, Covers, updates, meets, same_start, of_start, of_issue, is_one_of, kept, issued, owed}
 use Rattle.ec_history.specs.Legal.{leaves, is_op_of, is_closed, IsLegal, IsLegalNext, from_formatted}
 use Rattle.ec_history.specs.declared.entry.Entry.{Entry}
@@ -18,16 +18,16 @@ use Rattle.ec_history.specs.declared.rule.Rule.{Rule}
 use Rattle.ec_history.specs.declared.rule.Rule.TheVariants as rule
 use Rattle.ec_formed.specs.Bases.{is_bounded_entry}
 use Rattle.ec_judge.specs.Faults.{BreaksEntry}
+use Rattle.ec_pending.specs.Pending.{is_in, is_asked, rest, issues_of}
 use Rattle.ec_judge.specs.declared.carried.Kept.{Kept}
-use Rattle.ec_judge.specs.declared.carried.Issue.{Issue}
+use Rattle.ec_pending.specs.declared.issue.Issue.{Issue}
 use Rattle.ec_judge.specs.declared.carried.Issuer.{Issuer}
 use Rattle.ec_judge.specs.declared.carried.Start.{Start}
 use Rattle.ec_judge.specs.declared.carried.Touches.{Touches}
 use Rattle.ec_overlay.specs.Shown.{shown}
 use Rattle.ec_judge.specs.declared.carried.Firm.{Firm}
 use Rattle.ec_judge.specs.declared.carried.Judge.{Judge}
-use Rattle.ec_judge.specs.declared.covers.Asked.{Asked}
-use Rattle.ec_judge.specs.declared.covers.Asked.TheVariants as asks
+use Rattle.ec_pending.specs.declared.asked.Asked.{Asked}
 
 abbrev pub op_of : Kept → Op
 op_of k = record { clerk = k.clerk; boot = k.boot; number = k.number; place = k.place; update = k.update }
@@ -46,19 +46,12 @@ issue_of k = record { number = k.number; place = k.place; update = k.update }
 abbrev pub issues_in : ℕ → ℕ → List Op → List Issue
 issues_in c b ks = map issue_of (filter (of_start c b) ks)
 
-abbrev pub numbers_in : List Issue → List ℕ
-numbers_in is = map (λ i. i.number) is
-
--- one of the operations has the number
-abbrev pub is_in : List Issue → ℕ → Bool
-is_in is n = member n (numbers_in is)
-
 abbrev pub is_start : ℕ → ℕ → Start → Bool
 is_start c b s = same_start c b s.clerk s.boot
 
 abbrev pub count_of : Option Start → ℕ
 count_of None = 0
-count_of (Some s) = s.count
+count_of (Some s) = s.pending.0
 
 abbrev pub owed_of : Option Start → Owed
 owed_of None = []
@@ -66,24 +59,7 @@ owed_of (Some s) = s.owed.items
 
 abbrev pub pending_of : Option Start → List Issue
 pending_of None = []
-pending_of (Some s) = s.pending.items
-
--- What is asked to be durable, and what it needs.
-
-abbrev pub is_asked : Asked → Issue → Bool
-is_asked asks.Nothing i = false
-is_asked (asks.On o begun) i = nat_le i.place begun && has_operand o i.update
-is_asked (asks.All begun) i = nat_le i.place begun
-
--- One by one from the last to the first: those that pass the test, and those that a later one of them needs.
-abbrev pub taken : (Issue → Bool) → List Issue → List Issue
-taken p [] = []
-taken p (i ∷ is) = if p i || list_any (λ j. needs i.update j.update) (taken p is) then i ∷ taken p is else taken p is
-
--- the others
-abbrev pub rest : (Issue → Bool) → List Issue → List Issue
-rest p [] = []
-rest p (i ∷ is) = if p i || list_any (λ j. needs i.update j.update) (taken p is) then rest p is else i ∷ rest p is
+pending_of (Some s) = s.pending.1
 
 -- with each operation whose number passes, all those pass that need it
 abbrev pub IsUpward : (ℕ → Bool) → List Issue → Type 0
@@ -163,20 +139,11 @@ pub record Carries (base : Base) (past : History) (j : Judge) : Type 0 where
   pub touches : (o : ℕ) → AreBelow (length past) (at o j.touches)
   pub firm : IsFirm j.kept.items j.firm.count (images j.firm.volume.under)
 
--- a start's operations by their numbers
-abbrev pub numbered : List Issue → Issued
-numbered is = map (λ i. (i.number, i.update)) is
-
 -- What an entry adds.
 
 abbrev pub count_next : ℕ → Option ℕ → ℕ
 count_next k None = k
 count_next k (Some n) = n
-
-abbrev pub issues_of : ℕ → Option ℕ → Option Update → List Issue
-issues_of p None u = []
-issues_of p (Some n) None = []
-issues_of p (Some n) (Some u) = record { number = n; place = p; update = u } ∷ []
 
 abbrev pub keeps_of : Issuer → Option ℕ → Option Update → List Kept
 keeps_of by None u = []
@@ -237,13 +204,13 @@ Judges most turn j j' e found =
 pub record IsNoted (a : Asked) (place : ℕ) (op : Option ℕ) (cl : Call) (out : Outcome) (old : Start) (s : Start) : Type 0 where
   pub clerk : s.clerk ≡ old.clerk
   pub boot : s.boot ≡ old.boot
-  pub count : s.count ≡ count_next old.count op
+  pub count : s.pending.0 ≡ count_next old.pending.0 op
   pub owed : s.owed.items ≡ filter (λ q. not (meets out cl q)) old.owed.items
-  pub pending : s.pending.items ≡ rest (is_asked a) old.pending.items ++ issues_of place op out.update
+  pub pending : s.pending.1 ≡ rest (is_asked a) old.pending.1 ++ issues_of place op out.update
 
 pub record IsOwing (pairs : Owed) (old : Start) (s : Start) : Type 0 where
   pub clerk : s.clerk ≡ old.clerk
   pub boot : s.boot ≡ old.boot
-  pub count : s.count ≡ old.count
+  pub count : s.pending.0 ≡ old.pending.0
   pub owed : s.owed.items ≡ old.owed.items ++ pairs
-  pub pending : s.pending.items ≡ old.pending.items
+  pub pending : s.pending.1 ≡ old.pending.1

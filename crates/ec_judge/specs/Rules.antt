@@ -13,8 +13,8 @@ use Rattle.ec_history.specs.declared.entry.Answer.{Answer}
 use Rattle.ec_history.specs.declared.entry.Answer.TheVariants as answer
 use Rattle.ec_history.specs.declared.rule.Rule.{Rule}
 use Rattle.ec_history.specs.declared.rule.Rule.TheVariants as rule
-use Rattle.ec_judge.specs.declared.covers.Asked.{Asked}
-use Rattle.ec_judge.specs.declared.covers.Asked.TheVariants as asks
+use Rattle.ec_pending.specs.declared.asked.Asked.{Asked}
+use Rattle.ec_pending.specs.declared.asked.Asked.TheVariants as asks
 
 -- the number, if any, is the next one of a start that issued so many
 abbrev pub IsNumbered : ℕ → Option ℕ → Type 0

@@ -26,10 +26,10 @@ pub fn broken(
     answer: &Answer,
     op: &Option<OpNo>,
 ) -> Result<Option<Rule>, NoMemory>
-    ensures { IfOk result (λ found. MatchOption found (KeepsRules start.now.count (due_of start.now.owed.items outcome.now call.now) most outcome.now answer.now op.now)
-        (λ rule. BreaksRule start.now.count (due_of start.now.owed.items outcome.now call.now) most outcome.now answer.now op.now rule)) }
+    ensures { IfOk result (λ found. MatchOption found (KeepsRules start.now.pending.0 (due_of start.now.owed.items outcome.now call.now) most outcome.now answer.now op.now)
+        (λ rule. BreaksRule start.now.pending.0 (due_of start.now.owed.items outcome.now call.now) most outcome.now answer.now op.now rule)) }
 {
-    if !is_next(start.count, op) {
+    if !is_next(start.pending.count(), op) {
         return Ok(Some(Rule::Number));
     }
     let due = due(alloc, &start.owed, call, outcome)?;

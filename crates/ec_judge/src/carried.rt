@@ -1,6 +1,7 @@
 // What the judge carries from entry to entry.
 use ec_base::{ClerkId, ObjId, OpNo, SortedMap};
 use ec_overlay::Overlay;
+use ec_pending::Pending;
 use ec_volume::Update;
 use std::alloc::Global;
 
@@ -39,26 +40,15 @@ pub struct Issuer {
     pub turn: usize,
 }
 
-/// An operation that a start issued, and that no answered `fsync` or `sync` covers.
-#[derive(Drop)]
-pub struct Issue {
-    pub number: OpNo,
-    /// The place of its entry.
-    pub place: u32,
-    pub update: Update,
-}
-
 /// A start of a clerk.
 #[derive(Drop)]
 pub struct Start {
     pub clerk: ClerkId,
     pub boot: u64,
-    /// How many operations its entries had.
-    pub count: u64,
     /// Its lost operations that are to be reported, each with one of its operands.
     pub owed: Vec<(OpNo, ObjId)>,
-    /// Its operations that aren't covered, the lost ones too.
-    pub pending: Vec<Issue>,
+    /// How many operations its entries had, and those that aren't covered, the lost ones too.
+    pub pending: Pending,
 }
 
 /// The volume behind the kept operations. Below it lies the one behind the first so many of them; a

@@ -92,16 +92,7 @@ impl Judge {
         let asked = covers::wanted(begun, call, touched, answer);
         touches::touch_all(&mut self.touches, issuer.clerk, issuer.turn, touched)?;
         let place = issuer.place;
-        starts::note_at(
-            self.alloc,
-            &mut self.starts,
-            at,
-            &asked,
-            place,
-            op,
-            call,
-            &outcome,
-        )?;
+        starts::note_at(&mut self.starts, at, &asked, place, op, call, &outcome)?;
         let Outcome { update, .. } = outcome;
         starts::keep(
             self.alloc,

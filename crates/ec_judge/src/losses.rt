@@ -3,16 +3,17 @@ ghost use Rattle.std.specs.Prelude.{◌≡◌, ℕ, T, ◌||◌, ◌&&◌, ◌++
 ghost use Rattle.std.specs.List.{filter, list_any, list_all};
 ghost use Rattle.ec_volume.specs.Update.{member, operands};
 ghost use Rattle.ec_history.specs.History.{of_start, is_one_of, pairs_of};
-ghost use Rattle.ec_judge.specs.Carried.{ops_of, op_of, is_among, is_touched, numbers_in, are_kept, are_uncovered, are_untouched, are_closed, KeepsMarks, BreaksMarks, IsOwing};
+ghost use Rattle.ec_judge.specs.Carried.{ops_of, op_of, is_among, is_touched, are_kept, are_uncovered, are_untouched, are_closed, KeepsMarks, BreaksMarks, IsOwing};
+ghost use Rattle.ec_pending.specs.Pending.{numbers_in};
 ghost use Rattle.ec_judge.specs.declared.carried.Start.{Start as StartOf};
 
-use crate::carried::{Issue, Kept, Start, Touches};
+use crate::carried::{Kept, Start, Touches};
 use crate::index::Numbers;
 use crate::outside::Outside;
-use crate::tail::least_of;
 use crate::touches::is_touched;
 use ec_base::{ClerkId, NoMemory, ObjId, OpNo, SortedMap};
 use ec_history::Rule;
+use ec_pending::Pending;
 use ec_volume::operands;
 use std::alloc::Global;
 
@@ -21,7 +22,7 @@ use std::alloc::Global;
 pub fn broken(
     alloc: Global,
     touches: &SortedMap<ObjId, Touches>,
-    pending: &[Issue],
+    pending: &Pending,
     kept: &[Kept],
     from: usize,
     clerk: ClerkId,
@@ -30,7 +31,7 @@ pub fn broken(
 ) -> Result<Option<Rule>, NoMemory>
     requires within { from ≤ length kept.now }
     requires none { list_any (is_among clerk boot ops.now) (take from kept.now) ≡ false }
-    ensures { IfOk result (λ found. MatchOption found (KeepsMarks clerk boot ops.now (numbers_in pending.now) touches.now kept.now) (λ rule. BreaksMarks clerk boot ops.now (numbers_in pending.now) touches.now kept.now rule)) }
+    ensures { IfOk result (λ found. MatchOption found (KeepsMarks clerk boot ops.now (numbers_in pending.now.1) touches.now kept.now) (λ rule. BreaksMarks clerk boot ops.now (numbers_in pending.now.1) touches.now kept.now rule)) }
 {
     broken_in(alloc, touches, pending, &kept[from..], clerk, boot, ops)
 }
@@ -39,18 +40,18 @@ pub fn broken(
 fn broken_in(
     alloc: Global,
     touches: &SortedMap<ObjId, Touches>,
-    pending: &[Issue],
+    pending: &Pending,
     kept: &[Kept],
     clerk: ClerkId,
     boot: u64,
     ops: &Numbers,
 ) -> Result<Option<Rule>, NoMemory>
-    ensures { IfOk result (λ found. MatchOption found (KeepsMarks clerk boot ops.now (numbers_in pending.now) touches.now kept.now) (λ rule. BreaksMarks clerk boot ops.now (numbers_in pending.now) touches.now kept.now rule)) }
+    ensures { IfOk result (λ found. MatchOption found (KeepsMarks clerk boot ops.now (numbers_in pending.now.1) touches.now kept.now) (λ rule. BreaksMarks clerk boot ops.now (numbers_in pending.now.1) touches.now kept.now rule)) }
 {
     if !are_kept(alloc, kept, clerk, boot, ops)? {
         return Ok(Some(Rule::Named));
     }
-    if !are_uncovered(alloc, pending, kept, clerk, boot, ops)? {
+    if !are_uncovered(pending, kept, clerk, boot, ops) {
         return Ok(Some(Rule::Covered));
     }
     if !are_untouched(alloc, touches, kept, clerk, boot, ops)? {
@@ -101,16 +102,6 @@ fn numbers_of(
     Ok(ops)
 }
 
-fn numbers_in(alloc: Global, issues: &[Issue]) -> Result<Vec<OpNo>, NoMemory>
-    ensures { IfOk result (λ ops. ops.items ≡ numbers_in issues.now) }
-{
-    let mut ops = Vec::new(alloc);
-    for issue in issues {
-        ops.push(issue.number)?;
-    }
-    Ok(ops)
-}
-
 // Whether each of the operations is one of these.
 fn are_all_in(known: &Numbers, ops: &Numbers) -> bool
     ensures { result ≡ list_all (λ n. member n known.now) ops.now }
@@ -118,59 +109,9 @@ fn are_all_in(known: &Numbers, ops: &Numbers) -> bool
     ops.items().iter().all(|op| known.has(*op))
 }
 
-// Whether none of the operations is covered. All of them are among the last pending ones, or else
-// one is covered.
-fn are_uncovered(
-    alloc: Global,
-    pending: &[Issue],
-    kept: &[Kept],
-    clerk: ClerkId,
-    boot: u64,
-    ops: &Numbers,
-) -> Result<bool, NoMemory>
-    ensures { IfOk result (λ are. are ≡ are_uncovered clerk boot ops.now (numbers_in pending.now) kept.now) }
-{
-    let from = recent_from(pending, least_of(ops.items()));
-    if are_among_pending(alloc, &pending[from..], kept, clerk, boot, ops)? {
-        return Ok(true);
-    }
-    are_among_pending(alloc, pending, kept, clerk, boot, ops)
-}
-
-// An index of the last pending operations, from one with at most this number on.
-fn recent_from(pending: &[Issue], least: u64) -> usize
-    ensures { result ≤ length pending.now }
-{
-    let mut at = pending.len();
-    'back: while at > 0 {
-        at -= 1;
-        if is_low(&pending[at], least) {
-            return at;
-        }
-    }
-    0
-}
-
-fn is_low(issue: &Issue, least: u64) -> bool {
-    issue.number.0 <= least
-}
-
-fn are_among_pending(
-    alloc: Global,
-    pending: &[Issue],
-    kept: &[Kept],
-    clerk: ClerkId,
-    boot: u64,
-    ops: &Numbers,
-) -> Result<bool, NoMemory>
-    ensures { IfOk result (λ are. are ≡ are_uncovered clerk boot ops.now (numbers_in pending.now) kept.now) }
-{
-    let pending = Numbers::of(alloc, numbers_in(alloc, pending)?)?;
-    Ok(are_pending(&pending, kept, clerk, boot, ops))
-}
-
-fn are_pending(pending: &Numbers, kept: &[Kept], clerk: ClerkId, boot: u64, ops: &Numbers) -> bool
-    ensures { result ≡ are_uncovered clerk boot ops.now pending.now kept.now }
+// Whether none of the operations is covered.
+fn are_uncovered(pending: &Pending, kept: &[Kept], clerk: ClerkId, boot: u64, ops: &Numbers) -> bool
+    ensures { result ≡ are_uncovered clerk boot ops.now (numbers_in pending.now.1) kept.now }
 {
     kept.iter().all(|kept| !is_among(kept, clerk, boot, ops) || pending.has(kept.number))
 }
@@ -261,9 +202,9 @@ fn owe(
 ) -> Result<(), NoMemory>
     ensures clerk { start.new.clerk ≡ start.old.clerk }
     ensures boot { start.new.boot ≡ start.old.boot }
-    ensures count { start.new.count ≡ start.old.count }
+    ensures count { start.new.pending.0 ≡ start.old.pending.0 }
     ensures owed { OnOk result (start.new.owed.items ≡ start.old.owed.items ++ pairs_of (filter (is_one_of clerk boot ops.now) (ops_of kept.now))) }
-    ensures pending { start.new.pending.items ≡ start.old.pending.items }
+    ensures pending { start.new.pending.1 ≡ start.old.pending.1 }
 {
     for lost in kept {
         if is_among(lost, clerk, boot, ops) {

@@ -4,14 +4,16 @@ ghost use Rattle.std.specs.List.{filter, find, position_or_len};
 ghost use Rattle.ec_volume.specs.Volume.{after};
 ghost use Rattle.ec_overlay.specs.Shown.{shown};
 ghost use Rattle.ec_history.specs.History.{meets, updates};
-ghost use Rattle.ec_judge.specs.Carried.{is_start, count_of, owed_of, pending_of, is_asked, rest, count_next, issues_of, keeps_of, ops_of, IsFitting, IsNoted};
+ghost use Rattle.ec_judge.specs.Carried.{is_start, count_of, owed_of, pending_of, count_next, keeps_of, ops_of, IsFitting, IsNoted};
+ghost use Rattle.ec_pending.specs.Pending.{is_asked, rest, issues_of};
+ghost use Rattle.ec_judge.specs.Rules.{IsNumbered};
 ghost use Rattle.ec_judge.specs.declared.carried.Start.{Start as StartOf};
 
 use crate::calls;
-use crate::carried::{Issue, Issuer, Kept, Start};
-use crate::covers::{self, Asked};
+use crate::carried::{Issuer, Kept, Start};
 use ec_base::{ClerkId, Duplicate, NoMemory, ObjId, OpNo};
 use ec_overlay::Overlay;
+use ec_pending::{Asked, Pending};
 use ec_plain::{Call, Outcome};
 use ec_volume::Update;
 use std::alloc::Global;
@@ -34,9 +36,8 @@ pub fn index_of(
         starts.push(Start {
             clerk,
             boot,
-            count: 0,
             owed: Vec::new(alloc),
-            pending: Vec::new(alloc),
+            pending: Pending::new(alloc)?,
         })?;
     }
     Ok(at)
@@ -63,7 +64,6 @@ fn place_of(starts: &[Start], clerk: ClerkId, boot: u64) -> usize
 /// A call of the start at this index was answered: what it asks is covered, what it met is reported,
 /// and its operation is issued.
 pub fn note_at(
-    alloc: Global,
     starts: &mut Vec<Start>,
     at: usize,
     asked: &Asked,
@@ -72,16 +72,16 @@ pub fn note_at(
     call: &Call,
     outcome: &Outcome,
 ) -> Result<(), NoMemory>
-    requires { at < length starts.old.items }
+    requires within { at < length starts.old.items }
+    requires next { (s : StartOf) → IsNumbered (slice_index_or starts.old.items at s).pending.0 op.now }
     ensures { OnOk result ((s : StartOf) × IsNoted asked.now place op.now call.now outcome.now (slice_index_or starts.old.items at s) s × (starts.new.items ≡ slice_set starts.old.items at s)) }
 {
-    note(alloc, &mut starts[at], asked, place, op, call, outcome)
+    note(&mut starts[at], asked, place, op, call, outcome)
 }
 
 // A call of the start was answered: what it asks is covered, what it met is reported, and its
 // operation is issued.
 fn note(
-    alloc: Global,
     start: &mut Start,
     asked: &Asked,
     place: u32,
@@ -89,34 +89,38 @@ fn note(
     call: &Call,
     outcome: &Outcome,
 ) -> Result<(), NoMemory>
+    requires { IsNumbered start.old.pending.0 op.now }
     ensures clerk { start.new.clerk ≡ start.old.clerk }
     ensures boot { start.new.boot ≡ start.old.boot }
-    ensures count { OnOk result (start.new.count ≡ count_next start.old.count op.now) }
+    ensures count { OnOk result (start.new.pending.0 ≡ count_next start.old.pending.0 op.now) }
     ensures owed { OnOk result (start.new.owed.items ≡ filter (λ q. not (meets outcome.now call.now q)) start.old.owed.items) }
-    ensures pending { OnOk result (start.new.pending.items ≡ rest (is_asked asked.now) start.old.pending.items ++ issues_of place op.now outcome.now.update) }
+    ensures pending { OnOk result (start.new.pending.1 ≡ rest (is_asked asked.now) start.old.pending.1 ++ issues_of place op.now outcome.now.update) }
 {
     report(start, call, outcome);
-    covers::cover(alloc, &mut start.pending, asked)?;
+    start.pending.cover(asked)?;
     if let Some(number) = op {
-        start.count = number.0;
-        if let Some(update) = &outcome.update {
-            start.pending.push(Issue {
-                number: *number,
-                place,
-                update: update.duplicate()?,
-            })?;
-        }
+        let update = copied(&outcome.update)?;
+        start.pending.issue(*number, place, update)?;
     }
     Ok(())
+}
+
+fn copied(update: &Option<Update>) -> Result<Option<Update>, NoMemory>
+    ensures { IfOk result (λ copy. copy ≡ update.now) }
+{
+    match update {
+        Some(update) => Ok(Some(update.duplicate()?)),
+        None => Ok(None),
+    }
 }
 
 // Takes out what the call met.
 fn report(start: &mut Start, call: &Call, outcome: &Outcome)
     ensures clerk { start.new.clerk ≡ start.old.clerk }
     ensures boot { start.new.boot ≡ start.old.boot }
-    ensures count { start.new.count ≡ start.old.count }
+    ensures count { start.new.pending.0 ≡ start.old.pending.0 }
     ensures owed { start.new.owed.items ≡ filter (λ q. not (meets outcome.now call.now q)) start.old.owed.items }
-    ensures pending { start.new.pending.items ≡ start.old.pending.items }
+    ensures pending { start.new.pending.1 ≡ start.old.pending.1 }
 {
     start.owed.retain(|pair| !calls::meets(call, outcome, pair));
 }

@@ -14,16 +14,16 @@ loop-lost-preserved c =
       | then-is_among+in_ok-operands+in_ok-push_pairs w ↦ record {
         clerk = ap (λ s. s.clerk) w.start-is ∙ old.clerk;
         boot = ap (λ s. s.boot) w.start-is ∙ old.boot;
-        count = ap (λ s. s.count) w.start-is ∙ old.count;
+        count = ap (λ s. s.pending.0) w.start-is ∙ old.count;
         owed = ap (λ s. s.owed.items) w.start-is
             ∙ owed-takes c.args.kept.now c.loop-lost.lost-index k c.loop-lost-test.true c.lost-item.is q start c.loop-lost.start.owed.items w.push_pairs.new.owed.items w.deref.result.now (sym c.is_among.ensures ∙ w.if-is_among.true) old.owed w.in_ok-push_pairs.ensures (w.deref.ensures.value ∙ w.in_ok-operands.ensures);
-        pending = ap (λ s. s.pending.items) w.start-is ∙ old.pending;
+        pending = ap (λ s. s.pending.1) w.start-is ∙ old.pending;
       }
       | else-is_among w ↦ record {
         clerk = ap (λ s. s.clerk) w.start-is ∙ old.clerk;
         boot = ap (λ s. s.boot) w.start-is ∙ old.boot;
-        count = ap (λ s. s.count) w.start-is ∙ old.count;
+        count = ap (λ s. s.pending.0) w.start-is ∙ old.count;
         owed = ap (λ s. s.owed.items) w.start-is ∙ owed-skips c.args.kept.now c.loop-lost.lost-index k c.loop-lost-test.true c.lost-item.is q start c.loop-lost.start.owed.items (sym c.is_among.ensures ∙ w.if-is_among.false) old.owed;
-        pending = ap (λ s. s.pending.items) w.start-is ∙ old.pending;
+        pending = ap (λ s. s.pending.1) w.start-is ∙ old.pending;
       }
     ]

@@ -17,11 +17,11 @@ returns c =
       record {
         clerk = c.owe.ensures.clerk ∙ ap (λ t. t.clerk) old;
         boot = c.owe.ensures.boot ∙ ap (λ t. t.boot) old;
-        count = c.owe.ensures.count ∙ ap (λ t. t.count) old;
+        count = c.owe.ensures.count ∙ ap (λ t. t.pending.0) old;
         owed = owed
             ∙ ap (λ t. t.owed.items ++ pairs_of (filter (is_one_of c.args.clerk c.args.boot c.args.ops.now) (ops_of (take (length c.args.kept.now - c.args.from) (drop c.args.from c.args.kept.now))))) old
             ∙ ap (λ l. (slice_index_or c.args.starts.now.items c.args.at now).owed.items ++ pairs_of l) (ap (λ ks. filter (is_one_of c.args.clerk c.args.boot c.args.ops.now) (ops_of ks)) (cut-all c.args.kept.now c.args.from) ∙ lost);
-        pending = c.owe.ensures.pending ∙ ap (λ t. t.pending.items) old;
+        pending = c.owe.ensures.pending ∙ ap (λ t. t.pending.1) old;
       },
       refl,
     )) c.owe.ensures.owed

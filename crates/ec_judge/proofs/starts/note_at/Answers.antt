@@ -1,23 +1,29 @@
-use Rattle.std.proofs.Common.{refl, ap, ◌∙◌, ◌++◌, not}
+use Rattle.std.proofs.Common.{refl, sym, ap, subst, ◌∙◌, ◌++◌, not}
 use Rattle.std.specs.List.{filter}
 use Rattle.ec_history.specs.History.{meets}
-use Rattle.ec_judge.specs.Carried.{count_next, issues_of, rest, is_asked}
+use Rattle.ec_judge.specs.Carried.{count_next}
+use Rattle.ec_pending.specs.Pending.{issues_of, rest, is_asked}
+use Rattle.ec_judge.specs.Rules.{IsNumbered}
+use Rattle.ec_judge.specs.declared.carried.Start.{Start}
 use Rattle.ec_judge.proofs.Steps.{same-at, on-ok-all}
 use Rattle.ec_judge.proofs.starts.note_at.Goals as goal
+
+pub note-requires : goal.note-requires
+note-requires c = subst (λ (s : Start). IsNumbered s.pending.0 c.args.op.now) (sym c.index_mut.ensures.value) (c.requires.next c.index_mut.result.now)
 
 pub returns : goal.returns
 returns c =
     let now = c.note.new.start in
     let o = c.args.outcome.now in
-    let old = c.index_mut.ensures.value ∙ same-at c.args.starts.now.items c.args.at c.index_mut.result.now now c.requires in
+    let old = c.index_mut.ensures.value ∙ same-at c.args.starts.now.items c.args.at c.index_mut.result.now now c.requires.within in
     on-ok-all _ _ _ _ c.note.result (λ count owed pending. (
       now,
       record {
         clerk = c.note.ensures.clerk ∙ ap (λ t. t.clerk) old;
         boot = c.note.ensures.boot ∙ ap (λ t. t.boot) old;
-        count = count ∙ ap (λ t. count_next t.count c.args.op.now) old;
+        count = count ∙ ap (λ t. count_next t.pending.0 c.args.op.now) old;
         owed = owed ∙ ap (λ t. filter (λ q. not (meets o c.args.call.now q)) t.owed.items) old;
-        pending = pending ∙ ap (λ t. rest (is_asked c.args.asked.now) t.pending.items ++ issues_of c.args.place c.args.op.now o.update) old;
+        pending = pending ∙ ap (λ t. rest (is_asked c.args.asked.now) t.pending.1 ++ issues_of c.args.place c.args.op.now o.update) old;
       },
       refl,
     )) c.note.ensures.count c.note.ensures.owed c.note.ensures.pending

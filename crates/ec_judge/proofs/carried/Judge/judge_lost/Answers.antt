@@ -3,7 +3,8 @@ use Rattle.std.specs.List.{filter}
 use Rattle.ec_volume.specs.Volume.{images, after, Fits, formatted}
 use Rattle.ec_overlay.specs.Shown.{shown}
 use Rattle.ec_history.specs.History.{updates, is_one_of, pairs_of}
-use Rattle.ec_judge.specs.Carried.{ops_of, is_among, IsFirm, numbers_in, is_start, pending_of, KeepsMarks, BreaksMarks}
+use Rattle.ec_judge.specs.Carried.{ops_of, is_among, IsFirm, is_start, pending_of, KeepsMarks, BreaksMarks}
+use Rattle.ec_pending.specs.Pending.{numbers_in}
 use Rattle.ec_judge.proofs.AllStarts.{found-at}
 use Rattle.ec_judge.proofs.Steps.{own-at, starts-now, is-own, same-at, loss-broken, loss-unfit, loss-lawful, loss-carried}
 use Rattle.ec_judge.proofs.carried.Judge.judge_lost.Goals as goal
@@ -14,9 +15,9 @@ returns-in-Some c = λ most turn p past at-turn h legal.
     let at = c.in_ok-at.ensures in
     let s = c.index-start.result.now in
     let found = found-at (is_start c.args.clerk c.args.boot) ss c.in_ok-at.at s at.found at.within c.index-start.ensures in
-    let is = ap numbers_in (c.deref-2.ensures.value ∙ ap pending_of (sym found) ∙ at.pending c.args.clerk c.args.boot) in
-    loss-broken most past p c.args.clerk c.args.boot c.args.ops.now c.args.self.now h (numbers_in c.deref-2.result.now) is c.in-Some.rule
-    (subst (λ ks. BreaksMarks c.args.clerk c.args.boot c.args.ops.now (numbers_in c.deref-2.result.now) c.args.self.now.touches ks c.in-Some.rule) c.deref-3.ensures.value (rw c.in-Some.is at c.in_ok-broken.ensures))
+    let is = ap numbers_in (ap pending_of (sym found) ∙ at.pending c.args.clerk c.args.boot) in
+    loss-broken most past p c.args.clerk c.args.boot c.args.ops.now c.args.self.now h (numbers_in s.pending.1) is c.in-Some.rule
+    (subst (λ ks. BreaksMarks c.args.clerk c.args.boot c.args.ops.now (numbers_in s.pending.1) c.args.self.now.touches ks c.in-Some.rule) c.deref-2.ensures.value (rw c.in-Some.is at c.in_ok-broken.ensures))
 
 pub returns-then-not-branch : goal.returns-then-not-branch
 returns-then-not-branch c = λ most turn p past at-turn h legal.
@@ -24,10 +25,10 @@ returns-then-not-branch c = λ most turn p past at-turn h legal.
     let at = c.in_ok-at.ensures in
     let s = c.index-start.result.now in
     let found = found-at (is_start c.args.clerk c.args.boot) ss c.in_ok-at.at s at.found at.within c.index-start.ensures in
-    let is = ap numbers_in (c.deref-2.ensures.value ∙ ap pending_of (sym found) ∙ at.pending c.args.clerk c.args.boot) in
-    loss-unfit most past p c.args.clerk c.args.boot c.args.ops.now c.args.self.now h (numbers_in c.deref-2.result.now) is
-    (subst (KeepsMarks c.args.clerk c.args.boot c.args.ops.now (numbers_in c.deref-2.result.now) c.args.self.now.touches) c.deref-3.ensures.value (rw c.in_default.is at c.in_ok-broken.ensures))
-    (subst (λ ks. ¬ (Fits formatted (updates (filter (λ k. not (is_one_of c.args.clerk c.args.boot c.args.ops.now k)) (ops_of ks))))) c.deref-4.ensures.value (rw c.if-not-branch.true at c.in_ok-leave.ensures))
+    let is = ap numbers_in (ap pending_of (sym found) ∙ at.pending c.args.clerk c.args.boot) in
+    loss-unfit most past p c.args.clerk c.args.boot c.args.ops.now c.args.self.now h (numbers_in s.pending.1) is
+    (subst (KeepsMarks c.args.clerk c.args.boot c.args.ops.now (numbers_in s.pending.1) c.args.self.now.touches) c.deref-2.ensures.value (rw c.in_default.is at c.in_ok-broken.ensures))
+    (subst (λ ks. ¬ (Fits formatted (updates (filter (λ k. not (is_one_of c.args.clerk c.args.boot c.args.ops.now k)) (ops_of ks))))) c.deref-3.ensures.value (rw c.if-not-branch.true at c.in_ok-leave.ensures))
 
 pub returns : goal.returns
 returns c = λ most turn p past at-turn h legal.
@@ -37,21 +38,21 @@ returns c = λ most turn p past at-turn h legal.
     let at = c.in_ok-at.ensures in
     let s = c.index-start.result.now in
     let found-start = found-at (is_start c.args.clerk c.args.boot) ss c.in_ok-at.at s at.found at.within c.index-start.ensures in
-    let is = ap numbers_in (c.deref-2.ensures.value ∙ ap pending_of (sym found-start) ∙ at.pending c.args.clerk c.args.boot) in
+    let is = ap numbers_in (ap pending_of (sym found-start) ∙ at.pending c.args.clerk c.args.boot) in
     let owing = c.in_ok-owe_at.ensures in
     let old = same-at ss c.in_ok-at.at owing.0 s at.within ∙ sym c.index-start.ensures in
-    let marks = subst (KeepsMarks c.args.clerk c.args.boot ns (numbers_in c.deref-2.result.now) j.touches) c.deref-3.ensures.value (rw c.in_default.is at c.in_ok-broken.ensures) in
+    let marks = subst (KeepsMarks c.args.clerk c.args.boot ns (numbers_in s.pending.1) j.touches) c.deref-2.ensures.value (rw c.in_default.is at c.in_ok-broken.ensures) in
     let left = rw c.if-not-branch.false at c.in_ok-leave.ensures in
     let mine = is-own c.args.clerk c.args.boot ss c.in_ok-at.at s at.found at.within c.index-start.ensures in (
-      loss-lawful most past p c.args.clerk c.args.boot ns j h (numbers_in c.deref-2.result.now) is marks (subst (λ ks. Fits formatted (updates (filter (λ k. not (is_one_of c.args.clerk c.args.boot ns k)) (ops_of ks)))) c.deref-4.ensures.value left.fits),
-      loss-carried most past p c.args.clerk c.args.boot ns j h (numbers_in c.deref-2.result.now) is _ ss c.in_ok-at.at s owing.0 (starts-now past j h ss at.count at.owed at.pending) at.found at.within
+      loss-lawful most past p c.args.clerk c.args.boot ns j h (numbers_in s.pending.1) is marks (subst (λ ks. Fits formatted (updates (filter (λ k. not (is_one_of c.args.clerk c.args.boot ns k)) (ops_of ks)))) c.deref-3.ensures.value left.fits),
+      loss-carried most past p c.args.clerk c.args.boot ns j h (numbers_in s.pending.1) is _ ss c.in_ok-at.at s owing.0 (starts-now past j h ss at.count at.owed at.pending) at.found at.within
           (own-at past j h ss at.count at.owed at.pending c.args.clerk c.args.boot c.in_ok-at.at s at.found at.within c.index-start.ensures)
           at.pending found-start
-          (owing.1.clerk ∙ ap (λ t. t.clerk) old ∙ mine.0) (owing.1.boot ∙ ap (λ t. t.boot) old ∙ mine.1) (owing.1.count ∙ ap (λ t. t.count) old)
-          (owing.1.owed ∙ ap (λ t. t.owed.items ++ pairs_of (filter (is_one_of c.args.clerk c.args.boot ns) (ops_of c.deref-5.result.now))) old ∙ ap (λ ks. s.owed.items ++ pairs_of (filter (is_one_of c.args.clerk c.args.boot ns) (ops_of ks))) c.deref-5.ensures.value)
-          (owing.1.pending ∙ ap (λ t. t.pending.items) old) owing.2
+          (owing.1.clerk ∙ ap (λ t. t.clerk) old ∙ mine.0) (owing.1.boot ∙ ap (λ t. t.boot) old ∙ mine.1) (owing.1.count ∙ ap (λ t. t.pending.0) old)
+          (owing.1.owed ∙ ap (λ t. t.owed.items ++ pairs_of (filter (is_one_of c.args.clerk c.args.boot ns) (ops_of c.deref-4.result.now))) old ∙ ap (λ ks. s.owed.items ++ pairs_of (filter (is_one_of c.args.clerk c.args.boot ns) (ops_of ks))) c.deref-4.ensures.value)
+          (owing.1.pending ∙ ap (λ t. t.pending.1) old) owing.2
           c.in_ok-forget.ensures
           refl
-          (λ x. subst (λ ks. shown c.leave.new.firm.volume x ≡ after formatted (updates (filter (λ k. not (is_one_of c.args.clerk c.args.boot ns k)) (ops_of ks))) x) c.deref-4.ensures.value (left.volume x))
-          (subst (λ ks. IsFirm (filter (λ k. not (is_among c.args.clerk c.args.boot ns k)) ks) c.leave.new.firm.count (images c.leave.new.firm.volume.under)) c.deref-4.ensures.value left.firm),
+          (λ x. subst (λ ks. shown c.leave.new.firm.volume x ≡ after formatted (updates (filter (λ k. not (is_one_of c.args.clerk c.args.boot ns k)) (ops_of ks))) x) c.deref-3.ensures.value (left.volume x))
+          (subst (λ ks. IsFirm (filter (λ k. not (is_among c.args.clerk c.args.boot ns k)) ks) c.leave.new.firm.count (images c.leave.new.firm.volume.under)) c.deref-3.ensures.value left.firm),
     )
