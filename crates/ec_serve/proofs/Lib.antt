@@ -1,0 +1,7 @@
+pub mod Keepers
+pub mod Kept
+pub mod Endings
+pub mod Served
+pub mod Backs
+pub mod Goes
+pub mod Tends

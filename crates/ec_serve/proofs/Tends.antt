@@ -1,0 +1,92 @@
+-- What is known of a server's links when all jobs have ended.
+use Rattle.std.proofs.Common.{◌≡◌, ◌⊎◌, ◌≤◌, ◌<◌, ◌+◌, ℕ, Bool, true, false, List, [], ◌∷◌, ◌++◌, map, length, refl, sym, ap, ◌∙◌, subst, ⊎_elim, arith}
+use Rattle.std.specs.declared.snapshot.Snapshot.{Snapshot}
+use Rattle.std.proofs.lemmas.List.{length-map}
+use Rattle.std.proofs.lemmas.List.Elements.{All-map}
+use Rattle.ec_link.specs.Happenings.{total}
+use Rattle.ec_link.specs.Nets.{Ended}
+use Rattle.ec_link.specs.Spawns.{refused}
+use Rattle.ec_link.specs.declared.spawn.Spawned.{Spawned}
+use Rattle.ec_link.specs.declared.spawn.Spawned.TheVariants as spawned
+use Rattle.ec_serve.specs.Links.{Back, IsOver, Moment, GoesOn}
+use Rattle.ec_serve.specs.Serve.{Outer, AllBack, Tends, tended_of}
+use Rattle.ec_serve.specs.declared.ending.Tended.{Tended as Ends}
+use Rattle.ec_serve.specs.declared.ending.Tended.TheVariants as tended
+
+map_both : {A B C : Type 0} (f : A → B) (g : B → C) (xs : List A) → map (λ x. g (f x)) xs ≡ map g (map f xs)
+map_both f g [] = refl
+map_both f g (x ∷ xs) = ap (λ l. g (f x) ∷ l) (map_both f g xs)
+
+total_both : {A B : Type 0} (f : A → B) (g : B → ℕ) (xs : List A) → total (λ x. g (f x)) xs ≡ total g (map f xs)
+total_both f g [] = refl
+total_both f g (x ∷ xs) = ap (λ n. g (f x) + n) (total_both f g xs)
+
+pub carry : {A : Type 0} (a b : A) → a ≡ b → (P : A → Type 0) → P a → P b
+carry a b e P h = subst P e h
+
+-- neither count falls from before the door was opened to the last moment
+pub later_by : (before first last starts later more : ℕ) → before ≤ first → first ≤ last → later ≡ starts + more → (before ≤ last) × (starts ≤ later)
+later_by before first last starts later more opened ran spawned = (omega (arith, opened, ran), omega (arith, spawned))
+
+-- the door was opened first
+pub tends_before : (count : ℕ) (t : Ends) (old mid later : Outer) → old.faults ≤ mid.faults → mid.bad ≡ old.bad → mid.ended ≡ old.ended → mid.starts ≡ old.starts → Tends count t mid later → Tends count t old later
+tends_before count tended.Done old mid later faults bad ended starts h = record {
+  links = h.links;
+  number = h.number;
+  ended = h.ended ∙ ap (λ l. l ++ map (λ (b : Back). b.0) h.links) ended;
+  bad = h.bad ∙ ap (λ n. n + total (λ (b : Back). b.1) h.links) bad;
+  over = h.over;
+}
+tends_before count tended.NetFailed old mid later faults bad ended starts h = omega (arith, faults, h)
+tends_before count tended.NotStarted old mid later faults bad ended starts h = subst (λ n. n < later.starts) starts h
+tends_before count tended.Cut old mid later faults bad ended starts h = tt
+
+module _ {N L : Type 0} (faults_of bad_of : N → ℕ) (ended_of : N → List Ended) (back_of : Snapshot L → Back) where
+  -- from the first moment to the last
+  pub record Tended (a b : Moment N L) (count : ℕ) (s : Spawned) (starts starts_later : ℕ) : Type 0 where
+    pub goes : GoesOn faults_of bad_of ended_of back_of a b
+    pub left : a.left ≡ count
+    pub begun : a.begun ≡ 0
+    pub back : a.back ≡ []
+    pub failed : a.failed ≡ false
+    pub each : b.begun + length a.back ≡ a.begun + length b.back + refused s
+    pub over : s ≡ spawned.All → (b.left ≡ 0) ⊎ ((b.failed ≡ true) ⊎ (b.wants ≡ true))
+    pub spawns : starts_later ≡ starts + refused s
+
+  abbrev pub outer : ℕ → N → Outer
+  outer starts n = record { faults = faults_of n; bad = bad_of n; ended = ended_of n; starts = starts }
+
+  pub all_back : (a b : Moment N L) (count : ℕ) (starts later : ℕ) → Tended a b count spawned.All starts later → b.failed ≡ false → b.wants ≡ false → AllBack count (outer starts a.net) (outer later b.net)
+  all_back a b count starts later t up rich =
+      let back = t.goes.links rich in
+      record {
+        links = map back_of t.goes.more;
+        number = length-map t.goes.more back_of ∙ all;
+        ended = back.ended ∙ ap (λ l. ended_of a.net ++ l) (map_both back_of (λ l. l.0) t.goes.more);
+        bad = back.bad ∙ ap (λ n. bad_of a.net + n) (total_both back_of (λ l. l.1) t.goes.more);
+        over = All-map IsOver back_of t.goes.more back.over;
+      } where
+        none_left : b.left ≡ 0
+        none_left = ⊎_elim (λ (e : b.left ≡ 0). e) (λ (e : (b.failed ≡ true) ⊎ (b.wants ≡ true)). ⊎_elim (λ (f : b.failed ≡ true). absurd (cc (sym up ∙ f))) (λ (w : b.wants ≡ true). absurd (cc (sym rich ∙ w))) e) (t.over refl)
+
+        all : length t.goes.more ≡ count
+        all =
+            let number = t.goes.number in
+            let left = t.left in
+            let begun = t.begun in
+            let each = t.each in
+            let empty : length a.back ≡ 0 = ap length t.back in
+            let more : length b.back ≡ length t.goes.more = ap length t.goes.back ∙ ap (λ l. length (l ++ t.goes.more)) t.back in
+            let none = none_left in
+            omega (arith, number, left, begun, each, empty, more, none)
+
+  -- by who started the threads, by whether the net failed, and by whether memory was wanting
+  pub tends : (a b : Moment N L) (count : ℕ) (s : Spawned) (starts later : ℕ) → Tended a b count s starts later → Tends count (tended_of s b.failed b.wants) (outer starts a.net) (outer later b.net)
+  tends a b count s starts later t = by s b.failed b.wants refl refl t
+    where
+      by : (s : Spawned) (failed wants : Bool) → b.failed ≡ failed → b.wants ≡ wants → Tended a b count s starts later → Tends count (tended_of s failed wants) (outer starts a.net) (outer later b.net)
+      by spawned.Failed failed wants f w t = let is = t.spawns in omega (arith, is)
+      by spawned.NoMemory failed wants f w t = tt
+      by spawned.All true wants f w t = ⊎_elim (λ (was : a.failed ≡ true). absurd (cc (sym t.failed ∙ was))) (λ (rose : faults_of a.net < faults_of b.net). rose) (t.goes.fails f)
+      by spawned.All false true f w t = tt
+      by spawned.All false false f w t = all_back a b count starts later t f w

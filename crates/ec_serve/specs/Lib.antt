@@ -1,0 +1,4 @@
+pub mod Links
+pub mod Goings
+pub mod Endings
+pub mod Serve

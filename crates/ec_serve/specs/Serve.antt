@@ -1,0 +1,162 @@
+-- What a server does with its disk and its net.
+use Rattle.std.specs.Prelude.{◌≡◌, ◌⊎◌, ◌≤◌, ◌<◌, ◌+◌, ℕ, Bool, true, false, List, [], ◌++◌, length, map, Some, None, Ok}
+use Rattle.std.specs.List.{All}
+use Rattle.ec_base.specs.Outside.{Rose}
+use Rattle.ec_base.specs.declared.counter.Counter.{Counter}
+use Rattle.ec_disk.specs.Disk.{View, Counts}
+use Rattle.ec_durable.specs.Durable.{formatted, steps}
+use Rattle.ec_durable.specs.WellFormed.{most_max_objects}
+use Rattle.ec_durable.specs.declared.state.Durable.{Durable}
+use Rattle.ec_durable.specs.declared.record.Record.{Record}
+use Rattle.ec_stands.specs.Stands.{StandsFor, IsBadAt}
+use Rattle.ec_wire.specs.declared.msg.Msg.{Msg}
+use Rattle.ec_protocol.specs.Server.{start}
+use Rattle.ec_protocol.specs.declared.server.Server.{Server}
+use Rattle.ec_server.specs.Servers.{standing}
+use Rattle.ec_server.specs.declared.server.Server.{Server as Own}
+use Rattle.ec_link.specs.Happenings.{total}
+use Rattle.ec_link.specs.Nets.{Ended}
+use Rattle.ec_link.specs.declared.spawn.Spawned.{Spawned}
+use Rattle.ec_link.specs.declared.spawn.Spawned.TheVariants as spawned
+use Rattle.ec_servernode.specs.declared.step.Halt.TheVariants as halt
+use Rattle.ec_servernode.specs.declared.step.Step.{Step}
+use Rattle.ec_servernode.specs.Run.{IsRun, halted, records, record_of, put_all, for_clerk}
+use Rattle.ec_servernode.specs.Node.{Chain, ChainInDoubt}
+use Rattle.ec_serve.specs.Links.{Back, IsOver}
+use Rattle.ec_serve.specs.declared.ending.Ending.{Ending}
+use Rattle.ec_serve.specs.declared.ending.Ending.TheVariants as ending
+use Rattle.ec_serve.specs.declared.ending.Tended.{Tended}
+use Rattle.ec_serve.specs.declared.ending.Tended.TheVariants as tended
+
+-- A disk is opened: an empty one is formatted, and any other one stands for the state.
+pub record Opens (tells : Type 0) (gives : List ℕ) (d : Durable) : Type 0 where
+  pub empty : tells → length gives ≡ 0 → d ≡ formatted most_max_objects
+  pub stands : tells → (length gives ≡ 0 → ⊥) → StandsFor gives d
+
+-- A disk stands for a state: what a read gives does, and each image that a crash may leave.
+pub record HoldsState (now : View) (state : Durable) : Type 0 where
+  pub gives : StandsFor now.gives state
+  pub crash : (image : List ℕ) → now.may_leave image → StandsFor image state
+
+-- a net and who starts threads, at one moment: how often each failed, the net's bad links, and those that came back
+pub record Outer : Type 0 where
+  pub faults : ℕ
+  pub bad : ℕ
+  pub ended : List Ended
+  pub starts : ℕ
+
+-- a disk, a net and who starts threads, before and after
+pub record Outside : Type 1 where
+  pub tells : Type 0
+  pub disk : View
+  pub disk_after : View
+  pub counts : Counts
+  pub counts_after : Counts
+  pub links : Outer
+  pub links_after : Outer
+
+-- So many links came and were given back, each closed, failed or refused.
+pub record AllBack (count : ℕ) (old new : Outer) : Type 0 where
+  pub links : List Back
+  pub number : length links ≡ count
+  pub ended : new.ended ≡ old.ended ++ map (λ l. l.0) links
+  pub bad : new.bad ≡ old.bad + total (λ l. l.1) links
+  pub over : All IsOver links
+
+abbrev pub tended_of : Spawned → Bool → Bool → Tended
+tended_of spawned.Failed failed wants = tended.NotStarted
+tended_of spawned.NoMemory failed wants = tended.Cut
+tended_of spawned.All true wants = tended.NetFailed
+tended_of spawned.All false true = tended.Cut
+tended_of spawned.All false false = tended.Done
+
+-- how the links of a server ended
+abbrev pub Tends : ℕ → Tended → Outer → Outer → Type 0
+Tends count tended.Done old new = AllBack count old new
+Tends count tended.NetFailed old new = old.faults < new.faults
+Tends count tended.NotStarted old new = old.starts < new.starts
+Tends count tended.Cut old new = Unit {0}
+
+-- A run of a server, which a spent counter ends.
+pub record RanOut (s : Server) (boxes : ℕ → List Msg) (n : Counter) : Type 0 where
+  pub run : List Step
+  pub is_run : IsRun s boxes run
+  pub spent : halted run ≡ Some (halt.Spent n)
+
+-- the outboxes of a server that was just started
+abbrev pub boxes_of : List (ℕ × Msg) → ℕ → List Msg
+boxes_of sent c = put_all [] (for_clerk c sent)
+
+-- the counter is to pass its limit in the start of a server on this state, or in a step of its run
+abbrev pub Spends : Durable → Counter → Type 0
+Spends d n = ((start d).spent ≡ Some n) ⊎ RanOut (start d).server (boxes_of (start d).sent) n
+
+-- Why a server ends so: what is known where all links have come and gone, and where a counter is spent.
+abbrev pub EndsAs : Type 0 → (Counter → Type 0) → ℕ → ℕ → Outer → Outer → Ending → Type 0
+EndsAs Whole Spends faults later old new ending.Done = Whole
+EndsAs Whole Spends faults later old new ending.DiskFailed = Rose faults later
+EndsAs Whole Spends faults later old new (ending.BadDisk place) = ⊥
+EndsAs Whole Spends faults later old new ending.NetFailed = old.faults < new.faults
+EndsAs Whole Spends faults later old new ending.NoMemory = Unit {0}
+EndsAs Whole Spends faults later old new ending.NotStarted = old.starts < new.starts
+EndsAs Whole Spends faults later old new (ending.Spent n) = Spends n
+
+module _ {K : Type 0} (kept : K → Durable) (counts : K → Counts) (did breaks : K → Record → K → Type 0) where
+  -- what is told of the keeper, however a server ends
+  pub record KeeperEnds (old new : K) : Type 0 where
+    pub records : List Record
+    pub doubt : ChainInDoubt did breaks records old new
+    pub faults : (counts old).faults ≤ (counts new).faults
+    pub stops : (counts old).stops ≤ (counts new).stops
+
+  -- A run of the server, whose records were committed one after the other.
+  pub record RanWhole (s : Server) (boxes : ℕ → List Msg) (before : List Record) (old new : K) : Type 0 where
+    pub run : List Step
+    pub is_run : IsRun s boxes run
+    pub up : halted run ≡ None
+    pub chain : Chain did (before ++ records run) old new
+
+  -- A server in this state ends so.
+  abbrev pub Ran : Server → (ℕ → List Msg) → ℕ → Ending → K → K → Outer → Outer → Type 0
+  Ran s boxes count end old new links later =
+      KeeperEnds old new × EndsAs (RanWhole s boxes [] old new × AllBack count links later) (λ n. RanOut s boxes n) (counts old).faults (counts new).faults links later end
+
+  -- a server that was just started, which sent this
+  abbrev pub RanFrom : Own → List (ℕ × Msg) → ℕ → Ending → K → K → Outer → Outer → Type 0
+  RanFrom server sent count end old new links later = Ran (standing (kept old) server) (boxes_of sent) count end old new links later
+
+  -- a server that is started first
+  abbrev pub EndsBy : ℕ → Ending → K → K → Outer → Outer → Type 0
+  EndsBy count end old new links later =
+      KeeperEnds old new
+      × EndsAs (RanWhole (start (kept old)).server (boxes_of (start (kept old)).sent) (record_of (start (kept old)).rec) old new × AllBack count links later) (λ n. Spends (kept old) n) (counts old).faults (counts new).faults links later end
+
+-- A run of a server from this state, and what stands on the disk behind it: the fold of its records.
+pub record RanOn (d : Durable) (tells : Type 0) (now : View) : Type 0 where
+  pub run : List Step
+  pub is_run : IsRun (start d).server (boxes_of (start d).sent) run
+  pub up : halted run ≡ None
+  pub final : Durable
+  pub folded : steps (record_of (start d).rec ++ records run) d ≡ Ok final
+  pub disk : tells → HoldsState now final
+
+abbrev pub ServesOn : Durable → ℕ → Ending → Outside → Type 0
+ServesOn d count end w = EndsAs (RanOn d w.tells w.disk_after × AllBack count w.links w.links_after) (λ n. Spends d n) w.counts.faults w.counts_after.faults w.links w.links_after end
+
+-- the disk isn't empty, stands for no state, and this is its first bad place
+abbrev pub IsBad : Outside → ℕ → Type 0
+IsBad w place = w.tells → (length w.disk.gives ≡ 0 → ⊥) × IsBadAt w.disk.gives place
+
+-- the disk was opened: it's none that is bad
+abbrev pub IsOpened : Outside → Type 0
+IsOpened w = (d : Durable) × Opens w.tells w.disk.gives d
+
+-- Each ending, by its causes. Where all links have come and gone, the disk stands for the fold of the records of one server run from the state that was opened.
+abbrev pub Serves : ℕ → Ending → Outside → Type 0
+Serves count (ending.BadDisk place) w = IsBad w place
+Serves count ending.DiskFailed w = Rose w.counts.faults w.counts_after.faults
+Serves count ending.NetFailed w = IsOpened w × (w.links.faults < w.links_after.faults)
+Serves count ending.NoMemory w = Unit {0}
+Serves count ending.NotStarted w = IsOpened w × (w.links.starts < w.links_after.starts)
+Serves count ending.Done w = (d : Durable) × Opens w.tells w.disk.gives d × RanOn d w.tells w.disk_after × AllBack count w.links w.links_after
+Serves count (ending.Spent n) w = (d : Durable) × Opens w.tells w.disk.gives d × Spends d n

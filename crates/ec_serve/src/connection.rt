@@ -1,0 +1,162 @@
+// One link of a server, which is served in a thread of its own.
+ghost use Rattle.std.specs.Prelude.{◌≡◌, ◌≤◌, IfSome};
+ghost use Rattle.ec_servernode.specs.Turns.{IsServerPass};
+ghost use Rattle.ec_serve.specs.Links.{IsOverBy, is_over, EndsSo};
+
+use crate::bells::Bells;
+use crate::telling::tell_end;
+use ec_base::NoMemory;
+use ec_link::{Around, Bell, Link, NetFault};
+use ec_server::Keeper;
+use ec_servernode::{ServeFault, ServerPass, SharedServer, Turned};
+use std::io::Eprint;
+use std::sync::Arc;
+
+/// A link that is to be served.
+#[derive(Drop)]
+pub struct Connection<'s, 'b, K: Keeper + Drop, L: Link + Drop> {
+    pub server: &'s SharedServer<K>,
+    pub bells: &'b Bells<L::Bell>,
+    pub number: u64,
+    pub pass: ServerPass<K>,
+    pub link: L,
+}
+
+/// A link that isn't served any more.
+#[derive(Drop)]
+pub struct Ended<K: Keeper + Drop, L: Link + Drop> {
+    pub pass: ServerPass<K>,
+    pub link: L,
+    /// It was closed, or failed, or gave what is no message. Else the server is down, or memory was wanting.
+    pub is_over: bool,
+}
+
+/// Serves the link to its end, or until the server is down.
+pub fn serve_connection<K: Keeper + Drop, L: Link + Drop, R: Around + Eprint>(
+    rt: &R,
+    connection: Connection<'_, '_, K, L>,
+) -> Ended<K, L>
+    requires { IsServerPass K.kept connection.server.now.lock connection.pass.pass connection.pass.clerk }
+    ensures { IsServerPass K.kept connection.entry.server.now.lock result.pass.pass result.pass.clerk × EndsSo L.faults L.closes L.given result.is_over result.link }
+{
+    let Connection {
+        server,
+        bells,
+        number,
+        mut pass,
+        mut link,
+    } = connection;
+    let end = serve_link(rt, server, bells, number, &mut pass, &mut link);
+    let is_over = is_over(&end);
+    tell_end(rt, number, &end);
+    link.hang_up();
+    if !is_over {
+        bells.close(rt);
+    }
+    Ended {
+        pass,
+        link,
+        is_over,
+    }
+}
+
+// Whether the link is at its end, and nothing else.
+fn is_over(end: &Result<(), ServeFault>) -> bool
+    ensures { result ≡ is_over end.now }
+{
+    match end {
+        Ok(()) => true,
+        Err(ServeFault::Net | ServeFault::Peer(_) | ServeFault::Long(_)) => true,
+        Err(_) => false,
+    }
+}
+
+// Serves the link to its end, or until the server is down.
+fn serve_link<K: Keeper + Drop, L: Link, R: Around>(
+    rt: &R,
+    server: &SharedServer<K>,
+    bells: &Bells<L::Bell>,
+    number: u64,
+    pass: &mut ServerPass<K>,
+    link: &mut L,
+) -> Result<(), ServeFault>
+    requires pass { IsServerPass K.kept server.now.lock pass.old.pass pass.old.clerk }
+    ensures pass { IsServerPass K.kept server.now.lock pass.new.pass pass.new.clerk }
+    ensures over { IsOverBy (L.faults link.new) (L.closes link.new) (L.given link.new) result }
+{
+    let bell = match link.bell(rt) {
+        Ok(bell) => bell,
+        Err(NetFault::Failed) => return Err(ServeFault::Net),
+        Err(NetFault::NoMemory) => return Err(ServeFault::NoMemory),
+    };
+    let Ok(bell) = Arc::new(rt.alloc(), bell) else {
+        return Err(ServeFault::NoMemory);
+    };
+    if add_bell(rt, bells, number, &bell).is_err() {
+        return Err(ServeFault::NoMemory);
+    }
+    let end = take_turns(rt, server, bells, number, &*bell, pass, link);
+    bells.remove(rt, number);
+    end
+}
+
+fn add_bell<B: Bell + Drop, R: Around>(
+    rt: &R,
+    bells: &Bells<B>,
+    number: u64,
+    bell: &Arc<B>,
+) -> Result<(), NoMemory> {
+    bells.add(rt, number, Arc::try_clone(bell)?)
+}
+
+// Takes turns with the link until it's at its end.
+fn take_turns<K: Keeper + Drop, L: Link, R: Around>(
+    rt: &R,
+    server: &SharedServer<K>,
+    bells: &Bells<L::Bell>,
+    number: u64,
+    bell: &L::Bell,
+    pass: &mut ServerPass<K>,
+    link: &mut L,
+) -> Result<(), ServeFault>
+    requires pass { IsServerPass K.kept server.now.lock pass.old.pass pass.old.clerk }
+    ensures pass { IsServerPass K.kept server.now.lock pass.new.pass pass.new.clerk }
+    ensures over { IsOverBy (L.faults link.new) (L.closes link.new) (L.given link.new) result }
+{
+    for _ in rt.forever() {
+        if let Some(end) = turn(rt, server, bells, number, bell, pass, link) {
+            return end;
+        }
+    }
+    unreachable!()
+}
+
+// One turn with the link. Where there is nothing to do it waits for the bell, outside of every lock.
+fn turn<K: Keeper + Drop, L: Link, R: Around>(
+    rt: &R,
+    server: &SharedServer<K>,
+    bells: &Bells<L::Bell>,
+    number: u64,
+    bell: &L::Bell,
+    pass: &mut ServerPass<K>,
+    link: &mut L,
+) -> Option<Result<(), ServeFault>>
+    requires pass { IsServerPass K.kept server.now.lock pass.old.pass pass.old.clerk }
+    ensures pass { IsServerPass K.kept server.now.lock pass.new.pass pass.new.clerk }
+    ensures over { IfSome result (λ end. IsOverBy (L.faults link.new) (L.closes link.new) (L.given link.new) end) }
+{
+    let seen = bell.rings();
+    match server.serve_one(rt, pass, link) {
+        Ok(Turned::Took(told)) => {
+            bells.ring(rt, number, pass.clerk(), told);
+            None
+        }
+        Ok(Turned::Gave) => None,
+        Ok(Turned::Idle | Turned::Busy) => {
+            bell.wait(rt, seen);
+            None
+        }
+        Ok(Turned::Closed) => Some(Ok(())),
+        Err(fault) => Some(Err(fault)),
+    }
+}

@@ -1,0 +1,151 @@
+// The links that come to a server.
+ghost use Rattle.std.specs.Prelude.{◌≡◌, ◌⊎◌, ◌+◌, ◌<◌, length, true, false, IfSome, IfNone};
+ghost use Rattle.ec_link.specs.Spawns.{taken};
+ghost use Rattle.ec_servernode.specs.Turns.{IsServerPass};
+ghost use Rattle.ec_serve.specs.Links.{EndsSo, back_of, moment, GoesOn};
+
+use crate::bells::Bells;
+use crate::connection::{Connection, Ended};
+use crate::telling::tell_begin;
+use ec_link::{Around, Link, Net, NetFault};
+use ec_server::Keeper;
+use ec_servernode::{ServerPass, SharedServer};
+use ec_trace::Trace;
+use std::io::Eprint;
+use std::snapshot::Snapshot;
+
+/// The links that are to come at one door, and those that came.
+#[derive(Drop)]
+pub struct Connections<'s, 'b, K: Keeper + Drop, N: Net> {
+    pub server: &'s SharedServer<K>,
+    pub bells: &'b Bells<<N::Link as Link>::Bell>,
+    pub door: N::Door,
+    pub pass: ServerPass<K>,
+    /// So many links are still to come.
+    pub left: u32,
+    /// The number of the last link that came.
+    pub number: u64,
+    /// The net failed.
+    pub failed: bool,
+    /// Memory was wanting, or the server is down.
+    pub wants: bool,
+    pub begun: Trace<u64>,
+    pub back: Trace<Snapshot<N::Link>>,
+}
+
+impl<'s, 'b, K: Keeper + Drop, N: Net> Connections<'s, 'b, K, N> {
+    // A link came. Where the server is down, it isn't served.
+    fn begin<R: Around + Eprint>(
+        &mut self,
+        rt: &R,
+        link: N::Link,
+    ) -> Option<Connection<'s, 'b, K, N::Link>>
+        requires pass { IsServerPass K.kept self.old.server.now.lock self.old.pass.pass self.old.pass.clerk }
+        requires left { 0 < self.old.left }
+        ensures server { self.new.server ≡ self.old.server }
+        ensures others { (self.new.back ≡ self.old.back) × (self.new.failed ≡ self.old.failed) }
+        ensures pass { IsServerPass K.kept self.old.server.now.lock self.new.pass.pass self.new.pass.clerk }
+        ensures left { self.new.left + length self.new.begun.items ≡ self.old.left + length self.old.begun.items }
+        ensures begun { length self.new.begun.items ≡ length self.old.begun.items + taken result }
+        ensures wants { self.new.wants ≡ false → self.old.wants ≡ false }
+        ensures none { IfNone result (self.new.wants ≡ true) }
+        ensures some { IfSome result (λ c. (c.server ≡ self.old.server) × IsServerPass K.kept self.old.server.now.lock c.pass.pass c.pass.clerk) }
+    {
+        if self.bells.is_over() {
+            self.wants = true;
+            return None;
+        }
+        let Some(pass) = self.server.split(rt, &mut self.pass) else {
+            self.wants = true;
+            return None;
+        };
+        self.left -= 1;
+        self.number = self.number.saturating_add(1);
+        self.begun = self.begun.and(&self.number);
+        tell_begin(rt, self.number);
+        Some(Connection {
+            server: self.server,
+            bells: self.bells,
+            number: self.number,
+            pass,
+            link,
+        })
+    }
+
+    // Gives a link back.
+    fn give_back(&mut self, net: &mut N, link: N::Link, is_over: bool)
+        requires over { EndsSo N.Link.faults N.Link.closes N.Link.given is_over link }
+        ensures server { (self.new.server ≡ self.old.server) × (self.new.pass ≡ self.old.pass) }
+        ensures others { (self.new.left ≡ self.old.left) × (self.new.begun ≡ self.old.begun) × (self.new.failed ≡ self.old.failed) }
+        ensures back { length self.new.back.items ≡ length self.old.back.items + 1 }
+        ensures wants { self.old.wants ≡ true → self.new.wants ≡ true }
+        ensures goes { GoesOn N.faults N.bad N.ended (back_of N.Link.faults N.Link.closes N.Link.given N.Link.got)
+            (moment net.old self.old.left self.old.begun.items self.old.back.items self.old.failed self.old.wants)
+            (moment net.new self.new.left self.new.begun.items self.new.back.items self.new.failed self.new.wants) }
+    {
+        self.back = self.back.and(&Snapshot::of(&link));
+        match net.back(link) {
+            Ok(()) => self.wants = self.wants || !is_over,
+            Err(_) => self.wants = true,
+        }
+    }
+
+    /// The next link, or `None` where no further one comes.
+    pub fn next<R: Around + Eprint>(
+        &mut self,
+        rt: &R,
+        net: &mut N,
+    ) -> Option<Connection<'s, 'b, K, N::Link>>
+        requires pass { IsServerPass K.kept self.old.server.now.lock self.old.pass.pass self.old.pass.clerk }
+        ensures pass { IsServerPass K.kept self.new.server.now.lock self.new.pass.pass self.new.pass.clerk }
+        ensures server { self.new.server ≡ self.old.server }
+        ensures goes { GoesOn N.faults N.bad N.ended (back_of N.Link.faults N.Link.closes N.Link.given N.Link.got)
+            (moment net.old self.old.left self.old.begun.items self.old.back.items self.old.failed self.old.wants)
+            (moment net.new self.new.left self.new.begun.items self.new.back.items self.new.failed self.new.wants) }
+        ensures begun { length self.new.begun.items ≡ length self.old.begun.items + taken result }
+        ensures back { self.new.back ≡ self.old.back }
+        ensures none { IfNone result ((self.new.left ≡ 0) ⊎ ((self.new.failed ≡ true) ⊎ (self.new.wants ≡ true))) }
+        ensures some { IfSome result (λ c. (c.server ≡ self.old.server) × IsServerPass K.kept self.old.server.now.lock c.pass.pass c.pass.clerk) }
+    {
+        if self.left == 0 {
+            return None;
+        }
+        if self.bells.is_over() {
+            self.wants = true;
+            return None;
+        }
+        match net.accept(rt, &mut self.door) {
+            Ok(link) => self.begin(rt, link),
+            Err(NetFault::Failed) => {
+                self.failed = true;
+                None
+            }
+            Err(NetFault::NoMemory) => {
+                self.wants = true;
+                None
+            }
+        }
+    }
+
+    /// A link isn't served any more: its pass goes into the server's own, and the net gets it back.
+    pub fn done(&mut self, net: &mut N, out: Ended<K, N::Link>)
+        requires pass { IsServerPass K.kept self.old.server.now.lock self.old.pass.pass self.old.pass.clerk }
+        requires out { IsServerPass K.kept self.old.server.now.lock out.pass.pass out.pass.clerk × EndsSo N.Link.faults N.Link.closes N.Link.given out.is_over out.link }
+        ensures pass { IsServerPass K.kept self.new.server.now.lock self.new.pass.pass self.new.pass.clerk }
+        ensures server { self.new.server ≡ self.old.server }
+        ensures goes { GoesOn N.faults N.bad N.ended (back_of N.Link.faults N.Link.closes N.Link.given N.Link.got)
+            (moment net.old self.old.left self.old.begun.items self.old.back.items self.old.failed self.old.wants)
+            (moment net.new self.new.left self.new.begun.items self.new.back.items self.new.failed self.new.wants) }
+        ensures others { (self.new.left ≡ self.old.left) × (self.new.begun ≡ self.old.begun) × (self.new.failed ≡ self.old.failed) }
+        ensures back { length self.new.back.items ≡ length self.old.back.items + 1 }
+        ensures wants { self.old.wants ≡ true → self.new.wants ≡ true }
+    {
+        let Ended {
+            pass,
+            link,
+            is_over,
+        } = out;
+        self.server.join(&mut self.pass, pass);
+        self.give_back(net, link, is_over);
+    }
+}

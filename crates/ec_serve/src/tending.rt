@@ -1,0 +1,83 @@
+// The links of a server, from the first to the last.
+ghost use Rattle.std.specs.Prelude.{◌≡◌, ◌≤◌};
+ghost use mathlib.Core.List.{IsPrefix};
+ghost use Rattle.ec_lock.specs.Passes.{front};
+ghost use Rattle.ec_link.specs.Spawns.{faults_of};
+ghost use Rattle.ec_link.specs.declared.spawn.Spawned.TheVariants as spawned;
+ghost use Rattle.ec_servernode.specs.Turns.{IsServerPass};
+ghost use Rattle.ec_serve.specs.Serve.{Tends, tended_of};
+
+use crate::bells::Bells;
+use crate::connections::Connections;
+use crate::ending::Tended;
+use crate::telling::tell_door;
+use crate::threads::run_all;
+use ec_link::{Around, Net, NetFault, Spawned, Spawner};
+use ec_server::Keeper;
+use ec_servernode::{ServerPass, SharedServer};
+use ec_trace::Trace;
+use std::io::Eprint;
+
+/// Serves so many links that come at the address, each in a thread of its own.
+pub fn tend<K: Keeper + Send + Drop, N: Net, R: Around + Eprint>(
+    rt: &R,
+    server: &SharedServer<K>,
+    pass: &mut ServerPass<K>,
+    net: &mut N,
+    spawner: &mut Spawner,
+    addr: &str,
+    count: u32,
+) -> Tended
+    requires pass { IsServerPass K.kept server.now.lock pass.old.pass pass.old.clerk }
+    ensures pass { IsServerPass K.kept server.now.lock pass.new.pass pass.new.clerk }
+    ensures later { (N.faults net.old ≤ N.faults net.new) × (faults_of spawner.old ≤ faults_of spawner.new) }
+    ensures tends { Tends count result
+        (record { faults = N.faults net.old; bad = N.bad net.old; ended = N.ended net.old; starts = faults_of spawner.old })
+        (record { faults = N.faults net.new; bad = N.bad net.new; ended = N.ended net.new; starts = faults_of spawner.new }) }
+{
+    let Ok(bells) = Bells::new(rt.alloc()) else {
+        return Tended::Cut;
+    };
+    let door = match net.listen(rt, addr) {
+        Ok(door) => door,
+        Err(NetFault::Failed) => return Tended::NetFailed,
+        Err(NetFault::NoMemory) => return Tended::Cut,
+    };
+    tell_door(rt, addr);
+    let Some(own) = server.split(rt, pass) else {
+        return Tended::Cut;
+    };
+    let mut connections = Connections {
+        server,
+        bells: &bells,
+        door,
+        pass: own,
+        left: count,
+        number: 0,
+        failed: false,
+        wants: false,
+        begun: Trace::new(),
+        back: Trace::new(),
+    };
+    let ran = run_all(rt, spawner, net, &mut connections);
+    tended_of(ran.spawned, ran.failed, ran.wants)
+}
+
+// How the links ended, by who started the threads, by whether the net failed, and by whether memory was wanting.
+fn tended_of(spawned: Spawned, failed: bool, wants: bool) -> Tended
+    ensures { result ≡ tended_of spawned failed wants }
+{
+    match spawned {
+        Spawned::Failed => Tended::NotStarted,
+        Spawned::NoMemory => Tended::Cut,
+        Spawned::All => {
+            if failed {
+                Tended::NetFailed
+            } else if wants {
+                Tended::Cut
+            } else {
+                Tended::Done
+            }
+        }
+    }
+}
