@@ -1,0 +1,6 @@
+pub mod Causes
+pub mod Passing
+pub mod Running
+pub mod Texts
+pub mod Rows
+pub mod Endings

@@ -1,0 +1,188 @@
+-- From the shared clerk to what the net has of its run.
+use Rattle.std.proofs.Common.{◌≡◌, ◌<◌, ◌+◌, ℕ, List, [], ◌∷◌, ◌++◌, length, map, take, Option, Some, None, Result, Ok, Err, IfSome, refl, sym, ap, ◌∙◌, subst, inl, inr, ⊎_elim, arith}
+use mathlib.Core.List.{IsPrefix}
+use Rattle.ec_base.specs.declared.ids.Age.{Age}
+use Rattle.ec_plain.specs.declared.call.Call.{Call}
+use Rattle.ec_protocol.specs.Clerk.{start}
+use Rattle.ec_protocol.specs.declared.clerk.Clerk.{Clerk}
+use Rattle.ec_protocol.specs.declared.clerk.Out.{Out}
+use Rattle.ec_lock.specs.Passes.{front, numbers}
+use Rattle.ec_lock.specs.Steps.{Member, of}
+use Rattle.ec_lock.specs.declared.types.Pass.{Pass}
+use Rattle.ec_lock.specs.declared.types.TracedLock.{TracedLock}
+use Rattle.ec_link.specs.Links.{Heard, added}
+use Rattle.ec_link.specs.Nets.{is_bad, IsEmpty}
+use Rattle.ec_clerknode.specs.declared.fault.NodeFault.{NodeFault}
+use Rattle.ec_clerknode.specs.declared.fault.NodeFault.TheVariants as fault
+use Rattle.ec_clerknode.specs.declared.state.Node.{Node}
+use Rattle.ec_clerknode.specs.declared.step.Step.{Step}
+use Rattle.ec_clerknode.specs.Run.{Reply, IsRun, calls, encoded, sends, heard_by, said_by, told_by, old_boot}
+use Rattle.ec_clerknode.specs.Turns.{number_of, Finished}
+use Rattle.ec_clerknode.proofs.Lists.{prefix_trans}
+use Rattle.ec_clerknode.proofs.Told.{added-added, added-nil}
+use Rattle.ec_mount.specs.Run.{NetSeen, Ran, Holds, Has, Met, Lost, Spends, Unheard}
+use Rattle.ec_mount.specs.Run as run
+use Rattle.ec_mount.specs.Calls.{HoldsAll, CallsEnd, Called}
+use Rattle.ec_mount.specs.Work.{Given, LinkSeen, RanOver, Tells, UnlessWanting, Concludes, RunsOver, WorksOver, Works}
+use Rattle.ec_mount.proofs.Causes.{has_longer, net_counted}
+
+-- a link, by what is told of it
+abbrev pub seen_of : {L : Type 0} → (L → ℕ) → (L → Option (List Heard)) → (L → Option (List (List ℕ))) → L → LinkSeen
+seen_of counts given got l = record { counts = counts l; given = given l; got = got l }
+
+-- The shared clerk is closed.
+
+module _ {L : Type 0} (lock : TracedLock (Node L) Step) (old called closed : Pass (Node L) Step) (lanes : List (List Call)) (made : Result (List (List Reply) × Reply) NodeFault) (c : Called lock old lanes called made)
+    (zero : old.number ≡ 0) (later : IsPrefix (front called) (front closed)) (own : (n : ℕ) → Member n (numbers called) → of number_of n (front called) ≡ of number_of n (front closed))
+    (mine : Member called.number (numbers called)) where
+  is_zero : called.number ≡ 0
+  is_zero = c.number ∙ zero
+
+  module _ (all : List (List Reply)) (last : Reply) (h : HoldsAll lock called lanes all last) where
+    holds_closed : Holds called.number lanes (front closed) all last
+    holds_closed = let k = h.holds in record {
+      passes = k.passes;
+      distinct = k.distinct;
+      other = k.other;
+      before = k.before;
+      ran = k.ran;
+      idle = k.idle;
+      synced = k.synced;
+      lanes_done = k.lanes_done;
+      first_then = k.first_then;
+      sync = k.sync;
+      later = prefix_trans k.synced (front called) (front closed) k.later later;
+      lanes_once = λ n m. k.lanes_once n m ∙ own n (h.within n m);
+      sync_once = sym (ap calls (own called.number mine)) ∙ k.sync_once;
+    }
+
+    pub holds_all : Holds 0 lanes (front closed) all last
+    holds_all = subst (λ n. Holds n lanes (front closed) all last) is_zero holds_closed
+
+  module _ (told : List (List ℕ)) (told_is : told ≡ told_by (front closed)) (boot : Option Age) (boot_is : boot ≡ old_boot (front closed)) where
+    told_more : (none : boot ≡ None) (f : NodeFault) → Has f (front called) → Tells lanes (front closed) (Err f)
+    told_more none fault.Net h = (sym boot_is ∙ none, has_longer (front called) (front closed) later fault.Net h)
+    told_more none (fault.Peer why) h = (sym boot_is ∙ none, has_longer (front called) (front closed) later (fault.Peer why) h)
+    told_more none (fault.Long n) h = (sym boot_is ∙ none, has_longer (front called) (front closed) later (fault.Long n) h)
+    told_more none (fault.OldBoot age) h = has_longer (front called) (front closed) later (fault.OldBoot age) h
+    told_more none (fault.Spent k) h = (sym boot_is ∙ none, has_longer (front called) (front closed) later (fault.Spent k) h)
+    told_more none fault.NoMemory h = tt
+
+    told_all : (none : boot ≡ None) (r : Result (List (List Reply) × Reply) NodeFault) → CallsEnd lock called lanes r → (result : Result Given NodeFault) → (k : Clerk) → Concludes (Some k) told None r result → Tells lanes (front closed) result
+    told_all none (Ok r) d result k e = subst (Tells lanes (front closed)) (sym e) (sym boot_is ∙ none, holds_all r.0 r.1 d, told_is)
+    told_all none (Err f) d result k e = subst (Tells lanes (front closed)) (sym e) (told_more none f d)
+
+    tells : (k : Clerk) (result : Result Given NodeFault) (b : Option Age) → boot ≡ b → Concludes (Some k) told b made result → Tells lanes (front closed) result
+    tells k result None e h = told_all e made c.done result k h
+    tells k result (Some age) e h = subst (Tells lanes (front closed)) (sym h) (sym boot_is ∙ e)
+
+  unless : {A : Type 0} (r : Result A NodeFault) (P : Type 0) → P → UnlessWanting r P
+  unless (Ok x) P p = p
+  unless (Err fault.Net) P p = p
+  unless (Err (fault.Peer why)) P p = p
+  unless (Err (fault.Long n)) P p = p
+  unless (Err (fault.OldBoot age)) P p = p
+  unless (Err (fault.Spent k)) P p = p
+  unless (Err fault.NoMemory) P p = tt
+
+  module _ (counts : L → ℕ) (given : L → Option (List Heard)) (got : L → Option (List (List ℕ))) (first : Node L) (clerk : Clerk) (link back : L) (is_clerk : first.clerk ≡ clerk) (is_link : first.link ≡ link) where
+    ran_over : (k : Clerk) → Finished counts given got first (front closed) (Some k) back → RanOver clerk [] (seen_of counts given got link) (seen_of counts given got back) (front closed)
+    ran_over k f =
+        let net = f.1 in
+        record {
+          run = subst (λ x. IsRun x (front closed)) is_clerk f.0;
+          counted = omega (arith, net);
+          heard = f.3.1 ∙ ap (λ l. added (given l) (heard_by (front closed))) is_link;
+          sent = f.2 ∙ ap (λ l. added (got l) (said_by (front closed))) is_link;
+        }
+
+    pub runs_over : (k : Option Clerk) (told : List (List ℕ)) (boot : Option Age) (result : Result Given NodeFault) → Finished counts given got first (front closed) k back → IfSome k (λ _. told ≡ told_by (front closed)) → boot ≡ old_boot (front closed)
+        → Concludes k told boot made result → RunsOver clerk [] lanes (seen_of counts given got link) (seen_of counts given got back) result
+    runs_over None told boot result f t b h = subst (λ r. RunsOver clerk [] lanes (seen_of counts given got link) (seen_of counts given got back) r) (sym h) tt
+    runs_over (Some k) told boot result f t b h = unless result _ (front closed, ran_over k f, tells told t boot b k result boot refl h)
+
+-- Over a link that has greeted.
+
+module _ (clerk : Clerk) (outs : List Out) (lanes : List (List Call)) (old mid new : LinkSeen) (same : mid.given ≡ old.given) (sent : mid.got ≡ added old.got (map encoded (sends outs))) where
+  behind : (steps : List Step) → RanOver clerk [] mid new steps → RanOver clerk outs old new steps
+  behind steps r = record {
+    run = r.run;
+    counted = r.counted;
+    heard = r.heard ∙ ap (λ g. added g (heard_by steps)) same;
+    sent = r.sent ∙ (ap (λ g. added g (said_by steps)) sent ∙ added-added old.got (map encoded (sends outs)) (said_by steps));
+  }
+
+  pub greeted : (result : Result Given NodeFault) → RunsOver clerk [] lanes mid new result → RunsOver clerk outs lanes old new result
+  greeted (Ok x) r = (r.0, behind r.0 r.1, r.2)
+  greeted (Err fault.Net) r = (r.0, behind r.0 r.1, r.2)
+  greeted (Err (fault.Peer why)) r = (r.0, behind r.0 r.1, r.2)
+  greeted (Err (fault.Long n)) r = (r.0, behind r.0 r.1, r.2)
+  greeted (Err (fault.OldBoot age)) r = (r.0, behind r.0 r.1, r.2)
+  greeted (Err (fault.Spent k)) r = (r.0, behind r.0 r.1, r.2)
+  greeted (Err fault.NoMemory) r = tt
+
+-- Over the net.
+
+told_from : {A : Type 0} (o p : Option (List A)) (xs : List A) → IsEmpty o → p ≡ added o xs → run.Tells p xs
+told_from None p xs e is = subst (λ q. run.Tells q xs) (sym is) tt
+told_from (Some ys) p xs e is = subst (λ q. run.Tells q xs) (sym is) (ap (λ l. l ++ xs) e)
+
+bad_of : (faults closes : ℕ) → 0 < faults + closes → is_bad faults closes ≡ 1
+bad_of faults closes h = grind (arith, h)
+
+module _ (id boot : ℕ) (clerk : Clerk) (outs : List Out) (lanes : List (List Call)) (before after : NetSeen) (faults closes : ℕ) (old new : LinkSeen)
+    (starts : start id boot ≡ record { clerk = clerk; outs = outs; spent = None }) (none_given : IsEmpty old.given) (none_got : IsEmpty old.got) (counts : new.counts ≡ faults + closes)
+    (bad : after.bad ≡ before.bad + is_bad faults closes) (ended : after.ended ≡ before.ended ++ (new.given, new.got) ∷ []) where
+  ran : (steps : List Step) → RanOver clerk outs old new steps → Ran id boot before after steps
+  ran steps r = record {
+    clerk = clerk;
+    outs = outs;
+    starts = starts;
+    run = r.run;
+    given = new.given;
+    got = new.got;
+    ended = ended;
+    heard = told_from old.given new.given (heard_by steps) none_given r.heard;
+    sent = told_from old.got new.got (map encoded (sends outs) ++ said_by steps) none_got r.sent;
+  }
+
+  rose : 0 < new.counts → before.bad < after.bad
+  rose h = omega (arith, bad, bad_of faults closes (omega (arith, counts)))
+
+  met : (steps : List Step) (f : NodeFault) → RanOver clerk outs old new steps → old_boot steps ≡ None → Has f steps → Met id boot before after f
+  met steps f r none h = record { steps = steps; ran = ran steps r; old_boot = none; has = h }
+
+  worked : (result : Result Given NodeFault) → RunsOver clerk outs lanes old new result → Works id boot lanes before after result
+  worked (Ok x) r = (r.0, ran r.0 r.1, r.2)
+  worked (Err fault.Net) r = let few = r.1.counted in let one = net_counted r.0 r.2.1 in inr (rose (omega arith), inr (met r.0 fault.Net r.1 r.2.0 r.2.1))
+  worked (Err (fault.Peer why)) r = met r.0 (fault.Peer why) r.1 r.2.0 r.2.1
+  worked (Err (fault.Long n)) r = met r.0 (fault.Long n) r.1 r.2.0 r.2.1
+  worked (Err (fault.OldBoot age)) r = (r.0, ran r.0 r.1, r.2)
+  worked (Err (fault.Spent k)) r = inr (met r.0 (fault.Spent k) r.1 r.2.0 r.2.1)
+  worked (Err fault.NoMemory) r = tt
+
+  unheard : new.given ≡ old.given → Unheard before after
+  unheard e = (new.given, new.got, ended, told_from old.given new.given [] none_given (e ∙ sym (added-nil old.given)))
+
+  pub works : (result : Result Given NodeFault) → WorksOver clerk outs lanes old new result → Works id boot lanes before after result
+  works result h =
+      ⊎_elim
+      (λ (a : (result ≡ Err fault.Net) × (0 < new.counts) × (new.given ≡ old.given)). subst (Works id boot lanes before after) (sym a.0) (inr (rose a.1, inl (unheard a.2))))
+      (λ (b : RunsOver clerk outs lanes old new result). worked result b)
+      h
+
+-- Over a link that greeted first.
+
+take_all : {A : Type 0} (xs : List A) → take (length xs) xs ≡ xs
+take_all [] = refl
+take_all (x ∷ xs) = ap (λ l. x ∷ l) (take_all xs)
+
+pub sent_all : (n : ℕ) (old bell new : Option (List (List ℕ))) (outs shown : List Out) → shown ≡ outs → bell ≡ old → new ≡ added bell (map encoded (take n (sends shown))) → n ≡ length (sends shown) → new ≡ added old (map encoded (sends outs))
+sent_all n old bell new outs shown same was e is =
+    subst (λ o. new ≡ added o (map encoded (sends outs))) was
+    (subst (λ l. new ≡ added bell (map encoded (sends l))) same (e ∙ ap (λ l. added bell (map encoded l)) (ap (λ k. take k (sends shown)) is ∙ take_all (sends shown))))
+
+-- what a run says that came back
+pub some_greeted : {L A : Type 0} (P Q : L → Result Given NodeFault → Type 0) (made : A → Result Given NodeFault) (o : Option (L × A)) → ((l : L) (r : Result Given NodeFault) → P l r → Q l r) → IfSome o (λ r. P r.0 (made r.1)) → IfSome o (λ r. Q r.0 (made r.1))
+some_greeted P Q made None f p = tt
+some_greeted P Q made (Some r) f p = f r.0 (made r.1) p

@@ -1,0 +1,7 @@
+pub mod Script
+pub mod Shown
+pub mod Run
+pub mod Mount
+pub mod Calls
+pub mod Work
+pub mod Writes

@@ -1,0 +1,110 @@
+-- The run of a mounted clerk, and what the net has of it.
+use Rattle.std.specs.Prelude.{◌≡◌, ◌<◌, ◌⊎◌, ℕ, List, [], ◌∷◌, ◌++◌, map, Option, Some, None}
+use mathlib.Core.List.{IsPrefix}
+use Rattle.ec_base.specs.declared.counter.Counter.{Counter}
+use Rattle.ec_plain.specs.declared.call.Call.{Call}
+use Rattle.ec_plain.specs.declared.call.Call.TheVariants.{Sync}
+use Rattle.ec_wire.specs.declared.fault.WireFault.{WireFault}
+use Rattle.ec_wire.specs.declared.fault.WireFault.TheVariants as wire
+use Rattle.ec_protocol.specs.Clerk.{start}
+use Rattle.ec_protocol.specs.declared.clerk.Clerk.{Clerk}
+use Rattle.ec_protocol.specs.declared.clerk.Out.{Out}
+use Rattle.ec_lock.specs.Steps.{Member, Distinct, of}
+use Rattle.ec_link.specs.Links.{Heard}
+use Rattle.ec_link.specs.Nets.{Ended}
+use Rattle.ec_clerknode.specs.declared.fault.NodeFault.{NodeFault}
+use Rattle.ec_clerknode.specs.declared.fault.NodeFault.TheVariants as fault
+use Rattle.ec_clerknode.specs.declared.step.Step.{Step}
+use Rattle.ec_clerknode.specs.Run.{Reply, IsRun, Among, encoded, sends, heard_by, said_by, marks, old_boot}
+use Rattle.ec_clerknode.specs.Turns.{number_of, calls_by, Replied}
+use Rattle.ec_clerknode.specs.Lanes.{AreLanes}
+
+-- how often a net failed, how many of the links that came back had failed or closed, and what those that came back gave and got
+pub record NetSeen : Type 0 where
+  pub faults : ℕ
+  pub bad : ℕ
+  pub ended : List Ended
+
+-- where it's told, it's this
+abbrev pub Tells : {A : Type 0} → Option (List A) → List A → Type 0
+Tells None xs = Unit {0}
+Tells (Some ys) xs = ys ≡ xs
+
+-- The steps of a clerk from its start with this boot. The link that came back gave, in order, the messages that the steps take, with the bodies and
+-- lengths of their marks, and got the messages of the start and then those that the steps sent.
+pub record Ran (id boot : ℕ) (before after : NetSeen) (steps : List Step) : Type 0 where
+  pub clerk : Clerk
+  pub outs : List Out
+  pub starts : start id boot ≡ record { clerk = clerk; outs = outs; spent = None }
+  pub run : IsRun clerk steps
+  pub given : Option (List Heard)
+  pub got : Option (List (List ℕ))
+  pub ended : after.ended ≡ before.ended ++ (given, got) ∷ []
+  pub heard : Tells given (heard_by steps)
+  pub sent : Tells got (map encoded (sends outs) ++ said_by steps)
+
+-- The steps hold the calls of lanes, each lane's by a pass of its own, in order and each once, with these answers. Behind all of them the pass `own`
+-- made one call, a sync, with the last answer.
+pub record Holds (own : ℕ) (lanes : List (List Call)) (steps : List Step) (all : List (List Reply)) (last : Reply) : Type 0 where
+  pub passes : List ℕ
+  pub distinct : Distinct passes
+  pub other : Member own passes → ⊥
+  -- the list before the lanes, behind them, before the sync and behind it
+  pub before : List Step
+  pub ran : List Step
+  pub idle : List Step
+  pub synced : List Step
+  pub lanes_done : AreLanes before ran passes lanes all
+  pub first_then : IsPrefix ran idle
+  pub sync : Replied own Sync idle synced last
+  pub later : IsPrefix synced steps
+  pub lanes_once : (n : ℕ) → Member n passes → of number_of n ran ≡ of number_of n steps
+  pub sync_once : calls_by own steps ≡ Sync ∷ []
+
+-- the list has the cause of a fault
+abbrev pub Has : NodeFault → List Step → Type 0
+Has fault.Net steps = Among fault.Net (marks steps)
+Has (fault.Peer place) steps = Among (fault.Peer place) (marks steps)
+Has (fault.Long n) steps = Among (fault.Long n) (marks steps)
+Has (fault.OldBoot age) steps = old_boot steps ≡ Some age
+Has (fault.Spent c) steps = Among (fault.Spent c) (marks steps)
+Has fault.NoMemory steps = Unit {0}
+
+-- The run has the fault's cause, and the server told no greater age.
+pub record Met (id boot : ℕ) (before after : NetSeen) (f : NodeFault) : Type 0 where
+  pub steps : List Step
+  pub ran : Ran id boot before after steps
+  pub old_boot : old_boot steps ≡ None
+  pub has : Has f steps
+
+-- the link came back and had given nothing
+abbrev pub Unheard : NetSeen → NetSeen → Type 0
+Unheard before after = (given : Option (List Heard)) × (got : Option (List (List ℕ))) × (after.ended ≡ before.ended ++ (given, got) ∷ []) × Tells given []
+
+-- the net gave no link
+abbrev pub Unreached : NetSeen → NetSeen → Type 0
+Unreached before after = (before.faults < after.faults) × (after.bad ≡ before.bad) × (after.ended ≡ before.ended)
+
+-- Nobody was reached, or the link failed or was closed: before the clerk's first step, or in a step of its run.
+abbrev pub Lost : ℕ → ℕ → NetSeen → NetSeen → Type 0
+Lost id boot before after = Unreached before after ⊎ ((before.bad < after.bad) × (Unheard before after ⊎ Met id boot before after fault.Net))
+
+-- the counter was spent at the clerk's start, or in a step of its run
+abbrev pub Spends : ℕ → ℕ → NetSeen → NetSeen → Counter → Type 0
+Spends id boot before after c = (((start id boot).spent ≡ Some c) × (after ≡ before)) ⊎ Met id boot before after (fault.Spent c)
+
+-- the place that the last line shows of bytes that are no message: that of the byte at fault, and 0 for an unknown kind or too great a length
+abbrev pub place_in : WireFault → ℕ
+place_in (wire.Short place) = place
+place_in (wire.Kind byte) = 0
+place_in (wire.Field place) = place
+place_in (wire.Trailing place) = place
+place_in wire.NoMemory = 0
+
+abbrev pub IsPeerFault : NodeFault → ℕ → Type 0
+IsPeerFault (fault.Peer why) place = place ≡ place_in why
+IsPeerFault (fault.Long n) place = place ≡ 0
+IsPeerFault fault.Net place = ⊥
+IsPeerFault (fault.OldBoot age) place = ⊥
+IsPeerFault (fault.Spent c) place = ⊥
+IsPeerFault fault.NoMemory place = ⊥

@@ -1,0 +1,13 @@
+//! A mounted clerk: the lanes of a script run at the same time over one clerk and its link, and their answers are written.
+#![tactic(auto)]
+
+mod calls;
+mod limits;
+mod mounting;
+mod script;
+mod shown;
+mod status;
+mod work;
+
+pub use mounting::mount;
+pub use status::Status;
