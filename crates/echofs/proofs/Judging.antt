@@ -18,9 +18,13 @@ whole most s status.SourceFault text f a = absurd f
 whole most s status.SinkFault text f a = absurd f
 whole most s status.DiskFault text f a = absurd f
 whole most s status.BadDisk text f a = absurd f
+whole most s status.NetFault text f a = absurd f
 whole most s status.NoMemory text f a = absurd f
+whole most s status.StartFault text f a = absurd f
 whole most s status.Limit text f a = (text, f, a)
 whole most s status.Illegal text f a = (text, f, a)
+whole most s status.OldBoot text f a = absurd f
+whole most s status.PeerFault text f a = absurd f
 whole most s status.Spent text f a = absurd f
 
 -- the line that tells what the transcript is was written, or a part of it

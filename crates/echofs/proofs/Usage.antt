@@ -4,13 +4,20 @@ use Rattle.std.specs.Prelude.{◌↔◌}
 use Rattle.ec_drill.specs.Drill.{Outside, Drilled}
 use Rattle.ec_drill.specs.declared.status.Status as drilled
 use Rattle.ec_drill.specs.declared.status.Status.TheVariants as drill
-use Rattle.echofs.specs.Echo.{Does, Echoes}
+use Rattle.ec_history.specs.declared.shown.Shown.TheVariants as shown
+use Rattle.ec_text.specs.Lines.{shown_text}
+use Rattle.ec_serve.specs.declared.ending.Ending.{Ending}
+use Rattle.ec_serve.specs.declared.ending.Ending.TheVariants as ending
+use Rattle.ec_mount.specs.declared.status.Status as mounted
+use Rattle.ec_mount.specs.declared.status.Status.TheVariants as mount
+use Rattle.echofs.specs.Echo.{Links, Does, Echoes}
 use Rattle.echofs.specs.Soak.{Soaked, Told, TellsCounts, TellsLast, summary_text, last_text}
-use Rattle.echofs.specs.Statuses.{code, of_drill}
+use Rattle.echofs.specs.Serving.{TellsText, TellsEnding}
+use Rattle.echofs.specs.Statuses.{code, of_drill, of_mount}
 use Rattle.echofs.specs.Written.{WroteWith}
 use Rattle.echofs.specs.Words.{Spells}
 use Rattle.echofs.specs.declared.command.Command.{Command}
-use Rattle.echofs.specs.declared.command.Command.TheVariants.{Drill, Check, Make, Soak}
+use Rattle.echofs.specs.declared.command.Command.TheVariants.{Drill, Check, Make, Soak, Serve, Mount}
 use Rattle.echofs.specs.declared.status.Status.{Status}
 use Rattle.echofs.specs.declared.status.Status.TheVariants as status
 
@@ -26,6 +33,10 @@ is_usage status.NoMemory e = absurd (grind (arith, e))
 is_usage status.Limit e = absurd (grind (arith, e))
 is_usage status.Illegal e = absurd (grind (arith, e))
 is_usage status.Spent e = absurd (grind (arith, e))
+is_usage status.NetFault e = absurd (grind (arith, e))
+is_usage status.StartFault e = absurd (grind (arith, e))
+is_usage status.OldBoot e = absurd (grind (arith, e))
+is_usage status.PeerFault e = absurd (grind (arith, e))
 
 drill_not : (most : ℕ) (end : drilled.Status) (w : Outside) → Drilled most end w → status.Usage ≡ of_drill end → ⊥
 drill_not most drill.Usage w d e = d
@@ -72,16 +83,43 @@ soaked_not : (number : ℕ) (w : Outside) → Soaked number status.Usage w → �
 soaked_not number w (inl s) = told_not number s.end s.transcript w.held w.held_after w.writes w.writes_after (drilled_not _ s.end _ s.drilled_so) s.told
 soaked_not number w (inr s) = absurd (grind (arith, s.result_is))
 
-does_not : (c : Command) (w : Outside) → Does c status.Usage w → ⊥
-does_not (Drill most) w d = drill_not most d.0 w d.2 d.1
-does_not (Check most) w d = absurd (d.0.1)
-does_not (Make n) w d = d.0
-does_not (Soak n) w d = soaked_not n w d.0
+text_not : (text : List ℕ) (st : Status) (held now : Option (List ℕ)) (before later : ℕ) → (status.Usage ≡ st → ⊥) → TellsText text st status.Usage held now before later → ⊥
+text_not text st held now before later not (inl w) = wrote_not text st held now before later not w
+text_not text st held now before later not (inr w) = absurd (grind (arith, w.0))
+
+ending_not : (end : Ending) (held now : Option (List ℕ)) (before later : ℕ) → TellsEnding end status.Usage held now before later → ⊥
+ending_not ending.Done held now before later t = absurd (grind (arith, t.0))
+ending_not ending.DiskFailed held now before later t = absurd (grind (arith, t.0))
+ending_not (ending.BadDisk place) held now before later t = text_not (shown_text (shown.DiskBad place)) status.BadDisk held now before later (λ e. absurd (grind (arith, e))) t
+ending_not ending.NetFailed held now before later t = absurd (grind (arith, t.0))
+ending_not ending.NoMemory held now before later t = absurd (grind (arith, t.0))
+ending_not ending.NotStarted held now before later t = absurd (grind (arith, t.0))
+ending_not (ending.Spent n) held now before later t = text_not (shown_text (shown.Spent n)) status.Spent held now before later (λ e. absurd (grind (arith, e))) t
+
+mount_not : (end : mounted.Status) → status.Usage ≡ of_mount end → ⊥
+mount_not mount.Done e = absurd (grind (arith, e))
+mount_not mount.BadLine e = absurd (grind (arith, e))
+mount_not mount.SourceFault e = absurd (grind (arith, e))
+mount_not mount.SinkFault e = absurd (grind (arith, e))
+mount_not mount.NetFault e = absurd (grind (arith, e))
+mount_not mount.NoMemory e = absurd (grind (arith, e))
+mount_not mount.Limit e = absurd (grind (arith, e))
+mount_not mount.OldBoot e = absurd (grind (arith, e))
+mount_not mount.PeerFault e = absurd (grind (arith, e))
+mount_not mount.Spent e = absurd (grind (arith, e))
+
+does_not : (boot : ℕ) (c : Command) (w : Outside) (n : Links) → Does boot c status.Usage w n → ⊥
+does_not boot (Drill most) w n d = drill_not most d.0.0 w d.0.2 d.0.1
+does_not boot (Check most) w n d = absurd (d.0.0.1)
+does_not boot (Make number) w n d = d.0.0
+does_not boot (Soak number) w n d = soaked_not number w d.0.0
+does_not boot (Serve count) w n d = ending_not d.0.0 w.held w.held_after w.writes w.writes_after d.0.2
+does_not boot (Mount clerk) w n d = mount_not d.0 d.1
 
 -- words of no form, and no others, come to this status
-pub usage-of : (words : List (List ℕ)) (st : Status) (w : Outside) → Echoes words st w → (code st ≡ 2) ↔ ((c : Command) → Spells words c → ⊥)
-usage-of words st w (inl e) = (λ two. e.1, λ none. ap code e.0)
-usage-of words st w (inr e) = (λ two. absurd (does_not e.0 w (subst (λ (s : Status). Does e.0 s w) (is_usage st two) e.2)), λ none. absurd (none e.0 e.1))
+pub usage-of : (boot : ℕ) (words : List (List ℕ)) (st : Status) (w : Outside) (n : Links) → Echoes boot words st w n → (code st ≡ 2) ↔ ((c : Command) → Spells words c → ⊥)
+usage-of boot words st w n (inl e) = (λ two. e.1, λ none. ap code e.0)
+usage-of boot words st w n (inr e) = (λ two. absurd (does_not boot e.0 w n (subst (λ (s : Status). Does boot e.0 s w n) (is_usage st two) e.2)), λ none. absurd (none e.0 e.1))
 
-pub answers-usage : (words : List (List ℕ)) (n : ℕ) (w : Outside) → (st : Status) × (n ≡ code st) × Echoes words st w → (n ≡ 2) ↔ ((c : Command) → Spells words c → ⊥)
-answers-usage words n w e = subst (λ (k : ℕ). (k ≡ 2) ↔ ((c : Command) → Spells words c → ⊥)) (sym e.1) (usage-of words e.0 w e.2)
+pub answers-usage : (boot : ℕ) (words : List (List ℕ)) (k : ℕ) (w : Outside) (n : Links) → (st : Status) × (k ≡ code st) × Echoes boot words st w n → (k ≡ 2) ↔ ((c : Command) → Spells words c → ⊥)
+answers-usage boot words k w n e = subst (λ (k : ℕ). (k ≡ 2) ↔ ((c : Command) → Spells words c → ⊥)) (sym e.1) (usage-of boot words e.0 w n e.2)

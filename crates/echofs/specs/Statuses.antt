@@ -2,6 +2,8 @@
 use Rattle.std.specs.Prelude.{ℕ}
 use Rattle.ec_drill.specs.declared.status.Status.TheVariants as drill
 use Rattle.ec_drill.specs.declared.status.Status as drilled
+use Rattle.ec_mount.specs.declared.status.Status as mounted
+use Rattle.ec_mount.specs.declared.status.Status.TheVariants as mount
 use Rattle.echofs.specs.declared.status.Status.{Status}
 use Rattle.echofs.specs.declared.status.Status.TheVariants as status
 
@@ -14,9 +16,13 @@ code status.SourceFault = 4
 code status.SinkFault = 5
 code status.DiskFault = 6
 code status.BadDisk = 7
+code status.NetFault = 8
 code status.NoMemory = 9
+code status.StartFault = 10
 code status.Limit = 11
 code status.Illegal = 12
+code status.OldBoot = 13
+code status.PeerFault = 14
 code status.Spent = 15
 
 -- the program ends as its drill does
@@ -31,3 +37,16 @@ of_drill drill.BadDisk = status.BadDisk
 of_drill drill.NoMemory = status.NoMemory
 of_drill drill.Limit = status.Limit
 of_drill drill.Spent = status.Spent
+
+-- the program ends as its mount does
+abbrev pub of_mount : mounted.Status → Status
+of_mount mount.Done = status.Done
+of_mount mount.BadLine = status.BadLine
+of_mount mount.SourceFault = status.SourceFault
+of_mount mount.SinkFault = status.SinkFault
+of_mount mount.NetFault = status.NetFault
+of_mount mount.NoMemory = status.NoMemory
+of_mount mount.Limit = status.Limit
+of_mount mount.OldBoot = status.OldBoot
+of_mount mount.PeerFault = status.PeerFault
+of_mount mount.Spent = status.Spent

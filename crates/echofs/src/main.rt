@@ -7,6 +7,7 @@ ghost use Rattle.std.specs.Prelude.{◌≡◌, ◌≢◌, ◌↔◌, ◌≤◌, 
 ghost use Rattle.std.specs.Process.{exit_status};
 ghost use Rattle.std.specs.String.{string_bytes};
 ghost use Rattle.ec_disk.specs.Turns.{counts_of};
+ghost use Rattle.ec_link.specs.Spawns.{faults_of};
 ghost use Rattle.echofs.specs.Echo.{Echoes, words_of};
 ghost use Rattle.echofs.specs.Statuses.{code};
 ghost use Rattle.echofs.specs.Words.{Spells};
@@ -17,16 +18,20 @@ ghost use Rattle.echofs.specs.declared.status.Status.TheVariants as status;
 mod checking;
 mod command;
 mod making;
+mod serving;
 mod soaking;
 mod status;
 mod writing;
 
 use checking::check;
-use command::{Command, command_of};
+use command::{Command, address_of, command_of};
 use ec_base::{Sink, Source, StdSink, StdSource};
 use ec_disk::{CrashDisk, FileDisk, MemDisk};
 use ec_drill::drill;
+use ec_link::{Around, Net, Spawner, TcpNet, ThreadSpawner};
+use ec_mount::mount;
 use making::make;
+use serving::serve;
 use soaking::soak;
 use status::Status;
 use std::alloc::Global;
@@ -34,31 +39,35 @@ use std::env::Args;
 use std::fs::File;
 use std::io::Eprint;
 use std::process::ExitCode;
+use std::time::{SystemTime, UNIX_EPOCH};
 use std::{env, io};
 
 /// The file that has the disk, in the current folder.
 const DISK_FILE: &str = "echofs.disk";
 
 const USAGE: &str =
-    "usage: echofs drill [N] < SCRIPT, echofs check [N] < TRANSCRIPT, echofs make N, or echofs soak N";
+    "usage: echofs drill [N] < SCRIPT, echofs check [N] < TRANSCRIPT, echofs make N, echofs soak N, echofs serve ADDR COUNT, or echofs mount ADDR CLERK < LANES";
 
 /// Does all that the program does, over any source, sink and disk that isn't armed, and answers the
 /// exit status. The words are those behind the program's name; `boot` is the number of this start of
 /// the process.
-pub fn echo_main<R: AllocGlobal, S: Source, K: Sink, D: CrashDisk + Send>(
+pub fn echo_main<R: Around + Eprint, S: Source, K: Sink, D: CrashDisk + Send, N: Net>(
     rt: &R,
     words: &[String],
     source: &mut S,
     sink: &mut K,
     disk: &mut D,
+    net: &mut N,
+    spawner: &mut Spawner,
     boot: u64,
 ) -> u8
     requires { (D.counts disk.old).armed ≡ None }
     ensures usage { (result ≡ 2) ↔ ((c : Command) → Spells (map string_bytes words.now) c → ⊥) }
     ensures later { (S.faults source.old ≤ S.faults source.new) × (K.faults sink.old ≤ K.faults sink.new) }
     ensures counts { ((D.counts disk.old).faults ≤ (D.counts disk.new).faults) × ((D.counts disk.old).stops ≤ (D.counts disk.new).stops) }
+    ensures net { (N.faults net.old ≤ N.faults net.new) × (faults_of spawner.old ≤ faults_of spawner.new) }
     ensures echoes { (status : Status) × (result ≡ code status)
-        × Echoes (map string_bytes words.now) status (record {
+        × Echoes boot (map string_bytes words.now) status (record {
           left = S.left source.old;
           left_after = S.left source.new;
           reads = S.faults source.old;
@@ -72,17 +81,28 @@ pub fn echo_main<R: AllocGlobal, S: Source, K: Sink, D: CrashDisk + Send>(
           disk_after = D.view disk.new;
           counts = D.counts disk.old;
           counts_after = D.counts disk.new;
+        })
+        (record {
+          before = record { faults = N.faults net.old; bad = N.bad net.old; ended = N.ended net.old; starts = faults_of spawner.old };
+          later = record { faults = N.faults net.new; bad = N.bad net.new; ended = N.ended net.new; starts = faults_of spawner.new };
         }) }
 {
-    let _ = boot;
-    match command_of(words) {
-        Some(Command::Drill(max_objects)) => {
+    let Some(command) = command_of(words) else {
+        return Status::Usage.code();
+    };
+    match command {
+        Command::Drill(max_objects) => {
             Status::of_drill(drill(rt.alloc(), source, sink, disk, max_objects)).code()
         }
-        Some(Command::Check(max_objects)) => check(rt.alloc(), source, sink, max_objects).code(),
-        Some(Command::Make(number)) => make(rt.alloc(), number, sink).code(),
-        Some(Command::Soak(number)) => soak(rt.alloc(), number, sink, disk).code(),
-        None => Status::Usage.code(),
+        Command::Check(max_objects) => check(rt.alloc(), source, sink, max_objects).code(),
+        Command::Make(number) => make(rt.alloc(), number, sink).code(),
+        Command::Soak(number) => soak(rt.alloc(), number, sink, disk).code(),
+        Command::Serve(count) => {
+            serve(rt, sink, disk, net, spawner, address_of(words), count).code()
+        }
+        Command::Mount(clerk) => {
+            Status::of_mount(mount(rt, source, sink, net, address_of(words), clerk, boot)).code()
+        }
     }
 }
 
@@ -98,9 +118,13 @@ fn reason(status: u8) -> Option<&'static str>
         5 => Some("echofs: the output can't be written"),
         6 => Some("echofs: the disk failed"),
         7 => Some("echofs: the disk is bad; the last line tells where"),
+        8 => Some("echofs: the net failed"),
         9 => Some("echofs: out of memory"),
+        10 => Some("echofs: a thread can't be started"),
         11 => Some("echofs: too much; the last line tells the limit"),
         12 => Some("echofs: the transcript isn't legal; the last line names its first fault"),
+        13 => Some("echofs: the server knows a later start of this clerk; the last line tells it"),
+        14 => Some("echofs: the server sent what is no message; the last line tells where"),
         15 => Some("echofs: a counter is spent; the last line names it"),
         _ => Some("echofs: stopped"),
     }
@@ -109,19 +133,23 @@ fn reason(status: u8) -> Option<&'static str>
 /// All that the process does with words and a disk: it answers the words, with these streams, and
 /// says on standard error why it ends otherwise than well. What can't be said on standard error is no
 /// fault.
-fn process<R: AllocGlobal + Eprint, S: Source, K: Sink, D: CrashDisk + Send>(
+fn process<R: Around + Eprint, S: Source, K: Sink, D: CrashDisk + Send, N: Net>(
     rt: &R,
     words: &[String],
     source: &mut S,
     sink: &mut K,
     disk: &mut D,
+    net: &mut N,
+    spawner: &mut Spawner,
+    boot: u64,
 ) -> ExitCode
     requires { (D.counts disk.old).armed ≡ None }
     ensures usage { (exit_status result ≡ 2) ↔ ((c : Command) → Spells (map string_bytes words.now) c → ⊥) }
     ensures later { (S.faults source.old ≤ S.faults source.new) × (K.faults sink.old ≤ K.faults sink.new) }
     ensures counts { ((D.counts disk.old).faults ≤ (D.counts disk.new).faults) × ((D.counts disk.old).stops ≤ (D.counts disk.new).stops) }
+    ensures net { (N.faults net.old ≤ N.faults net.new) × (faults_of spawner.old ≤ faults_of spawner.new) }
     ensures echoes { (status : Status) × (exit_status result ≡ code status)
-        × Echoes (map string_bytes words.now) status (record {
+        × Echoes boot (map string_bytes words.now) status (record {
           left = S.left source.old;
           left_after = S.left source.new;
           reads = S.faults source.old;
@@ -135,9 +163,16 @@ fn process<R: AllocGlobal + Eprint, S: Source, K: Sink, D: CrashDisk + Send>(
           disk_after = D.view disk.new;
           counts = D.counts disk.old;
           counts_after = D.counts disk.new;
+        })
+        (record {
+          before = record { faults = N.faults net.old; bad = N.bad net.old; ended = N.ended net.old; starts = faults_of spawner.old };
+          later = record { faults = N.faults net.new; bad = N.bad net.new; ended = N.ended net.new; starts = faults_of spawner.new };
         }) }
 {
-    end(rt, echo_main(rt, words, source, sink, disk, 1))
+    end(
+        rt,
+        echo_main(rt, words, source, sink, disk, net, spawner, boot),
+    )
 }
 
 // Ends with this status, and says why.
@@ -185,6 +220,16 @@ fn open_disk(rt: HostRuntime) -> Result<FileDisk<File>, Status>
     }
 }
 
+// The number of this start of the process: the seconds of the clock.
+fn boot_of(rt: HostRuntime) -> u64 {
+    match SystemTime::now(&rt) {
+        Ok(time) => time
+            .duration_since(UNIX_EPOCH)
+            .map_or(1, |since| since.as_secs()),
+        Err(_) => 1,
+    }
+}
+
 fn main(rt: HostRuntime) -> ExitCode {
     let mut source = StdSource::new(rt.reader());
     let mut sink = StdSink::new(io::writer(&rt));
@@ -192,15 +237,40 @@ fn main(rt: HostRuntime) -> ExitCode {
         Ok(words) => words,
         Err(fault) => return end(&rt, fault.code()),
     };
+    let boot = boot_of(rt);
+    let mut net = TcpNet::new();
+    let mut spawner = Spawner::Threads(ThreadSpawner::new());
     let asks_for_disk = command_of(&words).is_some_and(|command| command.uses_disk());
     if asks_for_disk {
         match open_disk(rt) {
-            Ok(mut disk) => process(&rt, &words, &mut source, &mut sink, &mut disk),
+            Ok(mut disk) => {
+                process(
+                    &rt,
+                    &words,
+                    &mut source,
+                    &mut sink,
+                    &mut disk,
+                    &mut net,
+                    &mut spawner,
+                    boot,
+                )
+            },
             Err(fault) => end(&rt, fault.code()),
         }
     } else {
         match MemDisk::new(rt.alloc(), Vec::new(rt.alloc())) {
-            Ok(mut disk) => process(&rt, &words, &mut source, &mut sink, &mut disk),
+            Ok(mut disk) => {
+                process(
+                    &rt,
+                    &words,
+                    &mut source,
+                    &mut sink,
+                    &mut disk,
+                    &mut net,
+                    &mut spawner,
+                    boot,
+                )
+            },
             Err(_) => end(&rt, Status::NoMemory.code()),
         }
     }

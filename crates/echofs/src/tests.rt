@@ -1,21 +1,29 @@
-// What the program does over sources, sinks and disks in memory.
+// What the program does over sources, sinks, disks and nets in memory.
 use super::*;
 use ec_base::{MemSink, MemSource, NoMemory};
 use ec_disk::{Disk, DiskAnswer, DiskLen};
+use ec_link::{FailSpawner, Link, MemNet};
 use std::alloc::AllocError;
+use std::net::{TcpListener, TcpStream};
+use std::thread;
 
-// The calls of the source, the sink and the disk that fail, from 1; 0 where none does.
+// The types of the runtime's net. A test names them, so that its table of types has them.
+type NetTypes = (Option<TcpListener>, Option<TcpStream>);
+
+// The calls of the source, the sink, the disk and the net that fail, from 1; 0 where none does.
 #[derive(Clone, Copy, Debug, Drop, PartialEq, Eq)]
 struct Fails {
     source: u64,
     sink: u64,
     disk: u64,
+    net: u64,
 }
 
 const NONE: Fails = Fails {
     source: 0,
     sink: 0,
     disk: 0,
+    net: 0,
 };
 
 // What the program came to: its status and what it wrote.
@@ -46,19 +54,26 @@ fn new_disk(alloc: Global, fails: u64) -> Result<MemDisk, NoMemory> {
     MemDisk::new(alloc, Vec::from_slice(alloc, &[fails])?)
 }
 
-fn run(
-    rt: &HostRuntime,
+fn new_net(alloc: Global, fails: u64) -> Result<MemNet, NoMemory> {
+    MemNet::new(alloc, Vec::from_slice(alloc, &[fails])?)
+}
+
+fn run<R: Around + Eprint>(
+    rt: &R,
     words: &[String],
     input: &mut MemSource,
     output: &mut MemSink,
     disk: &mut MemDisk,
+    net: &mut MemNet,
+    spawner: &mut Spawner,
+    boot: u64,
 ) -> u8 {
     disk.disarm();
-    echo_main(rt, words, input, output, disk, 1)
+    echo_main(rt, words, input, output, disk, net, spawner, boot)
 }
 
-fn echoed_on(
-    rt: &HostRuntime,
+fn echoed_on<R: Around + Eprint>(
+    rt: &R,
     words: &[&str],
     input: &[u8],
     fails: Fails,
@@ -67,20 +82,36 @@ fn echoed_on(
     let words = own(rt.alloc(), words)?;
     let mut input = source(rt.alloc(), input, fails.source)?;
     let mut output = sink(rt.alloc(), fails.sink)?;
-    let status = run(rt, &words, &mut input, &mut output, disk);
+    let mut net = new_net(rt.alloc(), fails.net)?;
+    let mut spawner = Spawner::Fails(FailSpawner::new());
+    let status = run(
+        rt,
+        &words,
+        &mut input,
+        &mut output,
+        disk,
+        &mut net,
+        &mut spawner,
+        1,
+    );
     let text = output.bytes().to_vec(rt.alloc())?;
     Ok(Echo { status, text })
 }
 
 // These words over this input and a new disk.
-fn echoed(rt: &HostRuntime, words: &[&str], input: &[u8], fails: Fails) -> Result<Echo, NoMemory> {
+fn echoed<R: Around + Eprint>(
+    rt: &R,
+    words: &[&str],
+    input: &[u8],
+    fails: Fails,
+) -> Result<Echo, NoMemory> {
     let mut disk = new_disk(rt.alloc(), fails.disk)?;
     echoed_on(rt, words, input, fails, &mut disk)
 }
 
 // The status, and whether just this was written.
-fn tells(
-    rt: &HostRuntime,
+fn tells<R: Around + Eprint>(
+    rt: &R,
     words: &[&str],
     input: &[u8],
     fails: Fails,
@@ -96,6 +127,7 @@ const CHECK: &[&str] = &["check"];
 
 #[test]
 fn answers_and_loses(rt: HostRuntime) {
+    let _types: NetTypes = (None, None);
     let script = b"A create /f\nA write /f 0 hi\ncrash A\nA read /f 0 9\ncrash A\ncrash A\n";
     let text =
         b"1 A create /f -> waits\n1 A create /f -> ok op 1\n2 A write /f 0 hi -> ok op 2\ncrashed A\n4 A read /f 0 9 -> waits\nended A lost 1 2\n4 A read /f 0 9 -> refused NotFound 1\ncrashed A\nnone\n";
@@ -104,6 +136,7 @@ fn answers_and_loses(rt: HostRuntime) {
 
 #[test]
 fn tells_a_bad_line(rt: HostRuntime) {
+    let _types: NetTypes = (None, None);
     let script = b"A create /f\nA create f\n";
     let text = b"1 A create /f -> waits\n1 A create /f -> ok op 1\nbad 2 col 10\n";
     assert_eq!(rt; tells(&rt, DRILL, script, NONE, text), Ok((3, true)));
@@ -120,7 +153,7 @@ const ANSWERS: [&[u8]; 5] = [
 ];
 
 // How many of the lines that the calls show were written, and the status.
-fn answered(rt: &HostRuntime, fails: Fails) -> Result<(u8, Option<usize>), NoMemory> {
+fn answered<R: Around + Eprint>(rt: &R, fails: Fails) -> Result<(u8, Option<usize>), NoMemory> {
     let echo = echoed(rt, &["drill", "32"], CALLS, fails)?;
     let front = ANSWERS
         .iter()
@@ -129,7 +162,7 @@ fn answered(rt: &HostRuntime, fails: Fails) -> Result<(u8, Option<usize>), NoMem
 }
 
 // The first call that tells something else where it fails, from 1: behind `last` calls none does.
-fn first_other(rt: &HostRuntime, last: u64) -> Option<u64> {
+fn first_other<R: Around + Eprint>(rt: &R, last: u64) -> Option<u64> {
     for call in 1..=last {
         let fails = Fails { sink: call, ..NONE };
         if answered(rt, fails) != Ok((5, Some(call as usize - 1))) {
@@ -142,12 +175,13 @@ fn first_other(rt: &HostRuntime, last: u64) -> Option<u64> {
 // Each call of the sink fails once: the lines before it stand.
 #[test]
 fn each_write_fails_once(rt: HostRuntime) {
+    let _types: NetTypes = (None, None);
     assert_eq!(rt; first_other(&rt, 4), None);
     assert_eq!(rt; answered(&rt, NONE), Ok((0, Some(4))));
 }
 
 // How many calls of the disk there are: where one fails, whole lines stand, and its fault is told.
-fn calls_that_fail(rt: &HostRuntime) -> Option<u64> {
+fn calls_that_fail<R: Around + Eprint>(rt: &R) -> Option<u64> {
     for call in 1..200 {
         match answered(rt, Fails { disk: call, ..NONE }) {
             Ok((6, Some(_))) => {}
@@ -160,12 +194,13 @@ fn calls_that_fail(rt: &HostRuntime) -> Option<u64> {
 
 #[test]
 fn each_call_of_the_disk_fails_once(rt: HostRuntime) {
+    let _types: NetTypes = (None, None);
     assert!(rt; calls_that_fail(&rt).is_some_and(|calls| calls > 10));
 }
 
 // The status, and whether just this was written, where the source, the sink and the disk fail at their first calls.
-fn faults(
-    rt: &HostRuntime,
+fn faults<R: Around + Eprint>(
+    rt: &R,
     words: &[&str],
     input: &[u8],
     text: &[u8],
@@ -180,6 +215,7 @@ fn faults(
 // A check uses no disk, and a soak no source.
 #[test]
 fn tells_faults(rt: HostRuntime) {
+    let _types: NetTypes = (None, None);
     let failed = |status| Ok((status, true));
     assert_eq!(rt;
         faults(&rt, DRILL, CALLS, b""),
@@ -192,13 +228,18 @@ fn tells_faults(rt: HostRuntime) {
 }
 
 // A script of so many empty lines.
-fn told_of_lines(rt: &HostRuntime, count: usize, text: &[u8]) -> Result<(u8, bool), NoMemory> {
+fn told_of_lines<R: Around + Eprint>(
+    rt: &R,
+    count: usize,
+    text: &[u8],
+) -> Result<(u8, bool), NoMemory> {
     let lines = vec![in rt.alloc(); b'\n'; count]?;
     tells(rt, DRILL, &lines, NONE, text)
 }
 
 #[test]
 fn tells_the_limits(rt: HostRuntime) {
+    let _types: NetTypes = (None, None);
     assert_eq!(rt;
         told_of_lines(&rt, 65_537, b"limit lines 65537\n"),
         Ok((11, true))
@@ -213,6 +254,7 @@ const ILLEGAL: &[u8] =
 
 #[test]
 fn judges_transcripts(rt: HostRuntime) {
+    let _types: NetTypes = (None, None);
     let few = ["check", "32"];
     assert_eq!(rt; tells(&rt, CHECK, LEGAL, NONE, b"legal\n"), Ok((0, true)));
     assert_eq!(rt;
@@ -228,6 +270,7 @@ fn judges_transcripts(rt: HostRuntime) {
 
 #[test]
 fn soaks(rt: HostRuntime) {
+    let _types: NetTypes = (None, None);
     let words = ["soak", "7"];
     let text = b"soak 7 lines 2000 answers 2000 waiting 0 unsettled 0\n";
     assert_eq!(rt; tells(&rt, &words, b"", NONE, text), Ok((0, true)));
@@ -238,19 +281,20 @@ fn soaks(rt: HostRuntime) {
 }
 
 // The status of a script of number 1, how many lines it has, and whether it begins so.
-fn made(rt: &HostRuntime, front: &[u8]) -> Result<(u8, usize, bool), NoMemory> {
+fn made<R: Around + Eprint>(rt: &R, front: &[u8]) -> Result<(u8, usize, bool), NoMemory> {
     let echo = echoed(rt, &["make", "1"], b"", NONE)?;
     let lines = echo.text.iter().filter(|byte| **byte == b'\n').count();
     Ok((echo.status, lines, echo.text.starts_with(front)))
 }
 
 // Whether these words are none of the program's.
-fn are_none(rt: &HostRuntime, words: &[&str]) -> bool {
+fn are_none<R: Around + Eprint>(rt: &R, words: &[&str]) -> bool {
     tells(rt, words, b"", NONE, b"") == Ok((2, true))
 }
 
 #[test]
 fn knows_its_words(rt: HostRuntime) {
+    let _types: NetTypes = (None, None);
     assert_eq!(rt; tells(&rt, &["drill", "32"], b"", NONE, b""), Ok((0, true)));
     assert_eq!(rt; made(&rt, b"C mkdir /d"), Ok((0, 2_000, true)));
     for words in [
@@ -260,6 +304,19 @@ fn knows_its_words(rt: HostRuntime) {
         ["check", "1025"],
         ["make", "-1"],
         ["soak", "4294967296"],
+        ["serve", "here"],
+        ["mount", "here"],
+    ] {
+        assert!(rt; are_none(&rt, &words));
+    }
+    for words in [
+        ["serve", "here", "0"],
+        ["serve", "here", "1000001"],
+        ["serve", "-here", "1"],
+        ["serve", "", "1"],
+        ["mount", "here", "Q"],
+        ["mount", "here", "1"],
+        ["mount", "-here", "A"],
     ] {
         assert!(rt; are_none(&rt, &words));
     }
@@ -267,7 +324,7 @@ fn knows_its_words(rt: HostRuntime) {
 }
 
 // The status, and the length of the disk behind it.
-fn left(rt: &HostRuntime, fails: Fails) -> Result<(u8, DiskLen), NoMemory> {
+fn left<R: Around + Eprint>(rt: &R, fails: Fails) -> Result<(u8, DiskLen), NoMemory> {
     let mut disk = new_disk(rt.alloc(), 0)?;
     let echo = echoed_on(rt, DRILL, CALLS, fails, &mut disk)?;
     Ok((echo.status, disk.len()))
@@ -276,6 +333,7 @@ fn left(rt: &HostRuntime, fails: Fails) -> Result<(u8, DiskLen), NoMemory> {
 // A source that fails leaves the disk as it was.
 #[test]
 fn leaves_the_disk(rt: HostRuntime) {
+    let _types: NetTypes = (None, None);
     let source = Fails { source: 1, ..NONE };
     assert_eq!(rt; left(&rt, source), Ok((4, DiskLen::Len(0))));
 }
@@ -284,7 +342,7 @@ fn leaves_the_disk(rt: HostRuntime) {
 const NEXT_ID_AT: u64 = 2_101_253;
 
 // A new disk whose last id is given out.
-fn spent_disk(rt: &HostRuntime) -> Result<MemDisk, NoMemory> {
+fn spent_disk<R: Around + Eprint>(rt: &R) -> Result<MemDisk, NoMemory> {
     let mut disk = new_disk(rt.alloc(), 0)?;
     let echo = echoed_on(rt, DRILL, b"", NONE, &mut disk)?;
     let written = disk.write_at(NEXT_ID_AT, &u32::MAX.to_be_bytes());
@@ -295,18 +353,23 @@ fn spent_disk(rt: &HostRuntime) -> Result<MemDisk, NoMemory> {
     }
 }
 
-fn tells_on(rt: &HostRuntime, disk: &mut MemDisk, text: &[u8]) -> Result<(u8, bool), NoMemory> {
+fn tells_on<R: Around + Eprint>(
+    rt: &R,
+    disk: &mut MemDisk,
+    text: &[u8],
+) -> Result<(u8, bool), NoMemory> {
     let echo = echoed_on(rt, DRILL, CALLS, NONE, disk)?;
     Ok((echo.status, echo.text.as_slice() == text))
 }
 
-fn spends(rt: &HostRuntime) -> Result<(u8, bool), NoMemory> {
+fn spends<R: Around + Eprint>(rt: &R) -> Result<(u8, bool), NoMemory> {
     let mut disk = spent_disk(rt)?;
     tells_on(rt, &mut disk, b"1 A create /f -> waits\nspent Id\n")
 }
 
 #[test]
 fn spends_the_ids(rt: HostRuntime) {
+    let _types: NetTypes = (None, None);
     assert_eq!(rt; spends(&rt), Ok((15, true)));
 }
 
@@ -329,13 +392,17 @@ fn has(text: &[u8], line: &[u8]) -> bool {
 }
 
 // The verdict on a transcript: its status.
-fn verdict(rt: &HostRuntime, text: &[u8]) -> Result<u8, NoMemory> {
+fn verdict<R: Around + Eprint>(rt: &R, text: &[u8]) -> Result<u8, NoMemory> {
     let echo = echoed(rt, &["check", "32"], text, NONE)?;
     Ok(echo.status)
 }
 
 // The status of the drill that stops at this call, the verdict on its transcript, whether its `fsync` is answered, and whether the disk stopped.
-fn stopped(rt: &HostRuntime, calls: u32, choice: &str) -> Result<(u8, u8, bool, bool), NoMemory> {
+fn stopped<R: Around + Eprint>(
+    rt: &R,
+    calls: u32,
+    choice: &str,
+) -> Result<(u8, u8, bool, bool), NoMemory> {
     let script = armed(rt.alloc(), calls, choice)?;
     let echo = echoed(rt, &["drill", "32"], &script, NONE)?;
     let verdict = verdict(rt, &echo.text)?;
@@ -349,7 +416,7 @@ fn stopped(rt: &HostRuntime, calls: u32, choice: &str) -> Result<(u8, u8, bool, 
 }
 
 // How many calls stop the disk: each drill ends well, and its transcript is legal.
-fn stops(rt: &HostRuntime, choice: &str) -> Option<u32> {
+fn stops<R: Around + Eprint>(rt: &R, choice: &str) -> Option<u32> {
     for calls in 1..100 {
         match stopped(rt, calls, choice) {
             Ok((0, 0, true, true)) => {}
@@ -363,7 +430,199 @@ fn stops(rt: &HostRuntime, choice: &str) -> Option<u32> {
 // Each call of the disk stops once, whatever the power cut leaves.
 #[test]
 fn each_call_of_the_disk_stops_once(rt: HostRuntime) {
+    let _types: NetTypes = (None, None);
     for choice in ["old", "new", "torn"] {
         assert!(rt; stops(&rt, choice).is_some_and(|calls| calls > 3));
     }
+}
+
+const SERVE: &[&str] = &["serve", "here", "1"];
+
+// A server uses no source. Its disk is opened before its door.
+#[test]
+fn serves_over_what_fails(rt: HostRuntime) {
+    let _types: NetTypes = (None, None);
+    let net = Fails { net: 1, ..NONE };
+    assert_eq!(rt; tells(&rt, SERVE, b"", net, b""), Ok((8, true)));
+    let disk = Fails { disk: 1, ..net };
+    assert_eq!(rt; tells(&rt, SERVE, b"", disk, b""), Ok((6, true)));
+}
+
+// Waits until somebody is there.
+fn await_door<R: Around>(rt: &R, net: &MemNet) {
+    for _ in rt.forever() {
+        if net.listens(rt, "here") {
+            return;
+        }
+    }
+}
+
+// The status of a server with these words.
+fn served<R: Around + Eprint>(
+    rt: &R,
+    words: &[&str],
+    net: &mut MemNet,
+    spawner: &mut Spawner,
+) -> Result<u8, NoMemory> {
+    let words = own(rt.alloc(), words)?;
+    let mut input = source(rt.alloc(), b"", 0)?;
+    let mut output = sink(rt.alloc(), 0)?;
+    let mut disk = new_disk(rt.alloc(), 0)?;
+    Ok(run(
+        rt,
+        &words,
+        &mut input,
+        &mut output,
+        &mut disk,
+        net,
+        spawner,
+        1,
+    ))
+}
+
+// A link that comes and goes.
+fn come_and_go<R: Around>(rt: &R, mut net: MemNet) {
+    await_door(rt, &net);
+    if let Ok(mut link) = net.call(rt, "here") {
+        link.hang_up();
+    }
+}
+
+fn served_one<R: Around + Eprint>(rt: &R, mut spawner: Spawner) -> Result<u8, NoMemory> {
+    let mut net = new_net(rt.alloc(), 0)?;
+    let other = net.share()?;
+    let (status, ()) = thread::join(
+        rt,
+        || served(rt, SERVE, &mut net, &mut spawner),
+        || come_and_go(rt, other),
+    );
+    status
+}
+
+#[test]
+fn serves_a_link(rt: HostRuntime) {
+    let _types: NetTypes = (None, None);
+    let threads = Spawner::Threads(ThreadSpawner::new());
+    assert_eq!(rt; served_one(&rt, threads), Ok(0));
+    let fails = Spawner::Fails(FailSpawner::new());
+    assert_eq!(rt; served_one(&rt, fails), Ok(10));
+}
+
+const MOUNT: &[&str] = &["mount", "here", "A"];
+
+const LANES: &[u8] = b"1 create /f\n1 write /f 0 hi\n2 stat /\n";
+
+// A mount uses no disk. It reads its script before it calls.
+#[test]
+fn mounts_over_what_fails(rt: HostRuntime) {
+    let _types: NetTypes = (None, None);
+    assert_eq!(rt; tells(&rt, MOUNT, LANES, NONE, b""), Ok((8, true)));
+    let source = Fails { source: 1, ..NONE };
+    assert_eq!(rt; tells(&rt, MOUNT, LANES, source, b""), Ok((4, true)));
+    let script = b"1 stat /\n9 stat /\n";
+    let text = b"bad 2 col 1\n";
+    assert_eq!(rt; tells(&rt, MOUNT, script, NONE, text), Ok((3, true)));
+    let sink = Fails { sink: 1, ..NONE };
+    assert_eq!(rt; tells(&rt, MOUNT, script, sink, b""), Ok((5, true)));
+}
+
+// A mount of these lanes with this boot, once somebody is there.
+fn mounted<R: Around + Eprint>(
+    rt: &R,
+    net: &mut MemNet,
+    lanes: &[u8],
+    boot: u64,
+) -> Result<Echo, NoMemory> {
+    await_door(rt, net);
+    let words = own(rt.alloc(), MOUNT)?;
+    let mut input = source(rt.alloc(), lanes, 0)?;
+    let mut output = sink(rt.alloc(), 0)?;
+    let mut disk = new_disk(rt.alloc(), 0)?;
+    let mut spawner = Spawner::Fails(FailSpawner::new());
+    let status = run(
+        rt,
+        &words,
+        &mut input,
+        &mut output,
+        &mut disk,
+        net,
+        &mut spawner,
+        boot,
+    );
+    let text = output.bytes().to_vec(rt.alloc())?;
+    Ok(Echo { status, text })
+}
+
+const FRONT: &[u8] =
+    b"1 1 create /f -> ok op 1\n2 1 write /f 0 hi -> ok op 2\n3 2 stat / -> stat dir 0755 0 ";
+
+// Whether the answers are whole. The root has an entry or none, by the order of the lanes.
+fn are_answers(text: &[u8]) -> bool {
+    let back = text.strip_prefix(FRONT);
+    back == Some(b"0\nend sync -> ok\n") || back == Some(b"1\nend sync -> ok\n")
+}
+
+fn mounted_lanes<R: Around + Eprint>(rt: &R, mut net: MemNet) -> Result<(u8, bool), NoMemory> {
+    let echo = mounted(rt, &mut net, LANES, 1)?;
+    Ok((echo.status, are_answers(&echo.text)))
+}
+
+// The status of a server, and what a mount beside it came to.
+fn served_and_mounted<R: Around + Eprint>(rt: &R) -> Result<(u8, (u8, bool)), NoMemory> {
+    let mut net = new_net(rt.alloc(), 0)?;
+    let other = net.share()?;
+    let mut spawner = Spawner::Threads(ThreadSpawner::new());
+    let (status, mounted) = thread::join(
+        rt,
+        || served(rt, SERVE, &mut net, &mut spawner),
+        || mounted_lanes(rt, other),
+    );
+    Ok((status?, mounted?))
+}
+
+#[test]
+fn serves_a_mount(rt: HostRuntime) {
+    let _types: NetTypes = (None, None);
+    assert_eq!(rt; served_and_mounted(&rt), Ok((0, (0, true))));
+}
+
+fn mounted_with<R: Around + Eprint>(
+    rt: &R,
+    net: &mut MemNet,
+    boot: u64,
+    text: &[u8],
+) -> Result<(u8, bool), NoMemory> {
+    let echo = mounted(rt, net, b"1 stat /\n", boot)?;
+    Ok((echo.status, echo.text.as_slice() == text))
+}
+
+// A mount with boot 2, and one with boot 1 behind it.
+fn mounted_again<R: Around + Eprint>(
+    rt: &R,
+    mut net: MemNet,
+) -> Result<((u8, bool), (u8, bool)), NoMemory> {
+    let text = b"1 1 stat / -> stat dir 0755 0 0\nend sync -> ok\n";
+    let first = mounted_with(rt, &mut net, 2, text)?;
+    let second = mounted_with(rt, &mut net, 1, b"oldboot 2\n")?;
+    Ok((first, second))
+}
+
+// The status of a server of two links, and what these mounts beside it came to.
+fn served_again<R: Around + Eprint>(rt: &R) -> Result<(u8, ((u8, bool), (u8, bool))), NoMemory> {
+    let mut net = new_net(rt.alloc(), 0)?;
+    let other = net.share()?;
+    let mut spawner = Spawner::Threads(ThreadSpawner::new());
+    let (status, mounted) = thread::join(
+        rt,
+        || served(rt, &["serve", "here", "2"], &mut net, &mut spawner),
+        || mounted_again(rt, other),
+    );
+    Ok((status?, mounted?))
+}
+
+#[test]
+fn tells_a_greater_boot(rt: HostRuntime) {
+    let _types: NetTypes = (None, None);
+    let ended = Ok((0, ((0, true), (13, true))));
+    assert_eq!(rt; served_again(&rt), ended);
 }

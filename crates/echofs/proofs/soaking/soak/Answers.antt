@@ -1,6 +1,5 @@
-use Rattle.std.proofs.Common.{ℕ, List, None, Some, ap, subst, ◌∙◌}
+use Rattle.std.proofs.Common.{ℕ, List, Some, ap, subst, ◌∙◌}
 use Rattle.ec_base.specs.Memory.{Buffer}
-use Rattle.ec_drill.specs.Drill.{Outside}
 use Rattle.echofs.specs.Soak.{Told}
 use Rattle.echofs.proofs.Soaks.{soaked_by}
 use Rattle.echofs.proofs.soaking.soak.Goals as goal

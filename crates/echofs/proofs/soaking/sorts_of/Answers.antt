@@ -1,4 +1,4 @@
-use Rattle.std.proofs.Common.{refl, sym, subst, ◌∙◌, List, []}
+use Rattle.std.proofs.Common.{refl, sym, subst, ◌∙◌, []}
 use Rattle.echofs.specs.Soak.{AreSorts}
 use Rattle.echofs.proofs.Soaks.{line_sorted, all_sorted, no_bytes}
 use Rattle.echofs.proofs.soaking.sorts_of.Goals as goal
