@@ -30,7 +30,7 @@ own-part : (s : ℕ) (w : Option Hold) (o : Option Token) → part_of (holder_pr
 own-part s w None = refl
 own-part s w (Some t) = ap (λ b. elim b as (λ z. ℕ) [ true ↦ 0 | false ↦ 128 * rank (left_by w t.hold) ]) (same-self s)
 
-granted-others : (j : Work) (w : Noted) (ts : Tokens) (x n : ℕ) (h : Hold) → IsSound ts → (y : ℕ) → others_price j w (granted j.session x h n ts) y ≡ others_price j w ts y
+pub granted-others : (j : Work) (w : Noted) (ts : Tokens) (x n : ℕ) (h : Hold) → IsSound ts → (y : ℕ) → others_price j w (granted j.session x h n ts) y ≡ others_price j w ts y
 granted-others j w ts x n h sound y =
     omega (
       arith,

@@ -34,7 +34,7 @@ use Rattle.ec_protocol.specs.declared.clerk.Recalled.{Recalled}
 use Rattle.ec_protocol.specs.declared.clerk.Wanted.{Wanted}
 use Rattle.ec_quiet.specs.Facts.{IsAnswered, IsFree, IsIdleBut, IsIn, IsNew, IsOrderly, IsSending, Lacks, Same, SameBut, clerk_of, is_last, token_of}
 use Rattle.ec_quiet.specs.Scenes.{Mail, Scene}
-use Rattle.ec_quiet.specs.Works.{HasTask, IsDone, Task, Calls, Pushes, Work, asked}
+use Rattle.ec_quiet.specs.Works.{HasTask, IsDone, Task, Calls, Pushes, Work, asked, is_saving}
 
 -- Which messages are under way. In brackets: for a line's clerk A, or for one of its conflicting holders C.
 pub data Phase : Type 0 where
@@ -146,7 +146,6 @@ pub record IsWorking (xs : List ℕ) (j : Work) (sc : Scene) (sl : Slot) (k : Cl
   pub limits : k.cache.limits ≡ []
   pub same : (x : ℕ) → T (not (member x xs)) → Same sc.server j.session k x ⊎ IsLeaving j sc k x
   pub given_back : Each {A = ℕ × Msg} (λ m. IsGivenBack j sc.server.durable.epoch k m.1) (backs j sc.mail)
-  pub aged : IsAged j k
 
 -- it lacks a token, and asks for nothing else
 pub record IsWanting (xs : List ℕ) (j : Work) (sc : Scene) (x : ℕ) (h : Hold) (n : ℕ) : Type 0 where
@@ -158,6 +157,7 @@ pub record IsWanting (xs : List ℕ) (j : Work) (sc : Scene) (x : ℕ) (h : Hold
   pub batches : clerk.log.batches ≡ []
   pub window : Lacks 0 slot clerk.log
   pub grants : slot.grants ≡ clerk.got
+  pub aged : IsAged j clerk
   -- the object is touched, the last number on it was told, and this want is the only one that isn't answered
   pub touched : T (member x j.touched)
   pub number : last x clerk.cache ≡ n
@@ -166,7 +166,7 @@ pub record IsWanting (xs : List ℕ) (j : Work) (sc : Scene) (x : ℕ) (h : Hold
   pub wants : clerk.wanted ≡ wanted x h clerk ∷ earlier
   pub answered : Each (IsAnswered clerk.cache) earlier
 
--- it asked for ids, and has none
+-- it asked for ids, and has none; so its call makes an object, and saves nothing
 pub record IsAsking (xs : List ℕ) (j : Work) (sc : Scene) (again : Bool) (ask : ℕ) : Type 0 where
   pub slot : Slot
   pub clerk : Clerk
@@ -174,9 +174,11 @@ pub record IsAsking (xs : List ℕ) (j : Work) (sc : Scene) (again : Bool) (ask 
   pub task : HasTask j.task clerk
   pub asking : clerk.asking ≡ Some ask
   pub ids : clerk.ids ≡ []
+  pub makes : is_saving j.task ≡ false
   pub batches : clerk.log.batches ≡ []
   pub window : Lacks 0 slot clerk.log
   pub answered : Each (IsAnswered clerk.cache) clerk.wanted
+  pub aged : IsAged j clerk
   -- unless it may ask once more, it lacks nothing but ids
   pub lacks : (call : Call) → j.task ≡ Calls call → again ≡ false → (xs : List ℕ) × (verdict call clerk ≡ NeedIds xs)
 
@@ -191,6 +193,7 @@ pub record IsSaving (n : ℕ) (j : Work) (sc : Scene) (b : ℕ) (rest : Bool) : 
   pub window : Lacks n slot clerk.log
   pub grants : slot.grants ≡ clerk.got
   pub answered : Each (IsAnswered clerk.cache) clerk.wanted
+  pub aged : IsAged j clerk
   -- where no further one follows, all that's asked for is durable then
   pub last : rest ≡ false → (a : Asked) × (asked j.task clerk ≡ Some a) × (is_last a b clerk.log ≡ true)
 
