@@ -6,5 +6,9 @@ pub mod Beside
 pub mod Opening
 pub mod Evicted
 pub mod Taking
+pub mod Used
+pub mod Tries
+pub mod Batches
+pub mod Leaving
 pub mod Going
 pub mod Granting

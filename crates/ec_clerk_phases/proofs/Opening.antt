@@ -22,7 +22,7 @@ use Rattle.ec_protocol.specs.declared.clerk.Out.TheVariants as out
 use Rattle.ec_protocol.specs.declared.clerk.Waiting.{Waiting}
 use Rattle.ec_quiet.specs.Facts.{IsIn, Lacks, token_of}
 use Rattle.ec_quiet.specs.Measure.{measure}
-use Rattle.ec_quiet.specs.Phases.{Claims, InPhase, IsGivenBack, IsStarting, IsWorking, Lacking, Opens, backs, is_back, main, messages}
+use Rattle.ec_quiet.specs.Phases.{Claims, InPhase, IsAged, IsGivenBack, IsStarting, IsWorking, Lacking, Opens, backs, is_back, main, messages}
 use Rattle.ec_quiet.specs.Scenes.{Mail, Scene, delivered, done_by, sends, taken_by}
 use Rattle.ec_quiet.specs.Works.{Calls, HasTask, IsDone, Work}
 use Rattle.ec_clerk_phases.specs.Frames.{own_part}
@@ -116,8 +116,10 @@ module _ (j : Work) (sc : Scene) (age : Age) (rest : Mail) (q : InPhase j sc (Op
       limits = ap (λ c. c.limits) cache;
       same = λ x f. inl (start.tokenless x ∙ ap token_of (sym (no-token x)));
       given_back = subst (Each (λ m. IsGivenBack j e d.clerk m.1)) (sym now-backs) tt;
-      aged = record { olds = []; news = []; whole = ap (λ c. c.held) cache; old = tt; fresh = tt };
     }
+
+    aged : IsAged j d.clerk
+    aged = record { olds = []; news = []; whole = ap (λ c. c.held) cache; old = tt; fresh = tt }
 
   window : Lacks 0 sl k.log
   window = subst (Lacks 0 sl) (sym start.new.log) q.facts.7
@@ -233,6 +235,7 @@ module _ (j : Work) (sc : Scene) (age : Age) (rest : Mail) (q : InPhase j sc (Op
         batches = no-batches;
         window = window;
         grants = grants;
+        aged = aged wanting refl refl start.new.owed start.new.recalls start.new.cache none-back;
         touched = touched;
         number = no-last-yet;
         below = subst T (sym below) tt;

@@ -1,5 +1,5 @@
 -- The line's clerk takes a token.
-use Rattle.std.proofs.Common.{◌≡◌, refl, sym, ap, ◌∙◌, subst, arith, ◌≤◌, ◌<◌, ℕ, zero, suc, Bool, true, false, not, ◌||◌, cond, T, List, [], ◌∷◌, ◌++◌, inl, inr, ◌⊎◌, length}
+use Rattle.std.proofs.Common.{◌≡◌, refl, sym, ap, ◌∙◌, subst, arith, ◌≤◌, ◌<◌, ◌+◌, ℕ, zero, suc, Bool, true, false, not, ◌||◌, cond, T, List, [], ◌∷◌, ◌++◌, inl, inr, ◌⊎◌, length, length-append}
 use Rattle.std.specs.Prelude.{None, Some, ◌==◌, filter, slice_index_or, Contains}
 use Rattle.std.specs.Ordering.{nat_cmp, eq_by_cmp}
 use Rattle.std.specs.Cmp.{nat_cmp_total, unsigned_ties}
@@ -22,11 +22,11 @@ use Rattle.ec_wire.specs.declared.msg.Msg.TheVariants.{Back, Grant}
 use Rattle.ec_protocol.specs.Clerk.{max_tokens, settle}
 use Rattle.ec_protocol.specs.declared.clerk.Clerk.{Clerk}
 use Rattle.ec_protocol.specs.declared.clerk.Wanted.{Wanted}
-use Rattle.ec_quiet.specs.Facts.{IsAnswered, IsIn, Same, token_of}
+use Rattle.ec_quiet.specs.Facts.{IsAnswered, Same, token_of}
 use Rattle.ec_quiet.specs.Phases.{Grants, InPhase, IsAged, IsGivenBack, IsLeaving, IsWanting, backs, is_back_message}
 use Rattle.ec_quiet.specs.Scenes.{Mail, Scene, delivered, done_by, taken_by}
 use Rattle.ec_quiet.specs.Works.{Calls, HasTask, Pushes, Task, Work}
-use Rattle.ec_clerk_phases.specs.Takings.{IsReady, taking}
+use Rattle.ec_clerk_phases.specs.Takings.{IsInside, IsReady, taking}
 use Rattle.ec_clerk_phases.proofs.Begun.{grants}
 use Rattle.ec_clerk_phases.proofs.Beside.{backs-more, filter-both, own-at}
 
@@ -36,6 +36,14 @@ module _ {A : Type 0} where
   pub each-map : (P Q : A → Type 0) → ((x : A) → P x → Q x) → (xs : List A) → Each P xs → Each Q xs
   each-map P Q f [] e = tt
   each-map P Q f (x ∷ xs) e = (f x e.0, each-map P Q f xs e.1)
+
+  pub few-left : (p : A → Bool) (xs : List A) → length (filter p xs) ≤ length xs
+  few-left p [] = omega arith
+  few-left p (x ∷ xs) = go (p x) (few-left p xs)
+    where
+      go : (z : Bool) → length (filter p xs) ≤ length xs → length (cond z (x ∷ filter p xs) (filter p xs)) ≤ suc (length xs)
+      go true l = omega (arith, l)
+      go false l = omega (arith, l)
 
   pub each-both : (P : A → Type 0) (xs ys : List A) → Each P xs → Each P ys → Each P (xs ++ ys)
   each-both P [] ys e f = f
@@ -128,8 +136,7 @@ module _ (x : ℕ) (h : Hold) (n : ℕ) (i : Image) (k : CacheState) (new : last
 -- The grant is taken.
 
 module _ (j : Work) (sc : Scene) (x : ℕ) (h : Hold) (n : ℕ) (rest : Mail) (q : InPhase j sc (Grants x h n))
-    (head : sc.mail ≡ (j.clerk, Grant j.session sc.server.durable.epoch x n h (images sc.server.durable.volume x)) ∷ rest) (out : n ≤ sc.server.number)
-    (few : (k : Clerk) → at j.clerk sc.clerks ≡ Some k → length (taking x h n sc k).clerk.cache.held ≤ max_tokens) where
+    (head : sc.mail ≡ (j.clerk, Grant j.session sc.server.durable.epoch x n h (images sc.server.durable.volume x)) ∷ rest) (out : n ≤ sc.server.number) where
   abbrev e : ℕ
   e = sc.server.durable.epoch
 
@@ -211,7 +218,7 @@ module _ (j : Work) (sc : Scene) (x : ℕ) (h : Hold) (n : ℕ) (rest : Mail) (q
 
   aged : IsAged j now-clerk
   aged =
-      let a = w.working.aged in
+      let a = w.aged in
       record {
         olds = without x a.olds;
         news = without x a.news ++ (x, token-taken x h n i k.cache new) ∷ [];
@@ -237,7 +244,7 @@ module _ (j : Work) (sc : Scene) (x : ℕ) (h : Hold) (n : ℕ) (rest : Mail) (q
   abbrev Ready : CacheState → Type 0
   Ready c = IsReady j (record sc { clerks = put j.clerk (record k { cache = c }) sc.clerks; mail = rest }) w.slot (record k { cache = c })
 
-  inside : IsIn sc.server j.clerk w.slot now-clerk
+  inside : IsInside sc.server j.clerk w.slot now-clerk
   inside = record {
     there = w.working.inside.there;
     is_open = w.working.inside.is_open;
@@ -248,21 +255,18 @@ module _ (j : Work) (sc : Scene) (x : ℕ) (h : Hold) (n : ℕ) (rest : Mail) (q
     numbers = numbers-kept x h n i k.cache new w.working.inside.numbers;
     lasts = lasts-kept x h n i k.cache new sc.server.number out w.working.inside.lasts;
     capacity = w.working.inside.capacity;
-    room = subst (λ c. length c.held ≤ max_tokens) (takes-new x h n i k.cache new) (few k w.working.there);
   }
 
   ready-now : Ready now-cache
   ready-now = record {
-    working = record {
-      there = own-at j.clerk now-clerk sc.clerks;
-      inside = inside;
-      session = w.working.session;
-      recalls = w.working.recalls;
-      limits = ap (without x) w.working.limits;
-      same = λ y f. same y;
-      given_back = given-back;
-      aged = aged;
-    };
+    there = own-at j.clerk now-clerk sc.clerks;
+    inside = inside;
+    session = w.working.session;
+    recalls = w.working.recalls;
+    limits = ap (without x) w.working.limits;
+    same = same;
+    given_back = given-back;
+    aged = aged;
     task = same-task j.task k now-clerk refl refl refl w.task;
     asking = w.asking;
     batches = w.batches;
@@ -270,6 +274,13 @@ module _ (j : Work) (sc : Scene) (x : ℕ) (h : Hold) (n : ℕ) (rest : Mail) (q
     grants = w.grants;
     answered = answered;
   }
+
+  few-now : length now-cache.held ≤ max_tokens + 1
+  few-now = omega (arith, w.working.inside.room, length-append (without x k.cache.held) ((x, token-taken x h n i k.cache new) ∷ []), few-left {A = ℕ × Held} (λ z. not (eq_by_cmp nat_cmp x z.0)) k.cache.held)
+
+  -- there is at most one more token
+  pub few-taken : length (cache.take x h n i k.cache).held ≤ max_tokens + 1
+  few-taken = subst (λ c. length c.held ≤ max_tokens + 1) (sym (takes-new x h n i k.cache new)) few-now
 
   pub ready : Ready (cache.take x h n i k.cache)
   ready = subst Ready (sym (takes-new x h n i k.cache new)) ready-now

@@ -31,6 +31,23 @@ IsAlone (Saves b ops rest) = ⊤
 IsAlone (Saved b rest) = ⊤
 IsAlone Ends = ⊤
 
+-- its own step leaves a line here: it wants, asks or saves, or is done
+abbrev pub IsAsked : Phase → Type 0
+IsAsked (Wants x h n) = ⊤
+IsAsked (Asks again got ask) = ⊤
+IsAsked (Saves b ops rest) = ⊤
+IsAsked Ends = ⊤
+IsAsked (Greets age) = ⊥
+IsAsked (Opens age) = ⊥
+IsAsked (Claims o) = ⊥
+IsAsked (Recalls x h rs bs) = ⊥
+IsAsked (Flushes x h r b ops rest) = ⊥
+IsAsked (Keeps x h r b rest) = ⊥
+IsAsked (Grants x h n) = ⊥
+IsAsked (Gives got n first) = ⊥
+IsAsked (Refuses again ask live reserved) = ⊥
+IsAsked (Saved b rest) = ⊥
+
 -- A step of the line's clerk comes to a phase where its messages are under way and its facts hold: the server and the others are as before.
 abbrev pub OwnStepsCome : Type 0
 OwnStepsCome = (j : Work) (sc : Scene) (p q : Phase) → InPhase j sc p → IsAlone p → IsAlone q → (d : Doing) (rest : Mail)

@@ -3,7 +3,7 @@
 
 ghost use Rattle.ec_clerk_phases.specs.Evictions.{OldOnesGo};
 ghost use Rattle.ec_clerk_phases.specs.Frames.{OpenedComesToClaims, OtherStepsMeasure, OwnStepsCome, OwnStepsMeasure};
-ghost use Rattle.ec_clerk_phases.specs.Goes.{GrantsGoOn, ReadyGoes};
+ghost use Rattle.ec_clerk_phases.specs.Goes.{GrantsGoOn, ReadyGoes, RoomyEvicts};
 ghost use Rattle.ec_clerk_phases.specs.Takings.{GrantsAreTaken};
 ghost use Rattle.ec_clerk_phases.specs.Tries.{AsksSendOne, FewStay, MessagesBegin, StepsTryNone, StepsTryOne, StepsTryPush, StepsTryRecall, TriesComeTo};
 
@@ -49,8 +49,10 @@ pub fn grants_are_taken()
     ensures { GrantsAreTaken }
 {}
 
-/// The try of its call leads to the phase of the message that goes out, or answers; so a grant leads on, and the measure falls.
+/// The try of its call leads to the phase of the message that goes out, or answers and ends the work; so a grant leads on, and the measure falls. No
+/// token goes back where there aren't too many.
 pub fn tries_lead_to_phases()
     ensures ready { ReadyGoes }
     ensures grants { GrantsGoOn }
+    ensures roomy { RoomyEvicts }
 {}

@@ -1,0 +1,12 @@
+pub mod Filling
+pub mod Given
+pub mod Refusing
+pub mod Saving
+pub mod Holding
+pub mod Lowering
+pub mod Calling
+pub mod Standing
+pub mod Recalling
+pub mod Keeping
+pub mod Pushing
+pub mod Delivered
