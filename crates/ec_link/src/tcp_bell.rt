@@ -7,7 +7,7 @@ use std::io;
 use std::net::TcpStream;
 use std::os::fd::AsRawFd;
 use std::sync::atomic::{AtomicU64, Ordering};
-use std::sync::{Mutex, Wait};
+use std::sync::{Condvar, Mutex, Wait};
 use std::time::Duration;
 
 const SOCKET: Token = Token(0);
@@ -26,11 +26,13 @@ struct Waiting {
     events: Events,
 }
 
-/// One thread at a time waits for the socket, the others for this thread.
+/// One thread at a time takes `waiting` out and waits for the socket, outside of the lock. The others wait until it's
+/// back: each thread that puts it back counts a ring and wakes them all.
 #[derive(Drop)]
 pub struct TcpBell {
     rings: AtomicU64,
-    waiting: Mutex<Waiting>,
+    waiting: Mutex<Option<Waiting>>,
+    returned: Condvar,
     waker: Waker,
 }
 
@@ -47,7 +49,8 @@ impl TcpBell {
         let waker = Waker::new(poll.registry(), RING)?;
         Ok(TcpBell {
             rings: AtomicU64::new(0),
-            waiting: Mutex::new(Waiting { poll, events }),
+            waiting: Mutex::new(Some(Waiting { poll, events })),
+            returned: Condvar::new(),
             waker,
         })
     }
@@ -64,12 +67,23 @@ impl Bell for TcpBell {
     }
 
     fn wait<R: Wait>(&self, rt: &R, seen: u64) {
-        let mut guard = self.waiting.lock(rt);
+        let free = self.waiting.lock(rt);
+        let mut free = self.returned.wait_while(
+            rt,
+            free,
+            |waiting| waiting.is_none() && self.rings() == seen,
+        );
         if self.rings() != seen {
             return;
         }
-        let waiting = &mut *guard;
+        let Some(mut waiting) = free.take() else {
+            return;
+        };
+        drop(free);
         let _ = waiting.poll.poll(&mut waiting.events, Some(Duration::from_secs(LONGEST_WAIT)));
+        let mut free = self.waiting.lock(rt);
+        *free = Some(waiting);
         self.rings.fetch_add(1, Ordering::SeqCst);
+        self.returned.notify_all();
     }
 }
