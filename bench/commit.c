@@ -1,13 +1,15 @@
 /* The writes and syncs of ec_journal, and the reads of ec_store, by themselves. A record is its length, its body and the closed next gate, a
    sync, the gate, a sync.
    commit FILE RECORDS: appends records of 2,000 bytes to a journal in a new file, as ec_bench does with the words FILE RECORDS 0.
-   commit FILE RECORDS BODY: the same for bodies of so many bytes, in the journal of a new file that is as long as a new store's.
+   commit FILE RECORDS BODY: the same for bodies of so many bytes, in the journal of a new file that is as long as a new store's; prints the
+   seconds that the records took, of which each but its place stands ready.
    commit FILE read SLOTS: reads what the opening of a store reads, whose images stand in the first so many slots, into one buffer.
    commit FILE keep SLOTS: the same, and keeps the bytes of each slot in memory of their own. */
 #include <fcntl.h>
 #include <stdio.h>
 #include <stdlib.h>
 #include <string.h>
+#include <time.h>
 #include <unistd.h>
 
 enum { BODY = 2000, LENGTH = 4, HEAD = 5, JOURNAL_AT = 4096, JOURNAL = 2097152, TABLE = 65536, SLOTS_AT = 4329472, SLOT = 65600 };
@@ -24,18 +26,26 @@ static void write_synced(int file, const unsigned char *bytes, size_t count, off
     check(fdatasync(file) == 0, "sync");
 }
 
-static void append_all(int file, off_t at, long count, size_t body) {
+static double seconds(void) {
+    struct timespec now;
+    check(clock_gettime(CLOCK_MONOTONIC, &now) == 0, "clock");
+    return (double)now.tv_sec + (double)now.tv_nsec / 1e9;
+}
+
+/* The seconds that the writes and syncs took. */
+static double append_all(int file, off_t at, long count, size_t body) {
     unsigned char *record = calloc(LENGTH + body + 1, 1);
     check(record != NULL, "memory");
     record[2] = (unsigned char)(body >> 8);
     record[3] = (unsigned char)body;
     memset(record + LENGTH, 7, body);
+    double start = seconds();
     for (long i = 0; i < count; i++) {
         off_t gate = at + (off_t)i * (off_t)(HEAD + body);
         write_synced(file, record, LENGTH + body + 1, gate + 1);
         write_synced(file, (const unsigned char *)"O", 1, gate);
     }
-    printf("%ld records\n", count);
+    return seconds() - start;
 }
 
 static void read_all(int file, long slots, int is_kept) {
@@ -72,7 +82,7 @@ int main(int argc, char **argv) {
     check(file >= 0, "open");
     if (argc == 4) {
         write_synced(file, (const unsigned char *)"\0\0\0\1", 4, SLOTS_AT);
-        append_all(file, JOURNAL_AT, count, (size_t)atol(argv[3]));
+        printf("%.6f\n", append_all(file, JOURNAL_AT, count, (size_t)atol(argv[3])));
         return 0;
     }
     size_t size = (size_t)count * (HEAD + BODY) + 1;
@@ -80,5 +90,6 @@ int main(int argc, char **argv) {
     check(zeros != NULL, "memory");
     write_synced(file, zeros, size, 0);
     append_all(file, 0, count, BODY);
+    printf("%ld records\n", count);
     return 0;
 }

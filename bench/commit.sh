@@ -2,7 +2,8 @@
 # Times, over real files: appends of 2,000 bytes to a journal beside a C program with the same writes and two syncs an append; commits of
 # 64 small updates to a store beside that program and beside SQLite (its log written ahead, full syncs); and the opening of a full volume
 # beside a C program that reads the same bytes, from the disk and from memory. It prints rates and ratios. The programs run by turns; each
-# time is the least of its runs, of which a busy disk needs more than five.
+# time is the least of its runs, of which a busy disk needs more than five. Those of the commits are of the commits alone: what is committed
+# stands ready before the clock starts.
 # Usage: bench/commit.sh PROGRAM [FOLDER] [RECORDS] [RUNS]   (the ec_bench program; `rt run` in crates/ec_bench builds it; FOLDER is on the disk to be measured)
 set -eu
 program=${1:?usage: bench/commit.sh PROGRAM [FOLDER] [RECORDS] [RUNS]}
@@ -37,8 +38,8 @@ forget() {
 for run in $(seq "$runs"); do
     timed journal "$program" "$folder/journal.img" "$records" 0
     timed c "$folder/commit" "$folder/c.img" "$records"
-    timed store "$program" commit "$folder/store.img" "$records" "$bytes"
-    timed two_syncs "$folder/commit" "$folder/laid.img" "$records" "$body"
+    echo "store $("$program" commit "$folder/store.img" "$records" "$bytes")"
+    echo "two_syncs $("$folder/commit" "$folder/laid.img" "$records" "$body")"
     rm -f "$folder/base.db" "$folder/base.db-wal" "$folder/base.db-shm"
     echo "sqlite $(python3 "$here/commit.py" "$folder/base.db" "$records" "$updates" "$bytes")"
     forget "$folder/full.img"

@@ -14,11 +14,18 @@ const AGE: Age = Age { boot: 1, round: 0 };
 
 /// Begins a read of a whole file of 4 KiB so many times. Tells how many were answered with all bytes.
 pub fn read_all(alloc: Global, count: u32) -> Option<u64> {
-    let mut clerk = holder(alloc)?;
     let path = Path::read(alloc, b"/f").ok()?;
+    let (mut clerk, _) = Clerk::start(alloc, ClerkId::new(0)?, AGE.boot).ok()?;
+    let whole = hold_and_read(alloc, &mut clerk, &path, count);
+    drop(clerk);
+    whole
+}
+
+fn hold_and_read(alloc: Global, clerk: &mut Clerk, path: &Path, count: u32) -> Option<u64> {
+    hold(alloc, clerk)?;
     let mut whole: u64 = 0;
     for _ in 0..count {
-        whole = whole.saturating_add(u64::from(reads(&mut clerk, &path)?));
+        whole = whole.saturating_add(u64::from(reads(clerk, path)?));
     }
     Some(whole)
 }
@@ -30,14 +37,12 @@ fn reads(clerk: &mut Clerk, path: &Path) -> Option<bool> {
     Some(is_whole(outs.as_slice()))
 }
 
-// A clerk that holds the root and the file `/f` for reading.
-fn holder(alloc: Global) -> Option<Clerk> {
-    let (mut clerk, _) = Clerk::start(alloc, ClerkId::new(0)?, AGE.boot).ok()?;
+// The clerk comes to hold the root and the file `/f` for reading.
+fn hold(alloc: Global, clerk: &mut Clerk) -> Option<()> {
     let file = ObjId::new(2)?;
-    take(&mut clerk, Msg::Opened(AGE, SessionNo(1), 1))?;
-    take(&mut clerk, grant(ObjId::root(), 1, root(alloc, file)?))?;
-    take(&mut clerk, grant(file, 2, image(alloc).ok()?))?;
-    Some(clerk)
+    take(clerk, Msg::Opened(AGE, SessionNo(1), 1))?;
+    take(clerk, grant(ObjId::root(), 1, root(alloc, file)?))?;
+    take(clerk, grant(file, 2, image(alloc).ok()?))
 }
 
 fn image(alloc: Global) -> Result<Image, NoMemory> {

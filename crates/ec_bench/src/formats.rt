@@ -65,14 +65,14 @@ fn grant(alloc: Global, size: u32) -> Result<Vec<u8>, NoMemory> {
 
 fn read_lines(alloc: Global, line: &[u8], rounds: u32) -> Result<(), LineFault> {
     for _ in 0..rounds {
-        read_line(alloc, line)?;
+        drop(read_line(alloc, line)?);
     }
     Ok(())
 }
 
 fn read_shown(alloc: Global, line: &[u8], rounds: u32) -> Result<(), LineFault> {
     for _ in 0..rounds {
-        read(alloc, line)?;
+        drop(read(alloc, line)?);
     }
     Ok(())
 }
@@ -88,11 +88,15 @@ fn print_lines(alloc: Global, shown: &Shown, rounds: u32) -> Result<(), NoMemory
 fn recode(alloc: Global, bytes: Vec<u8>, rounds: u32) -> Result<Vec<u8>, WireFault> {
     let mut bytes = bytes;
     for _ in 0..rounds {
-        let message = decode(alloc, &bytes)?;
-        let Ok(again) = encode(alloc, &message) else {
-            return Err(WireFault::NoMemory);
-        };
-        bytes = again;
+        bytes = recode_once(alloc, &bytes)?;
     }
     Ok(bytes)
+}
+
+fn recode_once(alloc: Global, bytes: &[u8]) -> Result<Vec<u8>, WireFault> {
+    let message = decode(alloc, bytes)?;
+    match encode(alloc, &message) {
+        Ok(again) => Ok(again),
+        Err(_) => Err(WireFault::NoMemory),
+    }
 }

@@ -12,9 +12,17 @@ use std::alloc::Global;
 use std::env;
 use std::fs::File;
 use std::process::ExitCode;
+use std::time::Duration;
 
 const USAGE: &str =
     "usage: ec_bench FILE RECORDS BODIES, ec_bench formats FORMAT BYTES ROUNDS, ec_bench commit FILE COMMITS BYTES, ec_bench fill|open FILE, or ec_bench READS";
+
+// How much was done, or how long it took.
+#[derive(Clone, Copy, Debug, Drop)]
+enum Done {
+    Count(u64),
+    Took(Duration),
+}
 
 fn main(rt: HostRuntime) -> ExitCode {
     let done = match words(rt) {
@@ -24,11 +32,15 @@ fn main(rt: HostRuntime) -> ExitCode {
     ended(rt, done)
 }
 
-// Says how much was done, or how the program is used.
-fn ended(rt: HostRuntime, done: Option<u64>) -> ExitCode {
+// Says how much was done, how many seconds it took, or how the program is used.
+fn ended(rt: HostRuntime, done: Option<Done>) -> ExitCode {
     match done {
-        Some(count) => {
+        Some(Done::Count(count)) => {
             let _ = println!(&rt; "{count} done");
+            ExitCode::SUCCESS
+        }
+        Some(Done::Took(time)) => {
+            let _ = println!(&rt; "{}.{:06}", time.as_secs(), time.subsec_micros());
             ExitCode::SUCCESS
         }
         None => {
@@ -46,13 +58,27 @@ fn words(rt: HostRuntime) -> Option<Vec<String>> {
     Some(words)
 }
 
-// How much was done. None says that the words ask for nothing, or that it can't be done.
-fn run(rt: HostRuntime, words: &[String]) -> Option<u64> {
+// None says that the words ask for nothing, or that it can't be done.
+fn run(rt: HostRuntime, words: &[String]) -> Option<Done> {
+    match words {
+        [what, name, count, size] if what.as_str() == "commit" => {
+            let (count, size) = (number(count)?, number(size)?);
+            let time = store::commit_all(rt, disk_at(rt, name, true)?, count, size)?;
+            Some(Done::Took(time))
+        }
+        _ => Some(Done::Count(count(rt, words)?)),
+    }
+}
+
+// How much was done.
+fn count(rt: HostRuntime, words: &[String]) -> Option<u64> {
     match words {
         [path, records, bodies] => {
             records_and_bodies(rt, path, number(records)?, number(bodies)?)
         }
-        [what, name, count, size] => repeat(rt, what, name, number(count)?, number(size)?),
+        [_, format, count, size] => {
+            formats::repeat(rt.alloc(), format, number(count)?, number(size)?)
+        }
         [reads] => begins::read_all(rt.alloc(), number(reads)?),
         [what, path] => fill_or_open(rt, what, path),
         _ => None,
@@ -61,14 +87,6 @@ fn run(rt: HostRuntime, words: &[String]) -> Option<u64> {
 
 fn number(word: &str) -> Option<u32> {
     word.parse::<u32>().ok()
-}
-
-fn repeat(rt: HostRuntime, what: &str, name: &str, count: u32, size: u32) -> Option<u64> {
-    if what == "commit" {
-        store::commit_all(rt.alloc(), disk_at(rt, name, true)?, count, size)
-    } else {
-        formats::repeat(rt.alloc(), name, count, size)
-    }
 }
 
 // Appends so many records to a journal in a new file, and takes so many bodies from a stream of frames.

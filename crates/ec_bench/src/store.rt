@@ -1,12 +1,13 @@
 // Commits to a store in a file, and the opening of a full one.
-ghost use Rattle.std.specs.Prelude.{◌≡◌, true, IfOk};
+ghost use Rattle.std.specs.Prelude.{◌≡◌, true};
 ghost use Rattle.ec_durable.specs.Codes.{is_sound_record};
 
 use ec_codes::CodeFault;
 use ec_disk::FileDisk;
 use ec_durable::{Record, decode};
 use ec_store::{Store, StoreFault};
-use std::alloc::{AllocError, Global};
+use std::alloc::{AllocError, AllocFailed, Global};
+use std::time::{Duration, Instant};
 
 /// The store or its disk failed, or memory ran out.
 #[derive(Clone, Copy, Debug, Drop)]
@@ -14,6 +15,12 @@ pub struct NotDone;
 
 impl From<AllocError> for NotDone {
     fn from(_: AllocError) -> Self {
+        NotDone
+    }
+}
+
+impl<T: Drop> From<AllocFailed<T>> for NotDone {
+    fn from(_: AllocFailed<T>) -> Self {
         NotDone
     }
 }
@@ -54,17 +61,45 @@ struct OnDisk {
     number: u64,
 }
 
-/// Formats the disk, makes a file, and commits so many batches of 64 updates, each of which writes so many bytes to the file.
-pub fn commit_all(alloc: Global, disk: FileDisk, commits: u32, bytes: u32) -> Option<u64> {
-    let mut on = begin(alloc, disk).ok()?;
-    commit_many(alloc, &mut on, commits, bytes.min(1_024) as u16).ok()?;
-    Some(u64::from(commits))
+// A record that a store takes.
+#[derive(Drop)]
+struct Sound {
+    change: Record,
+    ghost sound: { is_sound_record change ≡ true },
 }
 
-fn commit_many(alloc: Global, on: &mut OnDisk, commits: u32, bytes: u16) -> Result<(), NotDone> {
-    grant(alloc, on, 0)?;
-    for _ in 0..commits {
-        put_all(alloc, on, 10, 64, bytes)?;
+/// Formats the disk, makes a file, and commits so many batches of 64 updates, each of which writes so many bytes to the file. Tells how
+/// long the commits took, for which all records stand ready.
+pub fn commit_all(rt: HostRuntime, disk: FileDisk, commits: u32, bytes: u32) -> Option<Duration> {
+    let mut on = begin(rt.alloc(), disk).ok()?;
+    let time = time_commits(rt, &mut on, commits, bytes);
+    drop(on);
+    time
+}
+
+fn time_commits(rt: HostRuntime, on: &mut OnDisk, commits: u32, bytes: u32) -> Option<Duration> {
+    let alloc = rt.alloc();
+    grant(alloc, on, 0).ok()?;
+    let batches = batches(alloc, on.number, commits, bytes.min(1_024) as u16).ok()?;
+    let start = Instant::now(&rt).ok()?;
+    commit_each(on, &batches).ok()?;
+    start.elapsed(&rt).ok()
+}
+
+// So many batches, from this number on.
+fn batches(alloc: Global, first: u64, count: u32, bytes: u16) -> Result<Vec<Sound>, NotDone> {
+    let mut batches = Vec::new(alloc);
+    for place in 0..count {
+        let number = first.saturating_add(u64::from(place));
+        let puts = puts(alloc, number, 10, 64, bytes)?;
+        batches.push(sound_record(alloc, &puts)?)?;
+    }
+    Ok(batches)
+}
+
+fn commit_each(on: &mut OnDisk, batches: &[Sound]) -> Result<(), NotDone> {
+    for batch in batches {
+        commit(on, batch)?;
     }
     Ok(())
 }
@@ -72,10 +107,17 @@ fn commit_many(alloc: Global, on: &mut OnDisk, commits: u32, bytes: u16) -> Resu
 /// Formats the disk, and fills it with files of 64 KiB.
 pub fn fill(alloc: Global, disk: FileDisk) -> Option<u64> {
     let mut on = begin(alloc, disk).ok()?;
-    for got in 0..GRANTS {
-        fill_some(alloc, &mut on, got).ok()?;
-    }
+    let done = fill_all(alloc, &mut on);
+    drop(on);
+    done.ok()?;
     Some(u64::from(GRANTS))
+}
+
+fn fill_all(alloc: Global, on: &mut OnDisk) -> Result<(), NotDone> {
+    for got in 0..GRANTS {
+        fill_some(alloc, on, got)?;
+    }
+    Ok(())
 }
 
 // The objects of one grant, each file of them full.
@@ -95,7 +137,9 @@ fn fill_some(alloc: Global, on: &mut OnDisk, got: u32) -> Result<(), NotDone> {
 /// Opens the disk, and tells how many objects it holds.
 pub fn open(alloc: Global, mut disk: FileDisk) -> Option<u64> {
     let store = Store::open(alloc, &mut disk).ok()?;
-    Some(u64::from(store.view().volume.live()))
+    let live = store.view().volume.live();
+    drop(store);
+    Some(u64::from(live))
 }
 
 fn begin(alloc: Global, disk: FileDisk) -> Result<OnDisk, NotDone> {
@@ -106,15 +150,23 @@ fn begin(alloc: Global, disk: FileDisk) -> Result<OnDisk, NotDone> {
         disk,
         number: 1,
     };
-    commit(alloc, &mut on, OPEN)?;
+    let done = open_session(alloc, &mut on);
+    if done.is_err() {
+        drop(on);
+        return Err(NotDone);
+    }
     Ok(on)
+}
+
+fn open_session(alloc: Global, on: &mut OnDisk) -> Result<(), NotDone> {
+    commit(on, &sound_record(alloc, OPEN)?)
 }
 
 // The ids of a grant are granted, and their objects made.
 fn grant(alloc: Global, on: &mut OnDisk, got: u32) -> Result<(), NotDone> {
     let first = got.saturating_mul(IDS_PER_GRANT).saturating_add(2);
     let ids = ids(alloc, got, first)?;
-    commit(alloc, on, &ids)?;
+    commit(on, &sound_record(alloc, &ids)?)?;
     let makes = makes(alloc, on.number, first)?;
     commit_batch(alloc, on, &makes)
 }
@@ -133,21 +185,19 @@ fn put_all(
 
 fn commit_batch(alloc: Global, on: &mut OnDisk, bytes: &[u8]) -> Result<(), NotDone> {
     on.number = on.number.saturating_add(1);
-    commit(alloc, on, bytes)
+    commit(on, &sound_record(alloc, bytes)?)
 }
 
-fn commit(alloc: Global, on: &mut OnDisk, bytes: &[u8]) -> Result<(), NotDone> {
-    let change = record(alloc, bytes)?;
-    match on.store.commit(&mut on.disk, &change) {
+fn commit(on: &mut OnDisk, sound: &Sound) -> Result<(), NotDone> {
+    match on.store.commit(&mut on.disk, &sound.change) {
         Ok(()) => Ok(()),
         Err(_) => Err(NotDone),
     }
 }
 
-fn record(alloc: Global, bytes: &[u8]) -> Result<Record, CodeFault>
-    ensures { IfOk result (λ change. is_sound_record change ≡ true) }
-{
-    decode(alloc, bytes)
+fn sound_record(alloc: Global, bytes: &[u8]) -> Result<Sound, CodeFault> {
+    let change = decode(alloc, bytes)?;
+    Ok(Sound { change })
 }
 
 fn ids(alloc: Global, got: u32, first: u32) -> Result<Vec<u8>, AllocError> {

@@ -11,6 +11,7 @@ pub mod Assembling
 pub mod Refusing
 pub mod Rows
 pub mod ReadBack
+pub mod Ahead
 pub mod Trying
 pub mod Replaying
 pub mod Opens

@@ -1,6 +1,6 @@
 -- A batch steps a state with the images of its operands alone as it steps the whole one.
 use Rattle.std.proofs.Common.{◌≡◌, ◌==◌, ◌||◌, ◌&&◌, ℕ, Bool, true, false, cond, List, [], ◌∷◌, ◌++◌, Option, None, Some, Result, Ok, Err, refl, sym, ap, subst, ◌∙◌, ⊎_elim, T}
-use Rattle.std.specs.Prelude.{nat_le}
+use Rattle.std.specs.Prelude.{nat_le, OnOk, OnErr, IfErr}
 use Rattle.std.specs.List.{flat_map, list_all}
 use Rattle.std.proofs.lemmas.Bool.{eqb-true, leb-true}
 use Rattle.std.proofs.lemmas.List.Folds.{list_any-append}
@@ -15,6 +15,7 @@ use Rattle.ec_volume.specs.declared.image.Image.{Image}
 use Rattle.ec_volume.specs.declared.update.Update.{Update}
 use Rattle.ec_volume.proofs.Changed.{changed_images}
 use Rattle.ec_durable.specs.declared.state.Durable.{Durable}
+use Rattle.ec_durable.specs.declared.record.Record.{Record}
 use Rattle.ec_durable.specs.declared.record.Record.TheVariants.{Batch}
 use Rattle.ec_durable.specs.declared.record.RecordFault.{RecordFault}
 use Rattle.ec_durable.specs.declared.record.RecordFault.TheVariants.{NoSession, Done, Beyond, Unfit, NotReserved, BadAge, BadNumber, NoRoom, NoMemory}
@@ -22,7 +23,9 @@ use Rattle.ec_durable.specs.WellFormed.{IsInOrder}
 use Rattle.ec_durable.specs.Durable.{formatted, step, slot, is_session, has_batch, is_beyond, low, marked, operations, op_fault, carried_out, unreserved, made}
 use Rattle.ec_durable.specs.Steps.{AreSoundOps, Refuses}
 use Rattle.ec_store.specs.Places.{ArePlaces}
-use Rattle.ec_store.specs.Stepping.{picked, behind, IsSpare}
+use Rattle.ec_store.specs.Stepping.{picked, behind, all_fit_ahead, with_volume, tried, IsBatchOf, IsSpare, IsTried}
+use Rattle.ec_store.proofs.Ahead.{operations_ahead}
+use Rattle.ec_durable.proofs.Batches.{not_Ok}
 use Rattle.ec_kept.proofs.Volumes.{formatted_well}
 use Rattle.ec_store.proofs.Members.{told, member_here, member_later}
 
@@ -30,12 +33,8 @@ use Rattle.ec_store.proofs.Members.{told, member_here, member_later}
 abbrev pub Agree : List ℕ → Table Image → Table Image → Type 0
 Agree ids a b = (o : ℕ) → member o ids ≡ true → images a o ≡ images b o
 
--- the state with this volume
-abbrev pub with_volume : Table Image → Durable → Durable
-with_volume es d = record d { volume = es }
-
 -- A result of the one is a result of the other, whose volume is then this one.
-abbrev Same : Table Image → Result Durable RecordFault → Result Durable RecordFault → Type 0
+abbrev pub Same : Table Image → Result Durable RecordFault → Result Durable RecordFault → Type 0
 Same es (Err f) r = r ≡ Err f
 Same es (Ok e) r = r ≡ Ok (with_volume es e)
 
@@ -84,11 +83,12 @@ operations_same c (op ∷ ops) es d sound agree =
     go (Some fault) rest = refl
     go None rest = rest
 
-batch_same : (c s b : ℕ) (ops : List (ℕ × Update)) (es : Table Image) (d : Durable) → AreSoundOps ops → Agree (flat_map (λ op. operands op.1) ops) es d.volume → Same (behind ops d.volume) (step (Batch c s b ops) (with_volume es d)) (step (Batch c s b ops) d)
-batch_same c s b ops es d sound agree = go (is_session s (slot d c)) (has_batch b (slot d c)) (is_beyond b (slot d c)) (operations c ops (with_volume es d)) (operations c ops d) (operations_same c ops es d sound agree)
+-- Batches of one session and number: what holds of their operations holds of them.
+step_same : (c s b : ℕ) (some ops : List (ℕ × Update)) (part es : Table Image) (d : Durable) → Same es (operations c some (with_volume part d)) (operations c ops d) → Same es (tried (Batch c s b some) part d) (step (Batch c s b ops) d)
+step_same c s b some ops part es d = go (is_session s (slot d c)) (has_batch b (slot d c)) (is_beyond b (slot d c)) (operations c some (with_volume part d)) (operations c ops d)
   where
-    go : (x y z : Bool) (p q : Result Durable RecordFault) → Same (behind ops d.volume) p q
-        → Same (behind ops d.volume)
+    go : (x y z : Bool) (p q : Result Durable RecordFault) → Same es p q
+        → Same es
         (elim x as (λ w. Result Durable RecordFault) [
           | false ↦ Err NoSession
           | true ↦ elim y as (λ w. Result Durable RecordFault) [
@@ -145,19 +145,32 @@ picked_volume ids es v = record { sorted = is_sorted-where_key nat_cmp (λ o. me
 -- A batch behind its trial.
 
 module _ (c s b : ℕ) (ops : List (ℕ × Update)) (d : Durable) (sound : AreSoundOps ops) where
-  abbrev small : Durable
-  small = with_volume (picked (flat_map (λ op. operands op.1) ops) d.volume) d
+  -- on the images of its operands
+  pub picked_same : Same (behind ops d.volume) (tried (Batch c s b ops) (picked (flat_map (λ op. operands op.1) ops) d.volume) d) (step (Batch c s b ops) d)
+  picked_same =
+      let part = picked (flat_map (λ op. operands op.1) ops) d.volume in
+      step_same c s b ops ops part (behind ops d.volume) d (operations_same c ops part d sound (picked_agrees (flat_map (λ op. operands op.1) ops) d.volume))
 
-  same : Same (behind ops d.volume) (step (Batch c s b ops) small) (step (Batch c s b ops) d)
-  same = batch_same c s b ops (picked (flat_map (λ op. operands op.1) ops) d.volume) d sound (picked_agrees (flat_map (λ op. operands op.1) ops) d.volume)
+  -- on any images, without its operations
+  pub ahead_same : (part : Table Image) → all_fit_ahead (images d.volume) ops ≡ true → Same (behind ops d.volume) (tried (Batch c s b []) part d) (step (Batch c s b ops) d)
+  ahead_same part fit = step_same c s b [] ops part (behind ops d.volume) d (operations_ahead c ops d sound fit)
 
-  pub tried_steps : (e : Durable) → step (Batch c s b ops) small ≡ Ok e → step (Batch c s b ops) d ≡ Ok (with_volume (behind ops d.volume) e)
-  tried_steps e is = subst (λ (r : Result Durable RecordFault). Same (behind ops d.volume) r (step (Batch c s b ops) d)) is same
+module _ (t r : Record) (part : Table Image) (ops : List (ℕ × Update)) (d : Durable) (same : Same (behind ops d.volume) (tried t part d) (step r d)) where
+  pub tried_steps : (new : Durable) → IsTried t part ops d new → step r d ≡ Ok new
+  tried_steps new is = subst (λ (x : Result Durable RecordFault). Same (behind ops d.volume) x (step r d)) is.1 same ∙ ap Ok (sym is.2)
 
-  tried_fault : (f : RecordFault) → step (Batch c s b ops) small ≡ Err f → step (Batch c s b ops) d ≡ Err f
-  tried_fault f is = subst (λ (r : Result Durable RecordFault). Same (behind ops d.volume) r (step (Batch c s b ops) d)) is same
+  tried_fault : (f : RecordFault) → tried t part d ≡ Err f → step r d ≡ Err f
+  tried_fault f is = subst (λ (x : Result Durable RecordFault). Same (behind ops d.volume) x (step r d)) is same
 
-  pub tried_refuses : (f : RecordFault) → Refuses f (step (Batch c s b ops) small) → Refuses f (step (Batch c s b ops) d)
+  -- what it refuses its trial refuses
+  pub fault_tried : (f : RecordFault) → step r d ≡ Err f → tried t part d ≡ Err f
+  fault_tried f is = go (tried t part d) same
+    where
+      go : (x : Result Durable RecordFault) → Same (behind ops d.volume) x (step r d) → x ≡ Err f
+      go (Err g) h = sym h ∙ is
+      go (Ok e) h = absurd (not_Ok (sym is ∙ h))
+
+  pub tried_refuses : (f : RecordFault) → Refuses f (tried t part d) → Refuses f (step r d)
   tried_refuses NoMemory is = tt
   tried_refuses NoSession is = tried_fault NoSession is
   tried_refuses (Done n) is = tried_fault (Done n) is
@@ -167,6 +180,29 @@ module _ (c s b : ℕ) (ops : List (ℕ × Update)) (d : Durable) (sound : AreSo
   tried_refuses BadAge is = tried_fault BadAge is
   tried_refuses BadNumber is = tried_fault BadNumber is
   tried_refuses (NoRoom n o) is = tried_fault (NoRoom n o) is
+
+  pub ok_tried : {A : Type 0} (x : Result A RecordFault) (new : Durable) → OnOk x (IsTried t part ops d new) → OnOk x (step r d ≡ Ok new)
+  ok_tried (Ok a) new h = tried_steps new h
+  ok_tried (Err f) new h = tt
+
+  pub refused_tried : {A : Type 0} (x : Result A RecordFault) → IfErr x (λ f. Refuses f (tried t part d)) → IfErr x (λ f. Refuses f (step r d))
+  refused_tried (Ok a) h = tt
+  refused_tried (Err f) h = tried_refuses f h
+
+  pub unchanged_tried : {A : Type 0} (x : Result A RecordFault) (new : Durable) → OnErr x ((f : RecordFault) → tried t part d ≡ Err f → new ≡ d) → OnErr x ((f : RecordFault) → step r d ≡ Err f → new ≡ d)
+  unchanged_tried (Ok a) new h = tt
+  unchanged_tried (Err g) new h = λ f is. h f (fault_tried f is)
+
+module _ (ops : List (ℕ × Update)) (r empty : Record) (d : Durable) (part : Table Image) (sound : AreSoundOps ops) (is : IsBatchOf ops r empty) where
+  pub ahead_is : all_fit_ahead (images d.volume) ops ≡ true → Same (behind ops d.volume) (tried empty part d) (step r d)
+  ahead_is fit =
+      subst (λ q. Same (behind ops d.volume) (tried q part d) (step r d)) (sym is.4)
+      (subst (λ q. Same (behind ops d.volume) (tried (Batch is.0 is.1 is.2 []) part d) (step q d)) (sym is.3) (ahead_same is.0 is.1 is.2 ops d sound part fit))
+
+  pub picked_is : part ≡ picked (flat_map (λ op. operands op.1) ops) d.volume → Same (behind ops d.volume) (tried r part d) (step r d)
+  picked_is same =
+      subst (λ es. Same (behind ops d.volume) (tried r es d) (step r d)) (sym same)
+      (subst (λ q. Same (behind ops d.volume) (tried q (picked (flat_map (λ op. operands op.1) ops) d.volume) d) (step q d)) (sym is.3) (picked_same is.0 is.1 is.2 ops d sound))
 
 -- What may be left of a store's state is one for a store too.
 module _ (named : List ℕ) (kept : List (ℕ × ℕ)) where

@@ -173,10 +173,27 @@ pub(crate) fn touched(alloc: Global, change: &Record) -> Result<Vec<ObjId>, NoMe
 fn touched_by(alloc: Global, ops: &[(OpNo, Update)]) -> Result<Vec<ObjId>, NoMemory>
     ensures { IfOk result (λ ids. ids.items ≡ flat_map (λ op. operands op.1) ops.now) }
 {
-    let mut ids = Vec::new(alloc);
+    let mut ids = Vec::with_capacity(alloc, ops.len())?;
     for op in ops {
-        let operands = operands(alloc, &op.1)?;
-        ids.extend_from_slice(operands.as_slice())?;
+        push_operands(&mut ids, &op.1)?;
     }
     Ok(ids)
+}
+
+// Most updates have one operand.
+fn push_operands(ids: &mut Vec<ObjId>, update: &Update) -> Result<(), NoMemory>
+    ensures { OnOk result (ids.new.items ≡ ids.old.items ++ operands update.now) }
+{
+    match update {
+        Update::Put { obj, .. }
+        | Update::Len { obj, .. }
+        | Update::Mode { obj, .. }
+        | Update::Stamp { obj, .. }
+        | Update::Owner { obj, .. } => ids.push(*obj)?,
+        _ => {
+            let operands = operands(*ids.allocator(), update)?;
+            ids.extend_from_slice(operands.as_slice())?;
+        }
+    }
+    Ok(())
 }
