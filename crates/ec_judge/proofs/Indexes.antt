@@ -1,49 +1,13 @@
--- An index of numbers, one number more, and the numbers of a start's operations.
-use Rattle.std.proofs.Common.{◌≡◌, refl, sym, ap, subst, ◌∙◌, ◌<◌, ◌≤◌, ◌+◌, arith, ℕ, Bool, true, false, ◌==◌, ◌&&◌, ◌||◌, cond, map, List, [], ◌∷◌, ◌++◌, length, take, get_or, Some, append-nil}
-use Rattle.std.specs.Prelude.{is_some}
+-- The numbers of a start's operations.
+use Rattle.std.proofs.Common.{◌≡◌, refl, sym, ap, ◌∙◌, ◌<◌, ◌+◌, arith, ℕ, Bool, true, false, ◌==◌, ◌&&◌, ◌||◌, cond, map, List, [], ◌∷◌, ◌++◌, length, take, get_or, append-nil}
 use Rattle.std.specs.List.{filter, list_any, list_all}
-use Rattle.std.proofs.lemmas.List.{take_more, take_all}
+use Rattle.std.proofs.lemmas.List.{take_more}
 use Rattle.std.proofs.lemmas.List.Elements.{filter-append}
 use Rattle.std.proofs.lemmas.Bool.Decides.{nat_tests}
-use Rattle.ec_base.specs.Tables.{Table, at, put}
-use Rattle.ec_chains.proofs.Maps.{at-put}
 use Rattle.ec_volume.specs.Update.{member}
 use Rattle.ec_history.specs.History.{of_start}
 use Rattle.ec_judge.specs.declared.carried.Kept.{Kept}
 use Rattle.ec_judge.specs.Carried.{op_of, is_among}
-use Rattle.ec_judge.specs.Numbers.{IsIndex}
-
-member-append : (n : ℕ) (xs ys : List ℕ) → member n (xs ++ ys) ≡ (member n xs || member n ys)
-member-append n [] ys = refl
-member-append n (x ∷ xs) ys = ap (λ z. (n == x) || z) (member-append n xs ys) ∙ go (n == x)
-  where
-    go : (b : Bool) → (b || (member n xs || member n ys)) ≡ ((b || member n xs) || member n ys)
-    go true = refl
-    go false = refl
-
-pub index-none : (known : Table (Unit {0})) → known ≡ [] → IsIndex known []
-index-none known e = λ n. ap (λ t. is_some (at n t)) e
-
-pub index-more : (ns : List ℕ) (i m : ℕ) (old new : Table (Unit {0})) → IsIndex old (take i ns) → i < length ns → m ≡ get_or ns i m → new ≡ put m tt old → IsIndex new (take (i + 1) ns)
-index-more ns i m old new h within is put-is = λ n.
-    ap (λ t. is_some (at n t)) put-is
-    ∙ ap is_some (at-put n m tt old)
-    ∙ go n (n == m) (member n (take i ns)) (h n)
-    ∙ ap (λ b. member n (take i ns) || b) (one (n == m))
-    ∙ sym (ap (member n) (take_more ns i m within ∙ ap (λ x. take i ns ++ x ∷ []) (sym is)) ∙ member-append n (take i ns) (m ∷ []))
-  where
-    one : (b : Bool) → b ≡ (b || false)
-    one true = refl
-    one false = refl
-
-    go : (n : ℕ) (b y : Bool) → is_some (at n old) ≡ y → is_some (cond b (Some tt) (at n old)) ≡ (y || b)
-    go n true true e = refl
-    go n true false e = refl
-    go n false true e = e
-    go n false false e = e
-
-pub index-all : (ns : List ℕ) (i : ℕ) (known : Table (Unit {0})) → IsIndex known (take i ns) → length ns ≤ i → IsIndex known ns
-index-all ns i known h l = subst (IsIndex known) (take_all i ns l) h
 
 -- the numbers of the start's operations
 pub own-member : (c b n : ℕ) (ks : List Kept) → list_any (λ k. is_among c b (n ∷ []) k) ks ≡ member n (map (λ k. k.number) (filter (λ k. of_start c b (op_of k)) ks))

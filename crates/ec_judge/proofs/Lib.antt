@@ -4,6 +4,7 @@ pub mod Numbers
 pub mod Flags
 pub mod Asked
 pub mod AllStarts
+pub mod Places
 pub mod Lost
 pub mod Touched
 pub mod Pending

@@ -1,7 +1,7 @@
 -- Single steps of loops.
 use Rattle.std.proofs.Common.{◌≡◌, refl, sym, ap, subst, ◌∙◌, arith, ◌<◌, ◌+◌, ℕ, suc, T, Bool, true, false, not, ◌==◌, ◌&&◌, ◌||◌, cond, map, List, [], ◌∷◌, ◌++◌, length, take, drop, get_or, Some, None, append-nil, append_assoc, add-one, drop-cons}
 use Rattle.std.specs.List.{filter, list_all, list_any}
-use Rattle.std.proofs.lemmas.Bool.{cond-true, cond-false, and_from, eqb-true, true≢false}
+use Rattle.std.proofs.lemmas.Bool.{cond-true, cond-false, and_from, true≢false}
 use Rattle.std.proofs.lemmas.Bool.Decides.{nat_tests}
 use Rattle.std.proofs.lemmas.List.{take_more, take-append-drop}
 use Rattle.std.proofs.lemmas.List.Elements.{filter-append}
@@ -10,14 +10,11 @@ use Rattle.ec_volume.specs.Update.{member, operands, is_sound, first_unfit}
 use Rattle.ec_volume.specs.Volume.{Images, formatted, after, Fits}
 use Rattle.ec_order.specs.Order.{before}
 use Rattle.ec_volume.specs.declared.update.Update.{Update}
-use Rattle.ec_plain.specs.declared.call.Call.{Call}
-use Rattle.ec_plain.specs.declared.call.Outcome.{Outcome}
-use Rattle.ec_history.specs.History.{Op, Owed, updates, meets, distinct_numbers, pairs_of}
+use Rattle.ec_history.specs.History.{Op, Owed, updates, pairs_of}
 use Rattle.ec_history.specs.Legal.{is_closed}
 use Rattle.ec_laws.proofs.Removed.{left, right}
 use Rattle.ec_judge.specs.declared.carried.Kept.{Kept}
 use Rattle.ec_judge.proofs.Volumes.{fits-more, after-more, unfit-not}
-use Rattle.ec_judge.specs.Rules.{due_of}
 use Rattle.ec_judge.specs.Carried.{op_of, ops_of, IsFront}
 
 -- Two lists with a common number.
@@ -50,62 +47,6 @@ any-flip (x ∷ xs) ys =
     ap (λ b. b || list_any (λ z. member z ys) xs) (any-same (λ y. x == y) (λ y. y == x) (flip x) ys)
     ∙ ap (λ b. list_any (λ y. y == x) ys || b) (any-flip xs ys)
     ∙ sym (any-either (λ y. y == x) (λ y. member y xs) ys)
-
--- What is due, one more pair.
-
-member-kept : (f : ℕ → Bool) (n : ℕ) (xs : List ℕ) → f n ≡ true → member n (filter f xs) ≡ member n xs
-member-kept f n [] e = refl
-member-kept f n (x ∷ xs) e = go (f x) (n == x) refl refl (member-kept f n xs e)
-  where
-    go : (a b : Bool) → f x ≡ a → (n == x) ≡ b → member n (filter f xs) ≡ member n xs → member n (cond a (x ∷ filter f xs) (filter f xs)) ≡ (b || member n xs)
-    go true b d k r = ap (λ z. z || member n (filter f xs)) k ∙ ap (λ z. b || z) r
-    go false true d k r = absurd (true≢false (sym e ∙ ap f (eqb-true n x k) ∙ d))
-    go false false d k r = r
-
-abbrev pub more_number : ℕ → List ℕ → List ℕ
-more_number n ns = cond (member n ns) ns (ns ++ n ∷ [])
-
-filter-more : (f : ℕ → Bool) (n : ℕ) (xs : List ℕ) → f n ≡ true → filter f (more_number n xs) ≡ more_number n (filter f xs)
-filter-more f n xs e = go (member n xs) refl
-  where
-    go : (a : Bool) → member n xs ≡ a → filter f (cond a xs (xs ++ n ∷ [])) ≡ more_number n (filter f xs)
-    go true d = sym (cond-true (member n (filter f xs)) (filter f xs) (filter f xs ++ n ∷ []) (member-kept f n xs e ∙ d))
-    go false d = filter-append f xs (n ∷ []) ∙ ap (λ z. filter f xs ++ cond z (n ∷ []) []) e ∙ sym (cond-false (member n (filter f xs)) (filter f xs) (filter f xs ++ n ∷ []) (member-kept f n xs e ∙ d))
-
-filter-less : (f : ℕ → Bool) (n : ℕ) (xs : List ℕ) → f n ≡ false → filter f (more_number n xs) ≡ filter f xs
-filter-less f n xs e = go (member n xs)
-  where
-    go : (a : Bool) → filter f (cond a xs (xs ++ n ∷ [])) ≡ filter f xs
-    go true = refl
-    go false = filter-append f xs (n ∷ []) ∙ ap (λ z. filter f xs ++ cond z (n ∷ []) []) e ∙ append-nil _
-
-distinct-more : (qs : Owed) (q : ℕ × ℕ) → distinct_numbers (qs ++ q ∷ []) ≡ more_number q.0 (distinct_numbers qs)
-distinct-more [] q = refl
-distinct-more (x ∷ qs) q = ap (λ l. x.0 ∷ filter (λ n. not (n == x.0)) l) (distinct-more qs q) ∙ go (q.0 == x.0) refl
-  where
-    f : ℕ → Bool
-    f = λ n. not (n == x.0)
-
-    rest : List ℕ
-    rest = distinct_numbers qs
-
-    out : (a : Bool) → x.0 ∷ cond a (filter f rest) (filter f rest ++ q.0 ∷ []) ≡ cond a (x.0 ∷ filter f rest) (x.0 ∷ (filter f rest ++ q.0 ∷ []))
-    out true = refl
-    out false = refl
-
-    go : (a : Bool) → (q.0 == x.0) ≡ a → x.0 ∷ filter (λ n. not (n == x.0)) (more_number q.0 (distinct_numbers qs)) ≡ cond (a || member q.0 (filter (λ n. not (n == x.0)) (distinct_numbers qs))) (x.0 ∷ filter (λ n. not (n == x.0)) (distinct_numbers qs)) ((x.0 ∷ filter (λ n. not (n == x.0)) (distinct_numbers qs)) ++ q.0 ∷ [])
-    go true e = ap (λ l. x.0 ∷ l) (filter-less f q.0 rest (ap not e))
-    go false e = ap (λ l. x.0 ∷ l) (filter-more f q.0 rest (ap not e)) ∙ out (member q.0 (filter f rest))
-
-pub due-more : (out : Outcome) (cl : Call) (qs : Owed) (i : ℕ) (q : ℕ × ℕ) → i < length qs → q ≡ get_or qs i q → due_of (take (i + 1) qs) out cl ≡ cond (meets out cl q) (more_number q.0 (due_of (take i qs) out cl)) (due_of (take i qs) out cl)
-due-more out cl qs i q l is =
-    ap (λ r. due_of r out cl) (take_more qs i q l ∙ ap (λ z. take i qs ++ z ∷ []) (sym is))
-    ∙ ap distinct_numbers (filter-append (meets out cl) (take i qs) (q ∷ []))
-    ∙ go (meets out cl q)
-  where
-    go : (a : Bool) → distinct_numbers (filter (meets out cl) (take i qs) ++ cond a (q ∷ []) []) ≡ cond a (more_number q.0 (due_of (take i qs) out cl)) (due_of (take i qs) out cl)
-    go true = distinct-more (filter (meets out cl) (take i qs)) q
-    go false = ap distinct_numbers (append-nil (filter (meets out cl) (take i qs)))
 
 -- Kept operations, one more.
 

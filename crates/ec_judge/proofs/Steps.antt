@@ -197,7 +197,7 @@ module _ (most : ℕ) (past : History) (by : Issuer) (l g : ℕ) (cl : Call) (a 
   all = issues_in by.clerk by.boot (issued F past)
 
   abbrev was : List Issue
-  was = pending_of (find (is_start by.clerk by.boot) j.starts.items)
+  was = pending_of (find (is_start by.clerk by.boot) j.starts)
 
   abbrev wants : Issue → Bool
   wants = is_asked (asked_on (after F.volume (updates (kept F past))) g cl a)
@@ -219,9 +219,9 @@ module _ (most : ℕ) (past : History) (by : Issuer) (l g : ℕ) (cl : Call) (a 
 
   -- the flags of an operation, by what is now pending and known of each object
   module _ (next : IsNext by.clerk by.boot past op) (ss : List Start)
-      (pending-are : (c b : ℕ) → pending_of (find (is_start c b) ss) ≡ cond (same_start by.clerk by.boot c b) (rest wants was ++ new) (pending_of (find (is_start c b) j.starts.items)))
+      (pending-are : (c b : ℕ) → pending_of (find (is_start c b) ss) ≡ cond (same_start by.clerk by.boot c b) (rest wants was ++ new) (pending_of (find (is_start c b) j.starts)))
       (ts : Table Touches) (ts-is : (o : ℕ) → Tables.at o ts ≡ cond (member o out.touched) (Some (touched_next by.clerk by.turn (Tables.at o j.touches))) (Tables.at o j.touches)) where
-    covered-next : (k : Kept) → IsUpTo by.clerk by.boot (count by.clerk by.boot past) (op_of k) → is_covered ss k ≡ (is_covered j.starts.items k || is_one_of by.clerk by.boot (numbers_in (taken wants all)) (op_of k))
+    covered-next : (k : Kept) → IsUpTo by.clerk by.boot (count by.clerk by.boot past) (op_of k) → is_covered ss k ≡ (is_covered j.starts k || is_one_of by.clerk by.boot (numbers_in (taken wants all)) (op_of k))
     covered-next k up = ap (λ l. not (is_in l k.number)) (pending-are k.clerk k.boot) ∙ go (of_start by.clerk by.boot (op_of k)) refl
       where
         mix : (x y : Bool) → not (x && not y) ≡ (not x || (true && y))
@@ -230,25 +230,25 @@ module _ (most : ℕ) (past : History) (by : Issuer) (l g : ℕ) (cl : Call) (a 
         mix false y = refl
 
         go : (x : Bool) → of_start by.clerk by.boot (op_of k) ≡ x
-            → not (is_in (cond (of_start by.clerk by.boot (op_of k)) (rest wants was ++ new) (pending_of (find (is_start k.clerk k.boot) j.starts.items))) k.number) ≡ (not (is_in (pending_of (find (is_start k.clerk k.boot) j.starts.items)) k.number) || (of_start by.clerk by.boot (op_of k) && is_in (taken wants all) k.number))
+            → not (is_in (cond (of_start by.clerk by.boot (op_of k)) (rest wants was ++ new) (pending_of (find (is_start k.clerk k.boot) j.starts))) k.number) ≡ (not (is_in (pending_of (find (is_start k.clerk k.boot) j.starts)) k.number) || (of_start by.clerk by.boot (op_of k) && is_in (taken wants all) k.number))
         go true e =
             let parts = and_parts (by.clerk == k.clerk) (by.boot == k.boot) e in
-            let own : was ≡ pending_of (find (is_start k.clerk k.boot) j.starts.items) = ap (λ x. pending_of (find (is_start x by.boot) j.starts.items)) (eqb-true by.clerk k.clerk parts.0) ∙ ap (λ x. pending_of (find (is_start k.clerk x) j.starts.items)) (eqb-true by.boot k.boot parts.1) in
-            ap (λ x. not (is_in (cond x (rest wants was ++ new) (pending_of (find (is_start k.clerk k.boot) j.starts.items))) k.number)) e
+            let own : was ≡ pending_of (find (is_start k.clerk k.boot) j.starts) = ap (λ x. pending_of (find (is_start x by.boot) j.starts)) (eqb-true by.clerk k.clerk parts.0) ∙ ap (λ x. pending_of (find (is_start k.clerk x) j.starts)) (eqb-true by.boot k.boot parts.1) in
+            ap (λ x. not (is_in (cond x (rest wants was ++ new) (pending_of (find (is_start k.clerk k.boot) j.starts))) k.number)) e
             ∙ ap not (pending-next wants was all ((h.starts by.clerk by.boot).pending) ((h.starts by.clerk by.boot).upward) rise new (far-all next) (own-new by.place op out.update) k.number (far-new by.clerk by.boot by.place k.number past op out.update next (up e)))
             ∙ mix (is_in was k.number) (is_in (taken wants all) k.number)
             ∙ ap (λ l. not (is_in l k.number) || (true && is_in (taken wants all) k.number)) own
-            ∙ sym (ap (λ x. not (is_in (pending_of (find (is_start k.clerk k.boot) j.starts.items)) k.number) || (x && is_in (taken wants all) k.number)) e)
+            ∙ sym (ap (λ x. not (is_in (pending_of (find (is_start k.clerk k.boot) j.starts)) k.number) || (x && is_in (taken wants all) k.number)) e)
         go false e =
-            ap (λ x. not (is_in (cond x (rest wants was ++ new) (pending_of (find (is_start k.clerk k.boot) j.starts.items))) k.number)) e
-            ∙ or-none (not (is_in (pending_of (find (is_start k.clerk k.boot) j.starts.items)) k.number))
-            ∙ sym (ap (λ x. not (is_in (pending_of (find (is_start k.clerk k.boot) j.starts.items)) k.number) || (x && is_in (taken wants all) k.number)) e)
+            ap (λ x. not (is_in (cond x (rest wants was ++ new) (pending_of (find (is_start k.clerk k.boot) j.starts))) k.number)) e
+            ∙ or-none (not (is_in (pending_of (find (is_start k.clerk k.boot) j.starts)) k.number))
+            ∙ sym (ap (λ x. not (is_in (pending_of (find (is_start k.clerk k.boot) j.starts)) k.number) || (x && is_in (taken wants all) k.number)) e)
 
-    flag-next : (k : Kept) → IsFlagged F past j.starts.items j.touches k → k.turn < by.turn → only (kept F past) (op_of k) → unlost F most past (op_of k) → IsUpTo by.clerk by.boot (count by.clerk by.boot past) (op_of k)
+    flag-next : (k : Kept) → IsFlagged F past j.starts j.touches k → k.turn < by.turn → only (kept F past) (op_of k) → unlost F most past (op_of k) → IsUpTo by.clerk by.boot (count by.clerk by.boot past) (op_of k)
         → IsFlagged F (past ++ e ∷ []) ss ts k
     flag-next k f late o u up = record {
       covered = subst (λ x. MatchBool x (¬ (IsUncovered F (past ++ e ∷ []) (op_of k))) (IsUncovered F (past ++ e ∷ []) (op_of k))) (sym (covered-next k up))
-          (flag-step (IsUncovered F past (op_of k)) (¬ (Covers F past e k.clerk k.boot k.number)) (IsUncovered F (past ++ e ∷ []) (op_of k)) (is_covered j.starts.items k) (is_one_of by.clerk by.boot (numbers_in (taken wants all)) (op_of k)) f.covered
+          (flag-step (IsUncovered F past (op_of k)) (¬ (Covers F past e k.clerk k.boot k.number)) (IsUncovered F (past ++ e ∷ []) (op_of k)) (is_covered j.starts k) (is_one_of by.clerk by.boot (numbers_in (taken wants all)) (op_of k)) f.covered
           (covered-one F past by.place by.clerk by.boot l g cl a op (numbers_in (taken wants all)) (op_of k) (issue-sorted F most by.clerk by.boot past legal) taken-is u)
           (λ v w. through-more _ past e v w) (λ w. through-front _ past e w) (λ w. through-last _ past e w));
       touched = subst (λ x. MatchBool x (¬ (IsUntouched F (past ++ e ∷ []) (op_of k))) (IsUntouched F (past ++ e ∷ []) (op_of k))) (sym (any-since by.clerk by.turn out.touched j.touches ts ts-is k.clerk k.turn (operands k.update) late))
@@ -258,7 +258,7 @@ module _ (most : ℕ) (past : History) (by : Issuer) (l g : ℕ) (cl : Call) (a 
           (λ v w. through-more _ past e v w) (λ w. through-front _ past e w) (λ w. through-last _ past e w));
     }
 
-    flags-next : (ks : List Kept) → Each (IsFlagged F past j.starts.items j.touches) ks → Each (λ k. k.turn < by.turn) ks → Each (λ k. only (kept F past) (op_of k)) ks → Each (λ k. unlost F most past (op_of k)) ks → Each (λ k. IsUpTo by.clerk by.boot (count by.clerk by.boot past) (op_of k)) ks
+    flags-next : (ks : List Kept) → Each (IsFlagged F past j.starts j.touches) ks → Each (λ k. k.turn < by.turn) ks → Each (λ k. only (kept F past) (op_of k)) ks → Each (λ k. unlost F most past (op_of k)) ks → Each (λ k. IsUpTo by.clerk by.boot (count by.clerk by.boot past) (op_of k)) ks
         → Each (IsFlagged F (past ++ e ∷ []) ss ts) ks
     flags-next [] f late o u up = tt
     flags-next (k ∷ ks) f late o u up = (flag-next k f.0 late.0 o.0 u.0 up.0, flags-next ks f.1 late.1 o.1 u.1 up.1)
@@ -268,7 +268,7 @@ module _ (most : ℕ) (past : History) (by : Issuer) (l g : ℕ) (cl : Call) (a 
 
     new-covered : (m : ℕ) → is_in new m ≡ true → not (is_in (pending_of (find (is_start by.clerk by.boot) ss)) m) ≡ false
     new-covered m e =
-        ap (λ l. not (is_in l m)) (pending-are by.clerk by.boot ∙ ap (λ x. cond (x && (by.boot == by.boot)) (rest wants was ++ new) (pending_of (find (is_start by.clerk by.boot) j.starts.items))) (same-self by.clerk) ∙ ap (λ x. cond x (rest wants was ++ new) (pending_of (find (is_start by.clerk by.boot) j.starts.items))) (same-self by.boot))
+        ap (λ l. not (is_in l m)) (pending-are by.clerk by.boot ∙ ap (λ x. cond (x && (by.boot == by.boot)) (rest wants was ++ new) (pending_of (find (is_start by.clerk by.boot) j.starts))) (same-self by.clerk) ∙ ap (λ x. cond x (rest wants was ++ new) (pending_of (find (is_start by.clerk by.boot) j.starts))) (same-self by.boot))
         ∙ ap not (in-append (rest wants was) new m ∙ ap (λ z. is_in (rest wants was) m || z) e ∙ sure (is_in (rest wants was) m))
       where
         sure : (x : Bool) → (x || true) ≡ true
@@ -298,9 +298,9 @@ module _ (most : ℕ) (past : History) (by : Issuer) (l g : ℕ) (cl : Call) (a 
   pub call-carried : (j' : Judge) (ss : List Start) (at : ℕ) (s s' : Start) (w : Asked) (o : Outcome)
       → by.turn ≡ length past → o ≡ out → IsCall F most past by.clerk by.boot by.place cl a op
       → ((c b : ℕ) → IsStart F past c b (find (is_start c b) ss)) → at ≡ position_or_len (is_start by.clerk by.boot) ss → at < length ss → IsStart F past by.clerk by.boot (Some s)
-      → ((c b : ℕ) → pending_of (find (is_start c b) ss) ≡ pending_of (find (is_start c b) j.starts.items)) → find (is_start by.clerk by.boot) ss ≡ Some s → w ≡ asked_by_call o.touched g cl a
-      → s'.clerk ≡ by.clerk → s'.boot ≡ by.boot → s'.pending.0 ≡ count_next s.pending.0 op → s'.owed.items ≡ filter (λ q. not (meets o cl q)) s.owed.items → s'.pending.1 ≡ rest (is_asked w) s.pending.1 ++ issues_of by.place op o.update
-      → j'.starts.items ≡ set ss at s' → j'.kept.items ≡ j.kept.items ++ keeps_of by op o.update
+      → ((c b : ℕ) → pending_of (find (is_start c b) ss) ≡ pending_of (find (is_start c b) j.starts)) → find (is_start by.clerk by.boot) ss ≡ Some s → w ≡ asked_by_call o.touched g cl a
+      → s'.clerk ≡ by.clerk → s'.boot ≡ by.boot → s'.pending.0 ≡ count_next s.pending.0 op → s'.owed ≡ filter (λ q. not (meets o cl q)) s.owed → s'.pending.1 ≡ rest (is_asked w) s.pending.1 ++ issues_of by.place op o.update
+      → j'.starts ≡ set ss at s' → j'.kept.items ≡ j.kept.items ++ keeps_of by op o.update
       → ((x : ℕ) → Tables.at x j'.touches ≡ cond (member x o.touched) (Some (touched_next by.clerk by.turn (Tables.at x j.touches))) (Tables.at x j.touches))
       → ((x : ℕ) → shown j'.firm.volume x ≡ after (shown j.firm.volume) (updates (ops_of (keeps_of by op o.update))) x) → j'.firm.count ≡ j.firm.count → j'.firm.volume.under ≡ j.firm.volume.under
       → Carries F (past ++ e ∷ []) j'
@@ -313,9 +313,9 @@ module _ (most : ℕ) (past : History) (by : Issuer) (l g : ℕ) (cl : Call) (a 
       let asks-are : w ≡ asked_on (after F.volume (updates (kept F past))) g cl a = w-is ∙ ap (λ z. asked_by_call z.touched g cl a) same ∙ asked-same (after F.volume (updates (kept F past))) (F.fresh by.place) out g cl a op refl legal-call.reply in
       let pending : s'.pending.1 ≡ rest wants was ++ new =
       pending-is ∙ ap (λ z. rest (is_asked z) s.pending.1 ++ issues_of by.place op o.update) asks-are ∙ ap (λ is. rest wants is ++ issues_of by.place op o.update) before ∙ ap (λ z. rest wants was ++ issues_of by.place op z.update) same in
-      let mine : IsStart F past by.clerk by.boot (find (is_start by.clerk by.boot) j.starts.items) = h.starts by.clerk by.boot in
+      let mine : IsStart F past by.clerk by.boot (find (is_start by.clerk by.boot) j.starts) = h.starts by.clerk by.boot in
       let whole : issues_in by.clerk by.boot (issued F (past ++ e ∷ [])) ≡ all ++ new = own-issued F past by.place by.clerk by.boot l g cl a op out refl in
-      let pending-are : (c b : ℕ) → Carried.pending_of (find (is_start c b) j'.starts.items) ≡ cond (same_start by.clerk by.boot c b) (rest wants was ++ new) (Carried.pending_of (find (is_start c b) j.starts.items)) =
+      let pending-are : (c b : ℕ) → Carried.pending_of (find (is_start c b) j'.starts) ≡ cond (same_start by.clerk by.boot c b) (rest wants was ++ new) (Carried.pending_of (find (is_start c b) j.starts)) =
       λ c b. ap (λ ts. Carried.pending_of (find (is_start c b) ts)) starts-are ∙ pending-set by.clerk by.boot ss at s' at-is within sc sb c b
       ∙ ap (λ is. cond (same_start by.clerk by.boot c b) is (Carried.pending_of (find (is_start c b) ss))) pending ∙ ap (λ is. cond (same_start by.clerk by.boot c b) (rest wants was ++ new) is) (pending-same c b) in
       record {
@@ -332,15 +332,15 @@ module _ (most : ℕ) (past : History) (by : Issuer) (l g : ℕ) (cl : Call) (a 
             ∙ sym step;
         starts = λ c b. subst (λ ts. IsStart F (past ++ e ∷ []) c b (find (is_start c b) ts)) (sym starts-are) (starts-next F past e ss at s' starts at-is within sc sb (record {
           count = count-of ∙ count-is op s.pending.0 own.count legal-call.number ∙ sym (own-count past by.place by.clerk by.boot l g cl a op);
-          owed = owed-of ∙ ap (λ x. filter (λ q. not (meets x cl q)) s.owed.items) same ∙ ap (filter (λ q. not (meets out cl q))) own.owed ∙ own-met F past by.place by.clerk by.boot l g cl a op;
+          owed = owed-of ∙ ap (λ x. filter (λ q. not (meets x cl q)) s.owed) same ∙ ap (filter (λ q. not (meets out cl q))) own.owed ∙ own-met F past by.place by.clerk by.boot l g cl a op;
           pending = subst (λ is. is ≡ filter (λ i. is_in is i.number) (issues_in by.clerk by.boot (issued F (past ++ e ∷ [])))) (sym pending) (pending-own wants was all mine.pending mine.upward rise new (far-all legal-call.number) (own-new by.place op out.update) ∙ ap (filter (λ i. is_in (rest wants was ++ new) i.number)) (sym whole));
           upward = subst (λ is. IsUpward (is_in is) (issues_in by.clerk by.boot (issued F (past ++ e ∷ [])))) (sym pending) (subst (IsUpward (is_in (rest wants was ++ new))) (sym whole) (upward-own wants was all mine.pending mine.upward rise new (far-all legal-call.number) (own-new by.place op out.update)));
         }) c b);
-        flags = subst (Each (IsFlagged F (past ++ e ∷ []) j'.starts.items j'.touches)) (sym kept-are) (each-append (IsFlagged F (past ++ e ∷ []) j'.starts.items j'.touches) j.kept.items (keeps_of by op o.update)
-            (flags-next legal-call.number j'.starts.items pending-are j'.touches seen j.kept.items h.flags (subst (λ n. Each (λ k. k.turn < n) j.kept.items) (sym turn) h.turns) (each-ops (only (kept F past)) j.kept.items (subst (Each (only (kept F past))) (sym h.kept) (kept-only F most past legal)))
+        flags = subst (Each (IsFlagged F (past ++ e ∷ []) j'.starts j'.touches)) (sym kept-are) (each-append (IsFlagged F (past ++ e ∷ []) j'.starts j'.touches) j.kept.items (keeps_of by op o.update)
+            (flags-next legal-call.number j'.starts pending-are j'.touches seen j.kept.items h.flags (subst (λ n. Each (λ k. k.turn < n) j.kept.items) (sym turn) h.turns) (each-ops (only (kept F past)) j.kept.items (subst (Each (only (kept F past))) (sym h.kept) (kept-only F most past legal)))
             (each-ops (unlost F most past) j.kept.items (subst (Each (unlost F most past)) (sym h.kept) (kept-unlost F most past legal)))
             (each-ops (IsUpTo by.clerk by.boot (count by.clerk by.boot past)) j.kept.items (subst (Each (IsUpTo by.clerk by.boot (count by.clerk by.boot past))) (sym h.kept) (kept-up_to F most by.clerk by.boot past legal))))
-            (new-flags legal-call.number j'.starts.items pending-are j'.touches seen op o.update (ap (λ z. issues_of by.place op z.update) same) turn legal-call.number));
+            (new-flags legal-call.number j'.starts pending-are j'.touches seen op o.update (ap (λ z. issues_of by.place op z.update) same) turn legal-call.number));
         turns = subst (λ n. Each (λ k. k.turn < n) j'.kept.items) (length-more past e) (subst (Each (λ k. k.turn < length past + 1)) (sym kept-are) (each-append (λ k. k.turn < length past + 1) j.kept.items (keeps_of by op o.update)
             (turns-more (length past) j.kept.items h.turns) (turns-new (length past) by op o.update turn)));
         touches = λ x. subst (λ n. AreBelow n (Tables.at x j'.touches)) (length-more past e) (below-next by.clerk by.turn out.touched j.touches j'.touches seen (length past) x turn (h.touches x));
@@ -400,7 +400,7 @@ uncovered-same c b ns ss is (k ∷ ks) e = ap (λ z. (not (is_among c b ns k) ||
         ∙ on (is_in (pending_of (find (is_start k.clerk k.boot) ss)) k.number)
     go false d = off (is_covered ss k)
 
-module _ (most : ℕ) (past : History) (p c b : ℕ) (ns : List ℕ) (j : Judge) (h : Carries F past j) (is : List ℕ) (is-are : is ≡ numbers_in (pending_of (find (is_start c b) j.starts.items))) where
+module _ (most : ℕ) (past : History) (p c b : ℕ) (ns : List ℕ) (j : Judge) (h : Carries F past j) (is : List ℕ) (is-are : is ≡ numbers_in (pending_of (find (is_start c b) j.starts))) where
   abbrev lost : ℕ × Entry
   lost = (p, entry.Loss c b ns)
 
@@ -416,14 +416,14 @@ module _ (most : ℕ) (past : History) (p c b : ℕ) (ns : List ℕ) (j : Judge)
   closed-no : are_closed c b ns j.kept.items ≡ false → ¬ (AreClosed F past c b ns)
   closed-no k t = true≢false (sym (is-true _ t) ∙ ap (λ ks. is_closed (is_one_of c b ns) (filter (of_start c b) ks)) (sym h.kept) ∙ k)
 
-  marks : are_uncovered c b ns is j.kept.items ≡ list_all (λ k. not (is_covered j.starts.items k && is_among c b ns k)) j.kept.items
-  marks = uncovered-same c b ns j.starts.items is j.kept.items is-are
+  marks : are_uncovered c b ns is j.kept.items ≡ list_all (λ k. not (is_covered j.starts k && is_among c b ns k)) j.kept.items
+  marks = uncovered-same c b ns j.starts is j.kept.items is-are
 
   pub loss-broken : (r : Rule) → BreaksMarks c b ns is j.touches j.kept.items r → BreaksLoss F past c b ns r
   loss-broken rule.Named k = kept-no k
-  loss-broken rule.Covered k = (kept-yes k.0, uncovered-no F past c b ns j.starts.items j.touches j.kept.items h.flags (sym marks ∙ k.1))
-  loss-broken rule.Touched k = (kept-yes k.0, uncovered-yes F past c b ns j.starts.items j.touches j.kept.items h.flags (holds k.0) (sym marks ∙ k.1), untouched-no F past c b ns j.starts.items j.touches j.kept.items h.flags k.2)
-  loss-broken rule.Closed k = (kept-yes k.0, uncovered-yes F past c b ns j.starts.items j.touches j.kept.items h.flags (holds k.0) (sym marks ∙ k.1), untouched-yes F past c b ns j.starts.items j.touches j.kept.items h.flags (holds k.0) k.2, closed-no k.3)
+  loss-broken rule.Covered k = (kept-yes k.0, uncovered-no F past c b ns j.starts j.touches j.kept.items h.flags (sym marks ∙ k.1))
+  loss-broken rule.Touched k = (kept-yes k.0, uncovered-yes F past c b ns j.starts j.touches j.kept.items h.flags (holds k.0) (sym marks ∙ k.1), untouched-no F past c b ns j.starts j.touches j.kept.items h.flags k.2)
+  loss-broken rule.Closed k = (kept-yes k.0, uncovered-yes F past c b ns j.starts j.touches j.kept.items h.flags (holds k.0) (sym marks ∙ k.1), untouched-yes F past c b ns j.starts j.touches j.kept.items h.flags (holds k.0) k.2, closed-no k.3)
   loss-broken rule.Shape k = k
   loss-broken rule.Number k = k
   loss-broken rule.Report k = k
@@ -437,8 +437,8 @@ module _ (most : ℕ) (past : History) (p c b : ℕ) (ns : List ℕ) (j : Judge)
   pub loss-unfit : KeepsMarks c b ns is j.touches j.kept.items → ¬ (Fits formatted (updates (without c b ns (ops_of j.kept.items)))) → BreaksLoss F past c b ns rule.Fits
   loss-unfit k n = (
     kept-yes k.kept,
-    uncovered-yes F past c b ns j.starts.items j.touches j.kept.items h.flags (holds k.kept) (sym marks ∙ k.uncovered),
-    untouched-yes F past c b ns j.starts.items j.touches j.kept.items h.flags (holds k.kept) k.untouched,
+    uncovered-yes F past c b ns j.starts j.touches j.kept.items h.flags (holds k.kept) (sym marks ∙ k.uncovered),
+    untouched-yes F past c b ns j.starts j.touches j.kept.items h.flags (holds k.kept) k.untouched,
     closed-yes k.closed,
     λ f. n (subst (λ ks. Fits formatted (updates (without c b ns ks))) (sym h.kept) f),
   )
@@ -446,29 +446,29 @@ module _ (most : ℕ) (past : History) (p c b : ℕ) (ns : List ℕ) (j : Judge)
   pub loss-lawful : KeepsMarks c b ns is j.touches j.kept.items → Fits formatted (updates (without c b ns (ops_of j.kept.items))) → IsLawful F past c b ns
   loss-lawful k f = record {
     kept_so_far = kept-yes k.kept;
-    uncovered = uncovered-yes F past c b ns j.starts.items j.touches j.kept.items h.flags (holds k.kept) (sym marks ∙ k.uncovered);
-    untouched = untouched-yes F past c b ns j.starts.items j.touches j.kept.items h.flags (holds k.kept) k.untouched;
+    uncovered = uncovered-yes F past c b ns j.starts j.touches j.kept.items h.flags (holds k.kept) (sym marks ∙ k.uncovered);
+    untouched = untouched-yes F past c b ns j.starts j.touches j.kept.items h.flags (holds k.kept) k.untouched;
     closed = closed-yes k.closed;
     fits = left-fits f;
   }
 
-  loss-flag : (ss : List Start) → ((d f : ℕ) → pending_of (find (is_start d f) ss) ≡ pending_of (find (is_start d f) j.starts.items)) → (k : Kept) → IsFlagged F past j.starts.items j.touches k → IsFlagged F (past ++ lost ∷ []) ss j.touches k
+  loss-flag : (ss : List Start) → ((d f : ℕ) → pending_of (find (is_start d f) ss) ≡ pending_of (find (is_start d f) j.starts)) → (k : Kept) → IsFlagged F past j.starts j.touches k → IsFlagged F (past ++ lost ∷ []) ss j.touches k
   loss-flag ss same k f = record {
     covered = subst (λ x. MatchBool x (¬ (IsUncovered F (past ++ lost ∷ []) (op_of k))) (IsUncovered F (past ++ lost ∷ []) (op_of k))) (ap (λ l. not (is_in l k.number)) (sym (same k.clerk k.boot)))
-        (mark-same (IsUncovered F past (op_of k)) (IsUncovered F (past ++ lost ∷ []) (op_of k)) (is_covered j.starts.items k) f.covered (λ u. through-more _ past lost u (λ v. loss-covers past p c b k.clerk k.boot k.number ns v)) (λ w. through-front _ past lost w));
+        (mark-same (IsUncovered F past (op_of k)) (IsUncovered F (past ++ lost ∷ []) (op_of k)) (is_covered j.starts k) f.covered (λ u. through-more _ past lost u (λ v. loss-covers past p c b k.clerk k.boot k.number ns v)) (λ w. through-front _ past lost w));
     touched = mark-same (IsUntouched F past (op_of k)) (IsUntouched F (past ++ lost ∷ []) (op_of k)) (is_touched j.touches k) f.touched (λ u. through-more _ past lost u tt) (λ w. through-front _ past lost w);
   }
 
   pub loss-carried : (j' : Judge) (ss : List Start) (at : ℕ) (s s' : Start)
       → ((c b : ℕ) → IsStart F past c b (find (is_start c b) ss)) → at ≡ position_or_len (is_start c b) ss → at < length ss → IsStart F past c b (Some s)
-      → ((c b : ℕ) → pending_of (find (is_start c b) ss) ≡ pending_of (find (is_start c b) j.starts.items)) → find (is_start c b) ss ≡ Some s
-      → s'.clerk ≡ c → s'.boot ≡ b → s'.pending.0 ≡ s.pending.0 → s'.owed.items ≡ s.owed.items ++ pairs_of (filter (is_one_of c b ns) (ops_of j.kept.items)) → s'.pending.1 ≡ s.pending.1
-      → j'.starts.items ≡ set ss at s' → j'.kept.items ≡ filter (λ k. not (is_among c b ns k)) j.kept.items → j'.touches ≡ j.touches
+      → ((c b : ℕ) → pending_of (find (is_start c b) ss) ≡ pending_of (find (is_start c b) j.starts)) → find (is_start c b) ss ≡ Some s
+      → s'.clerk ≡ c → s'.boot ≡ b → s'.pending.0 ≡ s.pending.0 → s'.owed ≡ s.owed ++ pairs_of (filter (is_one_of c b ns) (ops_of j.kept.items)) → s'.pending.1 ≡ s.pending.1
+      → j'.starts ≡ set ss at s' → j'.kept.items ≡ filter (λ k. not (is_among c b ns k)) j.kept.items → j'.touches ≡ j.touches
       → ((x : ℕ) → shown j'.firm.volume x ≡ after formatted (updates (without c b ns (ops_of j.kept.items))) x) → IsFirm (filter (λ k. not (is_among c b ns k)) j.kept.items) j'.firm.count (images j'.firm.volume.under)
       → Carries F (past ++ lost ∷ []) j'
   loss-carried j' ss at s s' starts at-is within own pending-same found sc sb count-of owed-of pending-is starts-are kept-are touches-are volume-is firm-is =
       let step : kept F (past ++ lost ∷ []) ≡ without c b ns (kept F past) = kept-step F past lost in
-      let as-before : (d f : ℕ) → pending_of (find (is_start d f) j'.starts.items) ≡ pending_of (find (is_start d f) j.starts.items) =
+      let as-before : (d f : ℕ) → pending_of (find (is_start d f) j'.starts) ≡ pending_of (find (is_start d f) j.starts) =
       λ d f. ap (λ ts. pending_of (find (is_start d f) ts)) starts-are ∙ pending-set c b ss at s' at-is within sc sb d f ∙ unchanged c b d f ss s s' found pending-is ∙ pending-same d f in
       record {
         volume = λ x. volume-is x ∙ ap (λ ks. after F.volume (updates ks) x) (ap (without c b ns) h.kept ∙ sym step);
@@ -479,8 +479,8 @@ module _ (most : ℕ) (past : History) (p c b : ℕ) (ns : List ℕ) (j : Judge)
           pending = subst (λ l. l ≡ filter (λ i. is_in l i.number) (issues_in c b (issued F (past ++ lost ∷ [])))) (sym pending-is) (own.pending ∙ ap (filter (λ i. is_in s.pending.1 i.number)) (sym (lost-issued F past p c b c b ns)));
           upward = subst (λ l. IsUpward (is_in l) (issues_in c b (issued F (past ++ lost ∷ [])))) (sym pending-is) (subst (IsUpward (is_in s.pending.1)) (sym (lost-issued F past p c b c b ns)) own.upward);
         }) d f);
-        flags = subst (λ ts. Each (IsFlagged F (past ++ lost ∷ []) j'.starts.items ts) j'.kept.items) (sym touches-are)
-            (subst (Each (IsFlagged F (past ++ lost ∷ []) j'.starts.items j.touches)) (sym kept-are) (each-kept (IsFlagged F past j.starts.items j.touches) (IsFlagged F (past ++ lost ∷ []) j'.starts.items j.touches) (λ k. not (is_among c b ns k)) (λ k e f. loss-flag j'.starts.items as-before k f) j.kept.items h.flags));
+        flags = subst (λ ts. Each (IsFlagged F (past ++ lost ∷ []) j'.starts ts) j'.kept.items) (sym touches-are)
+            (subst (Each (IsFlagged F (past ++ lost ∷ []) j'.starts j.touches)) (sym kept-are) (each-kept (IsFlagged F past j.starts j.touches) (IsFlagged F (past ++ lost ∷ []) j'.starts j.touches) (λ k. not (is_among c b ns k)) (λ k e f. loss-flag j'.starts as-before k f) j.kept.items h.flags));
         turns = subst (λ n. Each (λ k. k.turn < n) j'.kept.items) (length-more past lost) (subst (Each (λ k. k.turn < length past + 1)) (sym kept-are) (each-kept (λ k. k.turn < length past + 1) (λ k. k.turn < length past + 1) (λ k. not (is_among c b ns k)) (λ k e f. f) j.kept.items (turns-more (length past) j.kept.items h.turns)));
         touches = λ x. subst (λ n. AreBelow n (Tables.at x j'.touches)) (length-more past lost) (subst (λ ts. AreBelow (length past + 1) (Tables.at x ts)) (sym touches-are) (below-more (length past) (Tables.at x j.touches) (h.touches x)));
         firm = subst (λ ks. IsFirm ks j'.firm.count (images j'.firm.volume.under)) (sym kept-are) firm-is;
@@ -500,11 +500,11 @@ is-own c b ss i s at within is =
     (sym (eqb-true c s.clerk parts.0), sym (eqb-true b s.boot parts.1))
 
 module _ (past : History) (j : Judge) (h : Carries F past j) (ss : List Start)
-    (counts : (c b : ℕ) → count_of (find (is_start c b) ss) ≡ count_of (find (is_start c b) j.starts.items))
-    (owes : (c b : ℕ) → owed_of (find (is_start c b) ss) ≡ owed_of (find (is_start c b) j.starts.items))
-    (pends : (c b : ℕ) → pending_of (find (is_start c b) ss) ≡ pending_of (find (is_start c b) j.starts.items)) where
+    (counts : (c b : ℕ) → count_of (find (is_start c b) ss) ≡ count_of (find (is_start c b) j.starts))
+    (owes : (c b : ℕ) → owed_of (find (is_start c b) ss) ≡ owed_of (find (is_start c b) j.starts))
+    (pends : (c b : ℕ) → pending_of (find (is_start c b) ss) ≡ pending_of (find (is_start c b) j.starts)) where
   pub starts-now : (c b : ℕ) → IsStart F past c b (find (is_start c b) ss)
-  starts-now c b = start-same F past c b (find (is_start c b) j.starts.items) (find (is_start c b) ss) (h.starts c b) (counts c b) (owes c b) (pends c b)
+  starts-now c b = start-same F past c b (find (is_start c b) j.starts) (find (is_start c b) ss) (h.starts c b) (counts c b) (owes c b) (pends c b)
 
   pub own-at : (c b i : ℕ) (s : Start) → i ≡ position_or_len (is_start c b) ss → i < length ss → s ≡ get_or ss i s → IsStart F past c b (Some s)
   own-at c b i s at within is = subst (IsStart F past c b) (found-at (is_start c b) ss i s at within is) (starts-now c b)

@@ -6,7 +6,7 @@ use Rattle.std.specs.FinMap.{is_sorted}
 use Rattle.std.specs.List.{filter, list_all, list_any}
 use Rattle.std.proofs.lemmas.Bool.{and_parts, true≢false, eqb-true}
 use Rattle.std.proofs.lemmas.Bool.Decides.{nat_tests}
-use Rattle.std.proofs.lemmas.List.{take_more, take_all, take-append-drop, length-drop, reverse-append}
+use Rattle.std.proofs.lemmas.List.{take_all, take-append-drop, length-drop, reverse-append}
 use Rattle.std.proofs.lemmas.List.Elements.{filter-append}
 use Rattle.std.proofs.lemmas.List.Folds.{list_all-append, list_any-append}
 use Rattle.ec_base.specs.SortedLaws.{first, second}
@@ -25,39 +25,8 @@ use Rattle.ec_judge.proofs.Loops.{cut-at}
 use Rattle.ec_judge.specs.declared.carried.Touches.{Touches}
 use Rattle.ec_judge.specs.Carried.{op_of, ops_of, is_among, is_touched, are_kept, are_uncovered, are_untouched, are_closed, KeepsMarks, BreaksMarks}
 
--- The least of some numbers.
-
 abbrev pub IsUnder : ℕ → List ℕ → Type 0
 IsUnder m ns = (n : ℕ) → T (member n ns) → m ≤ n
-
-member-more : (n : ℕ) (xs : List ℕ) (x : ℕ) → T (member n (xs ++ x ∷ [])) → (T (member n xs) → ⊥) → n ≡ x
-member-more n [] x m absent = go (n == x) refl m
-  where
-    go : (b : Bool) → (n == x) ≡ b → T (b || false) → n ≡ x
-    go true e t = eqb-true n x e
-    go false e t = absurd t
-member-more n (y ∷ xs) x m absent = go (n == y) m absent (member-more n xs x)
-  where
-    go : (b : Bool) → T (b || member n (xs ++ x ∷ [])) → (T (b || member n xs) → ⊥) → (T (member n (xs ++ x ∷ [])) → (T (member n xs) → ⊥) → n ≡ x) → n ≡ x
-    go true t k f = absurd (k tt)
-    go false t k f = f t k
-
-pub under-more : (ns : List ℕ) (i x old new : ℕ) → IsUnder old (take i ns) → i < length ns → x ≡ get_or ns i x → new ≤ old → new ≤ x → IsUnder new (take (i + 1) ns)
-under-more ns i x old new h within is lower here n m = go (member n (take i ns)) refl
-  where
-    split : T (member n (take i ns ++ x ∷ []))
-    split = subst (λ l. T (member n l)) (take_more ns i x within ∙ ap (λ z. take i ns ++ z ∷ []) (sym is)) m
-
-    go : (b : Bool) → member n (take i ns) ≡ b → new ≤ n
-    go true e =
-        let l = h n (holds e) in
-        omega (arith, l, lower)
-    go false e =
-        let same : n ≡ x = member-more n (take i ns) x split (λ t. true≢false (sym (is-true _ t) ∙ e)) in
-        omega (arith, same, here)
-
-pub under-all : (ns : List ℕ) (i m : ℕ) → IsUnder m (take i ns) → length ns ≤ i → IsUnder m ns
-under-all ns i m h l = subst (IsUnder m) (take_all i ns l) h
 
 -- None of the start's operations before one up to the least number is lost.
 

@@ -55,7 +55,7 @@ count_of (Some s) = s.pending.0
 
 abbrev pub owed_of : Option Start → Owed
 owed_of None = []
-owed_of (Some s) = s.owed.items
+owed_of (Some s) = s.owed
 
 abbrev pub pending_of : Option Start → List Issue
 pending_of None = []
@@ -133,8 +133,8 @@ pub record IsLeft (c b : ℕ) (ns : List ℕ) (ks : List Kept) (f : Firm) : Type
 pub record Carries (base : Base) (past : History) (j : Judge) : Type 0 where
   pub volume : (o : ℕ) → shown j.firm.volume o ≡ after base.volume (updates (kept base past)) o
   pub kept : ops_of j.kept.items ≡ kept base past
-  pub starts : (c b : ℕ) → IsStart base past c b (find (is_start c b) j.starts.items)
-  pub flags : Each (IsFlagged base past j.starts.items j.touches) j.kept.items
+  pub starts : (c b : ℕ) → IsStart base past c b (find (is_start c b) j.starts)
+  pub flags : Each (IsFlagged base past j.starts j.touches) j.kept.items
   pub turns : Each (λ k. k.turn < length past) j.kept.items
   pub touches : (o : ℕ) → AreBelow (length past) (at o j.touches)
   pub firm : IsFirm j.kept.items j.firm.count (images j.firm.volume.under)
@@ -205,12 +205,12 @@ pub record IsNoted (a : Asked) (place : ℕ) (op : Option ℕ) (cl : Call) (out 
   pub clerk : s.clerk ≡ old.clerk
   pub boot : s.boot ≡ old.boot
   pub count : s.pending.0 ≡ count_next old.pending.0 op
-  pub owed : s.owed.items ≡ filter (λ q. not (meets out cl q)) old.owed.items
+  pub owed : s.owed ≡ filter (λ q. not (meets out cl q)) old.owed
   pub pending : s.pending.1 ≡ rest (is_asked a) old.pending.1 ++ issues_of place op out.update
 
 pub record IsOwing (pairs : Owed) (old : Start) (s : Start) : Type 0 where
   pub clerk : s.clerk ≡ old.clerk
   pub boot : s.boot ≡ old.boot
   pub count : s.pending.0 ≡ old.pending.0
-  pub owed : s.owed.items ≡ old.owed.items ++ pairs
+  pub owed : s.owed ≡ old.owed ++ pairs
   pub pending : s.pending.1 ≡ old.pending.1

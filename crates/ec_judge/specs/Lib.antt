@@ -1,7 +1,7 @@
 pub mod Faults
 pub mod Fault
 pub mod Rules
-pub mod Numbers
+pub mod Index
 pub mod Outside
 pub mod Carried
 pub mod Example

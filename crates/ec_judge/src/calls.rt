@@ -1,24 +1,20 @@
 // The rules of a call.
-ghost use Rattle.std.specs.Prelude.{◌≡◌, ◌++◌, ◌∷◌, [], if◌then◌else◌, Decides, IfOk, OnOk, MatchOption};
-ghost use Rattle.ec_volume.specs.Update.{member};
-ghost use Rattle.ec_history.specs.History.{meets};
+ghost use Rattle.std.specs.Prelude.{◌≡◌, Decides, IfOk, MatchOption};
 ghost use Rattle.ec_history.specs.Legal.{IsReported, IsFull, IsReply, is_making};
 ghost use Rattle.ec_judge.specs.Rules.{IsNumbered, due_of, KeepsRules, BreaksRule};
 
 use crate::carried::Start;
 use crate::replies;
-use ec_base::{NoMemory, ObjId, OpNo};
+use ec_base::{NoMemory, OpNo};
 use ec_history::{Answer, Rule};
 use ec_plain::{Call, Outcome};
 use ec_volume::Update;
-use std::alloc::Global;
 
 // A grant of ids has so many.
 const ID_GRANT: u64 = 16;
 
 /// The first rule that the call breaks, by its outcome and its start.
 pub fn broken(
-    alloc: Global,
     most: u32,
     start: &Start,
     call: &Call,
@@ -26,13 +22,13 @@ pub fn broken(
     answer: &Answer,
     op: &Option<OpNo>,
 ) -> Result<Option<Rule>, NoMemory>
-    ensures { IfOk result (λ found. MatchOption found (KeepsRules start.now.pending.0 (due_of start.now.owed.items outcome.now call.now) most outcome.now answer.now op.now)
-        (λ rule. BreaksRule start.now.pending.0 (due_of start.now.owed.items outcome.now call.now) most outcome.now answer.now op.now rule)) }
+    ensures { IfOk result (λ found. MatchOption found (KeepsRules start.now.pending.0 (due_of start.now.owed outcome.now call.now) most outcome.now answer.now op.now)
+        (λ rule. BreaksRule start.now.pending.0 (due_of start.now.owed outcome.now call.now) most outcome.now answer.now op.now rule)) }
 {
     if !is_next(start.pending.count(), op) {
         return Ok(Some(Rule::Number));
     }
-    let due = due(alloc, &start.owed, call, outcome)?;
+    let due = start.owed.due(call, outcome)?;
     if !is_reported(&due, answer) {
         return Ok(Some(Rule::Report));
     }
@@ -53,41 +49,6 @@ fn is_next(count: u64, op: &Option<OpNo>) -> bool
         None => true,
         Some(op) => op.0 > 0 && op.0 - 1 == count,
     }
-}
-
-/// Whether the call meets the owed pair.
-pub fn meets(call: &Call, outcome: &Outcome, pair: &(OpNo, ObjId)) -> bool
-    ensures { result ≡ meets outcome.now call.now pair.now }
-{
-    matches!(call, Call::Sync) || outcome.touched.as_slice().contains(&pair.1)
-}
-
-// What the call has to report of what its start owes.
-fn due(
-    alloc: Global,
-    owed: &[(OpNo, ObjId)],
-    call: &Call,
-    outcome: &Outcome,
-) -> Result<Vec<OpNo>, NoMemory>
-    ensures { IfOk result (λ ops. ops.items ≡ due_of owed.now outcome.now call.now) }
-{
-    let mut ops = Vec::new(alloc);
-    for pair in owed {
-        if meets(call, outcome, pair) {
-            push_new(&mut ops, pair.0)?;
-        }
-    }
-    Ok(ops)
-}
-
-// Adds the operation, unless it is there.
-fn push_new(ops: &mut Vec<OpNo>, op: OpNo) -> Result<(), NoMemory>
-    ensures { OnOk result (ops.new.items ≡ (if member op ops.old.items then ops.old.items else ops.old.items ++ op ∷ [])) }
-{
-    if !ops.contains(&op) {
-        ops.push(op)?;
-    }
-    Ok(())
 }
 
 fn is_reported(due: &[OpNo], answer: &Answer) -> bool

@@ -1,6 +1,8 @@
 // What the judge carries from entry to entry.
+use crate::starts::Starts;
 use ec_base::{ClerkId, ObjId, OpNo, SortedMap};
 use ec_overlay::Overlay;
+use ec_owes::Owes;
 use ec_pending::Pending;
 use ec_volume::Update;
 use std::alloc::Global;
@@ -46,7 +48,7 @@ pub struct Start {
     pub clerk: ClerkId,
     pub boot: u64,
     /// Its lost operations that are to be reported, each with one of its operands.
-    pub owed: Vec<(OpNo, ObjId)>,
+    pub owed: Owes,
     /// How many operations its entries had, and those that aren't covered, the lost ones too.
     pub pending: Pending,
 }
@@ -59,6 +61,8 @@ pub struct Firm {
     pub count: usize,
     /// So many of the last kept operations stay out of the volume below.
     pub recent: usize,
+    /// How many more of them losses have carried out again than they needed.
+    pub idle: usize,
 }
 
 /// What the entries so far come to.
@@ -67,7 +71,7 @@ pub struct Judge {
     pub alloc: Global,
     pub kept: Vec<Kept>,
     pub firm: Firm,
-    pub starts: Vec<Start>,
+    pub starts: Starts,
     /// Of each object which calls touched it.
     pub touches: SortedMap<ObjId, Touches>,
 }

@@ -8,7 +8,6 @@ ghost use Rattle.ec_judge.specs.Fault.{IsEntryFault};
 
 use crate::carried::{Judge, Kept};
 use crate::fault::HistoryFault;
-use crate::starts;
 use ec_base::{ClerkId, Duplicate, NoMemory, ObjId, OpNo};
 use ec_history::Entry;
 use ec_volume::Update;
@@ -51,7 +50,7 @@ pub fn owed(
     ensures { IfOk result (λ pairs. pairs.items ≡ owed from_formatted entries.now clerk boot) }
 {
     let judge = carried(alloc, entries)?;
-    starts::owed(alloc, &judge.starts, clerk, boot)
+    judge.starts.owed(clerk, boot)
 }
 
 // What a legal history comes to.

@@ -11,10 +11,11 @@ ghost use Rattle.ec_history.specs.declared.entry.Entry.TheVariants as entry;
 ghost use Rattle.ec_judge.specs.Carried.{Carries, IsFirm, IsReady, Judges, ops_of};
 
 use crate::carried::{Issuer, Judge};
-use crate::index::Numbers;
+use crate::starts::Starts;
 use crate::{calls, covers, losses, rebuilt, starts, tail, touches};
 use ec_base::{ClerkId, NoMemory, ObjId, OpNo, SortedMap};
 use ec_history::{Answer, Entry, Rule};
+use ec_numbers::Numbers;
 use ec_plain::{Call, Outcome, plain};
 use std::alloc::Global;
 
@@ -27,7 +28,7 @@ impl Judge {
             alloc,
             kept: Vec::new(alloc),
             firm: rebuilt::nothing(alloc)?,
-            starts: Vec::new(alloc),
+            starts: Starts::new(alloc),
             touches: SortedMap::new(alloc),
         })
     }
@@ -83,16 +84,16 @@ impl Judge {
             unreachable!();
         };
         let outcome = plain(self.alloc, &self.firm.volume, call, fresh)?;
-        let at = starts::index_of(self.alloc, &mut self.starts, issuer.clerk, issuer.boot)?;
-        let start = &self.starts[at];
-        if let Some(rule) = calls::broken(self.alloc, most, start, call, &outcome, answer, op)? {
+        let at = self.starts.index_of(issuer.clerk, issuer.boot)?;
+        let start = self.starts.at(at);
+        if let Some(rule) = calls::broken(most, start, call, &outcome, answer, op)? {
             return Ok(Some(rule));
         }
         let touched = outcome.touched.as_slice();
         let asked = covers::wanted(begun, call, touched, answer);
         touches::touch_all(&mut self.touches, issuer.clerk, issuer.turn, touched)?;
         let place = issuer.place;
-        starts::note_at(&mut self.starts, at, &asked, place, op, call, &outcome)?;
+        self.starts.note_at(at, &asked, place, op, call, &outcome)?;
         let Outcome { update, .. } = outcome;
         starts::keep(
             self.alloc,
@@ -132,9 +133,9 @@ impl Judge {
         requires rising { T (is_sorted nat_cmp (of_issue clerk boot (ops_of self.old.kept.items))) }
         ensures { IfOk result (λ found. (most turn p : ℕ) → Judges most turn self.old self.new (p, entry.Loss clerk boot ops.now) found) }
     {
-        let at = starts::index_of(self.alloc, &mut self.starts, clerk, boot)?;
+        let at = self.starts.index_of(clerk, boot)?;
         let from = tail::first_of(&self.kept, clerk, boot, ops);
-        let start = &self.starts[at];
+        let start = self.starts.at(at);
         let broken = losses::broken(
             self.alloc,
             &self.touches,
@@ -159,16 +160,7 @@ impl Judge {
         )? {
             return Ok(Some(Rule::Fits));
         }
-        losses::owe_at(
-            self.alloc,
-            &mut self.starts,
-            at,
-            &self.kept,
-            from,
-            clerk,
-            boot,
-            ops,
-        )?;
+        self.starts.owe_at(at, &self.kept, from, clerk, boot, ops)?;
         losses::forget(self.alloc, &mut self.kept, from, clerk, boot, ops)?;
         Ok(None)
     }

@@ -7,7 +7,6 @@ mod checking;
 mod covers;
 mod examples;
 mod fault;
-mod index;
 mod judge;
 mod laws;
 mod losses;

@@ -4,15 +4,17 @@ ghost use Rattle.std.specs.List.{filter, list_any, list_all};
 ghost use Rattle.ec_volume.specs.Update.{member, operands};
 ghost use Rattle.ec_history.specs.History.{of_start, is_one_of, pairs_of};
 ghost use Rattle.ec_judge.specs.Carried.{ops_of, op_of, is_among, is_touched, are_kept, are_uncovered, are_untouched, are_closed, KeepsMarks, BreaksMarks, IsOwing};
+ghost use Rattle.ec_judge.specs.Index.{SamePlaces};
 ghost use Rattle.ec_pending.specs.Pending.{numbers_in};
 ghost use Rattle.ec_judge.specs.declared.carried.Start.{Start as StartOf};
 
 use crate::carried::{Kept, Start, Touches};
-use crate::index::Numbers;
 use crate::outside::Outside;
 use crate::touches::is_touched;
 use ec_base::{ClerkId, NoMemory, ObjId, OpNo, SortedMap};
 use ec_history::Rule;
+use ec_numbers::Numbers;
+use ec_owes::Owes;
 use ec_pending::Pending;
 use ec_volume::operands;
 use std::alloc::Global;
@@ -185,8 +187,9 @@ pub fn owe_at(
     requires at { at < length starts.old.items }
     requires within { from ≤ length kept.now }
     requires none { list_any (is_among clerk boot ops.now) (take from kept.now) ≡ false }
-    ensures { OnOk result ((s : StartOf) × IsOwing (pairs_of (filter (is_one_of clerk boot ops.now) (ops_of kept.now))) (slice_index_or starts.old.items at s) s
+    ensures owing { OnOk result ((s : StartOf) × IsOwing (pairs_of (filter (is_one_of clerk boot ops.now) (ops_of kept.now))) (slice_index_or starts.old.items at s) s
         × (starts.new.items ≡ slice_set starts.old.items at s)) }
+    ensures same { SamePlaces starts.old.items starts.new.items }
 {
     owe(alloc, &mut starts[at], &kept[from..], clerk, boot, ops)
 }
@@ -203,7 +206,7 @@ fn owe(
     ensures clerk { start.new.clerk ≡ start.old.clerk }
     ensures boot { start.new.boot ≡ start.old.boot }
     ensures count { start.new.pending.0 ≡ start.old.pending.0 }
-    ensures owed { OnOk result (start.new.owed.items ≡ start.old.owed.items ++ pairs_of (filter (is_one_of clerk boot ops.now) (ops_of kept.now))) }
+    ensures owed { OnOk result (start.new.owed ≡ start.old.owed ++ pairs_of (filter (is_one_of clerk boot ops.now) (ops_of kept.now))) }
     ensures pending { start.new.pending.1 ≡ start.old.pending.1 }
 {
     for lost in kept {
@@ -218,11 +221,11 @@ fn owe(
     Ok(())
 }
 
-fn push_pairs(owed: &mut Vec<(OpNo, ObjId)>, op: OpNo, objs: &[ObjId]) -> Result<(), NoMemory>
-    ensures { OnOk result (owed.new.items ≡ owed.old.items ++ map (λ o. (op, o)) objs.now) }
+fn push_pairs(owed: &mut Owes, op: OpNo, objs: &[ObjId]) -> Result<(), NoMemory>
+    ensures { OnOk result (owed.new ≡ owed.old ++ map (λ o. (op, o)) objs.now) }
 {
     for obj in objs {
-        owed.push((op, *obj))?;
+        owed.push(op, *obj)?;
     }
     Ok(())
 }

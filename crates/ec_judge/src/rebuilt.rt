@@ -8,15 +8,15 @@ ghost use Rattle.ec_history.specs.History.{updates, is_one_of};
 ghost use Rattle.ec_judge.specs.Carried.{ops_of, is_among, IsFront, IsFirm, IsBehind, IsLeft};
 
 use crate::carried::{Firm, Kept};
-use crate::index::Numbers;
 use crate::losses::is_among;
 use ec_base::{ClerkId, NoMemory};
+use ec_numbers::Numbers;
 use ec_overlay::Overlay;
 use ec_volume::{ApplyFault, Update, Volume};
 use std::alloc::Global;
 
-// So many of the last kept operations stay out of the volume below at first.
-const RECENT: usize = 64;
+// At least so many of the last kept operations stay out of the volume below.
+const RECENT: usize = 8;
 
 /// The volume behind none of the operations.
 pub fn nothing(alloc: Global) -> Result<Firm, NoMemory>
@@ -28,6 +28,7 @@ pub fn nothing(alloc: Global) -> Result<Firm, NoMemory>
         volume: Overlay::formatted(alloc)?,
         count: 0,
         recent: RECENT,
+        idle: 0,
     })
 }
 
@@ -56,7 +57,8 @@ pub fn leave(
     carry_rest(alloc, &mut firm.volume, firm.count, kept, clerk, boot, ops)
 }
 
-// Begins anew where the volume below is behind the index. From then on twice as many stay out of it.
+// Begins anew where the volume below is behind the index. From then on twice as many operations stay
+// out of it, until losses that need less have cost as much as beginning anew.
 fn begin(
     alloc: Global,
     firm: &mut Firm,
@@ -72,12 +74,20 @@ fn begin(
     ensures { OnOk result (IsBehind clerk boot ops.now kept.now firm.new.count (images firm.new.volume.under)) }
 {
     if firm.count <= from {
+        firm.idle = firm
+            .idle
+            .saturating_add(firm.recent.saturating_sub(kept.len() - from));
+        if firm.idle > kept.len() {
+            firm.recent = (firm.recent / 2).max(RECENT);
+            firm.idle = 0;
+        }
         return Ok(());
     }
     *firm = Firm {
         volume: Overlay::formatted(alloc)?,
         count: 0,
         recent: (kept.len() - from).saturating_mul(2),
+        idle: 0,
     };
     Ok(())
 }

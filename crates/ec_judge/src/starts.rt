@@ -1,69 +1,151 @@
 // The starts of clerks, each with what it did.
-ghost use Rattle.std.specs.Prelude.{◌≡◌, ◌<◌, ◌++◌, ℕ, not, length, slice_index_or, slice_set, IfOk, OnOk};
-ghost use Rattle.std.specs.List.{filter, find, position_or_len};
+ghost use Rattle.std.specs.Prelude.{◌≡◌, ◌<◌, ◌≤◌, ◌++◌, ◌∷◌, [], ℕ, false, not, length, take, slice_index_or, slice_set, vec_len, vec_capacity, IfOk, OnOk};
+ghost use Rattle.std.specs.List.{filter, find, list_any, position_or_len};
 ghost use Rattle.ec_volume.specs.Volume.{after};
 ghost use Rattle.ec_overlay.specs.Shown.{shown};
-ghost use Rattle.ec_history.specs.History.{meets, updates};
-ghost use Rattle.ec_judge.specs.Carried.{is_start, count_of, owed_of, pending_of, count_next, keeps_of, ops_of, IsFitting, IsNoted};
+ghost use Rattle.ec_history.specs.History.{is_one_of, meets, pairs_of, updates};
+ghost use Rattle.ec_judge.specs.Carried.{is_start, count_of, owed_of, pending_of, count_next, keeps_of, ops_of, is_among, IsFitting, IsNoted, IsOwing};
+ghost use Rattle.ec_judge.specs.Index.{SamePlaces};
 ghost use Rattle.ec_pending.specs.Pending.{is_asked, rest, issues_of};
 ghost use Rattle.ec_judge.specs.Rules.{IsNumbered};
 ghost use Rattle.ec_judge.specs.declared.carried.Start.{Start as StartOf};
 
-use crate::calls;
 use crate::carried::{Issuer, Kept, Start};
+use crate::losses;
 use ec_base::{ClerkId, Duplicate, NoMemory, ObjId, OpNo};
+use ec_numbers::{Numbers, StartIndex, find_start, note_start};
 use ec_overlay::Overlay;
+use ec_owes::Owes;
 use ec_pending::{Asked, Pending};
 use ec_plain::{Call, Outcome};
 use ec_volume::Update;
 use std::alloc::Global;
+use std::collections::BTreeMap;
+use std::marker::Model;
 
-/// The index of a start, which begins here if it isn't there.
-pub fn index_of(
+/// The starts of clerks so far, with an index.
+#[derive(Drop)]
+pub struct Starts {
     alloc: Global,
-    starts: &mut Vec<Start>,
-    clerk: ClerkId,
-    boot: u64,
-) -> Result<usize, NoMemory>
-    ensures found { IfOk result (λ at. at ≡ position_or_len (is_start clerk boot) starts.new.items) }
-    ensures within { IfOk result (λ at. at < length starts.new.items) }
-    ensures count { OnOk result ((c b : ℕ) → count_of (find (is_start c b) starts.new.items) ≡ count_of (find (is_start c b) starts.old.items)) }
-    ensures owed { OnOk result ((c b : ℕ) → owed_of (find (is_start c b) starts.new.items) ≡ owed_of (find (is_start c b) starts.old.items)) }
-    ensures pending { OnOk result ((c b : ℕ) → pending_of (find (is_start c b) starts.new.items) ≡ pending_of (find (is_start c b) starts.old.items)) }
-{
-    let at = place_of(starts, clerk, boot);
-    if at == starts.len() {
-        starts.push(Start {
-            clerk,
-            boot,
-            owed: Vec::new(alloc),
-            pending: Pending::new(alloc)?,
-        })?;
-    }
-    Ok(at)
+    items: Vec<Start>,
+    index: StartIndex,
 }
 
-fn is_start(start: &Start, clerk: ClerkId, boot: u64) -> bool
-    ensures { result ≡ is_start clerk boot start.now }
-{
-    clerk == start.clerk && boot == start.boot
+impl Model for Starts {
+    ghost use Rattle.std.specs.Prelude.{List};
+    ghost use Rattle.ec_judge.specs.declared.carried.Start.{Start};
+    ghost use Rattle.ec_judge.specs.Index.{IsIndex};
+    ghost use Rattle.ec_numbers.specs.Starts.{indexed};
+
+    ghost Value = { List Start };
+
+    ghost view = { λ s. s.items.items };
+
+    ghost invariant = { λ s. IsIndex (indexed s.index) s.items.items };
 }
 
-// The index of the start, or that behind the last one.
-fn place_of(starts: &[Start], clerk: ClerkId, boot: u64) -> usize
-    ensures { result ≡ position_or_len (is_start clerk boot) starts.now }
-{
-    for (at, start) in starts.iter().enumerate() {
-        if is_start(start, clerk, boot) {
-            return at;
+impl Starts {
+    /// No start.
+    pub fn new(alloc: Global) -> Starts
+        ensures { result ≡ [] }
+    {
+        Starts {
+            alloc,
+            items: Vec::new(alloc),
+            index: BTreeMap::new(alloc),
         }
     }
-    starts.len()
+
+    /// The start at this index.
+    pub fn at(&self, at: usize) -> &Start
+        requires { at < length self.now }
+        ensures { result.now ≡ slice_index_or self.now at result.now }
+    {
+        &self.items[at]
+    }
+
+    /// The index of a start, which begins here if it isn't there.
+    pub fn index_of(&mut self, clerk: ClerkId, boot: u64) -> Result<usize, NoMemory>
+        ensures found { IfOk result (λ at. at ≡ position_or_len (is_start clerk boot) self.new) }
+        ensures within { IfOk result (λ at. at < length self.new) }
+        ensures count { OnOk result ((c b : ℕ) → count_of (find (is_start c b) self.new) ≡ count_of (find (is_start c b) self.old)) }
+        ensures owed { OnOk result ((c b : ℕ) → owed_of (find (is_start c b) self.new) ≡ owed_of (find (is_start c b) self.old)) }
+        ensures pending { OnOk result ((c b : ℕ) → pending_of (find (is_start c b) self.new) ≡ pending_of (find (is_start c b) self.old)) }
+    {
+        if let Some(at) = find_start(&self.index, clerk, boot) {
+            return Ok(at);
+        }
+        let start = Start {
+            clerk,
+            boot,
+            owed: Owes::new(self.alloc),
+            pending: Pending::new(self.alloc)?,
+        };
+        self.items.reserve(1)?;
+        let at = self.items.len();
+        note_start(&mut self.index, clerk, boot, at)?;
+        push(&mut self.items, start);
+        Ok(at)
+    }
+
+    /// A call of the start at this index was answered: what it asks is covered, what it met is
+    /// reported, and its operation is issued.
+    pub fn note_at(
+        &mut self,
+        at: usize,
+        asked: &Asked,
+        place: u32,
+        op: &Option<OpNo>,
+        call: &Call,
+        outcome: &Outcome,
+    ) -> Result<(), NoMemory>
+        requires within { at < length self.old }
+        requires next { (s : StartOf) → IsNumbered (slice_index_or self.old at s).pending.0 op.now }
+        ensures { OnOk result ((s : StartOf) × IsNoted asked.now place op.now call.now outcome.now (slice_index_or self.old at s) s × (self.new ≡ slice_set self.old at s)) }
+    {
+        note_at(&mut self.items, at, asked, place, op, call, outcome)
+    }
+
+    /// Adds the pairs of the lost operations to what the start at this index owes.
+    pub fn owe_at(
+        &mut self,
+        at: usize,
+        kept: &[Kept],
+        from: usize,
+        clerk: ClerkId,
+        boot: u64,
+        ops: &Numbers,
+    ) -> Result<(), NoMemory>
+        requires at { at < length self.old }
+        requires within { from ≤ length kept.now }
+        requires none { list_any (is_among clerk boot ops.now) (take from kept.now) ≡ false }
+        ensures { OnOk result ((s : StartOf) × IsOwing (pairs_of (filter (is_one_of clerk boot ops.now) (ops_of kept.now))) (slice_index_or self.old at s) s × (self.new ≡ slice_set self.old at s)) }
+    {
+        let alloc = self.alloc;
+        losses::owe_at(alloc, &mut self.items, at, kept, from, clerk, boot, ops)
+    }
+
+    /// What the start owes.
+    pub fn owed(&self, clerk: ClerkId, boot: u64) -> Result<Vec<(OpNo, ObjId)>, NoMemory>
+        ensures { IfOk result (λ pairs. pairs.items ≡ owed_of (find (is_start clerk boot) self.now)) }
+    {
+        match find_start(&self.index, clerk, boot) {
+            Some(at) => self.items[at].owed.all(),
+            None => Ok(Vec::new(self.alloc)),
+        }
+    }
 }
 
-/// A call of the start at this index was answered: what it asks is covered, what it met is reported,
-/// and its operation is issued.
-pub fn note_at(
+// One start more, where there is room for it.
+fn push(starts: &mut Vec<Start>, start: Start)
+    requires { vec_len starts.old < vec_capacity starts.old }
+    ensures { starts.new.items ≡ starts.old.items ++ start ∷ [] }
+{
+    starts.push(start).unwrap();
+}
+
+// The same among these.
+fn note_at(
     starts: &mut Vec<Start>,
     at: usize,
     asked: &Asked,
@@ -74,7 +156,8 @@ pub fn note_at(
 ) -> Result<(), NoMemory>
     requires within { at < length starts.old.items }
     requires next { (s : StartOf) → IsNumbered (slice_index_or starts.old.items at s).pending.0 op.now }
-    ensures { OnOk result ((s : StartOf) × IsNoted asked.now place op.now call.now outcome.now (slice_index_or starts.old.items at s) s × (starts.new.items ≡ slice_set starts.old.items at s)) }
+    ensures noted { OnOk result ((s : StartOf) × IsNoted asked.now place op.now call.now outcome.now (slice_index_or starts.old.items at s) s × (starts.new.items ≡ slice_set starts.old.items at s)) }
+    ensures same { SamePlaces starts.old.items starts.new.items }
 {
     note(&mut starts[at], asked, place, op, call, outcome)
 }
@@ -93,10 +176,10 @@ fn note(
     ensures clerk { start.new.clerk ≡ start.old.clerk }
     ensures boot { start.new.boot ≡ start.old.boot }
     ensures count { OnOk result (start.new.pending.0 ≡ count_next start.old.pending.0 op.now) }
-    ensures owed { OnOk result (start.new.owed.items ≡ filter (λ q. not (meets outcome.now call.now q)) start.old.owed.items) }
+    ensures owed { OnOk result (start.new.owed ≡ filter (λ q. not (meets outcome.now call.now q)) start.old.owed) }
     ensures pending { OnOk result (start.new.pending.1 ≡ rest (is_asked asked.now) start.old.pending.1 ++ issues_of place op.now outcome.now.update) }
 {
-    report(start, call, outcome);
+    start.owed.report(call, outcome);
     start.pending.cover(asked)?;
     if let Some(number) = op {
         let update = copied(&outcome.update)?;
@@ -112,17 +195,6 @@ fn copied(update: &Option<Update>) -> Result<Option<Update>, NoMemory>
         Some(update) => Ok(Some(update.duplicate()?)),
         None => Ok(None),
     }
-}
-
-// Takes out what the call met.
-fn report(start: &mut Start, call: &Call, outcome: &Outcome)
-    ensures clerk { start.new.clerk ≡ start.old.clerk }
-    ensures boot { start.new.boot ≡ start.old.boot }
-    ensures count { start.new.pending.0 ≡ start.old.pending.0 }
-    ensures owed { start.new.owed.items ≡ filter (λ q. not (meets outcome.now call.now q)) start.old.owed.items }
-    ensures pending { start.new.pending.1 ≡ start.old.pending.1 }
-{
-    start.owed.retain(|pair| !calls::meets(call, outcome, pair));
 }
 
 /// Carries the operation out, if there is one, and keeps it.
@@ -157,21 +229,4 @@ pub fn keep(
         update,
     })?;
     Ok(())
-}
-
-/// What the start owes.
-pub fn owed(
-    alloc: Global,
-    starts: &[Start],
-    clerk: ClerkId,
-    boot: u64,
-) -> Result<Vec<(OpNo, ObjId)>, NoMemory>
-    ensures { IfOk result (λ pairs. pairs.items ≡ owed_of (find (is_start clerk boot) starts.now)) }
-{
-    for start in starts {
-        if is_start(start, clerk, boot) {
-            return Ok(Vec::from_slice(alloc, &start.owed)?);
-        }
-    }
-    Ok(Vec::new(alloc))
 }

@@ -1,15 +1,14 @@
 // The last kept operations, among which are all that a loss can name.
-ghost use Rattle.std.specs.Prelude.{◌≡◌, ◌≤◌, ◌&&◌, ℕ, T, false, length, take, nat_le};
+ghost use Rattle.std.specs.Prelude.{◌≡◌, ◌≤◌, ◌&&◌, T, false, length, take, nat_le};
 ghost use Rattle.std.specs.Ordering.{nat_cmp};
 ghost use Rattle.std.specs.FinMap.{is_sorted};
 ghost use Rattle.std.specs.List.{list_any};
-ghost use Rattle.ec_volume.specs.Update.{member};
 ghost use Rattle.ec_history.specs.History.{of_start, of_issue};
 ghost use Rattle.ec_judge.specs.Carried.{op_of, ops_of, is_among};
 
 use crate::carried::Kept;
-use crate::index::Numbers;
-use ec_base::{ClerkId, OpNo};
+use ec_base::ClerkId;
+use ec_numbers::Numbers;
 
 /// An index before which none of the start's kept operations has one of these numbers. A walk from
 /// the last one on finds it.
@@ -18,7 +17,7 @@ pub fn first_of(kept: &[Kept], clerk: ClerkId, boot: u64, ops: &Numbers) -> usiz
     ensures within { result ≤ length kept.now }
     ensures none { list_any (is_among clerk boot ops.now) (take result kept.now) ≡ false }
 {
-    let least = least_of(ops.items());
+    let least = ops.least();
     let mut at = kept.len();
     'back: while at > 0 {
         at -= 1;
@@ -27,19 +26,6 @@ pub fn first_of(kept: &[Kept], clerk: ClerkId, boot: u64, ops: &Numbers) -> usiz
         }
     }
     0
-}
-
-/// A number that is above none of these.
-pub fn least_of(ops: &[OpNo]) -> u64
-    ensures { (n : ℕ) → T (member n ops.now) → result ≤ n }
-{
-    let mut least = u64::MAX;
-    for op in ops {
-        if op.0 < least {
-            least = op.0;
-        }
-    }
-    least
 }
 
 // Whether the operation is one of the start, and its number at most this.

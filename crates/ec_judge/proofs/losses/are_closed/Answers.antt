@@ -1,4 +1,4 @@
-use Rattle.std.proofs.Common.{◌≡◌, ◌<◌, ◌+◌, ◌-◌, sym, ◌∙◌, true, length, arith}
+use Rattle.std.proofs.Common.{◌-◌, sym, ◌∙◌, length, arith}
 use Rattle.std.proofs.lemmas.Bool.{and_from}
 use Rattle.std.proofs.lemmas.List.{drop_all}
 use Rattle.ec_volume.specs.Update.{member}

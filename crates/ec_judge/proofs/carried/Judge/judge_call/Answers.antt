@@ -17,19 +17,19 @@ returns-in-Some-2 c = λ l past turn h legal.
     let j = c.args.self.now in
     let by = c.args.issuer.now in
     let o = c.in_ok-outcome.outcome in
-    let ss = c.index_of.new.starts.items in
+    let ss = c.index_of.new.self in
     let at = c.in_ok-at.ensures in
-    let s = c.index-start.result.now in
+    let s = c.at-start.result.now in
     let same = out-same past by.place c.args.call.now (shown j.firm.volume) c.in-Some.fresh o h.volume c.in-Some.ensures.some c.in_ok-outcome.ensures in
-    let own = own-at past j h ss at.count at.owed at.pending by.clerk by.boot c.in_ok-at.at s at.found at.within c.index-start.ensures in
-    call-broken c.args.most past by.place by.clerk by.boot c.args.call.now c.args.answer.now c.args.op.now s.pending.0 s.owed.items o own.count own.owed same c.in-Some-2.rule (rw c.in-Some-2.is at c.in_ok-rule.ensures)
+    let own = own-at past j h ss at.count at.owed at.pending by.clerk by.boot c.in_ok-at.at s at.found at.within c.at-start.ensures in
+    call-broken c.args.most past by.place by.clerk by.boot c.args.call.now c.args.answer.now c.args.op.now s.pending.0 s.owed o own.count own.owed same c.in-Some-2.rule (rw c.in-Some-2.is at c.in_ok-rule.ensures)
 
 pub note_at-requires-clause-next : goal.note_at-requires-clause-next
 note_at-requires-clause-next c = λ t.
-    let ss = c.index_of.new.starts.items in
-    let s = c.index-start.result.now in
+    let ss = c.index_of.new.self in
+    let s = c.at-start.result.now in
     let rules = rw c.in_default-2.is at c.in_ok-rule.ensures in
-    subst (λ (x : Start). IsNumbered x.pending.0 c.args.op.now) (sym (same-at ss c.in_ok-at.at t s c.in_ok-at.ensures.within ∙ sym c.index-start.ensures)) rules.number
+    subst (λ (x : Start). IsNumbered x.pending.0 c.args.op.now) (sym (same-at ss c.in_ok-at.at t s c.in_ok-at.ensures.within ∙ sym c.at-start.ensures)) rules.number
 
 pub keep-requires : goal.keep-requires
 keep-requires c =
@@ -44,20 +44,20 @@ returns c = λ l past turn h legal.
     let a = c.args.answer.now in
     let op = c.args.op.now in
     let o = c.in_ok-outcome.outcome in
-    let ss = c.index_of.new.starts.items in
+    let ss = c.index_of.new.self in
     let at = c.in_ok-at.ensures in
-    let s = c.index-start.result.now in
+    let s = c.at-start.result.now in
     let same = out-same past by.place cl (shown j.firm.volume) c.in-Some.fresh o h.volume c.in-Some.ensures.some c.in_ok-outcome.ensures in
-    let own = own-at past j h ss at.count at.owed at.pending by.clerk by.boot c.in_ok-at.at s at.found at.within c.index-start.ensures in
-    let fine = call-legal c.args.most past by.place by.clerk by.boot cl a op s.pending.0 s.owed.items o own.count own.owed same (rw c.in_default-2.is at c.in_ok-rule.ensures) in
+    let own = own-at past j h ss at.count at.owed at.pending by.clerk by.boot c.in_ok-at.at s at.found at.within c.at-start.ensures in
+    let fine = call-legal c.args.most past by.place by.clerk by.boot cl a op s.pending.0 s.owed o own.count own.owed same (rw c.in_default-2.is at c.in_ok-rule.ensures) in
     let noted = c.in_ok-note_at.ensures in
-    let old = same-at ss c.in_ok-at.at noted.0 s at.within ∙ sym c.index-start.ensures in
-    let mine = is-own by.clerk by.boot ss c.in_ok-at.at s at.found at.within c.index-start.ensures in (
+    let old = same-at ss c.in_ok-at.at noted.0 s at.within ∙ sym c.at-start.ensures in
+    let mine = is-own by.clerk by.boot ss c.in_ok-at.at s at.found at.within c.at-start.ensures in (
       fine,
       call-carried c.args.most past by l c.args.begun cl a op j h legal _ ss c.in_ok-at.at s noted.0 c.wanted-asked.result o turn same fine (starts-now past j h ss at.count at.owed at.pending) at.found at.within own at.pending
-          (found-at (is_start by.clerk by.boot) ss c.in_ok-at.at s at.found at.within c.index-start.ensures)
+          (found-at (is_start by.clerk by.boot) ss c.in_ok-at.at s at.found at.within c.at-start.ensures)
           (c.wanted-asked.ensures ∙ ap (λ os. asked_by_call os c.args.begun cl a) c.as_slice-touched.ensures)
-          (noted.1.clerk ∙ ap (λ t. t.clerk) old ∙ mine.0) (noted.1.boot ∙ ap (λ t. t.boot) old ∙ mine.1) (noted.1.count ∙ ap (λ t. count_next t.pending.0 op) old) (noted.1.owed ∙ ap (λ t. filter (λ q. not (meets o cl q)) t.owed.items) old)
+          (noted.1.clerk ∙ ap (λ t. t.clerk) old ∙ mine.0) (noted.1.boot ∙ ap (λ t. t.boot) old ∙ mine.1) (noted.1.count ∙ ap (λ t. count_next t.pending.0 op) old) (noted.1.owed ∙ ap (λ t. filter (λ q. not (meets o cl q)) t.owed) old)
           (noted.1.pending ∙ ap (λ t. rest (is_asked c.wanted-asked.result) t.pending.1 ++ issues_of by.place op o.update) old) noted.2
           c.in_ok-keep.ensures.kept
           (λ x. c.in_ok-touch_all.ensures x ∙ ap (λ os. cond (member x os) (Some (touched_next by.clerk by.turn (Tables.at x j.touches))) (Tables.at x j.touches)) c.as_slice-touched.ensures)

@@ -11,20 +11,20 @@ use Rattle.ec_judge.proofs.carried.Judge.judge_lost.Goals as goal
 
 pub returns-in-Some : goal.returns-in-Some
 returns-in-Some c = λ most turn p past at-turn h legal.
-    let ss = c.index_of.new.starts.items in
+    let ss = c.index_of.new.self in
     let at = c.in_ok-at.ensures in
-    let s = c.index-start.result.now in
-    let found = found-at (is_start c.args.clerk c.args.boot) ss c.in_ok-at.at s at.found at.within c.index-start.ensures in
+    let s = c.at-start.result.now in
+    let found = found-at (is_start c.args.clerk c.args.boot) ss c.in_ok-at.at s at.found at.within c.at-start.ensures in
     let is = ap numbers_in (ap pending_of (sym found) ∙ at.pending c.args.clerk c.args.boot) in
     loss-broken most past p c.args.clerk c.args.boot c.args.ops.now c.args.self.now h (numbers_in s.pending.1) is c.in-Some.rule
     (subst (λ ks. BreaksMarks c.args.clerk c.args.boot c.args.ops.now (numbers_in s.pending.1) c.args.self.now.touches ks c.in-Some.rule) c.deref-2.ensures.value (rw c.in-Some.is at c.in_ok-broken.ensures))
 
 pub returns-then-not-branch : goal.returns-then-not-branch
 returns-then-not-branch c = λ most turn p past at-turn h legal.
-    let ss = c.index_of.new.starts.items in
+    let ss = c.index_of.new.self in
     let at = c.in_ok-at.ensures in
-    let s = c.index-start.result.now in
-    let found = found-at (is_start c.args.clerk c.args.boot) ss c.in_ok-at.at s at.found at.within c.index-start.ensures in
+    let s = c.at-start.result.now in
+    let found = found-at (is_start c.args.clerk c.args.boot) ss c.in_ok-at.at s at.found at.within c.at-start.ensures in
     let is = ap numbers_in (ap pending_of (sym found) ∙ at.pending c.args.clerk c.args.boot) in
     loss-unfit most past p c.args.clerk c.args.boot c.args.ops.now c.args.self.now h (numbers_in s.pending.1) is
     (subst (KeepsMarks c.args.clerk c.args.boot c.args.ops.now (numbers_in s.pending.1) c.args.self.now.touches) c.deref-2.ensures.value (rw c.in_default.is at c.in_ok-broken.ensures))
@@ -34,22 +34,22 @@ pub returns : goal.returns
 returns c = λ most turn p past at-turn h legal.
     let j = c.args.self.now in
     let ns = c.args.ops.now in
-    let ss = c.index_of.new.starts.items in
+    let ss = c.index_of.new.self in
     let at = c.in_ok-at.ensures in
-    let s = c.index-start.result.now in
-    let found-start = found-at (is_start c.args.clerk c.args.boot) ss c.in_ok-at.at s at.found at.within c.index-start.ensures in
+    let s = c.at-start.result.now in
+    let found-start = found-at (is_start c.args.clerk c.args.boot) ss c.in_ok-at.at s at.found at.within c.at-start.ensures in
     let is = ap numbers_in (ap pending_of (sym found-start) ∙ at.pending c.args.clerk c.args.boot) in
     let owing = c.in_ok-owe_at.ensures in
-    let old = same-at ss c.in_ok-at.at owing.0 s at.within ∙ sym c.index-start.ensures in
+    let old = same-at ss c.in_ok-at.at owing.0 s at.within ∙ sym c.at-start.ensures in
     let marks = subst (KeepsMarks c.args.clerk c.args.boot ns (numbers_in s.pending.1) j.touches) c.deref-2.ensures.value (rw c.in_default.is at c.in_ok-broken.ensures) in
     let left = rw c.if-not-branch.false at c.in_ok-leave.ensures in
-    let mine = is-own c.args.clerk c.args.boot ss c.in_ok-at.at s at.found at.within c.index-start.ensures in (
+    let mine = is-own c.args.clerk c.args.boot ss c.in_ok-at.at s at.found at.within c.at-start.ensures in (
       loss-lawful most past p c.args.clerk c.args.boot ns j h (numbers_in s.pending.1) is marks (subst (λ ks. Fits formatted (updates (filter (λ k. not (is_one_of c.args.clerk c.args.boot ns k)) (ops_of ks)))) c.deref-3.ensures.value left.fits),
       loss-carried most past p c.args.clerk c.args.boot ns j h (numbers_in s.pending.1) is _ ss c.in_ok-at.at s owing.0 (starts-now past j h ss at.count at.owed at.pending) at.found at.within
-          (own-at past j h ss at.count at.owed at.pending c.args.clerk c.args.boot c.in_ok-at.at s at.found at.within c.index-start.ensures)
+          (own-at past j h ss at.count at.owed at.pending c.args.clerk c.args.boot c.in_ok-at.at s at.found at.within c.at-start.ensures)
           at.pending found-start
           (owing.1.clerk ∙ ap (λ t. t.clerk) old ∙ mine.0) (owing.1.boot ∙ ap (λ t. t.boot) old ∙ mine.1) (owing.1.count ∙ ap (λ t. t.pending.0) old)
-          (owing.1.owed ∙ ap (λ t. t.owed.items ++ pairs_of (filter (is_one_of c.args.clerk c.args.boot ns) (ops_of c.deref-4.result.now))) old ∙ ap (λ ks. s.owed.items ++ pairs_of (filter (is_one_of c.args.clerk c.args.boot ns) (ops_of ks))) c.deref-4.ensures.value)
+          (owing.1.owed ∙ ap (λ t. t.owed ++ pairs_of (filter (is_one_of c.args.clerk c.args.boot ns) (ops_of c.deref-4.result.now))) old ∙ ap (λ ks. s.owed ++ pairs_of (filter (is_one_of c.args.clerk c.args.boot ns) (ops_of ks))) c.deref-4.ensures.value)
           (owing.1.pending ∙ ap (λ t. t.pending.1) old) owing.2
           c.in_ok-forget.ensures
           refl

@@ -1,0 +1,4 @@
+pub mod Ended
+pub mod Staying
+pub mod Found
+pub mod Due

@@ -1,0 +1,10 @@
+use Rattle.std.proofs.Common.{◌∙◌, ap}
+use Rattle.ec_owes.specs.Owes.{on_none}
+use Rattle.ec_owes.proofs.Staying.{take-in, take-view}
+use Rattle.ec_owes.proofs.owes.Owes.take.Goals as goal
+
+pub invariant_of-self : goal.invariant_of-self
+invariant_of-self c = take-in c.args.objs.now c.len-end.result c.self.inside.spans c.take_out.new.spans c.take_out.ensures c.self.inside.pairs.items (c.len-end.ensures ∙ c.self.inside.pairs.ok.0) c.self.invariant
+
+pub returns : goal.returns
+returns c = take-view c.args.objs.now c.len-end.result c.self.inside.spans c.take_out.new.spans c.take_out.ensures c.self.inside.pairs.items (c.len-end.ensures ∙ c.self.inside.pairs.ok.0) c.self.invariant ∙ ap (on_none c.args.objs.now) c.self.view_is
