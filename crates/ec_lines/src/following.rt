@@ -23,7 +23,7 @@ pub fn begins(alloc: Global, shown: &[Shown]) -> Result<Vec<u32>, PlaceFault>
     for at in 0..shown.len() {
         let above = &shown[..at];
         let line = &shown[at];
-        if let Some(rule) = lines::broken(above, &seen, line) {
+        if let Some(rule) = lines::broken(alloc, above, &seen, line)? {
             return Err(PlaceFault::At(at as u32 + 1, rule));
         }
         let begun = seen::begins(&seen, above, line);

@@ -1,39 +1,46 @@
 // Which lines may follow those above them.
-ghost use Rattle.std.specs.Prelude.{◌≡◌, ◌<◌, ◌^◌, T, length, nat_eq, Decides, MatchOption};
+ghost use Rattle.std.specs.Prelude.{◌≡◌, ◌<◌, ◌^◌, T, length, nat_eq, is_some, Decides, IfOk, MatchOption};
 ghost use Rattle.std.specs.HashMap.{get};
 ghost use Rattle.std.specs.List.{list_all};
 ghost use Rattle.ec_volume.specs.Update.{member};
-ghost use Rattle.ec_history.specs.Placing.{Agrees, Unanswered, EachLine, MayFollow};
+ghost use Rattle.ec_history.specs.Placing.{Agrees, Unanswered, EachLine, MayFollow, owner, same_numbers, to_lose};
 ghost use Rattle.ec_lines.specs.Faults.{HasShape, BreaksLine};
 ghost use Rattle.ec_lines.specs.Index.{IsIndex};
-ghost use Rattle.ec_lines.specs.Named.{IsNamed};
+ghost use Rattle.ec_lines.specs.Named.{is_told, IsNamed};
 ghost use Rattle.ec_lines.specs.Seen.{Sees};
 
 use crate::calls;
 use crate::index::{self, Calls};
 use crate::seen::Seen;
-use ec_base::{ClerkId, List, OpNo};
+use ec_base::{ClerkId, List, NoMemory, OpNo};
 use ec_history::{Rule, Shown, Watch};
 use ec_plain::Call;
+use std::alloc::Global;
 
 /// The first rule that the line breaks behind those above it, as they are seen.
-pub fn broken(above: &[Shown], seen: &Seen, line: &Shown) -> Option<Rule>
+pub fn broken(
+    alloc: Global,
+    above: &[Shown],
+    seen: &Seen,
+    line: &Shown,
+) -> Result<Option<Rule>, NoMemory>
     requires sees { Sees seen.now above.now }
     requires few { length above.now < 2 ^ 31 }
-    ensures { MatchOption result (MayFollow above.now line.now) (λ rule. BreaksLine above.now line.now rule) }
+    ensures { IfOk result (λ found. MatchOption found (MayFollow above.now line.now) (λ rule. BreaksLine above.now line.now rule)) }
 {
     if !has_shape(above, &seen.calls, line) {
-        return Some(Rule::Shape);
+        return Ok(Some(Rule::Shape));
     }
     match ec_watch::clerk_of(line) {
         Some(clerk) => {
-            if is_named(ec_watch::watch_of(&seen.watches, clerk), line) {
-                None
+            let named = is_named(alloc, ec_watch::watch_of(&seen.watches, clerk), line)?;
+            if named {
+                Ok(None)
             } else {
-                Some(Rule::Named)
+                Ok(Some(Rule::Named))
             }
         }
-        None => None,
+        None => Ok(None),
     }
 }
 
@@ -91,30 +98,49 @@ fn is_unanswered(above: &[Shown], calls: &Calls, number: u32) -> bool
 }
 
 // Whether it names what it may behind the watch of its clerk.
-fn is_named(watch: &Watch, line: &Shown) -> bool
+fn is_named(alloc: Global, watch: &Watch, line: &Shown) -> Result<bool, NoMemory>
     requires { watch.now.starts < 2 ^ 32 }
-    ensures { Decides result (IsNamed watch.now line.now) }
+    ensures { IfOk result (λ named. Decides named (IsNamed watch.now line.now)) }
 {
     match line {
         Shown::Answered(_, _, call, answer, _) => {
-            !ec_watch::shows(call, answer) || ec_watch::may_show(watch)
+            Ok(!ec_watch::shows(call, answer) || ec_watch::may_show(watch))
         }
-        Shown::Durable(_, ops) => may_be_durable(watch, ops),
-        Shown::Ended(_, ops) => {
-            ec_watch::owner(watch).is_some()
-                && ec_watch::same_numbers(ops.as_slice(), ec_watch::to_lose(watch))
-        }
-        Shown::Unseen(_) => watch.crashed && watch.open_start.is_none(),
-        Shown::Told(_, ops) => match &watch.untold {
-            Some(lost) => ec_watch::same_numbers(ops.as_slice(), lost.as_slice()),
-            None => false,
-        },
-        _ => true,
+        Shown::Durable(_, ops) => may_be_durable(alloc, watch, ops),
+        Shown::Ended(_, ops) => may_end(alloc, watch, ops),
+        Shown::Unseen(_) => Ok(watch.crashed && watch.open_start.is_none()),
+        Shown::Told(_, ops) => may_be_told(alloc, watch, ops),
+        _ => Ok(true),
     }
 }
 
-fn may_be_durable(watch: &Watch, ops: &List<OpNo>) -> bool
-    ensures { Decides result (T (list_all (λ n. member n watch.now.undurable) ops.now)) }
+fn may_be_durable(alloc: Global, watch: &Watch, ops: &List<OpNo>) -> Result<bool, NoMemory>
+    ensures { IfOk result (λ may. Decides may (T (list_all (λ n. member n watch.now.undurable) ops.now))) }
 {
-    ec_watch::are_among(ops.as_slice(), watch.undurable.as_slice())
+    let among = ec_watch::are_among(alloc, ops.as_slice(), watch.undurable.as_slice())?;
+    Ok(among)
+}
+
+// Whether a session ends with these operations lost.
+fn may_end(alloc: Global, watch: &Watch, ops: &List<OpNo>) -> Result<bool, NoMemory>
+    ensures { IfOk result (λ may. Decides may (T (is_some (owner watch.now)) × T (same_numbers ops.now (to_lose watch.now)))) }
+{
+    if ec_watch::owner(watch).is_none() {
+        return Ok(false);
+    }
+    let same = ec_watch::same_numbers(alloc, ops.as_slice(), ec_watch::to_lose(watch))?;
+    Ok(same)
+}
+
+// Whether these operations are told as lost.
+fn may_be_told(alloc: Global, watch: &Watch, ops: &List<OpNo>) -> Result<bool, NoMemory>
+    ensures { IfOk result (λ may. Decides may (T (is_told watch.now ops.now))) }
+{
+    match &watch.untold {
+        Some(lost) => {
+            let same = ec_watch::same_numbers(alloc, ops.as_slice(), lost.as_slice())?;
+            Ok(same)
+        }
+        None => Ok(false),
+    }
 }

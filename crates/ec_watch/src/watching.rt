@@ -1,5 +1,5 @@
 // What the lines of a transcript show of one clerk, line by line.
-ghost use Rattle.std.specs.Prelude.{◌≡◌, ◌<◌, ◌≤◌, ◌+◌, ◌^◌, ◌++◌, [], true, false, not, filter, OnOk, T};
+ghost use Rattle.std.specs.Prelude.{◌≡◌, ◌<◌, ◌≤◌, ◌+◌, ◌^◌, ◌++◌, [], true, false, not, filter, IfOk, OnOk, T};
 ghost use Rattle.std.specs.List.{list_all};
 ghost use Rattle.ec_volume.specs.Update.{member, listed};
 ghost use Rattle.ec_watch.specs.Watches.{shown, crashed};
@@ -7,6 +7,7 @@ ghost use Rattle.ec_history.specs.Placing.{shows, unwatched, begun, answered, ow
 
 use ec_base::{ClerkId, Duplicate, List, NoMemory, OpNo};
 use ec_history::{Answer, Shown, Watch};
+use ec_numbers::Numbers;
 use ec_plain::{Call, Refusal, Reply};
 use std::alloc::Global;
 use std::mem;
@@ -152,12 +153,14 @@ fn end(alloc: Global, watch: &mut Watch, lost: &List<OpNo>) -> Result<(), NoMemo
 }
 
 // Takes the operations that became durable out.
-fn make_durable(alloc: Global, ops: &mut List<OpNo>, durable: &[OpNo])
-    ensures { ops.new ≡ filter (λ n. not (member n durable.now)) ops.old }
+fn make_durable(alloc: Global, ops: &mut List<OpNo>, durable: &[OpNo]) -> Result<(), NoMemory>
+    ensures { OnOk result (ops.new ≡ filter (λ n. not (member n durable.now)) ops.old) }
 {
+    let known = Numbers::of(alloc, Vec::from_slice(alloc, durable)?)?;
     let mut left = take(alloc, ops).into_vec();
-    left.retain(|op| !is_among(op, durable));
+    left.retain(|op| !known.has(*op));
     *ops = List::of(left);
+    Ok(())
 }
 
 fn crash(alloc: Global, watch: &mut Watch)
@@ -186,7 +189,7 @@ pub fn follow(
             answer(alloc, watch, shows(call, given), *op)?;
         }
         Shown::Durable(of, ops) if *of == clerk => {
-            make_durable(alloc, &mut watch.undurable, ops.as_slice());
+            make_durable(alloc, &mut watch.undurable, ops.as_slice())?;
         }
         Shown::Ended(of, lost) if *of == clerk => end(alloc, watch, lost)?,
         Shown::Told(of, _) if *of == clerk => watch.untold = None,
@@ -205,21 +208,41 @@ pub fn may_show(watch: &Watch) -> bool
 }
 
 /// Whether each operation of each list is in the other.
-pub fn same_numbers(ops: &[OpNo], others: &[OpNo]) -> bool
-    ensures { result ≡ same_numbers ops.now others.now }
+pub fn same_numbers(alloc: Global, ops: &[OpNo], others: &[OpNo]) -> Result<bool, NoMemory>
+    ensures { IfOk result (λ same. same ≡ same_numbers ops.now others.now) }
 {
-    are_among(ops, others) && are_among(others, ops)
+    Ok(are_among(alloc, ops, others)? && are_among(alloc, others, ops)?)
 }
 
-/// Whether each of the operations is among the others.
-pub fn are_among(ops: &[OpNo], others: &[OpNo]) -> bool
-    ensures { result ≡ list_all (λ n. member n others.now) ops.now }
+/// Whether each of the operations is among the others. Where they come in the order of the others, as
+/// most do, one walk tells it.
+pub fn are_among(alloc: Global, ops: &[OpNo], others: &[OpNo]) -> Result<bool, NoMemory>
+    ensures { IfOk result (λ are. are ≡ list_all (λ n. member n others.now) ops.now) }
 {
-    ops.iter().all(|op| is_among(op, others))
+    if is_part(ops, others) {
+        return Ok(true);
+    }
+    let known = Numbers::of(alloc, Vec::from_slice(alloc, others)?)?;
+    Ok(are_known(&known, ops))
 }
 
-fn is_among(op: &OpNo, ops: &[OpNo]) -> bool
-    ensures { result ≡ member op.now ops.now }
+fn are_known(known: &Numbers, ops: &[OpNo]) -> bool
+    ensures { result ≡ list_all (λ n. member n known.now) ops.now }
 {
-    ops.contains(op)
+    ops.iter().all(|op| known.has(*op))
+}
+
+// Whether the operations come in this order among the others.
+fn is_part(ops: &[OpNo], others: &[OpNo]) -> bool
+    ensures { result ≡ true → list_all (λ n. member n others.now) ops.now ≡ true }
+{
+    let mut found = 0;
+    let mut at = 0;
+    'walk: while found < ops.len() && at < others.len() {
+        if ops[found] == others[at] {
+            found += 1;
+        }
+        at += 1;
+    }
+    found == ops.len()
 }

@@ -11,13 +11,13 @@ returns-in-Some-clause-fault c =
     let i = c.loop-at.at in
     let s = c.index-shown-at.result in
     let within : i < length ss = omega (arith, c.loop-at-test.true) in
-    first-fault ss i s c.in-Some.rule (slice_get_read ss (length ss) i s refl within c.index-shown-at.is) c.loop-at.invariant.1 (rw c.in-Some.is at c.broken.ensures)
+    first-fault ss i s c.in-Some.rule (slice_get_read ss (length ss) i s refl within c.index-shown-at.is) c.loop-at.invariant.1 (rw c.in-Some.is at c.in_ok-rule.ensures)
 
 pub begins-begun-requires-clause-shape : goal.begins-begun-requires-clause-shape
-begins-begun-requires-clause-shape c = shape-of (take c.loop-at.at c.args.shown.now) c.index-shown-at.result (rw c.in_default.is at c.broken.ensures)
+begins-begun-requires-clause-shape c = shape-of (take c.loop-at.at c.args.shown.now) c.index-shown-at.result (rw c.in_default.is at c.in_ok-rule.ensures)
 
 pub note-requires-clause-shape : goal.note-requires-clause-shape
-note-requires-clause-shape c = shape-of (take c.loop-at.at c.args.shown.now) c.index-shown-at.result (rw c.in_default.is at c.broken.ensures)
+note-requires-clause-shape c = shape-of (take c.loop-at.at c.args.shown.now) c.index-shown-at.result (rw c.in_default.is at c.in_ok-rule.ensures)
 
 pub loop-at-preserved : goal.loop-at-preserved
 loop-at-preserved c =
@@ -28,6 +28,6 @@ loop-at-preserved c =
     let g = slice_get_read ss (length ss) i s refl within c.index-shown-at.is in
     let e : c.push.new.self.items ≡ c.loop-at.begins.items ++ c.begins-begun.result ∷ [] = search rules in (
       subst (Sees c.note.new.seen) (sym (front-at ss i s g)) c.in_ok-note.ensures,
-      placeable-step ss i s g c.loop-at.invariant.1 (rw c.in_default.is at c.broken.ensures),
+      placeable-step ss i s g c.loop-at.invariant.1 (rw c.in_default.is at c.in_ok-rule.ensures),
       subst (AreBegins [] (take (i + 1) ss)) (sym e) (begins-step ss c.loop-at.begins.items i s c.begins-begun.result g c.loop-at.invariant.2 c.begins-begun.ensures),
     )

@@ -5,6 +5,7 @@ use Rattle.ec_watch.proofs.watching.make_durable.Goals as goal
 
 pub returns : goal.returns
 returns c =
-    c.of.ensures
-    ∙ filter_same _ (λ n. not (member n c.args.durable.now)) _ (λ x b f' k. search rules) _ _ c.retain.ensures.filtered
+    c.of-2.ensures
+    ∙ filter_same _ (λ n. not (member n c.in_ok-known.known)) _ (λ x b f' k. search rules) _ _ c.retain.ensures.filtered
+    ∙ ap (λ ns. filter (λ n. not (member n ns)) c.into_vec-left.result.items) (c.in_ok-known.ensures ∙ c.in_ok-from_slice.ensures.items)
     ∙ ap (filter (λ n. not (member n c.args.durable.now))) (c.into_vec-left.ensures ∙ c.take.ensures.value)
