@@ -1,5 +1,5 @@
 // The lines of a transcript.
-ghost use Rattle.std.specs.Prelude.{◌≤◌, T, length, IfOk, IfErr, MatchResult};
+ghost use Rattle.std.specs.Prelude.{◌≡◌, ◌≤◌, ◌++◌, ◌∷◌, if◌then◌else◌, [], T, length, is_ok, IfOk, IfErr, MatchResult};
 ghost use Rattle.std.specs.List.{list_all};
 ghost use Rattle.ec_script.specs.Lines.{lines_of};
 ghost use Rattle.ec_legal.specs.Bounded.{is_bounded_line};
@@ -7,6 +7,7 @@ ghost use Rattle.ec_shown.specs.Lines.{IsShown, IsUnfit};
 ghost use Rattle.ec_check.specs.Limits.{max_transcript_bytes};
 ghost use Rattle.ec_check.specs.Lines.{AreShown, HasBadLine};
 
+use ec_base::NoMemory;
 use ec_history::Shown;
 use ec_script::{LineFault, split_line};
 use std::alloc::Global;
@@ -36,7 +37,7 @@ pub(crate) fn read_lines(alloc: Global, bytes: &[u8]) -> Result<Vec<Shown>, Read
         let (line, behind) = split_line(rest);
         match read_line(alloc, line) {
             Ok(shown) => {
-                if lines.push(shown).is_err() {
+                if add(&mut lines, shown).is_err() {
                     return Err(ReadFault::NoMemory);
                 }
             }
@@ -48,6 +49,13 @@ pub(crate) fn read_lines(alloc: Global, bytes: &[u8]) -> Result<Vec<Shown>, Read
         rest = behind;
     }
     Ok(lines)
+}
+
+fn add(lines: &mut Vec<Shown>, line: Shown) -> Result<(), NoMemory>
+    ensures items { lines.new.items ≡ (if is_ok result then lines.old.items ++ line ∷ [] else lines.old.items) }
+{
+    lines.push(line)?;
+    Ok(())
 }
 
 // Reads a line, whose call is within its bounds.

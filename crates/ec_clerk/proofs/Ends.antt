@@ -1,8 +1,7 @@
--- The end of a session, a new start, and an update that waits for room.
-use Rattle.std.proofs.Common.{◌≡◌, ◌<◌, ◌+◌, sym, ap, ◌∙◌, ℕ, Bool, true, false, List, [], None}
-use Rattle.std.specs.Prelude.{nat_lt, nat_le}
+-- The end of a session, and an update that waits for room.
+use Rattle.std.proofs.Common.{◌≡◌, ◌<◌, ◌+◌, sym, ap, ◌∙◌, ℕ, Bool, true, false, List}
+use Rattle.std.specs.Prelude.{nat_le}
 use Rattle.std.proofs.lemmas.Bool.{lt-leb}
-use Rattle.ec_base.specs.Limits.{last_counter}
 use Rattle.ec_base.specs.Tables.{keys}
 use Rattle.ec_base.specs.declared.counter.Counter.TheVariants as counter
 use Rattle.ec_sessions.specs.Limits.{last_round}
@@ -13,12 +12,11 @@ use Rattle.ec_log.specs.Log as logs
 use Rattle.ec_log.specs.declared.state.Asked.TheVariants.{All}
 use Rattle.ec_log.specs.declared.state.LogState.{LogState}
 use Rattle.ec_report.specs.Report.{Owed, owe}
-use Rattle.ec_protocol.specs.declared.clerk.Out.{Out}
 use Rattle.ec_protocol.specs.declared.clerk.Out.TheVariants as out
 use Rattle.ec_protocol.specs.declared.clerk.Waiting.{Waiting}
 use Rattle.ec_protocol.specs.Clerk as clerk
 use Rattle.ec_clerk.specs.declared.doing.Doing.{Doing}
-use Rattle.ec_clerk.specs.Seen.{clerk_of, doing_of, Ends}
+use Rattle.ec_clerk.specs.Seen.{doing_of}
 use Rattle.ec_clerk.proofs.Steps.{when_false}
 
 -- the end of a session
@@ -30,17 +28,6 @@ session_ended ws d w ns l owed e f new room at_ns at_l at_owed went told h =
     let over = owe (clerk.with_operands (logs.lost w d.ledger.log)) d.ledger.owed in
     when_false (nat_le last_round d.age.round) (clerk.spend counter.Round (doing_of ws d)) (greeted (keys (logs.lost w d.ledger.log)) (left (logs.end d.ledger.log) over)) new (lt-leb last_round d.age.round room)
     (ap (λ xs. greeted xs (left (logs.end d.ledger.log) over)) (sym at_ns) ∙ ap (λ m. greeted ns (left m over)) (sym at_l) ∙ ap (λ o. greeted ns (left l o)) (sym at_owed) ∙ ap (greeted ns) went ∙ ap clerk.hello told ∙ h)
-
--- a new start
-pub started : (id boot : ℕ) (d e : clerk.Doing) → nat_lt last_counter boot ≡ false → d ≡ clerk.doing (clerk.new_clerk id boot) → clerk.hello d ≡ e → clerk.start id boot ≡ e
-started id boot d e below is h =
-    let fresh = clerk.doing (clerk.new_clerk id boot) in
-    when_false (nat_lt last_counter boot) (clerk.spend counter.Boot fresh) (clerk.hello fresh) e below (ap clerk.hello (sym is) ∙ h)
-
-pub starts_with : (ws : List Waiting) (k : Doing) (outs : List Out) (d : clerk.Doing) → d ≡ doing_of [] k → outs ≡ k.outs.items → ws ≡ [] → Ends d (clerk_of ws k) outs
-starts_with ws k outs d is at_outs none =
-    let made : List Waiting → List Out → clerk.Doing = λ vs xs. record { clerk = clerk_of vs k; outs = xs; spent = None } in
-    is ∙ ap (made []) (sym at_outs) ∙ ap (λ vs. made vs outs) (sym none)
 
 -- where too many operations are undurable, all are asked for
 pub waits_for_room : (ws : List Waiting) (d : Doing) (w : Waiting) (o : Outcome) (u : Update) (new : clerk.Doing) → clerk.suits u d.cache ≡ true → logs.is_full d.ledger.log ≡ true → clerk.ask_for All (doing_of ws d) ≡ new → clerk.issue_if_room w o u (doing_of ws d) ≡ clerk.Waits new

@@ -279,12 +279,6 @@ issued ws d m w o u op t room e is h =
     let chosen : Bool → clerk.Tried = λ b. elim b [ true ↦ clerk.Waits (clerk.spend counter.Op (doing_of ws d)) | false ↦ answered d.ledger.log.next (clerk.with_clerk (clerk.with_update u) (doing_of ws d)) ] in
     ap chosen room ∙ ap (answered d.ledger.log.next) e ∙ ap (λ n. answered n (doing_of ws m)) (sym is) ∙ h
 
-pub issued_in_room : (ws : List Waiting) (d : Doing) (w : Waiting) (o : Outcome) (u : Update) (t : clerk.Tried) → clerk.suits u d.cache ≡ true → logs.is_full d.ledger.log ≡ false → clerk.issue w o u (doing_of ws d) ≡ t → clerk.issue_if_room w o u (doing_of ws d) ≡ t
-issued_in_room ws d w o u t fits room h =
-    let inner : Bool → clerk.Tried = λ b. elim b [ true ↦ clerk.Waits (clerk.ask_for All (doing_of ws d)) | false ↦ clerk.issue w o u (doing_of ws d) ] in
-    let outer : Bool → clerk.Tried = λ b. elim b [ false ↦ clerk.Waits (doing_of ws d) | true ↦ inner (logs.is_full d.ledger.log) ] in
-    ap outer fits ∙ ap inner room ∙ h
-
 pub above_leb : (m n a b : ℕ) → m ≡ a → n ≡ b → n < m → nat_le a b ≡ false
 above_leb m n a b e f l = lt-leb a b (omega arith)
 
@@ -367,11 +361,6 @@ pub one_refused : (ws : List Waiting) (d : Doing) (live reserved : ℕ) (w : Wai
 one_refused ws d live reserved w xs new e h =
     let chosen : Option (List ℕ) → clerk.Doing = λ o. elim o [ Some ys ↦ clerk.refuse_make live reserved w.no ys (doing_of ws d) | None ↦ clerk.keep_call w (doing_of ws d) ] in
     ap chosen e ∙ h
-
-pub one_kept : (ws vs : List Waiting) (d : Doing) (live reserved : ℕ) (w : Waiting) → clerk.idless (clerk.verdict w.call (clerk_of [] d)) ≡ None → vs ≡ ws ++ w ∷ [] → clerk.refuse_makes live reserved (w ∷ []) (doing_of ws d) ≡ doing_of vs d
-one_kept ws vs d live reserved w e at_vs =
-    let chosen : Option (List ℕ) → clerk.Doing = λ o. elim o [ Some ys ↦ clerk.refuse_make live reserved w.no ys (doing_of ws d) | None ↦ clerk.keep_call w (doing_of ws d) ] in
-    ap chosen e ∙ ap (λ us. doing_of us d) (sym at_vs)
 
 pub entered : (ws : List Waiting) (d : Doing) (e : ℕ) (new : clerk.Doing) → nat_lt d.epoch e ≡ true → clerk.with_clerk (clerk.enter_epoch e) (doing_of ws d) ≡ new → enter_if_later e (doing_of ws d) ≡ new
 entered ws d e new later h =

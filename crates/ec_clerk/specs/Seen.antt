@@ -60,6 +60,14 @@ tried Answered d = machine.Answered d
 abbrev pub Tries : (machine.Doing → machine.Tried) → Tried → Doing → Doing → Type 0
 Tries f answer old new = (ws : List Waiting) → f (doing_of ws old) ≡ tried answer (doing_of ws new)
 
+-- the update can be issued, and nothing was done yet
+abbrev pub HasRoom : Update → Doing → Doing → Type 0
+HasRoom u old new = (new ≡ old) × (machine.suits u new.cache ≡ true) × (logs.is_full new.ledger.log ≡ false)
+
+-- the code did what a call does whose update waits
+abbrev pub LacksRoom : Update → Doing → Doing → Type 0
+LacksRoom u old new = (ws : List Waiting) (w : Waiting) (o : Outcome) → machine.issue_if_room w o u (doing_of ws old) ≡ machine.Waits (doing_of ws new)
+
 -- a batch that is under way goes out
 abbrev pub send_if_batch : Pick → machine.Doing → machine.Doing
 send_if_batch (pick_of.Batch b ns) d = machine.send_batch b d

@@ -1,7 +1,9 @@
 // A clerk, and its steps.
-ghost use Rattle.std.specs.Prelude.{◌≡◌, ◌+◌, true, false, [], List, None, Some, IfOk, OnOk, Err};
+ghost use Rattle.std.specs.Prelude.{◌≡◌, ◌<◌, ◌+◌, true, false, [], List, None, Some, IfOk, OnOk, Err};
+ghost use Rattle.ec_base.specs.Limits.{last_counter};
 ghost use Rattle.ec_base.specs.declared.counter.Counter.{Counter as Kind};
 ghost use Rattle.ec_wire.specs.Messages.{is_sound};
+ghost use Rattle.ec_plain.specs.declared.call.Call.{Call as Asking};
 ghost use Rattle.ec_protocol.specs.declared.clerk.ClerkFault.TheVariants as fault;
 ghost use Rattle.ec_protocol.specs.Clerk as clerk;
 ghost use Rattle.ec_clerk.specs.Seen.{clerk_of, doing_of, Ends};
@@ -11,14 +13,12 @@ use crate::ledger::Ledger;
 use crate::step;
 use ec_base::{Age, ClerkId, Counter, LAST_COUNTER, NoMemory, OpNo, next};
 use ec_cache::Cache;
-use ec_log::{Asked, Log, LogFault, Pick};
+use ec_log::{Asked, LogFault, Pick};
 use ec_plain::Call;
 use ec_protocol::{ClerkFault, Flushed, Out, Waiting};
-use ec_report::Report;
 use ec_wire::Msg;
 use std::alloc::Global;
 use std::marker::Model;
-use std::mem;
 
 /// A clerk keeps so many tokens.
 pub const MAX_TOKENS: usize = 4_096;
@@ -54,9 +54,8 @@ impl Clerk {
         if boot > LAST_COUNTER {
             return Err(ClerkFault::Spent(Counter::Boot));
         }
-        let mut doing = new_doing(alloc, id, boot)?;
-        doing.hello()?;
-        let outs = mem::replace(&mut doing.outs, Vec::new(alloc));
+        let outs = greeting(alloc, id, boot)?;
+        let doing = new_doing(alloc, id, boot)?;
         let clerk = Clerk {
             doing,
             waiting: Vec::new(alloc),
@@ -73,14 +72,42 @@ impl Clerk {
         ensures kept { (c : Kind) → result ≡ Err (fault.Spent c) → self.new ≡ self.old }
         ensures no_such { result ≡ Err fault.NoSuchOp → ⊥ }
     {
+        match self.next_call() {
+            Ok(no) => {
+                let outs = self.begin_by(no, call)?;
+                Ok((no, outs))
+            }
+            Err(fault) => {
+                drop(call);
+                Err(fault)
+            }
+        }
+    }
+
+    // The number of the next call. `Spent(CallNo)` where no number is left.
+    fn next_call(&self) -> Result<u64, ClerkFault>
+        ensures next { IfOk result (λ no. no ≡ self.now.calls + 1) }
+        ensures below { OnOk result (self.now.calls < last_counter) }
+        ensures spent { (call : Asking) (c : Kind) → result ≡ Err (fault.Spent c) → (clerk.begin call self.now).spent ≡ Some c }
+        ensures no_such { result ≡ Err fault.NoSuchOp → ⊥ }
+    {
         self.ready()?;
-        let Some(no) = next(self.doing.calls) else {
-            return Err(ClerkFault::Spent(Counter::CallNo));
-        };
+        match next(self.doing.calls) {
+            Some(no) => Ok(no),
+            None => Err(ClerkFault::Spent(Counter::CallNo)),
+        }
+    }
+
+    // Begins a call by the next number.
+    fn begin_by(&mut self, no: u64, call: Call) -> Result<Vec<Out>, NoMemory>
+        requires next { no ≡ self.old.calls + 1 }
+        requires below { self.old.calls < last_counter }
+        ensures { IfOk result (λ outs. Ends (clerk.begin call self.old) self.new outs.items) }
+    {
         self.is_broken = true;
         let outs = step::begin(&mut self.doing, &mut self.waiting, no, call)?;
         self.is_broken = false;
-        Ok((no, outs))
+        Ok(outs)
     }
 
     /// Asks for an operation's closure until it's durable. `NoSuchOp` exactly where this start
@@ -189,21 +216,29 @@ impl Clerk {
     }
 }
 
+// What a new start sends.
+fn greeting(alloc: Global, id: ClerkId, boot: u64) -> Result<Vec<Out>, NoMemory>
+    ensures { IfOk result (λ outs. outs.items ≡ (clerk.hello (clerk.doing (clerk.new_clerk id boot))).outs) }
+{
+    let mut outs = Vec::new(alloc);
+    outs.push(Out::Send(Msg::Hello(id, Age { boot, round: 0 })))?;
+    Ok(outs)
+}
+
 // Without a session.
 fn new_doing(alloc: Global, id: ClerkId, boot: u64) -> Result<Doing, NoMemory>
     ensures { IfOk result (λ made. doing_of [] made ≡ clerk.doing (clerk.new_clerk id boot)) }
 {
+    let ledger = Ledger::new(alloc)?;
+    let cache = Cache::new(alloc, MAX_TOKENS)?;
     Ok(Doing {
         alloc,
         id,
         age: Age { boot, round: 0 },
         session: None,
         epoch: 0,
-        cache: Cache::new(alloc, MAX_TOKENS)?,
-        ledger: Ledger {
-            log: Log::new(alloc)?,
-            owed: Report::new(alloc)?,
-        },
+        cache,
+        ledger,
         recalls: Vec::new(alloc),
         pushes: Vec::new(alloc),
         wanted: Vec::new(alloc),

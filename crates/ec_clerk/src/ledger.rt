@@ -1,5 +1,5 @@
 // The operations of a session, and the lost ones of earlier sessions.
-ghost use Rattle.std.specs.Prelude.{◌≡◌, ◌∷◌, ℕ, List as Listed, true, IfOk, OnOk, MatchOption};
+ghost use Rattle.std.specs.Prelude.{◌≡◌, [], ◌∷◌, ℕ, List as Listed, true, IfOk, OnOk, MatchOption};
 ghost use Rattle.ec_base.specs.Tables.{keys};
 ghost use Rattle.ec_chains.specs.Slots.{live};
 ghost use Rattle.ec_log.specs.Log as logs;
@@ -25,6 +25,16 @@ pub struct Ledger {
 }
 
 impl Ledger {
+    /// Nothing is issued, and nothing owed.
+    pub(crate) fn new(alloc: Global) -> Result<Ledger, NoMemory>
+        ensures log { IfOk result (λ made. made.log ≡ logs.empty) }
+        ensures owed { IfOk result (λ made. made.owed ≡ []) }
+    {
+        let owed = Report::new(alloc)?;
+        let log = Log::new(alloc)?;
+        Ok(Ledger { log, owed })
+    }
+
     /// Ends the session: what the window doesn't have is lost, and owed. The lost operations.
     pub(crate) fn lose(&mut self, alloc: Global, window: &Window) -> Result<Vec<OpNo>, NoMemory>
         ensures lost { IfOk result (λ lost. lost.items ≡ keys (logs.lost window.now self.old.log)) }

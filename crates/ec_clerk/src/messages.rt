@@ -1,5 +1,5 @@
 // What a message does.
-ghost use Rattle.std.specs.Prelude.{◌≡◌, ◌≤◌, ◌+◌, ◌++◌, true, [], ◌∷◌, IfOk, OnOk};
+ghost use Rattle.std.specs.Prelude.{◌≡◌, ◌≤◌, ◌+◌, ◌++◌, true, [], ◌∷◌, None, IfOk, OnOk, MatchBool};
 ghost use Rattle.ec_sessions.specs.Limits.{last_first_id};
 ghost use Rattle.ec_sessions.specs.Slots.{run};
 ghost use Rattle.ec_cache.specs.Held.{is_within};
@@ -170,6 +170,19 @@ impl Doing {
         self.emit(Out::Answer(no, Answer::NoRoom(live, reserved), None))
     }
 
+    // Whether a call lacks an id, and is answered for that.
+    fn refuse_idless(&mut self, live: u32, reserved: u32, call: &Waiting) -> Result<bool, NoMemory>
+        ensures { IfOk result (λ is_refused. MatchBool is_refused (Does (clerk.refuse_makes live reserved (call.now ∷ [])) self.old self.new) ((self.new ≡ self.old) × (clerk.idless (clerk.verdict call.now.call (clerk_of [] self.old)) ≡ None))) }
+    {
+        match self.idless(&call.call)? {
+            Some(touched) => {
+                self.refuse_make(live, reserved, call.no, touched.as_slice())?;
+                Ok(true)
+            }
+            None => Ok(false),
+        }
+    }
+
     // What a call touched that lacks an id.
     fn idless(&self, call: &Call) -> Result<Option<List<ObjId>>, NoMemory>
         ensures { IfOk result (λ touched. touched ≡ clerk.idless (clerk.verdict call.now (clerk_of [] self.now))) }
@@ -244,12 +257,15 @@ fn refuse_or_keep(
 ) -> Result<(), NoMemory>
     ensures { OnOk result (clerk.refuse_makes live reserved (call ∷ []) (doing_of waiting.old.items doing.old) ≡ doing_of waiting.new.items doing.new) }
 {
-    match doing.idless(&call.call)? {
-        Some(touched) => doing.refuse_make(live, reserved, call.no, touched.as_slice()),
-        None => {
-            waiting.push(call)?;
-            Ok(())
-        }
+    let is_refused = doing.refuse_idless(live, reserved, &call);
+    if let Ok(false) = is_refused {
+        waiting.push(call)?;
+        return Ok(());
+    }
+    drop(call);
+    match is_refused {
+        Ok(_) => Ok(()),
+        Err(fault) => Err(fault),
     }
 }
 

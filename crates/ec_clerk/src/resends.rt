@@ -1,5 +1,5 @@
 // What is outstanding: the wants that waiting calls need, the room and the batches under way.
-ghost use Rattle.std.specs.Prelude.{◌≡◌, [], reverse, IfOk, OnOk};
+ghost use Rattle.std.specs.Prelude.{◌≡◌, [], ◌∷◌, reverse, IfOk, OnOk, MatchOption};
 ghost use Rattle.std.specs.List.{list_any};
 ghost use Rattle.ec_base.specs.Tables.{keys};
 ghost use Rattle.ec_protocol.specs.Clerk as clerk;
@@ -7,6 +7,7 @@ ghost use Rattle.ec_clerk.specs.Seen.{claim_all, clerk_of, doing_of, Does};
 
 use crate::doing::Doing;
 use ec_base::{Hold, List, NoMemory, ObjId, OpNo};
+use ec_plain::Call;
 use ec_protocol::Waiting;
 use ec_resolve::Verdict;
 use std::alloc::Global;
@@ -39,14 +40,24 @@ impl Doing {
         Ok(())
     }
 
+    // What a call needs.
+    fn need(&self, call: &Call) -> Result<Option<(ObjId, Hold)>, NoMemory>
+        ensures { IfOk result (λ need. MatchOption need (clerk.need_of (clerk.verdict call.now (clerk_of [] self.now)) ≡ []) (λ p. clerk.need_of (clerk.verdict call.now (clerk_of [] self.now)) ≡ p ∷ [])) }
+    {
+        match self.verdict(call)? {
+            Verdict::Need(obj, hold) => Ok(Some((obj, hold))),
+            _ => Ok(None),
+        }
+    }
+
     // What the waiting calls need.
     fn needs(&self, waiting: &[Waiting]) -> Result<Vec<(ObjId, Hold)>, NoMemory>
         ensures { IfOk result (λ needs. needs.items ≡ clerk.needs waiting.now (clerk_of waiting.now self.now)) }
     {
         let mut needs = Vec::new(self.alloc);
         'calls: for call in waiting {
-            if let Verdict::Need(obj, hold) = self.verdict(&call.call)? {
-                needs.push((obj, hold))?;
+            if let Some(need) = self.need(&call.call)? {
+                needs.push(need)?;
             }
         }
         Ok(needs)

@@ -13,7 +13,7 @@ fn try_each(doing: &mut Doing, waiting: &mut Vec<Waiting>) -> Result<Tried, NoMe
 {
     match first_answered(doing, waiting)? {
         Some(place) => {
-            waiting.remove(place);
+            drop(waiting.remove(place));
             Ok(Tried::Answered)
         }
         None => Ok(Tried::Waits),

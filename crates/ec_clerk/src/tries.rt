@@ -1,5 +1,5 @@
 // A waiting call is tried: it's answered, or the one thing that it lacks is asked for.
-ghost use Rattle.std.specs.Prelude.{◌≡◌, ◌≤◌, ℕ, true, false, [], drop, Option, None, Some, IfOk, OnOk};
+ghost use Rattle.std.specs.Prelude.{◌≡◌, ◌≤◌, ℕ, true, false, [], drop, Option, None, Some, IfOk, OnOk, MatchBool};
 ghost use Rattle.ec_volume.specs.Update.{operands};
 ghost use Rattle.ec_volume.specs.declared.update.Update.{Update as Change};
 ghost use Rattle.ec_cache.specs.Cache.{all_used};
@@ -7,7 +7,7 @@ ghost use Rattle.ec_plain.specs.declared.call.Call.{Call as Asking};
 ghost use Rattle.ec_log.specs.Log.{ops_are_spent};
 ghost use Rattle.ec_resolve.specs.declared.verdict.Verdict.TheVariants as lost;
 ghost use Rattle.ec_protocol.specs.Clerk as clerk;
-ghost use Rattle.ec_clerk.specs.Seen.{clerk_of, Does, Tries, call_of, outcome_of};
+ghost use Rattle.ec_clerk.specs.Seen.{clerk_of, Does, Tries, HasRoom, LacksRoom, call_of, outcome_of};
 
 use crate::doing::{Doing, Tried};
 use crate::fitting::suits;
@@ -59,10 +59,14 @@ impl Doing {
         Ok(Tried::Answered)
     }
 
-    fn answer_outcome(&mut self, no: u64, outcome: Outcome) -> Result<Tried, NoMemory>
-        ensures { IfOk result (λ tried. (call : Asking) (begun : ℕ) → Tries (clerk.await (call_of no call begun) outcome None) tried self.old self.new) }
+    fn answer_outcome(
+        &mut self,
+        no: u64,
+        reply: Reply,
+        touched: List<ObjId>,
+    ) -> Result<Tried, NoMemory>
+        ensures { IfOk result (λ tried. (call : Asking) (begun : ℕ) (u : Option Change) → Tries (clerk.await (call_of no call begun) (outcome_of reply u touched) None) tried self.old self.new) }
     {
-        let Outcome { reply, touched, .. } = outcome;
         self.answer_with(no, Answer::Reply(reply), None, touched.as_slice())
     }
 
@@ -71,30 +75,32 @@ impl Doing {
         &mut self,
         no: u64,
         begun: u64,
-        outcome: Outcome,
+        reply: Reply,
+        touched: List<ObjId>,
         asked: &Asked,
     ) -> Result<Tried, NoMemory>
-        ensures { IfOk result (λ tried. (call : Asking) → Tries (clerk.await (call_of no call begun) outcome (Some asked.now)) tried self.old self.new) }
+        ensures { IfOk result (λ tried. (call : Asking) (u : Option Change) → Tries (clerk.await (call_of no call begun) (outcome_of reply u touched) (Some asked.now)) tried self.old self.new) }
     {
         if is_owing(begun, self.ledger.log.first(*asked)) {
             self.ask_for(*asked)?;
             return Ok(Tried::Waits);
         }
-        self.answer_outcome(no, outcome)
+        self.answer_outcome(no, reply, touched)
     }
 
     fn settle_reply(
         &mut self,
         no: u64,
         begun: u64,
-        outcome: Outcome,
+        reply: Reply,
+        touched: List<ObjId>,
         asked: &Option<Asked>,
     ) -> Result<Tried, NoMemory>
-        ensures { IfOk result (λ tried. (call : Asking) → Tries (clerk.await (call_of no call begun) outcome asked.now) tried self.old self.new) }
+        ensures { IfOk result (λ tried. (call : Asking) (u : Option Change) → Tries (clerk.await (call_of no call begun) (outcome_of reply u touched) asked.now) tried self.old self.new) }
     {
         match asked {
-            Some(asked) => self.settle_asked(no, begun, outcome, asked),
-            None => self.answer_outcome(no, outcome),
+            Some(asked) => self.settle_asked(no, begun, reply, touched, asked),
+            None => self.answer_outcome(no, reply, touched),
         }
     }
 
@@ -127,7 +133,21 @@ impl Doing {
         self.answer_with(no, Answer::Reply(reply), Some(op), touched.as_slice())
     }
 
-    // Where too many operations are undurable, all are asked for.
+    // Whether an update can be issued. Where too many operations are undurable, all are asked for.
+    fn has_room(&mut self, update: &Update) -> Result<bool, NoMemory>
+        ensures { IfOk result (λ has_room. MatchBool has_room (HasRoom update.now self.old self.new) (LacksRoom update.now self.old self.new)) }
+    {
+        if !suits(self.alloc, update, &self.cache)? {
+            return Ok(false);
+        }
+        if self.ledger.log.count() >= MAX_UNDURABLE {
+            self.ask_for(Asked::All)?;
+            return Ok(false);
+        }
+        Ok(true)
+    }
+
+    // An update that can't be issued waits.
     fn issue_if_room(
         &mut self,
         no: u64,
@@ -137,14 +157,14 @@ impl Doing {
     ) -> Result<Tried, NoMemory>
         ensures { IfOk result (λ tried. (call : Asking) (begun : ℕ) (u : Option Change) → Tries (clerk.issue_if_room (call_of no call begun) (outcome_of reply u touched) update) tried self.old self.new) }
     {
-        if !suits(self.alloc, &update, &self.cache)? {
-            return Ok(Tried::Waits);
+        let has_room = self.has_room(&update);
+        if let Ok(true) = has_room {
+            return self.issue(no, reply, touched, update);
         }
-        if self.ledger.log.count() >= MAX_UNDURABLE {
-            self.ask_for(Asked::All)?;
-            return Ok(Tried::Waits);
+        match has_room {
+            Ok(_) => Ok(Tried::Waits),
+            Err(fault) => Err(fault),
         }
-        self.issue(no, reply, touched, update)
     }
 
     fn settle_outcome(&mut self, waiting: &Waiting, outcome: Outcome) -> Result<Tried, NoMemory>
@@ -158,14 +178,7 @@ impl Doing {
         } = outcome;
         match update {
             Some(update) => self.issue_if_room(waiting.no, reply, touched, update),
-            None => {
-                let outcome = Outcome {
-                    reply,
-                    update: None,
-                    touched,
-                };
-                self.settle_reply(waiting.no, waiting.begun, outcome, &asked)
-            }
+            None => self.settle_reply(waiting.no, waiting.begun, reply, touched, &asked),
         }
     }
 

@@ -1,5 +1,5 @@
 // A line is carried out: its event happens, and then the world settles.
-ghost use Rattle.std.specs.Prelude.{◌≡◌, ◌⊎◌, [], ℕ, Err, OnErr};
+ghost use Rattle.std.specs.Prelude.{◌≡◌, ◌⊎◌, ◌++◌, [], ◌∷◌, ℕ, Err, OnErr, OnOk};
 ghost use Rattle.ec_protocol.specs.World.{Fate, happen};
 ghost use Rattle.ec_protocol.specs.Drill.{Fates, onward, line_happens, settle, carry_out};
 ghost use Rattle.ec_protocol.specs.declared.world.WorldFault.TheVariants as fault;
@@ -11,6 +11,7 @@ ghost use Rattle.ec_drill.specs.Left.{EachLeft};
 ghost use Rattle.ec_drill.specs.Steps.{going, Comes, Stays, IsLater, AreOfLine, IsSettling, IsCarrying};
 
 use crate::event::event_of;
+use ec_base::NoMemory;
 use ec_disk::CrashDisk;
 use ec_history::Shown;
 use ec_protocol::{Event, WorldFault};
@@ -109,10 +110,10 @@ fn end_settling(alloc: Global, world: &mut World, piece: &mut Vec<Shown>) -> Res
     let Ok(line) = world.show_unsettled(alloc) else {
         return Err(WorldFault::NoMemory);
     };
-    if piece.push(line).is_err() {
-        return Err(WorldFault::NoMemory);
+    match add(piece, line) {
+        Ok(()) => Ok(()),
+        Err(NoMemory) => Err(WorldFault::NoMemory),
     }
-    Ok(())
 }
 
 // One step of the world, whose lines are added to the piece.
@@ -136,9 +137,16 @@ fn step<D: CrashDisk>(
         Err(fault) => return Err(fault),
     };
     'adding: for line in lines {
-        if piece.push(line).is_err() {
+        if let Err(NoMemory) = add(piece, line) {
             return Err(WorldFault::NoMemory);
         }
     }
+    Ok(())
+}
+
+fn add(piece: &mut Vec<Shown>, line: Shown) -> Result<(), NoMemory>
+    ensures { OnOk result (piece.new.items ≡ piece.old.items ++ line ∷ []) }
+{
+    piece.push(line)?;
     Ok(())
 }

@@ -129,7 +129,9 @@ fn tell<K: Sink>(alloc: Global, sink: &mut K, line: Shown, status: Status) -> Re
         (λ cut. CutText cut (shown_text line) (K.held sink.old) (K.held sink.new) (K.faults sink.old) (K.faults sink.new)) }
     ensures later { K.faults sink.old ≤ K.faults sink.new }
 {
-    match write_line(alloc, sink, &line) {
+    let written = write_line(alloc, sink, &line);
+    drop(line);
+    match written {
         Ok(()) => Ok(status),
         Err(cut) => Err(cut),
     }

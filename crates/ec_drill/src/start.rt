@@ -153,7 +153,9 @@ fn drill_lines<K: Sink, D: CrashDisk>(
         Ok(world) => world,
         Err(fault) => return tell_unopened(alloc, sink, fault),
     };
-    drill_on(alloc, &mut world, lines, bound, sink, disk)
+    let status = drill_on(alloc, &mut world, lines, bound, sink, disk);
+    drop(world);
+    status
 }
 
 // Tells why the disk wasn't opened.
@@ -212,7 +214,9 @@ fn refuse<K: Sink>(alloc: Global, sink: &mut K, line: Shown, status: Status) -> 
     ensures later { K.faults sink.old ≤ K.faults sink.new }
     ensures told { RefusedWith line status result (K.held sink.old) (K.held sink.new) (K.faults sink.old) (K.faults sink.new) }
 {
-    match write_line(alloc, sink, &line) {
+    let written = write_line(alloc, sink, &line);
+    drop(line);
+    match written {
         Ok(()) => status,
         Err(cut) => status_of(cut),
     }

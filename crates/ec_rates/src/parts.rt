@@ -6,7 +6,7 @@ ghost use Rattle.ec_volume.specs.Update.{fits, first_unfit};
 
 use ec_base::{Hold, List, NoMemory, ObjId, Path};
 use ec_cache::Cache;
-use ec_log::{Log, LogFault, MAX_UNDURABLE};
+use ec_log::{Log, MAX_UNDURABLE};
 use ec_plain::{Call, Reply};
 use ec_report::Report;
 use ec_resolve::{Verdict, evaluate};
@@ -19,26 +19,48 @@ const WRITE: [u8; 64] = [7; 64];
 
 const TOKENS: usize = 16;
 
+// A clerk without its messages.
+#[derive(Drop)]
+struct Parts {
+    alloc: Global,
+    owed: Report,
+    log: Log,
+    cache: Cache,
+}
+
 /// Evaluates so many reads of a file of 4 KiB, and evaluates, carries out and issues so many writes
 /// of 64 bytes. Tells how many reads gave the whole file, and how many writes were issued.
-pub fn read_and_write(alloc: Global, reads: u32, writes: u32) -> Result<(u64, u64), LogFault> {
-    let mut cache = held_cache(alloc)?;
-    let mut log = Log::new(alloc)?;
+pub fn read_and_write(alloc: Global, reads: u32, writes: u32) -> Option<(u32, u32)> {
+    let calls = calls(alloc).ok()?;
+    let mut parts = new_parts(alloc).ok()?;
+    run(&mut parts, calls.as_slice(), reads, writes)
+}
+
+fn new_parts(alloc: Global) -> Result<Parts, NoMemory> {
     let owed = Report::new(alloc)?;
-    make_file(alloc, &mut cache, &mut log, &owed)?;
-    let read = read_all(alloc, &cache, &owed, reads)?;
-    let written = write_all(alloc, &mut cache, &mut log, &owed, writes)?;
-    Ok((read, written))
+    let log = Log::new(alloc)?;
+    let cache = held_cache(alloc)?;
+    Ok(Parts {
+        alloc,
+        owed,
+        log,
+        cache,
+    })
+}
+
+fn held_cache(alloc: Global) -> Result<Cache, NoMemory> {
+    let mut cache = Cache::new(alloc, TOKENS)?;
+    hold(alloc, &mut cache)?;
+    Ok(cache)
 }
 
 // The root and an object that isn't there are held for writing.
-fn held_cache(alloc: Global) -> Result<Cache, NoMemory> {
-    let mut cache = Cache::new(alloc, TOKENS)?;
+fn hold(alloc: Global, cache: &mut Cache) -> Result<(), NoMemory> {
     cache.take(ObjId::root(), Hold::Write, 1, root(alloc))?;
     if let Some(file) = ObjId::new(2) {
         cache.take(file, Hold::Write, 1, Image::Gone)?;
     }
-    Ok(cache)
+    Ok(())
 }
 
 fn root(alloc: Global) -> Image
@@ -60,33 +82,100 @@ fn path(alloc: Global) -> Result<Path, NoMemory> {
     }
 }
 
-fn make_file(
-    alloc: Global,
-    cache: &mut Cache,
-    log: &mut Log,
-    owed: &Report,
-) -> Result<(), LogFault> {
-    let create = Call::Create(path(alloc)?);
-    write(alloc, cache, log, owed, &create)?;
-    let fill = Call::SetLen(path(alloc)?, FILE_BYTES);
-    write(alloc, cache, log, owed, &fill)?;
-    Ok(())
+// Two calls that make the file, the read and the write.
+fn calls(alloc: Global) -> Result<Vec<Call>, NoMemory> {
+    let mut calls = Vec::new(alloc);
+    calls.push(Call::Create(path(alloc)?))?;
+    calls.push(Call::SetLen(path(alloc)?, FILE_BYTES))?;
+    calls.push(Call::Read(path(alloc)?, 0, FILE_BYTES))?;
+    calls.push(write_call(alloc)?)?;
+    Ok(calls)
 }
 
-fn read_all(alloc: Global, cache: &Cache, owed: &Report, count: u32) -> Result<u64, NoMemory> {
-    let read = Call::Read(path(alloc)?, 0, FILE_BYTES);
-    let mut whole: u64 = 0;
-    for _ in 0..count {
-        whole = whole.saturating_add(u64::from(is_read(alloc, cache, owed, &read)?));
+fn write_call(alloc: Global) -> Result<Call, NoMemory> {
+    let bytes = List::of(Vec::from_slice(alloc, &WRITE)?);
+    Ok(Call::Write(path(alloc)?, 0, bytes))
+}
+
+fn run(parts: &mut Parts, calls: &[Call], reads: u32, writes: u32) -> Option<(u32, u32)> {
+    match calls {
+        [create, fill, read, write] => {
+            if !parts.does(create) || !parts.does(fill) {
+                return None;
+            }
+            Some((parts.read_all(read, reads), parts.write_all(write, writes)))
+        }
+        _ => None,
     }
-    Ok(whole)
 }
 
-// Whether the call reads the whole file.
-fn is_read(alloc: Global, cache: &Cache, owed: &Report, call: &Call) -> Result<bool, NoMemory> {
-    match evaluate(alloc, cache, owed, call, None)? {
-        Verdict::Done(outcome) => Ok(is_whole(&outcome.reply)),
-        _ => Ok(false),
+impl Parts {
+    fn read_all(&self, read: &Call, count: u32) -> u32 {
+        let mut whole: u32 = 0;
+        for _ in 0..count {
+            whole = whole.saturating_add(u32::from(self.reads(read)));
+        }
+        whole
+    }
+
+    // Whether the call reads the whole file.
+    fn reads(&self, call: &Call) -> bool {
+        match evaluate(self.alloc, &self.cache, &self.owed, call, None) {
+            Ok(Verdict::Done(outcome)) => is_whole(&outcome.reply),
+            _ => false,
+        }
+    }
+
+    fn write_all(&mut self, write: &Call, count: u32) -> u32 {
+        let mut written: u32 = 0;
+        for _ in 0..count {
+            written = written.saturating_add(u32::from(self.does(write)));
+        }
+        written
+    }
+
+    // Whether the call's update was carried out and issued.
+    fn does(&mut self, call: &Call) -> bool {
+        match self.update_of(call) {
+            Some(update) => self.carry_out(update),
+            None => false,
+        }
+    }
+
+    fn update_of(&self, call: &Call) -> Option<Update> {
+        match evaluate(self.alloc, &self.cache, &self.owed, call, ObjId::new(2)) {
+            Ok(Verdict::Done(outcome)) => outcome.update,
+            _ => None,
+        }
+    }
+
+    fn carry_out(&mut self, update: Update) -> bool {
+        if self.change(&update) {
+            self.issue(update)
+        } else {
+            false
+        }
+    }
+
+    // Whether the update fits, and was carried out.
+    fn change(&mut self, update: &Update) -> bool {
+        match operands(self.alloc, update) {
+            Ok(objs) => {
+                if !update.sound() || !fits_all(&self.cache, update, &objs) {
+                    return false;
+                }
+                self.cache.change(update).is_ok()
+            }
+            Err(_) => false,
+        }
+    }
+
+    // A full log ends its session first.
+    fn issue(&mut self, update: Update) -> bool {
+        if self.log.count() >= MAX_UNDURABLE {
+            self.log.end();
+        }
+        self.log.issue(update).is_ok()
     }
 }
 
@@ -95,71 +184,6 @@ fn is_whole(reply: &Reply) -> bool {
         Reply::Data(bytes) => bytes.as_slice().len() == FILE_BYTES as usize,
         _ => false,
     }
-}
-
-fn write_all(
-    alloc: Global,
-    cache: &mut Cache,
-    log: &mut Log,
-    owed: &Report,
-    count: u32,
-) -> Result<u64, LogFault> {
-    let call = write_call(alloc)?;
-    let mut written: u64 = 0;
-    for _ in 0..count {
-        written = written.saturating_add(u64::from(write(alloc, cache, log, owed, &call)?));
-    }
-    Ok(written)
-}
-
-fn write_call(alloc: Global) -> Result<Call, NoMemory> {
-    let bytes = List::of(Vec::from_slice(alloc, &WRITE)?);
-    Ok(Call::Write(path(alloc)?, 0, bytes))
-}
-
-// Whether the call's update was carried out and issued.
-fn write(
-    alloc: Global,
-    cache: &mut Cache,
-    log: &mut Log,
-    owed: &Report,
-    call: &Call,
-) -> Result<bool, LogFault> {
-    match update_of(alloc, cache, owed, call)? {
-        Some(update) => issue(alloc, cache, log, update),
-        None => Ok(false),
-    }
-}
-
-fn update_of(
-    alloc: Global,
-    cache: &Cache,
-    owed: &Report,
-    call: &Call,
-) -> Result<Option<Update>, NoMemory> {
-    match evaluate(alloc, cache, owed, call, ObjId::new(2))? {
-        Verdict::Done(outcome) => Ok(outcome.update),
-        _ => Ok(None),
-    }
-}
-
-// A full log ends its session first.
-fn issue(
-    alloc: Global,
-    cache: &mut Cache,
-    log: &mut Log,
-    update: Update,
-) -> Result<bool, LogFault> {
-    let objs = operands(alloc, &update)?;
-    if !update.sound() || !fits_all(cache, &update, &objs) {
-        return Ok(false);
-    }
-    cache.change(&update)?;
-    if log.count() >= MAX_UNDURABLE {
-        log.end();
-    }
-    log.issue(update)?;
-    Ok(true)
 }
 
 fn fits_all(cache: &Cache, update: &Update, objs: &[ObjId]) -> bool

@@ -6,15 +6,16 @@ use std::alloc::Global;
 
 /// Issues so many operations on the files in turn, and picks those on the first file batch by batch,
 /// each batch durable before the next pick. Tells how many batches there were.
-pub fn pick_all(alloc: Global, files: u32, count: u32) -> Result<u64, LogFault> {
-    let mut log = Log::new(alloc)?;
+pub fn pick_all(alloc: Global, files: u32, count: u32) -> Option<u64> {
+    let mut log = Log::new(alloc).ok()?;
+    issue_and_pick(&mut log, files, count)
+}
+
+fn issue_and_pick(log: &mut Log, files: u32, count: u32) -> Option<u64> {
     for place in 0..count {
-        issue_on(&mut log, place.checked_rem(files).unwrap_or(0))?;
+        issue_on(log, place.checked_rem(files).unwrap_or(0)).ok()?;
     }
-    match file(0) {
-        Some(obj) => take_all(&mut log, obj, count),
-        None => Ok(0),
-    }
+    take_all(log, file(0)?, count).ok()
 }
 
 // The root has the id 1.

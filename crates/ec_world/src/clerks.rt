@@ -1,6 +1,6 @@
 // Steps of clerks: calls, pushes, resends and crashes.
 ghost use Rattle.std.specs.Prelude.{◌≡◌, [], false, IfOk, IfErr, OnOk};
-ghost use Rattle.ec_base.specs.Tables.{at, without};
+ghost use Rattle.ec_base.specs.Tables.{at, at_or, put, without};
 ghost use Rattle.ec_volume.specs.Update.{member};
 ghost use Rattle.ec_protocol.specs.Clerk as clerk_machine;
 ghost use Rattle.ec_protocol.specs.World as machine;
@@ -12,7 +12,7 @@ use crate::answers::{add_call, is_answered};
 use crate::fault::StepFault;
 use crate::running::{self, Begun};
 use crate::world::World;
-use ec_base::{ClerkId, Counter, Duplicate, NoMemory, OpNo, next};
+use ec_base::{ClerkId, Counter, Duplicate, NoMemory, OpNo, SortedMap, next};
 use ec_history::Shown;
 use ec_plain::Call;
 use ec_protocol::Out;
@@ -32,6 +32,26 @@ impl World {
         ensures same { Keeps self.old self.new }
     {
         let text = call.duplicate()?;
+        let done = self.begin_or_start(alloc, clerk, line, &text, call);
+        drop(text);
+        done
+    }
+
+    // The call, and a copy of it that is shown.
+    fn begin_or_start(
+        &mut self,
+        alloc: Global,
+        clerk: ClerkId,
+        line: u32,
+        text: &Call,
+        call: Call,
+    ) -> Result<(), StepFault>
+        requires piece { self.old.piece.items ≡ [] }
+        requires same { text.now ≡ call }
+        ensures ok { OnOk result (machine.call clerk line call (view_of self.old) ≡ under self.new) }
+        ensures err { IfErr result (λ fault. Declines fault (machine.call clerk line call (view_of self.old)) (view_of self.old) (view_of self.new)) }
+        ensures same { Keeps self.old self.new }
+    {
         match running::begin(&mut self.clerks, clerk, call)? {
             Begun::Took(no, outs) => {
                 let before = Vec::new(alloc);
@@ -47,16 +67,17 @@ impl World {
         alloc: Global,
         clerk: ClerkId,
         line: u32,
-        text: Call,
+        text: &Call,
         call: Call,
     ) -> Result<(), StepFault>
         requires piece { self.old.piece.items ≡ [] }
-        requires same { text ≡ call }
+        requires same { text.now ≡ call }
         ensures ok { OnOk result (machine.start_and_call clerk line call (view_of self.old) ≡ under self.new) }
         ensures err { IfErr result (λ fault. Declines fault (machine.start_and_call clerk line call (view_of self.old)) (view_of self.old) (view_of self.new)) }
         ensures same { Keeps self.old self.new }
     {
         let Some(boot) = next(self.boot(clerk)) else {
+            drop(call);
             return Err(StepFault::Spent(Counter::Boot));
         };
         let (no, before, outs) = running::start(alloc, &mut self.clerks, clerk, boot, call)?;
@@ -71,14 +92,14 @@ impl World {
         clerk: ClerkId,
         no: u64,
         line: u32,
-        call: Call,
+        call: &Call,
         before: Vec<Out>,
         outs: Vec<Out>,
     ) -> Result<(), NoMemory>
-        ensures ok { OnOk result (under self.new ≡ begun clerk no line call before.items outs.items (under self.old)) }
+        ensures ok { OnOk result (under self.new ≡ begun clerk no line call.now before.items outs.items (under self.old)) }
         ensures same { Keeps self.old self.new }
     {
-        add_call(alloc, &mut self.calls, clerk, no, line, call.duplicate()?)?;
+        add_copy(alloc, &mut self.calls, clerk, no, line, call)?;
         self.show_waits(alloc, clerk, no, line, call, &outs)?;
         self.come_out(alloc, clerk, before)?;
         self.come_out(alloc, clerk, outs)
@@ -91,16 +112,17 @@ impl World {
         clerk: ClerkId,
         no: u64,
         line: u32,
-        call: Call,
+        call: &Call,
         outs: &[Out],
     ) -> Result<(), NoMemory>
-        ensures ok { OnOk result (under self.new ≡ machine.show_waits clerk no line call outs.now (under self.old)) }
+        ensures ok { OnOk result (under self.new ≡ machine.show_waits clerk no line call.now outs.now (under self.old)) }
         ensures same { Keeps self.old self.new }
     {
         if is_answered(no, outs) {
             return Ok(());
         }
-        self.show_line(alloc, Shown::Waits(line, clerk, call))
+        let waits = Shown::Waits(line, clerk, call.duplicate()?);
+        self.show_line(alloc, waits)
     }
 
     pub(crate) fn push(&mut self, alloc: Global, clerk: ClerkId, op: OpNo) -> Result<(), StepFault>
@@ -154,10 +176,24 @@ impl World {
         if !self.clerks.contains(&clerk) {
             return self.show_nothing(alloc);
         }
-        self.clerks.remove(&clerk);
+        drop(self.clerks.remove(&clerk));
         self.calls.remove(&clerk);
         self.show_line(alloc, Shown::Crashed(clerk))
     }
+}
+
+// A copy of the call is under way.
+fn add_copy(
+    alloc: Global,
+    calls: &mut SortedMap<ClerkId, SortedMap<u64, (u32, Call)>>,
+    clerk: ClerkId,
+    no: u64,
+    line: u32,
+    call: &Call,
+) -> Result<(), NoMemory>
+    ensures { OnOk result (calls.new ≡ put clerk (put no (line, call.now) (at_or [] clerk calls.old)) calls.old) }
+{
+    add_call(alloc, calls, clerk, no, line, call.duplicate()?)
 }
 
 fn is_session(start: u64, last: Option<u64>) -> bool

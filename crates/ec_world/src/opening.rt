@@ -292,7 +292,7 @@ fn new_world(
     ensures store { IfOk result (λ w. w.store ≡ store) }
     ensures server { IfOk result (λ w. w.server ≡ Some server) }
 {
-    let boots = boots_of(alloc, store.view())?;
+    let (boots, lines) = boots_and_lines(alloc, store.view())?;
     Ok(World {
         store,
         server: Some(server),
@@ -302,11 +302,23 @@ fn new_world(
         boots,
         calls: SortedMap::new(alloc),
         pool: Pool::new(alloc),
-        lines: Lines::new(alloc)?,
+        lines,
         records,
         piece: Vec::new(alloc),
         is_broken: false,
     })
+}
+
+// What is known of the clerks' starts and of the lines shown, where none was.
+fn boots_and_lines(
+    alloc: Global,
+    state: &Durable,
+) -> Result<(SortedMap<ClerkId, u64>, Lines), NoMemory>
+    ensures boots { IfOk result (λ made. made.0 ≡ machine.boots_from 0 state.now.sessions) }
+    ensures lines { IfOk result (λ made. made.1 ≡ []) }
+{
+    let boots = boots_of(alloc, state)?;
+    Ok((boots, Lines::new(alloc)?))
 }
 
 // The last boot of each clerk that had a session.

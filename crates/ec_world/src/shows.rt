@@ -26,7 +26,10 @@ impl World {
         ensures ok { OnOk result (under self.new ≡ machine.show_line line (under self.old)) }
         ensures same { Keeps self.old self.new }
     {
-        self.lines.note(alloc, &line)?;
+        if let Err(fault) = self.lines.note(alloc, &line) {
+            drop(line);
+            return Err(fault);
+        }
         self.piece.push(line)?;
         Ok(())
     }

@@ -13,8 +13,8 @@ returns-in-Err-At-clause-fault c =
 
 pub lines-preserved : goal.lines-preserved
 lines-preserved c =
-    let e : c.push.new.self.items ≡ c.lines.lines.items ++ c.in-Ok.shown ∷ [] = search rules in
-    let n : length c.push.new.self.items ≡ length c.lines.lines.items + 1 = ap length e ∙ length-append c.lines.lines.items (c.in-Ok.shown ∷ []) in (
+    let e : c.add.new.lines.items ≡ c.lines.lines.items ++ c.in-Ok.shown ∷ [] = search rules in
+    let n : length c.add.new.lines.items ≡ length c.lines.lines.items + 1 = ap length e ∙ length-append c.lines.lines.items (c.in-Ok.shown ∷ []) in (
       subst (Read (lines_of c.args.bytes.now) (lines_of c.split_line.result.1.now)) (sym e)
           (reads-on (lines_of c.args.bytes.now) (lines_of c.lines.rest.now) (lines_of c.split_line.result.1.now) c.lines.lines.items c.split_line.result.0.now c.in-Ok.shown
           c.lines.invariant.0 c.split_line.ensures.lines c.in-Ok.ensures.shown c.in-Ok.ensures.bounded),

@@ -19,8 +19,8 @@ returns-in-Err-clause-stepped g c = (
   c.in-Err.ensures.left,
 )
 
-pub returns-then-is_err-clause-stepped : goal.returns-then-is_err-clause-stepped
-returns-then-is_err-clause-stepped g c =
+pub returns-in-Err-add-clause-stepped : goal.returns-in-Err-add-clause-stepped
+returns-in-Err-add-clause-stepped g c =
     let ok = c.in-Ok.ensures.ok in (
       ok.0,
       ok.1,

@@ -34,13 +34,13 @@ returns-clause-drilled g c = λ left left_after reads reads_after given.
       reads = reads;
       reads_after = reads_after;
       held = g.K.Sink.held c.args.sink.now;
-      held_after = g.K.Sink.held c.drill_on.new.sink;
+      held_after = g.K.Sink.held c.drill_on-status.new.sink;
       writes = g.K.Sink.faults c.args.sink.now;
-      writes_after = g.K.Sink.faults c.drill_on.new.sink;
+      writes_after = g.K.Sink.faults c.drill_on-status.new.sink;
       tells = g.D.Disk.tells;
       disk = g.D.Disk.view c.args.disk.now;
-      disk_after = g.D.Disk.view c.drill_on.new.disk;
+      disk_after = g.D.Disk.view c.drill_on-status.new.disk;
       counts = g.D.Disk.counts c.args.disk.now;
-      counts_after = g.D.Disk.counts c.drill_on.new.disk;
+      counts_after = g.D.Disk.counts c.drill_on-status.new.disk;
     })
-    given opened.1 opened.2 (g.D.Disk.counts c.open.new.disk) c.open.ensures.counts.stops_later c.open.ensures.counts.faults_later c.drill_on.result c.drill_on.ensures.drilled
+    given opened.1 opened.2 (g.D.Disk.counts c.open.new.disk) c.open.ensures.counts.stops_later c.open.ensures.counts.faults_later c.drill_on-status.result c.drill_on-status.ensures.drilled

@@ -1,6 +1,6 @@
 use Rattle.std.proofs.Common.{sym, ap, ◌∙◌}
 use Rattle.ec_protocol.specs.Clerk as clerk
-use Rattle.ec_clerk.specs.Seen.{doing_of, outcome_of}
+use Rattle.ec_clerk.specs.Seen.{doing_of}
 use Rattle.ec_clerk.proofs.Steps.{if_ok}
 use Rattle.ec_clerk.proofs.doing.Doing.settle_outcome.Goals as goal
 
@@ -17,5 +17,4 @@ returns-in-None c =
     if_ok c.settle_reply.result (λ t p ws.
     ap (λ v. clerk.settle_outcome w o v (doing_of ws c.args.self.now)) c.in-None.is
     ∙ ap (λ a. clerk.await w o a (doing_of ws c.args.self.now)) (sym c.awaited-asked.ensures)
-    ∙ ap (λ v. clerk.await w (outcome_of o.reply v o.touched) c.awaited-asked.result (doing_of ws c.args.self.now)) c.in-None.is
-    ∙ p w.call ws) c.settle_reply.ensures
+    ∙ p w.call o.update ws) c.settle_reply.ensures

@@ -17,5 +17,5 @@ returns-clause-ok c =
     (c.in-Some.ensures.0 ∙ ap (λ (n : ℕ). n + 1) c.boot.ensures) c.in_ok-no.ensures.ok
     ∙ ap (λ (boots : Table ℕ). on boots c.args.call []) (sym c.in_ok-insert.ensures.ok)
     ∙ ap (λ (text : Call). on c.insert.new.self text []) (sym c.requires.same)
-    ∙ ap (λ (lines : List Shown). on c.insert.new.self c.args.text lines) (sym c.requires.piece)
+    ∙ ap (λ (lines : List Shown). on c.insert.new.self c.args.text.now lines) (sym c.requires.piece)
     ∙ sym c.in_ok-show_begun.ensures.ok
