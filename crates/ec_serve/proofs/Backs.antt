@@ -4,7 +4,13 @@ use Rattle.ec_link.specs.Links.{Heard}
 use Rattle.ec_link.specs.Nets.{is_bad}
 use Rattle.ec_servernode.specs.declared.fault.ServeFault.{ServeFault}
 use Rattle.ec_servernode.specs.declared.fault.ServeFault.TheVariants as fault
-use Rattle.ec_serve.specs.Links.{Refuses, IsOverBy, is_over, EndsSo}
+use Rattle.std.specs.declared.snapshot.Snapshot.{Snapshot}
+use Rattle.ec_lock.specs.Steps.{of}
+use Rattle.ec_lock.specs.declared.types.Pass.{Pass}
+use Rattle.ec_servernode.specs.declared.state.Node.{Node}
+use Rattle.ec_servernode.specs.declared.step.Step.{Step}
+use Rattle.ec_servernode.specs.Run.{number_of}
+use Rattle.ec_serve.specs.Links.{Refuses, IsOverBy, is_over, EndsSo, IsOver, back_of, Carries, own_steps, WasServed}
 
 bad_by : (faults closes : ℕ) → 1 ≤ faults + closes → is_bad faults closes ≡ 1
 bad_by faults closes le = grind (arith, le)
@@ -30,3 +36,14 @@ module _ {L : Type 0} (faults closes : L → ℕ) (given : L → Option (List He
   still_so true link later f c g (inl bad) = inl (ap (λ n. is_bad n (closes later)) f ∙ (ap (λ n. is_bad (faults link) n) c ∙ bad))
   still_so true link later f c g (inr r) = inr (subst Refuses (sym g) r)
   still_so false link later f c g so = tt
+
+module _ {K L : Type 0} (faults closes : L → ℕ) (given : L → Option (List Heard)) (got : L → Option (List (List ℕ))) where
+  -- what is told of a link that came back, by the steps of its pass in the list that the server's own pass knows
+  pub gone_back : (over : Bool) (other : Pass (Node K) Step) (steps : List Step) (link : L) (shot : Snapshot L) → over ≡ true → shot.value ≡ link → own_steps other ≡ of number_of other.number steps → EndsSo faults closes given over link → WasServed given got over other link
+      → IsOver (back_of faults closes given got shot) × Carries (of number_of other.number steps) (given shot.value) (got shot.value)
+  gone_back over other steps link shot is same own so was =
+      subst (λ x. IsOver ((given x, got x), is_bad (faults x) (closes x)) × Carries (of number_of other.number steps) (given x) (got x)) (sym same) (by over is so was)
+    where
+      by : (over : Bool) → over ≡ true → EndsSo faults closes given over link → WasServed given got over other link → IsOver ((given link, got link), is_bad (faults link) (closes link)) × Carries (of number_of other.number steps) (given link) (got link)
+      by true is so was = (so, subst (λ l. Carries l (given link) (got link)) own was)
+      by false is so was = absurd (cc is)

@@ -4,6 +4,12 @@ use Rattle.std.specs.declared.snapshot.Snapshot.{Snapshot}
 use Rattle.ec_link.specs.Nets.{Ended, faulted}
 use Rattle.ec_link.specs.declared.net.NetFault.{NetFault}
 use Rattle.ec_link.specs.declared.net.NetFault.TheVariants as fault
+use Rattle.ec_lock.specs.Passes.{front, numbers}
+use Rattle.ec_lock.specs.Steps.{Member, of}
+use Rattle.ec_lock.specs.declared.types.Pass.{Pass}
+use Rattle.ec_servernode.specs.declared.state.Node.{Node}
+use Rattle.ec_servernode.specs.declared.step.Step.{Step}
+use Rattle.ec_servernode.specs.Run.{number_of}
 use Rattle.ec_serve.specs.Links.{Back, moment, GoesOn}
 use Rattle.ec_serve.specs.Goings.{goes_still}
 
@@ -27,10 +33,11 @@ one_fault a b n le some = omega (arith, le, some)
 
 module _ {N L : Type 0} (faults_of bad_of : N → ℕ) (ended_of : N → List Ended) (back_of : Snapshot L → Back) where
   -- the net may have failed so often, and no link came back
-  pub goes_on : (net mid later : N) (left left_later : ℕ) (begun begun_later : List ℕ) (back back_later : List (Snapshot L)) (failed failed_later wants wants_later : Bool) (n : ℕ) → faults_of net + n ≤ faults_of mid
+  pub goes_on : {K : Type 0} (net mid later : N) (left left_later : ℕ) (begun begun_later : List ℕ) (back back_later : List (Snapshot L)) (failed failed_later wants wants_later : Bool) (pass pass_later : Pass (Node K) Step) (n : ℕ) → faults_of net + n ≤ faults_of mid
       → bad_of mid ≡ bad_of net → ended_of mid ≡ ended_of net → later ≡ mid → left_later + length begun_later ≡ left + length begun → back_later ≡ back → (failed_later ≡ true → (failed ≡ true) ⊎ (1 ≤ n)) → (wants_later ≡ false → wants ≡ false)
-      → GoesOn faults_of bad_of ended_of back_of (moment net left begun back failed wants) (moment later left_later begun_later back_later failed_later wants_later)
-  goes_on net mid later left left_later begun begun_later back back_later failed failed_later wants wants_later n faults bad ended is number same fails rich =
-      subst (λ x. GoesOn faults_of bad_of ended_of back_of (moment net left begun back failed wants) (moment x left_later begun_later back_later failed_later wants_later)) (sym is)
-      (goes_still faults_of bad_of ended_of back_of (moment net left begun back failed wants) (moment mid left_later begun_later back_later failed_later wants_later)
-      (no_fault (faults_of net) (faults_of mid) n faults) number (λ e. ⊎_elim (λ (was : failed ≡ true). inl was) (λ (some : 1 ≤ n). inr (one_fault (faults_of net) (faults_of mid) n faults some)) (fails e)) same rich ended bad)
+      → numbers pass_later ≡ numbers pass → ((k : ℕ) → Member k (numbers pass) → of number_of k (front pass) ≡ of number_of k (front pass_later))
+      → GoesOn faults_of bad_of ended_of back_of (moment net left begun back failed wants pass) (moment later left_later begun_later back_later failed_later wants_later pass_later)
+  goes_on net mid later left left_later begun begun_later back back_later failed failed_later wants wants_later pass pass_later n faults bad ended is number same fails rich joined steps =
+      subst (λ x. GoesOn faults_of bad_of ended_of back_of (moment net left begun back failed wants pass) (moment x left_later begun_later back_later failed_later wants_later pass_later)) (sym is)
+      (goes_still faults_of bad_of ended_of back_of (moment net left begun back failed wants pass) (moment mid left_later begun_later back_later failed_later wants_later pass_later)
+      (no_fault (faults_of net) (faults_of mid) n faults) number (λ e. ⊎_elim (λ (was : failed ≡ true). inl was) (λ (some : 1 ≤ n). inr (one_fault (faults_of net) (faults_of mid) n faults some)) (fails e)) same rich ended bad joined steps)

@@ -45,7 +45,7 @@ module _ {D : Type 0} (tells : Type 0) (view : D → View) (counts : D → Count
       onward : (a b : DiskKeeper D) → SameLent old a → SameLent a b → SameLent old b
       onward a b p q = (q.0 ∙ p.0, q.1 ∙ p.1)
 
-  pub ran_on : (old new : DiskKeeper D) → RanWhole (λ (k : DiskKeeper D). view_of k.store.now) (λ (k : DiskKeeper D). counts k.disk.now) did breaks (start (view_of old.store.now)).server (boxes_of (start (view_of old.store.now)).sent) (record_of (start (view_of old.store.now)).rec) old new
+  abbrev pub ran_on : (old new : DiskKeeper D) → RanWhole (λ (k : DiskKeeper D). view_of k.store.now) (λ (k : DiskKeeper D). counts k.disk.now) did breaks (start (view_of old.store.now)).server (boxes_of (start (view_of old.store.now)).sent) (record_of (start (view_of old.store.now)).rec) old new
       → Steps → (tells → (view new.disk.now).may_leave (view new.disk.now).gives) → (tells → IsHeld (view old.disk.now) old.store.now) → RanOn (view_of old.store.now) tells (view new.disk.now)
   ran_on old new w steps given held = record {
     run = w.run;
@@ -65,10 +65,10 @@ module _ {D : Type 0} (tells : Type 0) (view : D → View) (counts : D → Count
       d = view_of old.store.now
 
       Old : Ending → Type 0
-      Old e = EndsAs (RanWhole (λ (k : DiskKeeper D). view_of k.store.now) (λ (k : DiskKeeper D). counts k.disk.now) did breaks (start d).server (boxes_of (start d).sent) (record_of (start d).rec) old new × AllBack count links later) (λ n. Spends d n) (counts old.disk.now).faults (counts new.disk.now).faults links later e
+      Old e = EndsAs ((ran : RanWhole (λ (k : DiskKeeper D). view_of k.store.now) (λ (k : DiskKeeper D). counts k.disk.now) did breaks (start d).server (boxes_of (start d).sent) (record_of (start d).rec) old new) × AllBack count ran.run links later) (λ n. Spends d n) (counts old.disk.now).faults (counts new.disk.now).faults links later e
 
       New : Ending → Type 0
-      New e = EndsAs (RanOn d tells (view new.disk.now) × AllBack count links later) (λ n. Spends d n) (counts old.disk.now).faults (counts new.disk.now).faults links later e
+      New e = EndsAs ((ran : RanOn d tells (view new.disk.now)) × AllBack count ran.run links later) (λ n. Spends d n) (counts old.disk.now).faults (counts new.disk.now).faults links later e
 
       by : (e : Ending) → Old e → New e
       by ending.Done w = (ran_on old new w.0 steps given held, w.1)

@@ -3,5 +3,6 @@ pub mod Kept
 pub mod Endings
 pub mod Served
 pub mod Backs
+pub mod Bodies
 pub mod Goes
 pub mod Tends

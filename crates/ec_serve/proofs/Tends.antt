@@ -8,6 +8,9 @@ use Rattle.ec_link.specs.Nets.{Ended}
 use Rattle.ec_link.specs.Spawns.{refused}
 use Rattle.ec_link.specs.declared.spawn.Spawned.{Spawned}
 use Rattle.ec_link.specs.declared.spawn.Spawned.TheVariants as spawned
+use Rattle.ec_lock.specs.Steps.{Member}
+use Rattle.ec_lock.proofs.Numbers.{member_right}
+use Rattle.ec_servernode.specs.declared.step.Step.{Step}
 use Rattle.ec_serve.specs.Links.{Back, IsOver, Moment, GoesOn}
 use Rattle.ec_serve.specs.Serve.{Outer, AllBack, Tends, tended_of}
 use Rattle.ec_serve.specs.declared.ending.Tended.{Tended as Ends}
@@ -29,17 +32,23 @@ pub later_by : (before first last starts later more : ℕ) → before ≤ first 
 later_by before first last starts later more opened ran spawned = (omega (arith, opened, ran), omega (arith, spawned))
 
 -- the door was opened first
-pub tends_before : (count : ℕ) (t : Ends) (old mid later : Outer) → old.faults ≤ mid.faults → mid.bad ≡ old.bad → mid.ended ≡ old.ended → mid.starts ≡ old.starts → Tends count t mid later → Tends count t old later
-tends_before count tended.Done old mid later faults bad ended starts h = record {
-  links = h.links;
-  number = h.number;
-  ended = h.ended ∙ ap (λ l. l ++ map (λ (b : Back). b.0) h.links) ended;
-  bad = h.bad ∙ ap (λ n. n + total (λ (b : Back). b.1) h.links) bad;
-  over = h.over;
-}
-tends_before count tended.NetFailed old mid later faults bad ended starts h = omega (arith, faults, h)
-tends_before count tended.NotStarted old mid later faults bad ended starts h = subst (λ n. n < later.starts) starts h
-tends_before count tended.Cut old mid later faults bad ended starts h = tt
+pub tends_before : (count : ℕ) (t : Ends) (joined : List ℕ) (steps : List Step) (old mid later : Outer) → old.faults ≤ mid.faults → mid.bad ≡ old.bad → mid.ended ≡ old.ended → mid.starts ≡ old.starts → Tends count t joined steps mid later → Tends count t joined steps old later
+tends_before count tended.Done joined steps old mid later faults bad ended starts h = (
+  record {
+    links = h.0.links;
+    number = h.0.number;
+    ended = h.0.ended ∙ ap (λ l. l ++ map (λ (b : Back). b.0) h.0.links) ended;
+    bad = h.0.bad ∙ ap (λ n. n + total (λ (b : Back). b.1) h.0.links) bad;
+    over = h.0.over;
+    passes = h.0.passes;
+    distinct = h.0.distinct;
+    own = h.0.own;
+  },
+  h.1,
+)
+tends_before count tended.NetFailed joined steps old mid later faults bad ended starts h = omega (arith, faults, h)
+tends_before count tended.NotStarted joined steps old mid later faults bad ended starts h = subst (λ n. n < later.starts) starts h
+tends_before count tended.Cut joined steps old mid later faults bad ended starts h = tt
 
 module _ {N L : Type 0} (faults_of bad_of : N → ℕ) (ended_of : N → List Ended) (back_of : Snapshot L → Back) where
   -- from the first moment to the last
@@ -56,16 +65,21 @@ module _ {N L : Type 0} (faults_of bad_of : N → ℕ) (ended_of : N → List En
   abbrev pub outer : ℕ → N → Outer
   outer starts n = record { faults = faults_of n; bad = bad_of n; ended = ended_of n; starts = starts }
 
-  pub all_back : (a b : Moment N L) (count : ℕ) (starts later : ℕ) → Tended a b count spawned.All starts later → b.failed ≡ false → b.wants ≡ false → AllBack count (outer starts a.net) (outer later b.net)
+  pub all_back : (a b : Moment N L) (count : ℕ) (starts later : ℕ) → Tended a b count spawned.All starts later → b.failed ≡ false → b.wants ≡ false → Tends count tended.Done b.joined b.steps (outer starts a.net) (outer later b.net)
   all_back a b count starts later t up rich =
-      let back = t.goes.links rich in
-      record {
-        links = map back_of t.goes.more;
-        number = length-map t.goes.more back_of ∙ all;
-        ended = back.ended ∙ ap (λ l. ended_of a.net ++ l) (map_both back_of (λ l. l.0) t.goes.more);
-        bad = back.bad ∙ ap (λ n. bad_of a.net + n) (total_both back_of (λ l. l.1) t.goes.more);
-        over = All-map IsOver back_of t.goes.more back.over;
-      } where
+      let back = t.goes.links rich in (
+        record {
+          links = map back_of t.goes.more;
+          number = length-map t.goes.more back_of ∙ all;
+          ended = back.ended ∙ ap (λ l. ended_of a.net ++ l) (map_both back_of (λ l. l.0) t.goes.more);
+          bad = back.bad ∙ ap (λ n. bad_of a.net + n) (total_both back_of (λ l. l.1) t.goes.more);
+          over = All-map IsOver back_of t.goes.more back.over;
+          passes = t.goes.passes;
+          distinct = t.goes.distinct;
+          own = back.own;
+        },
+        (λ n m. subst (Member n) (sym t.goes.joined) (member_right n a.joined t.goes.passes m)),
+      ) where
         none_left : b.left ≡ 0
         none_left = ⊎_elim (λ (e : b.left ≡ 0). e) (λ (e : (b.failed ≡ true) ⊎ (b.wants ≡ true)). ⊎_elim (λ (f : b.failed ≡ true). absurd (cc (sym up ∙ f))) (λ (w : b.wants ≡ true). absurd (cc (sym rich ∙ w))) e) (t.over refl)
 
@@ -81,10 +95,10 @@ module _ {N L : Type 0} (faults_of bad_of : N → ℕ) (ended_of : N → List En
             omega (arith, number, left, begun, each, empty, more, none)
 
   -- by who started the threads, by whether the net failed, and by whether memory was wanting
-  pub tends : (a b : Moment N L) (count : ℕ) (s : Spawned) (starts later : ℕ) → Tended a b count s starts later → Tends count (tended_of s b.failed b.wants) (outer starts a.net) (outer later b.net)
+  pub tends : (a b : Moment N L) (count : ℕ) (s : Spawned) (starts later : ℕ) → Tended a b count s starts later → Tends count (tended_of s b.failed b.wants) b.joined b.steps (outer starts a.net) (outer later b.net)
   tends a b count s starts later t = by s b.failed b.wants refl refl t
     where
-      by : (s : Spawned) (failed wants : Bool) → b.failed ≡ failed → b.wants ≡ wants → Tended a b count s starts later → Tends count (tended_of s failed wants) (outer starts a.net) (outer later b.net)
+      by : (s : Spawned) (failed wants : Bool) → b.failed ≡ failed → b.wants ≡ wants → Tended a b count s starts later → Tends count (tended_of s failed wants) b.joined b.steps (outer starts a.net) (outer later b.net)
       by spawned.Failed failed wants f w t = let is = t.spawns in omega (arith, is)
       by spawned.NoMemory failed wants f w t = tt
       by spawned.All true wants f w t = ⊎_elim (λ (was : a.failed ≡ true). absurd (cc (sym t.failed ∙ was))) (λ (rose : faults_of a.net < faults_of b.net). rose) (t.goes.fails f)

@@ -1,5 +1,5 @@
 -- How a link ends that is served, and what becomes of a server's links.
-use Rattle.std.specs.Prelude.{◌≡◌, ◌⊎◌, ◌+◌, ◌<◌, ◌≤◌, ℕ, Bool, true, false, List, ◌∷◌, [], ◌++◌, map, length, Option, Result, Ok, Err}
+use Rattle.std.specs.Prelude.{◌≡◌, ◌⊎◌, ◌+◌, ◌<◌, ◌≤◌, ℕ, Bool, true, false, List, ◌∷◌, [], ◌++◌, map, length, Option, Some, None, Result, Ok, Err}
 use Rattle.std.specs.List.{All}
 use Rattle.std.specs.declared.snapshot.Snapshot.{Snapshot}
 use Rattle.ec_wire.specs.Codes.{said}
@@ -7,8 +7,15 @@ use Rattle.ec_wire.specs.declared.fault.WireFault.{WireFault}
 use Rattle.ec_link.specs.Links.{Heard, body, long, added}
 use Rattle.ec_link.specs.Happenings.{total}
 use Rattle.ec_link.specs.Nets.{Ended, is_bad}
+use Rattle.ec_lock.specs.Passes.{front, numbers}
+use Rattle.ec_lock.specs.Steps.{Member, Distinct, of}
+use Rattle.ec_lock.specs.declared.types.Pass.{Pass}
+use Rattle.ec_servernode.specs.declared.state.Node.{Node}
+use Rattle.ec_servernode.specs.declared.step.Step.{Step}
 use Rattle.ec_servernode.specs.declared.fault.ServeFault.{ServeFault}
 use Rattle.ec_servernode.specs.declared.fault.ServeFault.TheVariants as fault
+use Rattle.ec_servernode.specs.Bodies.{heard_by, said_by}
+use Rattle.ec_servernode.specs.Run.{number_of}
 
 -- a body that is no message, or a length above the limit
 abbrev pub IsRefused : Heard → Type 0
@@ -58,7 +65,63 @@ module _ {L : Type 0} (faults closes : L → ℕ) (given : L → Option (List He
   abbrev pub back_of : (L → Option (List (List ℕ))) → Snapshot L → Back
   back_of got link = ((given link.value, got link.value), is_bad (faults link.value) (closes link.value))
 
--- a server's links at one moment: the net, how many are still to come, how many came, those that came back, whether the net failed, and whether memory was wanting or the server is down
+-- What a link gave and got, by the steps of its own pass.
+
+-- where it's told, it's this
+abbrev pub Tells : {A : Type 0} → Option (List A) → List A → Type 0
+Tells None xs = Unit {0}
+Tells (Some ys) xs = ys ≡ xs
+
+-- the link gave the bodies that these steps took, and got those that they sent, in order
+abbrev pub IsSoFar : List Step → Option (List Heard) → Option (List (List ℕ)) → Type 0
+IsSoFar own given got = Tells given (heard_by own) × Tells got (said_by own)
+
+-- nothing, or one body or length that was refused
+abbrev pub IsRest : List Heard → Type 0
+IsRest [] = Unit {0}
+IsRest (x ∷ []) = IsRefused x
+IsRest (x ∷ y ∷ more) = ⊥
+
+-- The link gave the bodies that these steps took, in order, and perhaps one more that was refused and ended it. It got the bodies that they sent, in order.
+pub record Carries (own : List Step) (given : Option (List Heard)) (got : Option (List (List ℕ))) : Type 0 where
+  pub rest : List Heard
+  pub refused : IsRest rest
+  pub heard : Tells given (heard_by own ++ rest)
+  pub said : Tells got (said_by own)
+
+-- The same of a link that isn't served any more. It isn't told where the server is down or memory was wanting.
+abbrev pub CarriesSo : Bool → List Step → Option (List Heard) → Option (List (List ℕ)) → Type 0
+CarriesSo true own given got = Carries own given got
+CarriesSo false own given got = Unit {0}
+
+-- Each of these links was served by the pass that stands at its place: the steps of the run with this number are those for the bodies that the link gave and got.
+abbrev pub AreServed : List Step → List ℕ → List Back → Type 0
+AreServed run [] [] = Unit {0}
+AreServed run [] (l ∷ ls) = ⊥
+AreServed run (n ∷ ns) [] = ⊥
+AreServed run (n ∷ ns) (l ∷ ls) = Carries (of number_of n run) l.0.0 l.0.1 × AreServed run ns ls
+
+-- the steps of a pass, in what it knows of the list
+abbrev pub own_steps : {K : Type 0} → Pass (Node K) Step → List Step
+own_steps pass = of number_of pass.number (front pass)
+
+module _ {K L : Type 0} (given : L → Option (List Heard)) (got : L → Option (List (List ℕ))) where
+  -- so far the link gave and got what the steps of its pass say
+  abbrev pub IsServed : Pass (Node K) Step → L → Type 0
+  IsServed pass link = IsSoFar (own_steps pass) (given link) (got link)
+
+  abbrev pub WasServed : Bool → Pass (Node K) Step → L → Type 0
+  WasServed over pass link = CarriesSo over (own_steps pass) (given link) (got link)
+
+  -- a link and its pass, into which no other one was joined
+  abbrev pub BeginsSo : Pass (Node K) Step → L → Type 0
+  BeginsSo pass link = (numbers pass ≡ pass.number ∷ []) × IsServed pass link
+
+  abbrev pub GoneSo : Bool → Pass (Node K) Step → L → Type 0
+  GoneSo over pass link = (numbers pass ≡ pass.number ∷ []) × WasServed over pass link
+
+-- a server's links at one moment: the net, how many are still to come, how many came, those that came back, whether the net failed, whether memory was wanting or the server is down, the
+-- numbers of the server's own pass, into which go those of the links that came back, and the beginning of the list that it knows
 pub record Moment (N L : Type 0) : Type 0 where
   pub net : N
   pub left : ℕ
@@ -66,17 +129,20 @@ pub record Moment (N L : Type 0) : Type 0 where
   pub back : List (Snapshot L)
   pub failed : Bool
   pub wants : Bool
+  pub joined : List ℕ
+  pub steps : List Step
 
-abbrev pub moment : {N L : Type 0} → N → ℕ → List ℕ → List (Snapshot L) → Bool → Bool → Moment N L
-moment net left begun back failed wants = record { net = net; left = left; begun = length begun; back = back; failed = failed; wants = wants }
+abbrev pub moment : {N L K : Type 0} → N → ℕ → List ℕ → List (Snapshot L) → Bool → Bool → Pass (Node K) Step → Moment N L
+moment net left begun back failed wants pass = record { net = net; left = left; begun = length begun; back = back; failed = failed; wants = wants; joined = numbers pass; steps = front pass }
 
 module _ {N L : Type 0} (faults_of bad_of : N → ℕ) (ended_of : N → List Ended) (back_of : Snapshot L → Back) where
-  -- these links came back between two moments
-  pub record CameBack (a b : Moment N L) (more : List (Snapshot L)) : Type 0 where
+  -- these links came back between two moments, served by these passes
+  pub record CameBack (a b : Moment N L) (more : List (Snapshot L)) (passes : List ℕ) : Type 0 where
     pub wants : a.wants ≡ false
     pub ended : ended_of b.net ≡ ended_of a.net ++ map (λ l. (back_of l).0) more
     pub bad : bad_of b.net ≡ bad_of a.net + total (λ l. (back_of l).1) more
     pub over : All (λ l. IsOver (back_of l)) more
+    pub own : AreServed b.steps passes (map back_of more)
 
   -- what becomes of them
   pub record GoesOn (a b : Moment N L) : Type 0 where
@@ -85,4 +151,9 @@ module _ {N L : Type 0} (faults_of bad_of : N → ℕ) (ended_of : N → List En
     pub fails : b.failed ≡ true → (a.failed ≡ true) ⊎ (faults_of a.net < faults_of b.net)
     pub more : List (Snapshot L)
     pub back : b.back ≡ a.back ++ more
-    pub links : b.wants ≡ false → CameBack a b more
+    pub passes : List ℕ
+    pub joined : b.joined ≡ a.joined ++ passes
+    pub distinct : Distinct passes
+    pub apart : (n : ℕ) → Member n a.joined → Member n passes → ⊥
+    pub same : (n : ℕ) → Member n a.joined → of number_of n a.steps ≡ of number_of n b.steps
+    pub links : b.wants ≡ false → CameBack a b more passes

@@ -14,6 +14,7 @@ use Rattle.ec_protocol.specs.Server.{start}
 use Rattle.ec_protocol.specs.declared.server.Server.{Server}
 use Rattle.ec_server.specs.Servers.{standing}
 use Rattle.ec_server.specs.declared.server.Server.{Server as Own}
+use Rattle.ec_lock.specs.Steps.{Member, Distinct}
 use Rattle.ec_link.specs.Happenings.{total}
 use Rattle.ec_link.specs.Nets.{Ended}
 use Rattle.ec_link.specs.declared.spawn.Spawned.{Spawned}
@@ -22,7 +23,7 @@ use Rattle.ec_servernode.specs.declared.step.Halt.TheVariants as halt
 use Rattle.ec_servernode.specs.declared.step.Step.{Step}
 use Rattle.ec_servernode.specs.Run.{IsRun, halted, records, record_of, put_all, for_clerk}
 use Rattle.ec_servernode.specs.Node.{Chain, ChainInDoubt}
-use Rattle.ec_serve.specs.Links.{Back, IsOver}
+use Rattle.ec_serve.specs.Links.{Back, IsOver, AreServed}
 use Rattle.ec_serve.specs.declared.ending.Ending.{Ending}
 use Rattle.ec_serve.specs.declared.ending.Ending.TheVariants as ending
 use Rattle.ec_serve.specs.declared.ending.Tended.{Tended}
@@ -55,13 +56,16 @@ pub record Outside : Type 1 where
   pub links : Outer
   pub links_after : Outer
 
--- So many links came and were given back, each closed, failed or refused.
-pub record AllBack (count : ℕ) (old new : Outer) : Type 0 where
+-- So many links came and were given back, each closed, failed or refused. Each was served by a pass of its own: the steps of the run with its number are those for the bodies that this link gave and got.
+pub record AllBack (count : ℕ) (run : List Step) (old new : Outer) : Type 0 where
   pub links : List Back
   pub number : length links ≡ count
   pub ended : new.ended ≡ old.ended ++ map (λ l. l.0) links
   pub bad : new.bad ≡ old.bad + total (λ l. l.1) links
   pub over : All IsOver links
+  pub passes : List ℕ
+  pub distinct : Distinct passes
+  pub own : AreServed run passes links
 
 abbrev pub tended_of : Spawned → Bool → Bool → Tended
 tended_of spawned.Failed failed wants = tended.NotStarted
@@ -70,12 +74,12 @@ tended_of spawned.All true wants = tended.NetFailed
 tended_of spawned.All false true = tended.Cut
 tended_of spawned.All false false = tended.Done
 
--- how the links of a server ended
-abbrev pub Tends : ℕ → Tended → Outer → Outer → Type 0
-Tends count tended.Done old new = AllBack count old new
-Tends count tended.NetFailed old new = old.faults < new.faults
-Tends count tended.NotStarted old new = old.starts < new.starts
-Tends count tended.Cut old new = Unit {0}
+-- How the links of a server ended. Its own pass then has these numbers, with those of the links' passes, and knows these steps.
+abbrev pub Tends : ℕ → Tended → List ℕ → List Step → Outer → Outer → Type 0
+Tends count tended.Done joined steps old new = (all : AllBack count steps old new) × ((n : ℕ) → Member n all.passes → Member n joined)
+Tends count tended.NetFailed joined steps old new = old.faults < new.faults
+Tends count tended.NotStarted joined steps old new = old.starts < new.starts
+Tends count tended.Cut joined steps old new = Unit {0}
 
 -- A run of a server, which a spent counter ends.
 pub record RanOut (s : Server) (boxes : ℕ → List Msg) (n : Counter) : Type 0 where
@@ -119,7 +123,7 @@ module _ {K : Type 0} (kept : K → Durable) (counts : K → Counts) (did breaks
   -- A server in this state ends so.
   abbrev pub Ran : Server → (ℕ → List Msg) → ℕ → Ending → K → K → Outer → Outer → Type 0
   Ran s boxes count end old new links later =
-      KeeperEnds old new × EndsAs (RanWhole s boxes [] old new × AllBack count links later) (λ n. RanOut s boxes n) (counts old).faults (counts new).faults links later end
+      KeeperEnds old new × EndsAs ((ran : RanWhole s boxes [] old new) × AllBack count ran.run links later) (λ n. RanOut s boxes n) (counts old).faults (counts new).faults links later end
 
   -- a server that was just started, which sent this
   abbrev pub RanFrom : Own → List (ℕ × Msg) → ℕ → Ending → K → K → Outer → Outer → Type 0
@@ -129,7 +133,7 @@ module _ {K : Type 0} (kept : K → Durable) (counts : K → Counts) (did breaks
   abbrev pub EndsBy : ℕ → Ending → K → K → Outer → Outer → Type 0
   EndsBy count end old new links later =
       KeeperEnds old new
-      × EndsAs (RanWhole (start (kept old)).server (boxes_of (start (kept old)).sent) (record_of (start (kept old)).rec) old new × AllBack count links later) (λ n. Spends (kept old) n) (counts old).faults (counts new).faults links later end
+      × EndsAs ((ran : RanWhole (start (kept old)).server (boxes_of (start (kept old)).sent) (record_of (start (kept old)).rec) old new) × AllBack count ran.run links later) (λ n. Spends (kept old) n) (counts old).faults (counts new).faults links later end
 
 -- A run of a server from this state, and what stands on the disk behind it: the fold of its records.
 pub record RanOn (d : Durable) (tells : Type 0) (now : View) : Type 0 where
@@ -141,7 +145,7 @@ pub record RanOn (d : Durable) (tells : Type 0) (now : View) : Type 0 where
   pub disk : tells → HoldsState now final
 
 abbrev pub ServesOn : Durable → ℕ → Ending → Outside → Type 0
-ServesOn d count end w = EndsAs (RanOn d w.tells w.disk_after × AllBack count w.links w.links_after) (λ n. Spends d n) w.counts.faults w.counts_after.faults w.links w.links_after end
+ServesOn d count end w = EndsAs ((ran : RanOn d w.tells w.disk_after) × AllBack count ran.run w.links w.links_after) (λ n. Spends d n) w.counts.faults w.counts_after.faults w.links w.links_after end
 
 -- the disk isn't empty, stands for no state, and this is its first bad place
 abbrev pub IsBad : Outside → ℕ → Type 0
@@ -151,12 +155,13 @@ IsBad w place = w.tells → (length w.disk.gives ≡ 0 → ⊥) × IsBadAt w.dis
 abbrev pub IsOpened : Outside → Type 0
 IsOpened w = (d : Durable) × Opens w.tells w.disk.gives d
 
--- Each ending, by its causes. Where all links have come and gone, the disk stands for the fold of the records of one server run from the state that was opened.
+-- Each ending, by its causes. Where all links have come and gone, the disk stands for the fold of the records of one server run from the state that was opened, and this run has for each link the steps of a pass of
+-- its own, which are those for the bodies that the link gave and got.
 abbrev pub Serves : ℕ → Ending → Outside → Type 0
 Serves count (ending.BadDisk place) w = IsBad w place
 Serves count ending.DiskFailed w = Rose w.counts.faults w.counts_after.faults
 Serves count ending.NetFailed w = IsOpened w × (w.links.faults < w.links_after.faults)
 Serves count ending.NoMemory w = Unit {0}
 Serves count ending.NotStarted w = IsOpened w × (w.links.starts < w.links_after.starts)
-Serves count ending.Done w = (d : Durable) × Opens w.tells w.disk.gives d × RanOn d w.tells w.disk_after × AllBack count w.links w.links_after
+Serves count ending.Done w = (d : Durable) × Opens w.tells w.disk.gives d × (ran : RanOn d w.tells w.disk_after) × AllBack count ran.run w.links w.links_after
 Serves count (ending.Spent n) w = (d : Durable) × Opens w.tells w.disk.gives d × Spends d n

@@ -1,7 +1,8 @@
 // One link of a server, which is served in a thread of its own.
-ghost use Rattle.std.specs.Prelude.{◌≡◌, ◌≤◌, IfSome};
+ghost use Rattle.std.specs.Prelude.{◌≡◌, ◌≤◌, IfSome, IfNone};
+ghost use Rattle.ec_lock.specs.Passes.{Same};
 ghost use Rattle.ec_servernode.specs.Turns.{IsServerPass};
-ghost use Rattle.ec_serve.specs.Links.{IsOverBy, is_over, EndsSo};
+ghost use Rattle.ec_serve.specs.Links.{IsOverBy, is_over, EndsSo, IsServed, WasServed, BeginsSo, GoneSo};
 
 use crate::bells::Bells;
 use crate::telling::tell_end;
@@ -36,8 +37,8 @@ pub fn serve_connection<K: Keeper + Drop, L: Link + Drop, R: Around + Eprint>(
     rt: &R,
     connection: Connection<'_, '_, K, L>,
 ) -> Ended<K, L>
-    requires { IsServerPass K.kept connection.server.now.lock connection.pass.pass connection.pass.clerk }
-    ensures { IsServerPass K.kept connection.entry.server.now.lock result.pass.pass result.pass.clerk × EndsSo L.faults L.closes L.given result.is_over result.link }
+    requires { IsServerPass K.kept connection.server.now.lock connection.pass.pass connection.pass.clerk × BeginsSo L.given L.got connection.pass.pass connection.link }
+    ensures { IsServerPass K.kept connection.entry.server.now.lock result.pass.pass result.pass.clerk × EndsSo L.faults L.closes L.given result.is_over result.link × GoneSo L.given L.got result.is_over result.pass.pass result.link }
 {
     let Connection {
         server,
@@ -81,8 +82,11 @@ fn serve_link<K: Keeper + Drop, L: Link, R: Around>(
     link: &mut L,
 ) -> Result<(), ServeFault>
     requires pass { IsServerPass K.kept server.now.lock pass.old.pass pass.old.clerk }
+    requires served { IsServed L.given L.got pass.old.pass link.old }
     ensures pass { IsServerPass K.kept server.now.lock pass.new.pass pass.new.clerk }
+    ensures same { Same pass.old.pass pass.new.pass }
     ensures over { IsOverBy (L.faults link.new) (L.closes link.new) (L.given link.new) result }
+    ensures served { WasServed L.given L.got (is_over result) pass.new.pass link.new }
 {
     let bell = match link.bell(rt) {
         Ok(bell) => bell,
@@ -120,8 +124,11 @@ fn take_turns<K: Keeper + Drop, L: Link, R: Around>(
     link: &mut L,
 ) -> Result<(), ServeFault>
     requires pass { IsServerPass K.kept server.now.lock pass.old.pass pass.old.clerk }
+    requires served { IsServed L.given L.got pass.old.pass link.old }
     ensures pass { IsServerPass K.kept server.now.lock pass.new.pass pass.new.clerk }
+    ensures same { Same pass.old.pass pass.new.pass }
     ensures over { IsOverBy (L.faults link.new) (L.closes link.new) (L.given link.new) result }
+    ensures served { WasServed L.given L.got (is_over result) pass.new.pass link.new }
 {
     for _ in rt.forever() {
         if let Some(end) = turn(rt, server, bells, number, bell, pass, link) {
@@ -142,8 +149,12 @@ fn turn<K: Keeper + Drop, L: Link, R: Around>(
     link: &mut L,
 ) -> Option<Result<(), ServeFault>>
     requires pass { IsServerPass K.kept server.now.lock pass.old.pass pass.old.clerk }
+    requires served { IsServed L.given L.got pass.old.pass link.old }
     ensures pass { IsServerPass K.kept server.now.lock pass.new.pass pass.new.clerk }
+    ensures same { Same pass.old.pass pass.new.pass }
     ensures over { IfSome result (λ end. IsOverBy (L.faults link.new) (L.closes link.new) (L.given link.new) end) }
+    ensures goes { IfNone result (IsServed L.given L.got pass.new.pass link.new) }
+    ensures served { IfSome result (λ end. WasServed L.given L.got (is_over end) pass.new.pass link.new) }
 {
     let seen = bell.rings();
     match server.serve_one(rt, pass, link) {
@@ -152,7 +163,11 @@ fn turn<K: Keeper + Drop, L: Link, R: Around>(
             None
         }
         Ok(Turned::Gave) => None,
-        Ok(Turned::Idle | Turned::Busy) => {
+        Ok(Turned::Idle) => {
+            bell.wait(rt, seen);
+            None
+        }
+        Ok(Turned::Busy) => {
             bell.wait(rt, seen);
             None
         }

@@ -1,8 +1,13 @@
 // The links that come to a server.
-ghost use Rattle.std.specs.Prelude.{◌≡◌, ◌⊎◌, ◌+◌, ◌<◌, length, true, false, IfSome, IfNone};
+ghost use Rattle.std.specs.Prelude.{◌≡◌, ◌⊎◌, ◌+◌, ◌<◌, ℕ, [], ◌∷◌, ◌++◌, length, true, false, IfSome, IfNone};
+ghost use Rattle.std.specs.declared.snapshot.Snapshot.{Snapshot as Shot};
+ghost use Rattle.ec_link.specs.Nets.{IsEmpty, is_bad};
 ghost use Rattle.ec_link.specs.Spawns.{taken};
+ghost use Rattle.ec_lock.specs.Passes.{front, numbers};
+ghost use Rattle.ec_lock.specs.Steps.{Member, of};
+ghost use Rattle.ec_servernode.specs.Run.{number_of};
 ghost use Rattle.ec_servernode.specs.Turns.{IsServerPass};
-ghost use Rattle.ec_serve.specs.Links.{EndsSo, back_of, moment, GoesOn};
+ghost use Rattle.ec_serve.specs.Links.{EndsSo, BeginsSo, GoneSo, back_of, moment, GoesOn};
 
 use crate::bells::Bells;
 use crate::connection::{Connection, Ended};
@@ -20,7 +25,6 @@ pub struct Connections<'s, 'b, K: Keeper + Drop, N: Net> {
     pub server: &'s SharedServer<K>,
     pub bells: &'b Bells<<N::Link as Link>::Bell>,
     pub door: N::Door,
-    pub pass: ServerPass<K>,
     /// So many links are still to come.
     pub left: u32,
     /// The number of the last link that came.
@@ -38,24 +42,28 @@ impl<'s, 'b, K: Keeper + Drop, N: Net> Connections<'s, 'b, K, N> {
     fn begin<R: Around + Eprint>(
         &mut self,
         rt: &R,
+        pass: &mut ServerPass<K>,
         link: N::Link,
     ) -> Option<Connection<'s, 'b, K, N::Link>>
-        requires pass { IsServerPass K.kept self.old.server.now.lock self.old.pass.pass self.old.pass.clerk }
+        requires pass { IsServerPass K.kept self.old.server.now.lock pass.old.pass pass.old.clerk }
         requires left { 0 < self.old.left }
+        requires link { IsEmpty (N.Link.given link) × IsEmpty (N.Link.got link) }
         ensures server { self.new.server ≡ self.old.server }
         ensures others { (self.new.back ≡ self.old.back) × (self.new.failed ≡ self.old.failed) }
-        ensures pass { IsServerPass K.kept self.old.server.now.lock self.new.pass.pass self.new.pass.clerk }
+        ensures pass { IsServerPass K.kept self.old.server.now.lock pass.new.pass pass.new.clerk }
+        ensures joined { numbers pass.new.pass ≡ numbers pass.old.pass }
+        ensures own { (n : ℕ) → Member n (numbers pass.old.pass) → of number_of n (front pass.old.pass) ≡ of number_of n (front pass.new.pass) }
         ensures left { self.new.left + length self.new.begun.items ≡ self.old.left + length self.old.begun.items }
         ensures begun { length self.new.begun.items ≡ length self.old.begun.items + taken result }
         ensures wants { self.new.wants ≡ false → self.old.wants ≡ false }
         ensures none { IfNone result (self.new.wants ≡ true) }
-        ensures some { IfSome result (λ c. (c.server ≡ self.old.server) × IsServerPass K.kept self.old.server.now.lock c.pass.pass c.pass.clerk) }
+        ensures some { IfSome result (λ c. (c.server ≡ self.old.server) × IsServerPass K.kept self.old.server.now.lock c.pass.pass c.pass.clerk × BeginsSo N.Link.given N.Link.got c.pass.pass c.link) }
     {
         if self.bells.is_over() {
             self.wants = true;
             return None;
         }
-        let Some(pass) = self.server.split(rt, &mut self.pass) else {
+        let Some(new) = self.server.split(rt, pass) else {
             self.wants = true;
             return None;
         };
@@ -67,21 +75,19 @@ impl<'s, 'b, K: Keeper + Drop, N: Net> Connections<'s, 'b, K, N> {
             server: self.server,
             bells: self.bells,
             number: self.number,
-            pass,
+            pass: new,
             link,
         })
     }
 
     // Gives a link back.
     fn give_back(&mut self, net: &mut N, link: N::Link, is_over: bool)
-        requires over { EndsSo N.Link.faults N.Link.closes N.Link.given is_over link }
-        ensures server { (self.new.server ≡ self.old.server) × (self.new.pass ≡ self.old.pass) }
+        ensures server { self.new.server ≡ self.old.server }
         ensures others { (self.new.left ≡ self.old.left) × (self.new.begun ≡ self.old.begun) × (self.new.failed ≡ self.old.failed) }
-        ensures back { length self.new.back.items ≡ length self.old.back.items + 1 }
+        ensures faults { N.faults net.new ≡ N.faults net.old }
+        ensures back { (shot : Shot N.Link) × (shot.value ≡ link) × (self.new.back.items ≡ self.old.back.items ++ shot ∷ []) }
         ensures wants { self.old.wants ≡ true → self.new.wants ≡ true }
-        ensures goes { GoesOn N.faults N.bad N.ended (back_of N.Link.faults N.Link.closes N.Link.given N.Link.got)
-            (moment net.old self.old.left self.old.begun.items self.old.back.items self.old.failed self.old.wants)
-            (moment net.new self.new.left self.new.begun.items self.new.back.items self.new.failed self.new.wants) }
+        ensures came { self.new.wants ≡ false → (self.old.wants ≡ false) × (is_over ≡ true) × (N.ended net.new ≡ N.ended net.old ++ (N.Link.given link, N.Link.got link) ∷ []) × (N.bad net.new ≡ N.bad net.old + is_bad (N.Link.faults link) (N.Link.closes link)) }
     {
         self.back = self.back.and(&Snapshot::of(&link));
         match net.back(link) {
@@ -90,22 +96,23 @@ impl<'s, 'b, K: Keeper + Drop, N: Net> Connections<'s, 'b, K, N> {
         }
     }
 
-    /// The next link, or `None` where no further one comes.
+    /// The next link, or `None` where no further one comes. Its pass is drawn by the server's own.
     pub fn next<R: Around + Eprint>(
         &mut self,
         rt: &R,
         net: &mut N,
+        pass: &mut ServerPass<K>,
     ) -> Option<Connection<'s, 'b, K, N::Link>>
-        requires pass { IsServerPass K.kept self.old.server.now.lock self.old.pass.pass self.old.pass.clerk }
-        ensures pass { IsServerPass K.kept self.new.server.now.lock self.new.pass.pass self.new.pass.clerk }
+        requires pass { IsServerPass K.kept self.old.server.now.lock pass.old.pass pass.old.clerk }
+        ensures pass { IsServerPass K.kept self.new.server.now.lock pass.new.pass pass.new.clerk }
         ensures server { self.new.server ≡ self.old.server }
         ensures goes { GoesOn N.faults N.bad N.ended (back_of N.Link.faults N.Link.closes N.Link.given N.Link.got)
-            (moment net.old self.old.left self.old.begun.items self.old.back.items self.old.failed self.old.wants)
-            (moment net.new self.new.left self.new.begun.items self.new.back.items self.new.failed self.new.wants) }
+            (moment net.old self.old.left self.old.begun.items self.old.back.items self.old.failed self.old.wants pass.old.pass)
+            (moment net.new self.new.left self.new.begun.items self.new.back.items self.new.failed self.new.wants pass.new.pass) }
         ensures begun { length self.new.begun.items ≡ length self.old.begun.items + taken result }
         ensures back { self.new.back ≡ self.old.back }
         ensures none { IfNone result ((self.new.left ≡ 0) ⊎ ((self.new.failed ≡ true) ⊎ (self.new.wants ≡ true))) }
-        ensures some { IfSome result (λ c. (c.server ≡ self.old.server) × IsServerPass K.kept self.old.server.now.lock c.pass.pass c.pass.clerk) }
+        ensures some { IfSome result (λ c. (c.server ≡ self.old.server) × IsServerPass K.kept self.old.server.now.lock c.pass.pass c.pass.clerk × BeginsSo N.Link.given N.Link.got c.pass.pass c.link) }
     {
         if self.left == 0 {
             return None;
@@ -115,7 +122,7 @@ impl<'s, 'b, K: Keeper + Drop, N: Net> Connections<'s, 'b, K, N> {
             return None;
         }
         match net.accept(rt, &mut self.door) {
-            Ok(link) => self.begin(rt, link),
+            Ok(link) => self.begin(rt, pass, link),
             Err(NetFault::Failed) => {
                 self.failed = true;
                 None
@@ -128,24 +135,24 @@ impl<'s, 'b, K: Keeper + Drop, N: Net> Connections<'s, 'b, K, N> {
     }
 
     /// A link isn't served any more: its pass goes into the server's own, and the net gets it back.
-    pub fn done(&mut self, net: &mut N, out: Ended<K, N::Link>)
-        requires pass { IsServerPass K.kept self.old.server.now.lock self.old.pass.pass self.old.pass.clerk }
-        requires out { IsServerPass K.kept self.old.server.now.lock out.pass.pass out.pass.clerk × EndsSo N.Link.faults N.Link.closes N.Link.given out.is_over out.link }
-        ensures pass { IsServerPass K.kept self.new.server.now.lock self.new.pass.pass self.new.pass.clerk }
+    pub fn done(&mut self, net: &mut N, pass: &mut ServerPass<K>, out: Ended<K, N::Link>)
+        requires pass { IsServerPass K.kept self.old.server.now.lock pass.old.pass pass.old.clerk }
+        requires out { IsServerPass K.kept self.old.server.now.lock out.pass.pass out.pass.clerk × EndsSo N.Link.faults N.Link.closes N.Link.given out.is_over out.link × GoneSo N.Link.given N.Link.got out.is_over out.pass.pass out.link }
+        ensures pass { IsServerPass K.kept self.new.server.now.lock pass.new.pass pass.new.clerk }
         ensures server { self.new.server ≡ self.old.server }
         ensures goes { GoesOn N.faults N.bad N.ended (back_of N.Link.faults N.Link.closes N.Link.given N.Link.got)
-            (moment net.old self.old.left self.old.begun.items self.old.back.items self.old.failed self.old.wants)
-            (moment net.new self.new.left self.new.begun.items self.new.back.items self.new.failed self.new.wants) }
+            (moment net.old self.old.left self.old.begun.items self.old.back.items self.old.failed self.old.wants pass.old.pass)
+            (moment net.new self.new.left self.new.begun.items self.new.back.items self.new.failed self.new.wants pass.new.pass) }
         ensures others { (self.new.left ≡ self.old.left) × (self.new.begun ≡ self.old.begun) × (self.new.failed ≡ self.old.failed) }
         ensures back { length self.new.back.items ≡ length self.old.back.items + 1 }
         ensures wants { self.old.wants ≡ true → self.new.wants ≡ true }
     {
         let Ended {
-            pass,
+            pass: other,
             link,
             is_over,
         } = out;
-        self.server.join(&mut self.pass, pass);
+        self.server.join(pass, other);
         self.give_back(net, link, is_over);
     }
 }

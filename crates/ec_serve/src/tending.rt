@@ -1,7 +1,7 @@
 // The links of a server, from the first to the last.
 ghost use Rattle.std.specs.Prelude.{◌≡◌, ◌≤◌};
 ghost use mathlib.Core.List.{IsPrefix};
-ghost use Rattle.ec_lock.specs.Passes.{front};
+ghost use Rattle.ec_lock.specs.Passes.{front, numbers};
 ghost use Rattle.ec_link.specs.Spawns.{faults_of};
 ghost use Rattle.ec_link.specs.declared.spawn.Spawned.TheVariants as spawned;
 ghost use Rattle.ec_servernode.specs.Turns.{IsServerPass};
@@ -31,7 +31,7 @@ pub fn tend<K: Keeper + Send + Drop, N: Net, R: Around + Eprint>(
     requires pass { IsServerPass K.kept server.now.lock pass.old.pass pass.old.clerk }
     ensures pass { IsServerPass K.kept server.now.lock pass.new.pass pass.new.clerk }
     ensures later { (N.faults net.old ≤ N.faults net.new) × (faults_of spawner.old ≤ faults_of spawner.new) }
-    ensures tends { Tends count result
+    ensures tends { Tends count result (numbers pass.new.pass) (front pass.new.pass)
         (record { faults = N.faults net.old; bad = N.bad net.old; ended = N.ended net.old; starts = faults_of spawner.old })
         (record { faults = N.faults net.new; bad = N.bad net.new; ended = N.ended net.new; starts = faults_of spawner.new }) }
 {
@@ -44,14 +44,10 @@ pub fn tend<K: Keeper + Send + Drop, N: Net, R: Around + Eprint>(
         Err(NetFault::NoMemory) => return Tended::Cut,
     };
     tell_door(rt, addr);
-    let Some(own) = server.split(rt, pass) else {
-        return Tended::Cut;
-    };
     let mut connections = Connections {
         server,
         bells: &bells,
         door,
-        pass: own,
         left: count,
         number: 0,
         failed: false,
@@ -59,7 +55,7 @@ pub fn tend<K: Keeper + Send + Drop, N: Net, R: Around + Eprint>(
         begun: Trace::new(),
         back: Trace::new(),
     };
-    let ran = run_all(rt, spawner, net, &mut connections);
+    let ran = run_all(rt, spawner, net, pass, &mut connections);
     tended_of(ran.spawned, ran.failed, ran.wants)
 }
 

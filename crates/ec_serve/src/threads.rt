@@ -4,13 +4,13 @@ ghost use Rattle.std.specs.List.{All};
 ghost use Rattle.ec_link.specs.declared.spawn.Spawned.TheVariants as spawned;
 ghost use Rattle.ec_link.specs.Spawns.{refused, faults_of};
 ghost use Rattle.ec_servernode.specs.Turns.{IsServerPass};
-ghost use Rattle.ec_serve.specs.Links.{EndsSo, back_of, moment, GoesOn};
+ghost use Rattle.ec_serve.specs.Links.{EndsSo, BeginsSo, GoneSo, back_of, moment, GoesOn};
 
 use crate::connection::{Connection, Ended, serve_connection};
 use crate::connections::Connections;
 use ec_link::{Around, Link, Net, Spawned, Spawner};
 use ec_server::Keeper;
-use ec_servernode::SharedServer;
+use ec_servernode::{ServerPass, SharedServer};
 use ec_trace::Trace;
 use std::io::Eprint;
 use std::snapshot::Snapshot;
@@ -23,9 +23,9 @@ struct Kept<K: Keeper + Drop>(Snapshot<SharedServer<K>>);
 
 impl<K: Keeper + Drop, L: Link + Drop> Promise<Ended<K, L>> for Kept<K> {
     ghost use Rattle.ec_servernode.specs.Turns.{IsServerPass};
-    ghost use Rattle.ec_serve.specs.Links.{EndsSo};
+    ghost use Rattle.ec_serve.specs.Links.{EndsSo, GoneSo};
 
-    ghost kept_by = { λ kept out. IsServerPass K.kept kept.0.value.lock out.pass.pass out.pass.clerk × EndsSo L.faults L.closes L.given out.is_over out.link };
+    ghost kept_by = { λ kept out. IsServerPass K.kept kept.0.value.lock out.pass.pass out.pass.clerk × EndsSo L.faults L.closes L.given out.is_over out.link × GoneSo L.given L.got out.is_over out.pass.pass out.link };
 }
 
 // A link that is being served.
@@ -47,7 +47,7 @@ where
     K: 's,
     L: 's,
     L::Bell: 's,
-    requires { IsServerPass K.kept connection.server.now.lock connection.pass.pass connection.pass.clerk }
+    requires { IsServerPass K.kept connection.server.now.lock connection.pass.pass connection.pass.clerk × BeginsSo L.given L.got connection.pass.pass connection.link }
     ensures some { IfSome result (λ started. (started.handle.promise.0.value ≡ connection.entry.server.now) × (faults_of spawner.new ≡ faults_of spawner.old)) }
     ensures none { IfNone result (faults_of spawner.new ≡ faults_of spawner.old + 1) }
 {
@@ -56,8 +56,8 @@ where
         scope,
         kept,
         move || -> Ended<K, L>
-            requires { IsServerPass K.kept connection.server.now.lock connection.pass.pass connection.pass.clerk }
-            ensures { IsServerPass K.kept connection.entry.server.now.lock result.pass.pass result.pass.clerk × EndsSo L.faults L.closes L.given result.is_over result.link }
+            requires { IsServerPass K.kept connection.server.now.lock connection.pass.pass connection.pass.clerk × BeginsSo L.given L.got connection.pass.pass connection.link }
+            ensures { IsServerPass K.kept connection.entry.server.now.lock result.pass.pass result.pass.clerk × EndsSo L.faults L.closes L.given result.is_over result.link × GoneSo L.given L.got result.is_over result.pass.pass result.link }
         { serve_connection(rt, connection) },
     )?;
     Some(Started { handle })
@@ -69,6 +69,7 @@ fn start_all<'s, 'a, 'b, E, K: Keeper + Send + Drop, N: Net, R: Around + Eprint>
     scope: &Scope<'s, E>,
     spawner: &mut Spawner,
     net: &mut N,
+    pass: &mut ServerPass<K>,
     connections: &mut Connections<'a, 'b, K, N>,
     started: &mut Vec<Started<K, N::Link>>,
 ) -> Spawned
@@ -78,13 +79,13 @@ where
     K: 's,
     N::Link: 's,
     <N::Link as Link>::Bell: 's,
-    requires pass { IsServerPass K.kept connections.old.server.now.lock connections.old.pass.pass connections.old.pass.clerk }
+    requires pass { IsServerPass K.kept connections.old.server.now.lock pass.old.pass pass.old.clerk }
     requires kept { All (λ one. one.handle.promise.0.value ≡ connections.old.server.now) started.old.items }
-    ensures pass { IsServerPass K.kept connections.new.server.now.lock connections.new.pass.pass connections.new.pass.clerk }
+    ensures pass { IsServerPass K.kept connections.new.server.now.lock pass.new.pass pass.new.clerk }
     ensures server { connections.new.server ≡ connections.old.server }
     ensures goes { GoesOn N.faults N.bad N.ended (back_of N.Link.faults N.Link.closes N.Link.given N.Link.got)
-        (moment net.old connections.old.left connections.old.begun.items connections.old.back.items connections.old.failed connections.old.wants)
-        (moment net.new connections.new.left connections.new.begun.items connections.new.back.items connections.new.failed connections.new.wants) }
+        (moment net.old connections.old.left connections.old.begun.items connections.old.back.items connections.old.failed connections.old.wants pass.old.pass)
+        (moment net.new connections.new.left connections.new.begun.items connections.new.back.items connections.new.failed connections.new.wants pass.new.pass) }
     ensures back { connections.new.back ≡ connections.old.back }
     ensures each { length connections.new.begun.items + vec_len started.old ≡ length connections.old.begun.items + vec_len started.new + refused result }
     ensures over { (result ≡ spawned.All) → (connections.new.left ≡ 0) ⊎ ((connections.new.failed ≡ true) ⊎ (connections.new.wants ≡ true)) }
@@ -95,7 +96,7 @@ where
         if started.reserve(1).is_err() {
             return Spawned::NoMemory;
         }
-        let Some(connection) = connections.next(rt, net) else {
+        let Some(connection) = connections.next(rt, net, pass) else {
             return Spawned::All;
         };
         match start(rt, scope, spawner, connection) {
@@ -110,28 +111,29 @@ where
 fn finish_all<K: Keeper + Drop, N: Net, R: Around>(
     rt: &R,
     net: &mut N,
+    pass: &mut ServerPass<K>,
     connections: &mut Connections<'_, '_, K, N>,
     started: Vec<Started<K, N::Link>>,
 )
-    requires pass { IsServerPass K.kept connections.old.server.now.lock connections.old.pass.pass connections.old.pass.clerk }
+    requires pass { IsServerPass K.kept connections.old.server.now.lock pass.old.pass pass.old.clerk }
     requires kept { All (λ one. one.handle.promise.0.value ≡ connections.old.server.now) started.items }
-    ensures pass { IsServerPass K.kept connections.new.server.now.lock connections.new.pass.pass connections.new.pass.clerk }
+    ensures pass { IsServerPass K.kept connections.new.server.now.lock pass.new.pass pass.new.clerk }
     ensures server { connections.new.server ≡ connections.old.server }
     ensures goes { GoesOn N.faults N.bad N.ended (back_of N.Link.faults N.Link.closes N.Link.given N.Link.got)
-        (moment net.old connections.old.left connections.old.begun.items connections.old.back.items connections.old.failed connections.old.wants)
-        (moment net.new connections.new.left connections.new.begun.items connections.new.back.items connections.new.failed connections.new.wants) }
+        (moment net.old connections.old.left connections.old.begun.items connections.old.back.items connections.old.failed connections.old.wants pass.old.pass)
+        (moment net.new connections.new.left connections.new.begun.items connections.new.back.items connections.new.failed connections.new.wants pass.new.pass) }
     ensures others { (connections.new.left ≡ connections.old.left) × (connections.new.begun ≡ connections.old.begun) × (connections.new.failed ≡ connections.old.failed) }
     ensures back { length connections.new.back.items ≡ length connections.old.back.items + vec_len started }
     ensures wants { connections.old.wants ≡ true → connections.new.wants ≡ true }
 {
     for one in started {
         let ended = join(rt, one);
-        connections.done(net, ended);
+        connections.done(net, pass, ended);
     }
 }
 
 fn join<K: Keeper + Drop, L: Link + Drop, R: Around>(rt: &R, started: Started<K, L>) -> Ended<K, L>
-    ensures { IsServerPass K.kept started.handle.promise.0.value.lock result.pass.pass result.pass.clerk × EndsSo L.faults L.closes L.given result.is_over result.link }
+    ensures { IsServerPass K.kept started.handle.promise.0.value.lock result.pass.pass result.pass.clerk × EndsSo L.faults L.closes L.given result.is_over result.link × GoneSo L.given L.got result.is_over result.pass.pass result.link }
 {
     let Started { handle } = started;
     handle.join(rt)
@@ -142,6 +144,7 @@ fn run_in<'s, 'a, 'b, E, K: Keeper + Send + Drop, N: Net, R: Around + Eprint>(
     scope: &Scope<'s, E>,
     spawner: &mut Spawner,
     net: &mut N,
+    pass: &mut ServerPass<K>,
     connections: &mut Connections<'a, 'b, K, N>,
 ) -> Spawned
 where
@@ -150,19 +153,19 @@ where
     K: 's,
     N::Link: 's,
     <N::Link as Link>::Bell: 's,
-    requires pass { IsServerPass K.kept connections.old.server.now.lock connections.old.pass.pass connections.old.pass.clerk }
-    ensures pass { IsServerPass K.kept connections.new.server.now.lock connections.new.pass.pass connections.new.pass.clerk }
+    requires pass { IsServerPass K.kept connections.old.server.now.lock pass.old.pass pass.old.clerk }
+    ensures pass { IsServerPass K.kept connections.new.server.now.lock pass.new.pass pass.new.clerk }
     ensures server { connections.new.server ≡ connections.old.server }
     ensures goes { GoesOn N.faults N.bad N.ended (back_of N.Link.faults N.Link.closes N.Link.given N.Link.got)
-        (moment net.old connections.old.left connections.old.begun.items connections.old.back.items connections.old.failed connections.old.wants)
-        (moment net.new connections.new.left connections.new.begun.items connections.new.back.items connections.new.failed connections.new.wants) }
+        (moment net.old connections.old.left connections.old.begun.items connections.old.back.items connections.old.failed connections.old.wants pass.old.pass)
+        (moment net.new connections.new.left connections.new.begun.items connections.new.back.items connections.new.failed connections.new.wants pass.new.pass) }
     ensures each { length connections.new.begun.items + length connections.old.back.items ≡ length connections.old.begun.items + length connections.new.back.items + refused result }
     ensures over { (result ≡ spawned.All) → (connections.new.left ≡ 0) ⊎ ((connections.new.failed ≡ true) ⊎ (connections.new.wants ≡ true)) }
     ensures faults { faults_of spawner.new ≡ faults_of spawner.old + refused result }
 {
     let mut started = Vec::new(rt.alloc());
-    let spawned = start_all(rt, scope, spawner, net, connections, &mut started);
-    finish_all(rt, net, connections, started);
+    let spawned = start_all(rt, scope, spawner, net, pass, connections, &mut started);
+    finish_all(rt, net, pass, connections, started);
     spawned
 }
 
@@ -178,23 +181,26 @@ pub struct Ran<L: Link + Drop> {
 }
 
 // Threads may borrow what outlives the scope. What is lent is given back, and what becomes of the links is written to `ran`.
-fn run_scoped<'c, 'p, 'n, 'r, 'a, 'b, K: Keeper + Send + Drop, N: Net, R: Around + Eprint>(
+fn run_scoped<'c, 'p, 'n, 'r, 'q, 'a, 'b, K: Keeper + Send + Drop, N: Net, R: Around + Eprint>(
     rt: &R,
     spawner: &'p mut Spawner,
     net: &'n mut N,
     ran: &'r mut Ran<N::Link>,
+    pass: &'q mut ServerPass<K>,
     connections: &'c mut Connections<'a, 'b, K, N>,
 ) -> (
     &'n mut N,
     &'p mut Spawner,
     &'r mut Ran<N::Link>,
+    &'q mut ServerPass<K>,
     &'c mut Connections<'a, 'b, K, N>,
 )
-    requires { IsServerPass K.kept connections.now.server.now.lock connections.now.pass.pass connections.now.pass.clerk }
-    ensures same { (result.0.ghost_name ≡ net.entry.ghost_name) × (result.1.ghost_name ≡ spawner.entry.ghost_name) × (result.2.ghost_name ≡ ran.entry.ghost_name) }
+    requires { IsServerPass K.kept connections.now.server.now.lock pass.now.pass pass.now.clerk }
+    ensures same { (result.0.ghost_name ≡ net.entry.ghost_name) × (result.1.ghost_name ≡ spawner.entry.ghost_name) × (result.2.ghost_name ≡ ran.entry.ghost_name) × (result.3.ghost_name ≡ pass.entry.ghost_name) }
+    ensures pass { IsServerPass K.kept connections.entry.now.server.now.lock result.3.now.pass result.3.now.clerk }
     ensures goes { GoesOn N.faults N.bad N.ended (back_of N.Link.faults N.Link.closes N.Link.given N.Link.got)
-        (moment net.entry.now connections.entry.now.left connections.entry.now.begun.items connections.entry.now.back.items connections.entry.now.failed connections.entry.now.wants)
-        (moment result.0.now result.2.now.left result.2.now.begun.value.items result.2.now.back.value.items result.2.now.failed result.2.now.wants) }
+        (moment net.entry.now connections.entry.now.left connections.entry.now.begun.items connections.entry.now.back.items connections.entry.now.failed connections.entry.now.wants pass.entry.now.pass)
+        (moment result.0.now result.2.now.left result.2.now.begun.value.items result.2.now.back.value.items result.2.now.failed result.2.now.wants result.3.now.pass) }
     ensures each { length result.2.now.begun.value.items + length connections.entry.now.back.items ≡ length connections.entry.now.begun.items + length result.2.now.back.value.items + refused result.2.now.spawned }
     ensures over { (result.2.now.spawned ≡ spawned.All) → (result.2.now.left ≡ 0) ⊎ ((result.2.now.failed ≡ true) ⊎ (result.2.now.wants ≡ true)) }
     ensures faults { faults_of result.1.now ≡ faults_of spawner.entry.now + refused result.2.now.spawned }
@@ -206,16 +212,17 @@ fn run_scoped<'c, 'p, 'n, 'r, 'a, 'b, K: Keeper + Send + Drop, N: Net, R: Around
             &mut N,
             &mut Spawner,
             &mut Ran<N::Link>,
+            &mut ServerPass<K>,
             &mut Connections<'_, '_, K, N>,
         )
-            requires { IsServerPass K.kept connections.now.server.now.lock connections.now.pass.pass connections.now.pass.clerk }
-            ensures { (result.0.ghost_name ≡ net.entry.ghost_name) × (result.1.ghost_name ≡ spawner.entry.ghost_name) × (result.2.ghost_name ≡ ran.entry.ghost_name) × GoesOn N.faults N.bad N.ended (back_of N.Link.faults N.Link.closes N.Link.given N.Link.got)
-                (moment net.entry.now connections.entry.now.left connections.entry.now.begun.items connections.entry.now.back.items connections.entry.now.failed connections.entry.now.wants)
-                (moment result.0.now result.2.now.left result.2.now.begun.value.items result.2.now.back.value.items result.2.now.failed result.2.now.wants) × (length result.2.now.begun.value.items + length connections.entry.now.back.items ≡ length connections.entry.now.begun.items + length result.2.now.back.value.items + refused result.2.now.spawned) × ((result.2.now.spawned ≡ spawned.All) → (result.2.now.left ≡ 0) ⊎ ((result.2.now.failed ≡ true) ⊎ (result.2.now.wants ≡ true))) × (faults_of result.1.now ≡ faults_of spawner.entry.now + refused result.2.now.spawned) }
+            requires { IsServerPass K.kept connections.now.server.now.lock pass.now.pass pass.now.clerk }
+            ensures { (result.0.ghost_name ≡ net.entry.ghost_name) × (result.1.ghost_name ≡ spawner.entry.ghost_name) × (result.2.ghost_name ≡ ran.entry.ghost_name) × (result.3.ghost_name ≡ pass.entry.ghost_name) × IsServerPass K.kept connections.entry.now.server.now.lock result.3.now.pass result.3.now.clerk × GoesOn N.faults N.bad N.ended (back_of N.Link.faults N.Link.closes N.Link.given N.Link.got)
+                (moment net.entry.now connections.entry.now.left connections.entry.now.begun.items connections.entry.now.back.items connections.entry.now.failed connections.entry.now.wants pass.entry.now.pass)
+                (moment result.0.now result.2.now.left result.2.now.begun.value.items result.2.now.back.value.items result.2.now.failed result.2.now.wants result.3.now.pass) × (length result.2.now.begun.value.items + length connections.entry.now.back.items ≡ length connections.entry.now.begun.items + length result.2.now.back.value.items + refused result.2.now.spawned) × ((result.2.now.spawned ≡ spawned.All) → (result.2.now.left ≡ 0) ⊎ ((result.2.now.failed ≡ true) ⊎ (result.2.now.wants ≡ true))) × (faults_of result.1.now ≡ faults_of spawner.entry.now + refused result.2.now.spawned) }
         {
-            let spawned = run_in(rt, scope, spawner, net, connections);
+            let spawned = run_in(rt, scope, spawner, net, pass, connections);
             *ran = ran_of(spawned, connections);
-            (net, spawner, ran, connections)
+            (net, spawner, ran, pass, connections)
         },
     )
 }
@@ -243,17 +250,19 @@ pub fn run_all<K: Keeper + Send + Drop, N: Net, R: Around + Eprint>(
     rt: &R,
     spawner: &mut Spawner,
     net: &mut N,
+    pass: &mut ServerPass<K>,
     connections: &mut Connections<'_, '_, K, N>,
 ) -> Ran<N::Link>
-    requires { IsServerPass K.kept connections.old.server.now.lock connections.old.pass.pass connections.old.pass.clerk }
+    requires { IsServerPass K.kept connections.old.server.now.lock pass.old.pass pass.old.clerk }
+    ensures pass { IsServerPass K.kept connections.old.server.now.lock pass.new.pass pass.new.clerk }
     ensures goes { GoesOn N.faults N.bad N.ended (back_of N.Link.faults N.Link.closes N.Link.given N.Link.got)
-        (moment net.old connections.old.left connections.old.begun.items connections.old.back.items connections.old.failed connections.old.wants)
-        (moment net.new result.left result.begun.value.items result.back.value.items result.failed result.wants) }
+        (moment net.old connections.old.left connections.old.begun.items connections.old.back.items connections.old.failed connections.old.wants pass.old.pass)
+        (moment net.new result.left result.begun.value.items result.back.value.items result.failed result.wants pass.new.pass) }
     ensures each { length result.begun.value.items + length connections.old.back.items ≡ length connections.old.begun.items + length result.back.value.items + refused result.spawned }
     ensures over { (result.spawned ≡ spawned.All) → (result.left ≡ 0) ⊎ ((result.failed ≡ true) ⊎ (result.wants ≡ true)) }
     ensures faults { faults_of spawner.new ≡ faults_of spawner.old + refused result.spawned }
 {
     let mut ran = ran_of(Spawned::NoMemory, connections);
-    let (_, _, _, _) = run_scoped(rt, spawner, net, &mut ran, connections);
+    let (_, _, _, _, _) = run_scoped(rt, spawner, net, &mut ran, pass, connections);
     ran
 }

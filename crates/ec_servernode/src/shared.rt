@@ -5,10 +5,11 @@ ghost use Rattle.ec_base.specs.Limits.{clerk_count};
 ghost use Rattle.ec_wire.specs.Codes.{said};
 ghost use Rattle.ec_wire.specs.Messages.{is_sound};
 ghost use Rattle.ec_lock.specs.Passes.{first, front, numbers, Same};
+ghost use Rattle.ec_lock.specs.Steps.{Member, of};
 ghost use Rattle.ec_server.specs.Servers.{StandsOn};
 ghost use Rattle.ec_servernode.specs.Floors.{no_floor};
 ghost use Rattle.ec_servernode.specs.Node.{Since, queue_at};
-ghost use Rattle.ec_servernode.specs.Run.{sender, put_all, for_clerk, halted};
+ghost use Rattle.ec_servernode.specs.Run.{number_of, sender, put_all, for_clerk, halted};
 ghost use Rattle.ec_servernode.specs.Turns.{IsServerPass, Looked, peer_of, turned_of, Hears, TakesMessage, GivesNext, Serves, RunsFrom, Finished};
 
 use crate::fault::ServeFault;
@@ -295,6 +296,7 @@ impl<K: Keeper + Drop> SharedServer<K> {
         requires pass { IsServerPass K.kept self.lock pass.old.pass pass.old.clerk }
         ensures same { Same pass.old.pass pass.new.pass }
         ensures later { IsPrefix (front pass.old.pass) (front pass.new.pass) }
+        ensures own { (n : ℕ) → Member n (numbers pass.old.pass) → of number_of n (front pass.old.pass) ≡ of number_of n (front pass.new.pass) }
         ensures run { RunsFrom K.kept (first self.lock) (front pass.new.pass) }
         ensures finished { Finished K.kept K.counts K.did K.broke (first self.lock) (front pass.new.pass) result.0 result.1 }
         ensures halt { result.2 ≡ halted (front pass.new.pass) }
@@ -312,6 +314,7 @@ impl<K: Keeper + Drop> SharedServer<K> {
         requires pass { IsServerPass K.kept self.lock pass.old.pass pass.old.clerk }
         ensures same { Same pass.old.pass pass.new.pass }
         ensures later { IsPrefix (front pass.old.pass) (front pass.new.pass) }
+        ensures own { (n : ℕ) → Member n (numbers pass.old.pass) → of number_of n (front pass.old.pass) ≡ of number_of n (front pass.new.pass) }
         ensures run { RunsFrom K.kept (first self.lock) (front pass.new.pass) }
         ensures finished { Finished K.kept K.counts K.did K.broke (first self.lock) (front pass.new.pass) result.0 result.1 }
     {

@@ -1,5 +1,6 @@
 use Rattle.std.proofs.Common.{false, length, refl, sym, ap, subst}
 use Rattle.ec_link.specs.Spawns.{faults_of}
+use Rattle.ec_lock.specs.Passes.{front, numbers}
 use Rattle.ec_serve.specs.Links.{back_of, moment}
 use Rattle.ec_serve.specs.Serve.{Outer, Tends, tended_of}
 use Rattle.ec_serve.proofs.Goes.{no_fault}
@@ -28,12 +29,13 @@ returns-clause-tends g c =
     let net = c.listen.new.self in
     let starts = faults_of c.args.spawner.now in
     let later = faults_of c.run_all-ran.new.spawner in
-    let first = moment net c.args.count c.new-2.result.items c.new-3.result.items false false in
-    let final = moment last ran_so.left ran_so.begun.value.items ran_so.back.value.items ran_so.failed ran_so.wants in
+    let pass = c.run_all-ran.new.pass.pass in
+    let first = moment net c.args.count c.new-2.result.items c.new-3.result.items false false c.args.pass.now.pass in
+    let final = moment last ran_so.left ran_so.begun.value.items ran_so.back.value.items ran_so.failed ran_so.wants pass in
     let opened = c.in-Ok-listen.ensures in
     let old : Outer = record { faults = faults c.args.net.now; bad = bad c.args.net.now; ended = ended c.args.net.now; starts = starts } in
     let t : Tended faults bad ended back first final c.args.count spawned starts later =
     record { goes = ran.goes; left = refl; begun = ap length c.new-2.ensures; back = c.new-3.ensures; failed = refl; each = ran.each; over = ran.over; spawns = ran.faults } in
-    let all = tends_before c.args.count (tended_of spawned ran_so.failed ran_so.wants) old (outer faults bad ended back starts net) (outer faults bad ended back later last) (no_fault (faults c.args.net.now) (faults net) 0 opened.faults) opened.same.0 opened.same.1 refl
+    let all = tends_before c.args.count (tended_of spawned ran_so.failed ran_so.wants) (numbers pass) (front pass) old (outer faults bad ended back starts net) (outer faults bad ended back later last) (no_fault (faults c.args.net.now) (faults net) 0 opened.faults) opened.same.0 opened.same.1 refl
     (tends faults bad ended back first final c.args.count spawned starts later t) in
-    subst (λ r. Tends c.args.count r old (outer faults bad ended back later last)) (sym c.tended_of.ensures) all
+    subst (λ r. Tends c.args.count r (numbers pass) (front pass) old (outer faults bad ended back later last)) (sym c.tended_of.ensures) all

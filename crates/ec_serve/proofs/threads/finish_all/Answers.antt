@@ -16,6 +16,7 @@ done-requires-clause-out g c = λ κs within.
     let out = c.join-ended.result in (
       subst (λ s. IsServerPass g.K.Keeper.kept s.lock out.pass.pass out.pass.clerk) (kept ∙ ap (λ s. s.now) (sym inv.1)) c.join-ended.ensures.0,
       c.join-ended.ensures.1,
+      c.join-ended.ensures.2,
     )
 
 pub loop-one-preserved : goal.loop-one-preserved

@@ -7,11 +7,11 @@ use Rattle.ec_serve.proofs.threads.finish_all.Given as goal
 
 abbrev pub invariant-loop-one : goal.invariant-loop-one
 invariant-loop-one g l =
-    IsServerPass g.K.Keeper.kept l.connections.server.now.lock l.connections.pass.pass l.connections.pass.clerk
+    IsServerPass g.K.Keeper.kept l.connections.server.now.lock l.pass.pass l.pass.clerk
     × (l.connections.server ≡ l.fn.connections.server)
     × GoesOn g.N.Net.faults g.N.Net.bad g.N.Net.ended (back_of g.N.Link.Link.faults g.N.Link.Link.closes g.N.Link.Link.given g.N.Link.Link.got)
-    (moment l.fn.net l.fn.connections.left l.fn.connections.begun.items l.fn.connections.back.items l.fn.connections.failed l.fn.connections.wants)
-    (moment l.net l.connections.left l.connections.begun.items l.connections.back.items l.connections.failed l.connections.wants)
+    (moment l.fn.net l.fn.connections.left l.fn.connections.begun.items l.fn.connections.back.items l.fn.connections.failed l.fn.connections.wants l.fn.pass.pass)
+    (moment l.net l.connections.left l.connections.begun.items l.connections.back.items l.connections.failed l.connections.wants l.pass.pass)
     × ((l.connections.left ≡ l.fn.connections.left) × (l.connections.begun ≡ l.fn.connections.begun) × (l.connections.failed ≡ l.fn.connections.failed))
     × (length l.connections.back.items ≡ length l.fn.connections.back.items + length l.yielded)
     × (l.fn.connections.wants ≡ true → l.connections.wants ≡ true)

@@ -8,11 +8,11 @@ use Rattle.ec_serve.proofs.threads.start_all.Given as goal
 abbrev pub invariant-loop : goal.invariant-loop
 invariant-loop g l =
     (goal.iterator-loop g).can_next l.iterator' × (goal.iterator-loop g).is_finite l.iterator'
-    × IsServerPass g.K.Keeper.kept l.connections.server.now.lock l.connections.pass.pass l.connections.pass.clerk
+    × IsServerPass g.K.Keeper.kept l.connections.server.now.lock l.pass.pass l.pass.clerk
     × (l.connections.server ≡ l.fn.connections.server)
     × GoesOn g.N.Net.faults g.N.Net.bad g.N.Net.ended (back_of g.N.Link.Link.faults g.N.Link.Link.closes g.N.Link.Link.given g.N.Link.Link.got)
-    (moment l.fn.net l.fn.connections.left l.fn.connections.begun.items l.fn.connections.back.items l.fn.connections.failed l.fn.connections.wants)
-    (moment l.net l.connections.left l.connections.begun.items l.connections.back.items l.connections.failed l.connections.wants)
+    (moment l.fn.net l.fn.connections.left l.fn.connections.begun.items l.fn.connections.back.items l.fn.connections.failed l.fn.connections.wants l.fn.pass.pass)
+    (moment l.net l.connections.left l.connections.begun.items l.connections.back.items l.connections.failed l.connections.wants l.pass.pass)
     × (l.connections.back ≡ l.fn.connections.back)
     × (length l.connections.begun.items + vec_len l.fn.started ≡ length l.fn.connections.begun.items + vec_len l.started)
     × All (λ one. one.handle.promise.0.value ≡ l.fn.connections.server.now) l.started.items

@@ -1,6 +1,8 @@
 use Rattle.std.proofs.Common.{sym, ap, ◌∙◌, subst, rules}
 use mathlib.Core.List.{IsPrefix}
 use Rattle.ec_lock.specs.Passes.{first, front}
+use Rattle.ec_lock.specs.Steps.{of}
+use Rattle.ec_servernode.specs.Run.{number_of}
 use Rattle.ec_servernode.specs.Node.{Since}
 use Rattle.ec_servernode.specs.Turns.{RunsFrom}
 use Rattle.ec_servernode.proofs.Fronts.{finished_none, finished_some}
@@ -8,6 +10,9 @@ use Rattle.ec_servernode.proofs.shared.SharedServer.end.Goals as goal
 
 pub returns-then-node-clause-later : goal.returns-then-node-clause-later
 returns-then-node-clause-later g c = subst (IsPrefix (front c.args.pass.now.pass)) (sym c.enter-turn.ensures.front) c.enter-turn.ensures.later
+
+pub returns-then-node-clause-own : goal.returns-then-node-clause-own
+returns-then-node-clause-own g c n m = c.enter-turn.ensures.own n m ∙ ap (of number_of n) (sym c.enter-turn.ensures.front)
 
 pub returns-then-node-clause-run : goal.returns-then-node-clause-run
 returns-then-node-clause-run g c = let since = c.enter-turn.ensures.since in subst (RunsFrom g.K.Keeper.kept (first c.args.self.lock)) (sym c.enter-turn.ensures.front) since.run
@@ -21,6 +26,9 @@ returns-then-node-clause-finished g c =
 
 pub returns-clause-later : goal.returns-clause-later
 returns-clause-later g c = subst (IsPrefix (front c.args.pass.now.pass)) (sym c.enter-turn.ensures.front) c.enter-turn.ensures.later
+
+pub returns-clause-own : goal.returns-clause-own
+returns-clause-own g c n m = c.enter-turn.ensures.own n m ∙ ap (of number_of n) (sym c.enter-turn.ensures.front)
 
 pub returns-clause-run : goal.returns-clause-run
 returns-clause-run g c = let since = c.enter-turn.ensures.since in subst (RunsFrom g.K.Keeper.kept (first c.args.self.lock)) (sym c.enter-turn.ensures.front) since.run
