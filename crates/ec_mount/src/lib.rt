@@ -7,6 +7,7 @@ mod mounting;
 mod script;
 mod shown;
 mod status;
+mod telling;
 mod work;
 
 pub use mounting::mount;

@@ -9,6 +9,7 @@ use crate::limits::MOST_BYTES;
 use crate::script::{Row, Unread, lanes_of, rows_of};
 use crate::shown::{old_boot_line, peer_line, write_answers, write_line};
 use crate::status::Status;
+use crate::telling::{tell_call, tell_end};
 use crate::work::{Answers, work};
 use ec_base::{ClerkId, NoMemory, Sink, Source};
 use ec_clerknode::NodeFault;
@@ -18,10 +19,12 @@ use ec_streams::WriteFault;
 use ec_text::print;
 use ec_wire::WireFault;
 use std::alloc::Global;
+use std::io::Eprint;
 
 /// Runs the lane script that the source gives by this clerk, over a link to who listens at the address, and writes the answers
-/// to the sink. The source is read to its end first. `boot` is the number of this start of the clerk.
-pub fn mount<S: Source, K: Sink, N: Net, R: Around>(
+/// to the sink. The source is read to its end first. `boot` is the number of this start of the clerk. Standard error tells the
+/// address, the start, and why it ended.
+pub fn mount<S: Source, K: Sink, N: Net, R: Around + Eprint>(
     rt: &R,
     source: &mut S,
     sink: &mut K,
@@ -53,7 +56,9 @@ pub fn mount<S: Source, K: Sink, N: Net, R: Around>(
     let Ok(lanes) = lanes_of(alloc, &rows) else {
         return Status::NoMemory;
     };
+    tell_call(rt, addr);
     let worked = work(rt, net, addr, clerk, boot, lanes);
+    tell_end(rt, &worked);
     tell(alloc, sink, &rows, worked)
 }
 

@@ -4,6 +4,7 @@ ghost use Rattle.ec_mount.specs.Work.{RunsOver, WorksOver, Works, Concludes, giv
 ghost use Rattle.ec_mount.specs.Calls.{made_items};
 
 use crate::calls::{Replies, make_calls};
+use crate::telling::tell_start;
 use ec_base::{ClerkId, List, OpNo};
 use ec_clerk::Clerk;
 use ec_clerknode::{Closing, NodeFault, Reply, SharedClerk, send_all};
@@ -11,6 +12,7 @@ use ec_link::{Around, Link, Net, NetFault, Sent};
 use ec_plain::Call;
 use ec_protocol::{ClerkFault, Out};
 use std::alloc::Global;
+use std::io::Eprint;
 
 /// What a mount's calls were answered.
 #[derive(Drop)]
@@ -98,7 +100,7 @@ fn work_over<L: Link + Send + Drop, R: Around>(
 }
 
 /// Starts the clerk, makes its calls over a link to who listens at the address, and gives the link back to the net.
-pub fn work<N: Net, R: Around>(
+pub fn work<N: Net, R: Around + Eprint>(
     rt: &R,
     net: &mut N,
     addr: &str,
@@ -123,6 +125,7 @@ pub fn work<N: Net, R: Around>(
         Err(NetFault::Failed) => return Err(NodeFault::Net),
         Err(NetFault::NoMemory) => return Err(NodeFault::NoMemory),
     };
+    tell_start(rt, boot);
     let Some((link, result)) = work_over(rt, alloc, link, clerk, outs, lanes) else {
         return Err(NodeFault::NoMemory);
     };

@@ -4,17 +4,20 @@ use crate::peer::{Peer, attend};
 use ec_base::{ClerkId, MemSink, MemSource};
 use ec_link::{Around, MemNet, Net};
 use ec_mount::{Status, mount};
+use std::io::Eprint;
 use std::net::{TcpListener, TcpStream};
 use std::test::*;
 use std::thread::join;
 
 // The types of the runtime's net. A test names them, so that its table of types has them.
-type NetTypes = (Option<TcpListener>, Option<TcpStream>);
+pub type NetTypes = (Option<TcpListener>, Option<TcpStream>);
 
-// Whether a mount of `A` with boot 1 over this net ends so, and printed this text.
-fn is_mounted<R: Around>(
+/// Whether a mount of this clerk with boot 1 ends so, and printed this text.
+pub fn is_mounted<R: Around + Eprint>(
     rt: &R,
     net: &mut MemNet,
+    addr: &str,
+    clerk: u8,
     script: &[u8],
     status: Status,
     text: &[u8],
@@ -27,15 +30,15 @@ fn is_mounted<R: Around>(
         &mut source,
         &mut sink,
         net,
-        "server",
-        ClerkId::new(0)?,
+        addr,
+        ClerkId::new(clerk)?,
         1,
     );
     Some(ended == status && sink.bytes() == text)
 }
 
 // The same beside a peer. Only a mount that ends well says goodbye.
-fn is_mounted_beside<R: Around>(
+fn is_mounted_beside<R: Around + Eprint>(
     rt: &R,
     peer: Peer,
     script: &[u8],
@@ -47,7 +50,7 @@ fn is_mounted_beside<R: Around>(
     let door = theirs.listen(rt, "server").ok()?;
     let (made, bye) = join(
         rt,
-        || is_mounted(rt, &mut net, script, status, text),
+        || is_mounted(rt, &mut net, "server", 0, script, status, text),
         || attend(rt, theirs, door, peer),
     );
     Some(made? && bye.is_some() == (status == Status::Done))
@@ -97,10 +100,22 @@ fn tells_faults_before_the_first_call(rt: HostRuntime) -> Result<(), Fail> {
     let mut net = MemNet::new(rt.alloc(), Vec::new(rt.alloc()))
         .ok()
         .ok_or("a net")?;
-    assert!(rt; is_mounted(&rt, &mut net, b"1 stat /", Status::NetFault, b"") == Some(true));
+    assert!(rt;
+        is_mounted(
+            &rt,
+            &mut net,
+            "server",
+            0,
+            b"1 stat /",
+            Status::NetFault,
+            b""
+        ) == Some(true)
+    );
     let made = is_mounted(
         &rt,
         &mut net,
+        "server",
+        0,
         b"1 stat /\n9 stat /\n",
         Status::BadLine,
         b"bad 2 col 1\n",
