@@ -1,0 +1,5 @@
+mod Parts
+pub mod Within
+pub mod Lines
+pub mod Settled
+pub mod Telling
