@@ -1,0 +1,3 @@
+pub mod Pinned
+pub mod Shown
+pub mod About

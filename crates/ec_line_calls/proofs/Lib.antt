@@ -1,0 +1,3 @@
+pub mod May
+pub mod On
+pub mod Starts

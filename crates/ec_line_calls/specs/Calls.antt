@@ -1,0 +1,68 @@
+-- A call of a clerk where all is idle, as contracts name it.
+use Rattle.std.specs.Prelude.{◌≡◌, ◌<◌, ◌==◌, ℕ, T, false, nat_le, None}
+use Rattle.ec_base.specs.Limits.{last_counter}
+use Rattle.ec_base.specs.Tables.{at}
+use Rattle.ec_plain.specs.Bounds.{is_bounded}
+use Rattle.ec_plain.specs.declared.call.Call.{Call}
+use Rattle.ec_base.specs.declared.ids.Age.{Age}
+use Rattle.ec_sessions.specs.declared.slot.Slot.{Slot}
+use Rattle.ec_durable.specs.WellFormed.{IsInOrder}
+use Rattle.ec_log.specs.Log as log
+use Rattle.ec_protocol.specs.Clerk.{add_call, begin}
+use Rattle.ec_protocol.specs.World.{call}
+use Rattle.ec_protocol.specs.declared.clerk.Clerk.{Clerk}
+use Rattle.ec_protocol.specs.declared.world.World.{World}
+use Rattle.ec_coherence.specs.Steps.{Stands}
+use Rattle.ec_coherence.specs.System.{System}
+use Rattle.ec_steps.specs.Steps.{IsNewIn}
+use Rattle.ec_whole.specs.Whole.{Whole}
+use Rattle.ec_quiet.specs.Phases.{Greets, InPhase, Phase}
+use Rattle.ec_quiet.specs.Quiet.{IsIdle}
+use Rattle.ec_quiet.specs.Scenes.{IsScene, Scene, done_by}
+use Rattle.ec_quiet.specs.Works.{Calls, Work}
+use Rattle.ec_clerk_phases.specs.Goes.{MayGo}
+use Rattle.ec_clerk_phases.specs.Tries.{HasCounters}
+use Rattle.ec_clerk_lines.specs.Lines.{IsAt}
+use Rattle.ec_agreed_calls.specs.Calls.{kept_volume, touched_by}
+use Rattle.ec_line_worlds.specs.Lines.{IsOnLine, next_object}
+use Rattle.ec_line_begins.specs.Begins.{IsTold}
+
+-- All is idle in a world of which all facts hold, and the call is of a clerk that runs. The line is about what the call touches on the volume that is
+-- kept, and the clerk's counters aren't at their end.
+pub record IsCalled (j : Work) (cl : Call) (w : World) (sc : Scene) (g : System) (sl : Slot) (k : Clerk) : Type 0 where
+  pub whole : Whole g
+  pub stands : Stands w g
+  pub scene : IsScene w sc
+  pub idle : IsIdle sc
+  pub order : IsInOrder sc.server.durable
+  pub its : IsAt j sc sl k
+  pub task : j.task ≡ Calls cl
+  pub bounded : T (is_bounded cl)
+  pub touched : j.touched ≡ touched_by cl (kept_volume g) (next_object sc j.clerk k)
+  pub calls : nat_le last_counter k.calls ≡ false
+  pub counters : HasCounters k
+  pub small : log.is_full k.log ≡ false
+
+abbrev pub CallsMayBegin : Type 0
+CallsMayBegin = (j : Work) (l : ℕ) (cl : Call) (w : World) (sc : Scene) (g : System) (sl : Slot) (k : Clerk) → IsCalled j cl w sc g sl k → IsNewIn w l → MayGo j (add_call cl k)
+
+abbrev pub CallsComeOn : Type 0
+CallsComeOn = (j : Work) (l : ℕ) (cl : Call) (w : World) (sc : Scene) (g : System) (sl : Slot) (k : Clerk) (q : Phase) → IsCalled j cl w sc g sl k → IsNewIn w l → (call j.clerk l cl w).fault ≡ None
+    → let now = done_by j.clerk (begin cl k) sc.mail sc in IsScene (call j.clerk l cl w).world now → InPhase j now q → IsTold q → (h : System) × IsOnLine j (call j.clerk l cl w).world now h
+
+-- So it is where the clerk doesn't run: it starts with the call, and gets the server's next ids.
+pub record IsCalledFirst (j : Work) (cl : Call) (w : World) (sc : Scene) (g : System) : Type 0 where
+  pub whole : Whole g
+  pub stands : Stands w g
+  pub scene : IsScene w sc
+  pub idle : IsIdle sc
+  pub order : IsInOrder sc.server.durable
+  pub clerk : j.clerk < 16
+  pub none : at j.clerk sc.clerks ≡ None
+  pub task : j.task ≡ Calls cl
+  pub bounded : T (is_bounded cl)
+  pub touched : j.touched ≡ touched_by cl (kept_volume g) sc.server.durable.next_id
+
+abbrev pub StartsComeOn : Type 0
+StartsComeOn = (j : Work) (l : ℕ) (cl : Call) (w : World) (sc now : Scene) (g : System) (age : Age) → IsCalledFirst j cl w sc g → IsNewIn w l → (call j.clerk l cl w).fault ≡ None → IsScene (call j.clerk l cl w).world now
+    → now.server ≡ sc.server → ((a : ℕ) → (a == j.clerk) ≡ false → at a now.clerks ≡ at a sc.clerks) → InPhase j now (Greets age) → (h : System) × IsOnLine j (call j.clerk l cl w).world now h

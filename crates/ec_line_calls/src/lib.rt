@@ -1,0 +1,21 @@
+//! The first step of a line's call: it may go on, and the line's world is as its deliveries ask
+//! for. Each function has an empty body, and its contract is a law.
+#![tactic(auto)]
+
+ghost use Rattle.ec_line_calls.specs.Calls.{CallsComeOn, CallsMayBegin, StartsComeOn};
+
+/// Where all was idle, a call that is added to its clerk may go on.
+pub fn calls_may_begin()
+    ensures { CallsMayBegin }
+{}
+
+/// Behind its first step all facts hold of the world, and the line is about what its call touches,
+/// while it waits.
+pub fn calls_come_on_line()
+    ensures { CallsComeOn }
+{}
+
+/// So it is where the clerk starts with the call.
+pub fn starts_come_on_line()
+    ensures { StartsComeOn }
+{}

@@ -1,0 +1,5 @@
+pub mod Standing
+pub mod Serving
+pub mod Stepping
+pub mod Owning
+pub mod Delivering

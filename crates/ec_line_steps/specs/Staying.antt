@@ -1,0 +1,16 @@
+-- A line's world behind a delivery, as contracts name it.
+use Rattle.std.specs.Prelude.{◌≡◌, ℕ, ◌∷◌, None, Some}
+use Rattle.ec_wire.specs.declared.msg.Msg.{Msg}
+use Rattle.ec_protocol.specs.World.{deliver, due, runs}
+use Rattle.ec_protocol.specs.declared.world.World.{World}
+use Rattle.ec_coherence.specs.System.{System}
+use Rattle.ec_quiet.specs.Phases.{InPhase, Phase}
+use Rattle.ec_quiet.specs.Scenes.{IsScene, Mail, Scene, delivered}
+use Rattle.ec_quiet.specs.Works.{Work}
+use Rattle.ec_line_worlds.specs.Lines.{IsOnLine, IsSpare}
+
+-- Where a delivery leads from a phase to a phase, the world behind it stands in a system of which all facts hold, and the line is about what its call
+-- touches there, while it waits.
+abbrev pub LinesStayOn : Type 0
+LinesStayOn = (j : Work) (w : World) (sc : Scene) (g : System) (p q : Phase) (m : ℕ × Msg) (rest : Mail) (n : ℕ) → IsOnLine j w sc g → IsSpare j sc → IsScene w sc → InPhase j sc p → sc.mail ≡ m ∷ rest
+    → due w ≡ Some n → (deliver runs n w).fault ≡ None → InPhase j (delivered m.0 m.1 rest sc) q → (h : System) × IsOnLine j (deliver runs n w).world (delivered m.0 m.1 rest sc) h

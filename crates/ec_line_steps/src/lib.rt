@@ -1,0 +1,10 @@
+//! Worlds in which a line settles without faults, one behind the other: what is kept stays as it is
+//! until the line's call is answered. Each function has an empty body, and its contract is a law.
+#![tactic(auto)]
+
+ghost use Rattle.ec_line_steps.specs.Staying.{LinesStayOn};
+
+/// Behind a delivery all facts hold again, and the line is about what its call touches, while it waits.
+pub fn lines_stay_on()
+    ensures { LinesStayOn }
+{}
