@@ -1,0 +1,4 @@
+pub mod Empty
+mod Once
+pub mod Starting
+pub mod Pushing

@@ -1,0 +1,5 @@
+pub mod Stepping
+mod Starting
+mod Pushing
+pub mod Ending
+mod Opening

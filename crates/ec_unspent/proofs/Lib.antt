@@ -1,0 +1,4 @@
+pub mod Serving
+pub mod Growing
+pub mod Trying
+pub mod Taking
