@@ -1,0 +1,2 @@
+mod Spare
+pub mod Settling

@@ -1,0 +1,10 @@
+//! Lines of a script without faults, in worlds of which all facts hold. The function has an empty body, and its contract is a law.
+#![tactic(auto)]
+
+ghost use Rattle.ec_settled_lines.specs.Worlds.{LinesCanSettle, LinesStayKnown};
+
+/// In a world of which all facts hold a line that is in a phase can settle, and all facts hold again.
+pub fn lines_can_settle()
+    ensures known { LinesStayKnown }
+    ensures settle { LinesCanSettle }
+{}
