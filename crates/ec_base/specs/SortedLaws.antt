@@ -1,7 +1,7 @@
 -- Laws of lists of pairs whose keys rise, for any total order of the keys: `nat_cmp_total` and `nat_list_cmp_total` are the laws of ids and names.
 -- Further ones stand in std's `FinMap.Entries`: `find-put`, `is_sorted-put`, `is_sorted-where_key`, `length-put`, `length_without`, `same_entries`.
 use Rattle.std.proofs.Common.{◌≡◌, ℕ, zero, suc, ◌+◌, ◌<◌, ◌≤◌, List, [], ◌∷◌, length, get_or, Option, None, Some, Bool, true, false, refl, sym, ap, subst, ◌∙◌, arith}
-use Rattle.std.specs.Prelude.{T, ◌&&◌, not, cond, is_some, unwrap_or, slice_get, Result, Ok, Err, OnOk, OnErr, OnSome, IfNone, MatchResult}
+use Rattle.std.specs.Prelude.{T, ◌&&◌, not, cond, is_some, unwrap_or, slice_get, Result, Ok, Err, OnOk, OnErr, OnSome, IfNone, MatchOption, MatchResult}
 use Rattle.std.specs.declared.cmp.Ordering.{Ordering}
 use Rattle.std.specs.declared.cmp.Ordering.TheVariants.{Less, Equal, Greater}
 use Rattle.std.specs.Ordering.{is_lt, is_eq, eq_by_cmp, ordering_reverse, ordering_index}
@@ -162,6 +162,14 @@ module _ {K X : Type 0} (R : K → K → Ordering) where
     pub sorted_on_some : {A : Type 0} (r : Option A) (k : K) (v : X) (old new : List (K × X)) → OnSome r (new ≡ put R k v old) → IfNone r (new ≡ old) → T (is_sorted R old) → T (is_sorted R new)
     sorted_on_some (Some a) k v old new some none h = sorted_put k v old new some h
     sorted_on_some None k v old new some none h = subst (λ es. T (is_sorted R es)) (sym none) h
+
+    sorted_matched : (found : Option X) (k : K) (f : X → X) (old new : List (K × X)) → MatchOption found (new ≡ old) (λ v. new ≡ put R k (f v) old) → T (is_sorted R old) → T (is_sorted R new)
+    sorted_matched (Some v) k f old new is h = sorted_put k (f v) old new is h
+    sorted_matched None k f old new is h = sorted_same old new is h
+
+    pub sorted_on_change : {A E : Type 0} (r : Result A E) (k : K) (f : X → X) (old new : List (K × X)) → OnOk r (MatchOption (find R k old) (new ≡ old) (λ v. new ≡ put R k (f v) old)) → OnErr r (new ≡ old) → T (is_sorted R old) → T (is_sorted R new)
+    sorted_on_change (Ok a) k f old new ok err h = sorted_matched (find R k old) k f old new ok h
+    sorted_on_change (Err e) k f old new ok err h = sorted_same old new err h
 
     pub find-without : (q k : K) (es : List (K × X)) → find R q (without R k es) ≡ cond (eq_by_cmp R k q) None (find R q es)
     find-without q k es = find-where_key R (λ other. not (eq_by_cmp R k other)) q (λ x tie. ap (λ r. not (is_eq r)) (alike_right o _ _ k (tied_back o _ _ tie))) es ∙ turned_round (eq_by_cmp R k q) (find R q es)

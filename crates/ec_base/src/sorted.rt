@@ -10,6 +10,21 @@ use std::alloc::Global;
 use std::marker::Model;
 use std::mem;
 
+/// A change of a value in its place.
+pub trait Change<V> {
+    /// Whether the change may be asked for.
+    ghost ready: { Self → Type 0 };
+
+    /// What it makes of a value.
+    ghost makes: { Self → V → V };
+
+    /// Changes the value, or leaves it as it is.
+    fn change(&self, value: &mut V) -> Result<(), NoMemory>
+        requires { ready self.now }
+        ensures ok { OnOk result (value.new ≡ makes self.now value.old) }
+        ensures err { OnErr result (value.new ≡ value.old) };
+}
+
 /// A map from keys to values, as the list of its pairs with the keys rising strictly.
 #[derive(Debug, Drop)]
 pub struct SortedMap<K: Ord, V> {
@@ -119,6 +134,15 @@ impl<K: Ord, V> SortedMap<K, V> {
         replace_in(&mut self.items, key, value)
     }
 
+    /// Changes the key's value in its place. Where the key is absent, nothing changes.
+    pub fn change<C: Change<V>>(&mut self, key: &K, by: &C) -> Result<(), NoMemory>
+        requires { C.ready by.now }
+        ensures ok { OnOk result (MatchOption (find K.cmp key.now self.old) (self.new ≡ self.old) (λ v. self.new ≡ put K.cmp key.now (C.makes by.now v) self.old)) }
+        ensures err { OnErr result (self.new ≡ self.old) }
+    {
+        change_in(&mut self.items, key, by)
+    }
+
     /// Removes the key. It takes no memory.
     pub fn remove(&mut self, key: &K) -> Option<V>
     where
@@ -205,6 +229,22 @@ fn replace_in<K: Ord, V: Drop>(items: &mut Vec<(K, V)>, key: &K, value: V) -> Op
     match slot_of(items, key) {
         Ok(at) => Some(mem::replace(&mut items[at].1, value)),
         Err(_) => None,
+    }
+}
+
+fn change_in<K: Ord, V, C: Change<V>>(
+    items: &mut Vec<(K, V)>,
+    key: &K,
+    by: &C,
+) -> Result<(), NoMemory>
+    requires sorted { T (is_sorted K.cmp items.old.items) }
+    requires ready { C.ready by.now }
+    ensures ok { OnOk result (MatchOption (find K.cmp key.now items.old.items) (items.new.items ≡ items.old.items) (λ v. items.new.items ≡ put K.cmp key.now (C.makes by.now v) items.old.items)) }
+    ensures err { OnErr result (items.new.items ≡ items.old.items) }
+{
+    match slot_of(items, key) {
+        Ok(at) => by.change(&mut items[at].1),
+        Err(_) => Ok(()),
     }
 }
 

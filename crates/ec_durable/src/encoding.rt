@@ -11,6 +11,9 @@ use ec_codes::{put_age, put_byte, put_clerk, put_id, put_long, put_update, put_w
 use ec_volume::Update;
 use std::alloc::Global;
 
+// Most records are shorter than this.
+const USUAL_BYTES: usize = 4_096;
+
 /// The bytes of a record: a batch of 1 to 64 operations, each with a sound update, or any other record. There are at
 /// most 263,443 bytes.
 pub fn encode(alloc: Global, change: &Record) -> Result<Vec<u8>, NoMemory>
@@ -19,7 +22,7 @@ pub fn encode(alloc: Global, change: &Record) -> Result<Vec<u8>, NoMemory>
     ensures fits { IfOk result (λ bytes. record_code.fits change.now ≡ true) }
     ensures short { IfOk result (λ bytes. length bytes.items ≤ max_record_code) }
 {
-    let mut out = Vec::new(alloc);
+    let mut out = Vec::with_capacity(alloc, USUAL_BYTES)?;
     put_record(&mut out, change)?;
     Ok(out)
 }

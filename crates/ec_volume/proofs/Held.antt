@@ -16,7 +16,7 @@ use Rattle.ec_volume.specs.Held.{IsVolume, is_held}
 use Rattle.ec_volume.specs.Carry.{instead, cleared}
 use Rattle.ec_volume.specs.declared.image.Image.{Image}
 use Rattle.ec_volume.specs.declared.image.Image.TheVariants.{Gone, File, Dir}
-use Rattle.ec_base.specs.SortedLaws.{first, second, both, find-without, put-put, put-found, without-put_new}
+use Rattle.ec_base.specs.SortedLaws.{first, second, both, find-without, put-put, without-put_new}
 
 pick : (b : Bool) (i r : Image) (f : Option Image) → r ≡ unwrap_or f Gone → (if b then i else r) ≡ unwrap_or (cond b (Some i) f) Gone
 pick true i r f e = refl
@@ -141,8 +141,9 @@ then_err (Err e) P Q f p = f p
 pub given : (k : ℕ) (i j : Image) (es middle new : List (ℕ × Image)) → IsVolume es → middle ≡ put nat_cmp k j es → new ≡ put nat_cmp k i middle → new ≡ put nat_cmp k i es
 given k i j es middle new v e f = f ∙ ap (put nat_cmp k i) e ∙ put-put nat_cmp nat_cmp_total k j i es
 
-pub given_back : (k : ℕ) (es new : List (ℕ × Image)) → IsVolume es → is_gone (images es k) ≡ false → new ≡ put nat_cmp k (images es k) es → new ≡ es
-given_back k es new v h e = e ∙ put-found nat_cmp nat_cmp_total k (images es k) es v.sorted (found es k h)
+-- a live object's image that was changed in its place
+pub made : (k : ℕ) (f : Image → Image) (es new : List (ℕ × Image)) → is_gone (images es k) ≡ false → MatchOption (find nat_cmp k es) (new ≡ es) (λ i. new ≡ put nat_cmp k (f i) es) → new ≡ put nat_cmp k (f (images es k)) es
+made k f es new live is = subst (λ r. MatchOption r (new ≡ es) (λ i. new ≡ put nat_cmp k (f i) es)) (found es k live) is
 
 pub changed : (k : ℕ) (i : Image) (es new : List (ℕ × Image)) → new ≡ put nat_cmp k i es → (o : ℕ) → images new o ≡ instead k i (images es) o
 changed k i es new e o = ap (λ xs. images xs o) e ∙ images-put k i es o

@@ -11,7 +11,29 @@ ghost use Rattle.ec_volume.specs.Carry.{instead, cleared};
 
 use crate::image::{Image, Kind};
 use crate::update::Update;
-use ec_base::{Name, NoMemory, ObjId, SortedMap};
+use ec_base::{Change, Name, NoMemory, ObjId, SortedMap};
+use std::alloc::Global;
+
+// What an update makes of the image of one of its operands.
+#[derive(Drop)]
+struct Step<'a> {
+    alloc: Global,
+    update: &'a Update,
+    id: ObjId,
+}
+
+impl Change<Image> for Step<'_> {
+    ghost use Rattle.std.specs.Prelude.{T};
+    ghost use Rattle.ec_volume.specs.Update.{is_sound, effect};
+
+    ghost ready = { λ step. T (is_sound step.update.now) };
+
+    ghost makes = { λ step image. effect step.update.now step.id image };
+
+    fn change(&self, image: &mut Image) -> Result<(), NoMemory> {
+        image.effect(self.alloc, self.update, self.id)
+    }
+}
 
 /// Carries out an update that fits. What may want memory comes first.
 pub(crate) fn carry_out(map: &mut SortedMap<ObjId, Image>, update: &Update) -> Result<(), NoMemory>
@@ -106,10 +128,7 @@ fn change(map: &mut SortedMap<ObjId, Image>, update: &Update, id: ObjId) -> Resu
     ensures err { OnErr result (map.new ≡ map.old) }
 {
     let alloc = *map.allocator();
-    let mut image = take(map, id);
-    let done = image.effect(alloc, update, id);
-    give(map, id, image);
-    done
+    map.change(&id, &Step { alloc, update, id })
 }
 
 // Removes an entry of a directory.

@@ -5,7 +5,7 @@ ghost use Rattle.ec_volume.specs.Image.{is_gone, is_file, is_dir, is_kind, entri
 
 use crate::entries::Entries;
 use crate::limits::{DIR_MODE, FILE_MODE};
-use ec_base::{Duplicate, List, Name, NoMemory, ObjId};
+use ec_base::{Duplicate, List, Name, NoMemory, ObjId, duplicate_bytes};
 use std::alloc::Global;
 
 /// The kind of an object.
@@ -172,7 +172,7 @@ impl Duplicate for Image {
                 mode: *mode,
                 stamp: *stamp,
                 owner: *owner,
-                bytes: bytes.duplicate()?,
+                bytes: duplicate_bytes(bytes)?,
             }),
             Image::Dir {
                 mode,

@@ -7,7 +7,7 @@ ghost use Rattle.ec_volume.specs.Carry.{renames};
 
 use crate::image::Kind;
 use crate::limits::{MAX_ABOVE, MAX_FILE_BYTES, MAX_MODE, MAX_ORDERED, MAX_WRITE_BYTES};
-use ec_base::{Duplicate, List, Name, NoMemory, ObjId};
+use ec_base::{Duplicate, List, Name, NoMemory, ObjId, duplicate_bytes};
 use std::alloc::Global;
 
 /// A change of some objects. Its operands are the objects that it tests or changes.
@@ -364,7 +364,7 @@ fn duplicate_itself(update: &Update) -> Result<Update, NoMemory>
         } => Update::Put {
             obj: *obj,
             at: *at,
-            bytes: bytes.duplicate()?,
+            bytes: duplicate_bytes(bytes)?,
             inside: *inside,
         },
         Update::Len { obj, len } => Update::Len {

@@ -118,11 +118,27 @@ impl Volume {
         ensures unfit { IfErr result (λ fault. Unfits fault update.now (images self.old)) }
         ensures err { OnErr result (self.new ≡ self.old) }
     {
-        let ids = operands(*self.map.allocator(), update)?;
-        if let Some(id) = self.first_unfit(update, &ids) {
+        if let Some(id) = self.unfit(update)? {
             return Err(ApplyFault::Unfit(id));
         }
         Ok(carry_out(&mut self.map, update)?)
+    }
+
+    // The first operand at which the update doesn't fit. An update of one operand takes no memory.
+    fn unfit(&self, update: &Update) -> Result<Option<ObjId>, NoMemory>
+        ensures { IfOk result (λ found. found ≡ first_unfit update.now (images self.now) (operands update.now)) }
+    {
+        match update {
+            Update::Put { obj, .. }
+            | Update::Len { obj, .. }
+            | Update::Mode { obj, .. }
+            | Update::Stamp { obj, .. }
+            | Update::Owner { obj, .. } => Ok(self.first_unfit(update, &[*obj])),
+            _ => {
+                let ids = operands(*self.map.allocator(), update)?;
+                Ok(self.first_unfit(update, &ids))
+            }
+        }
     }
 
     // The first of the operands at which the update doesn't fit.
