@@ -13,5 +13,6 @@ pub mod Operands
 pub mod Places
 pub mod Reached
 pub mod Rising
+pub mod Swept
 pub mod Taken
 pub mod Walks

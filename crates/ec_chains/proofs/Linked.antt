@@ -1,12 +1,9 @@
 -- Chains, with one more operation and without some.
 use Rattle.std.proofs.Common.{◌≡◌, ◌<◌, ◌∙◌, inl, inr, refl, sym, ap, subst, arith, ℕ, T, Bool, true, false, cond, not, List, [], ◌∷◌, ◌++◌, None, Some}
 use Rattle.std.specs.Prelude.{◌==◌, nat_lt, is_some, Result, Ok, Err, OnOk, OnErr}
-use Rattle.std.specs.Cmp.{nat_cmp_total, unsigned_ties}
-use Rattle.std.specs.Ordering.{nat_cmp}
 use Rattle.std.proofs.lemmas.Bool.Decides.{nat_tests}
-use Rattle.ec_base.specs.SortedLaws.{find-without}
 use Rattle.std.proofs.lemmas.Bool.{and_parts, ltb-true}
-use Rattle.ec_base.specs.Tables.{Table, at, at_or, or_else, put, without}
+use Rattle.ec_base.specs.Tables.{Table, at, at_or, or_else, put}
 use Rattle.ec_volume.specs.Update.{member, has_operand, operands}
 use Rattle.ec_volume.specs.declared.update.Update.{Update}
 use Rattle.ec_order.specs.Order.{Issued, Holds}
@@ -91,20 +88,9 @@ first-stays (Ok a) obj o n now old middle new none same ok err t =
     go true e = absurd (subst (λ l. T (member n l)) (ap (λ p. at_or [] p old) (alike e) ∙ ap (or_else []) none) t)
     go false e = t
 
--- a chain is taken away in which nothing stays
-pub removed-stays : (obj o n : ℕ) (was now none : List ℕ) (old middle new : Table (List ℕ)) → at obj old ≡ Some was → middle ≡ put obj none old → new ≡ without obj middle → now ≡ [] → (T (member n was) → T (member n now)) → T (member n (at_or [] o old)) → T (member n (at_or [] o new))
-removed-stays obj o n was now none old middle new is a b empty f t =
-    subst (λ l. T (member n l)) (sym (ap (at_or [] o) b ∙ ap (or_else []) (find-without nat_cmp nat_cmp_total o obj middle ∙ ap (λ c. cond c None (at o middle)) (sym (unsigned_ties obj o))))) (go (obj == o) refl)
-  where
-    alike : (obj == o) ≡ true → o ≡ obj
-    alike e = grind (arith, nat_tests, e)
-
-    apart : (obj == o) ≡ false → (o == obj) ≡ false
-    apart e = grind (arith, nat_tests, e)
-
-    go : (c : Bool) → (obj == o) ≡ c → T (member n (or_else [] (cond c None (at o middle))))
-    go true e = absurd (subst (λ l. T (member n l)) empty (f (subst (λ l. T (member n l)) (ap (λ p. at_or [] p old) (alike e) ∙ ap (or_else []) is) t)))
-    go false e = subst (λ l. T (member n (or_else [] l))) (sym (ap (at o) a ∙ at-put o obj none old ∙ ap (λ c. cond c (Some none) (at o old)) (apart e))) t
+-- the empty chain stays that took the place of one that got empty
+pub emptied-at : (obj o : ℕ) (none now : List ℕ) (old new : Table (List ℕ)) → new ≡ put obj none old → none ≡ [] → now ≡ [] → at_or [] o new ≡ or_else [] (cond (o == obj) (Some now) (at o old))
+emptied-at obj o none now old new a e f = ap (at_or [] o) a ∙ ap (or_else []) (at-put o obj none old ∙ ap (λ l. cond (o == obj) (Some l) (at o old)) (e ∙ sym f))
 
 pub on-both : {A E P Q R : Type 0} (r : Result A E) → OnOk r P → OnOk r Q → (P → Q → R) → OnOk r R
 on-both (Ok a) p q f = f p q

@@ -250,3 +250,14 @@ module _ (ask : Ask) (held : Issued) where
         asked = goes-on q w.asked (asked-again ask one);
         touched = λ o t. touched-again o (inr t);
       }
+
+      -- it's chosen, or not
+      pub walking-goes : (ops' : List ℕ) (others' : Others) (ranges' : Ranges)
+          → ((q x || is_needed others ranges x.1) ≡ true → (ops' ≡ ops ++ x.0 ∷ []) × ((z : Update) → is_needed others' ranges' z ≡ (needs z x.1 || is_needed others ranges z)))
+          → ((q x || is_needed others ranges x.1) ≡ false → (ops' ≡ ops) × (others' ≡ others) × (ranges' ≡ ranges)) → Walking rest' places' ops' others' ranges'
+      walking-goes ops' others' ranges' taken-in left-out = elim (cases_Bool (q x || is_needed others ranges x.1)) [
+        | inl t ↦ let a = taken-in t in walking-takes t ops' others' ranges' a.0 a.1
+        | inr f ↦
+            let a = left-out f in
+            subst (λ l. Walking rest' places' l others' ranges') (sym a.0) (subst (λ l. Walking rest' places' ops l ranges') (sym a.1) (subst (λ l. Walking rest' places' ops others l) (sym a.2) (walking-passes f)))
+      ]

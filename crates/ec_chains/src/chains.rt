@@ -1,5 +1,5 @@
 // One chain for each object.
-ghost use Rattle.std.specs.Prelude.{◌≡◌, ◌<◌, ℕ, T, [], true, is_some, OnOk};
+ghost use Rattle.std.specs.Prelude.{◌≡◌, ◌==◌, ◌<◌, ℕ, T, [], true, is_some, length, OnOk};
 ghost use Rattle.std.specs.List.Sorted.{IsNonDecreasing};
 ghost use Rattle.ec_base.specs.Tables.{at, at_or, put};
 ghost use Rattle.ec_volume.specs.Update.{member};
@@ -10,6 +10,7 @@ use crate::held::Held;
 use ec_base::{Name, NoMemory, ObjId, OpNo, SortedMap};
 use ec_volume::Update;
 use std::alloc::Global;
+use std::mem;
 
 /// The numbers of the object's chain, rising.
 pub fn chain_of(chains: &SortedMap<ObjId, Chain>, obj: ObjId) -> &[OpNo]
@@ -73,8 +74,8 @@ fn put_back(chains: &mut SortedMap<ObjId, Chain>, obj: ObjId, chain: Chain)
     chains.replace(&obj, chain);
 }
 
-/// What has left goes from the fronts of the chains of the objects on which this one was. It takes no
-/// memory.
+/// What has left goes from the fronts of the chains of the objects on which this one was. A chain that
+/// gets empty stays in the map. It takes no memory.
 pub fn unlink(
     alloc: Global,
     chains: &mut SortedMap<ObjId, Chain>,
@@ -86,6 +87,7 @@ pub fn unlink(
     if let Some(update) = &left {
         unlink_operands(alloc, chains, held, update);
     }
+    drop(left);
 }
 
 fn unlink_operands(
@@ -141,9 +143,7 @@ fn unlink_one(alloc: Global, chains: &mut SortedMap<ObjId, Chain>, obj: ObjId, h
         return;
     };
     chain.leave(held);
-    if chain.ops().is_empty() {
-        chains.remove(&obj);
-    } else {
+    if !is_empty(&chain) {
         put_back(chains, obj, chain);
     }
 }
@@ -180,4 +180,22 @@ fn unlink_above(
     'each: for (obj, _) in up {
         unlink_one(alloc, chains, *obj, held);
     }
+}
+
+/// The empty chains go once there are more chains than the limit. It's then twice what is left.
+pub fn sweep(alloc: Global, chains: &mut SortedMap<ObjId, Chain>, limit: &mut usize)
+    ensures { (o : ℕ) → at_or [] o chains.new ≡ at_or [] o chains.old }
+{
+    if chains.len() > *limit {
+        let mut items = mem::replace(chains, SortedMap::new(alloc)).into_vec();
+        items.retain(|item| !is_empty(&item.1));
+        *limit = items.len().saturating_mul(2);
+        *chains = SortedMap::of(items);
+    }
+}
+
+fn is_empty(chain: &Chain) -> bool
+    ensures { result ≡ (length chain.now == 0) }
+{
+    chain.ops().is_empty()
 }

@@ -1,8 +1,10 @@
 // Closures, by a walk from the last operation to the first over the chains of the objects that it meets.
-ghost use Rattle.std.specs.Prelude.{◌≡◌, ◌||◌, T, IfOk};
+ghost use Rattle.std.specs.Prelude.{◌≡◌, ◌||◌, ◌++◌, ◌∷◌, [], T, true, false, IfOk, OnOk};
 ghost use Rattle.std.specs.Ordering.{nat_cmp};
 ghost use Rattle.std.specs.FinMap.{is_sorted};
 ghost use Rattle.ec_base.specs.Tables.{keys};
+ghost use Rattle.ec_volume.specs.declared.update.Update.{Update as Of};
+ghost use Rattle.ec_order.specs.Order.{needs};
 ghost use Rattle.ec_chains.specs.Needed.{is_needed};
 ghost use Rattle.ec_chains.specs.Chains.{AreLinked};
 ghost use Rattle.ec_chains.specs.Slots.{live, placed, IsThere};
@@ -37,14 +39,24 @@ pub fn passes(ask: &Ask, op: OpNo, update: &Update) -> bool
     }
 }
 
-// Whether the operation is asked for by itself, or a chosen one needs it.
-fn is_chosen(ask: &Ask, needed: &Needed, op: OpNo, update: &Update) -> Result<bool, NoMemory>
-    ensures { IfOk result (λ chosen. chosen ≡ (passes ask.now (op, update.now) || is_needed needed.now.others needed.now.ranges update.now)) }
+// The operation is chosen where it's asked for by itself, or a chosen one needs it.
+fn choose(
+    ask: &Ask,
+    needed: &mut Needed,
+    ops: &mut Vec<OpNo>,
+    op: OpNo,
+    update: &Update,
+) -> Result<(), NoMemory>
+    ensures chosen { OnOk result ((passes ask.now (op, update.now) || is_needed needed.old.others needed.old.ranges update.now) ≡ true → (ops.new.items ≡ ops.old.items ++ op ∷ [])
+        × ((x : Of) → is_needed needed.new.others needed.new.ranges x ≡ (needs x update.now || is_needed needed.old.others needed.old.ranges x))) }
+    ensures others { OnOk result ((passes ask.now (op, update.now) || is_needed needed.old.others needed.old.ranges update.now) ≡ false → (ops.new.items ≡ ops.old.items)
+        × (needed.new.others ≡ needed.old.others) × (needed.new.ranges ≡ needed.old.ranges)) }
 {
-    if passes(ask, op, update) {
-        return Ok(true);
+    if passes(ask, op, update) || needed.has(update)? {
+        needed.add(update)?;
+        ops.push(op)?;
     }
-    needed.has(update)
+    Ok(())
 }
 
 /// The closure of what is asked for, in the order of issue. The chains of the objects that are met are
@@ -60,9 +72,9 @@ pub fn closure(
     requires there { IsThere ask.now held.now }
     ensures { IfOk result (λ ops. ops.items ≡ keys (walk (passes ask.now) (live held.now))) }
 {
+    let mut places = begin(alloc, held, chains, ask)?;
     let mut needed = Needed::new(alloc);
     let mut ops = Vec::new(alloc);
-    let mut places = begin(alloc, held, chains, ask)?;
     let mut rest = held;
     'walk: loop {
         let Some(place) = take_last(&mut places) else {
@@ -74,10 +86,7 @@ pub fn closure(
             continue;
         };
         await_operands(alloc, &mut places, chains, rest, update)?;
-        if is_chosen(ask, &needed, *op, update)? {
-            needed.add(update)?;
-            ops.push(*op)?;
-        }
+        choose(ask, &mut needed, &mut ops, *op, update)?;
     }
     ops.reverse();
     Ok(ops)

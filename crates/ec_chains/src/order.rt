@@ -1,10 +1,10 @@
 // The held operations.
-ghost use Rattle.std.specs.Prelude.{◌≡◌, ℕ, T, true, false, Err, [], ◌∷◌, ◌++◌, length, filter, option_copied, IfOk, OnOk, OnErr};
+ghost use Rattle.std.specs.Prelude.{◌≡◌, ℕ, T, true, false, Err, [], ◌∷◌, ◌++◌, ◌<◌, ◌≤◌, length, filter, option_copied, IfOk, OnOk, OnErr};
 ghost use Rattle.std.specs.Ordering.{nat_cmp};
 ghost use Rattle.std.specs.FinMap.{is_sorted};
-ghost use Rattle.ec_base.specs.Tables.{at, keys};
-ghost use Rattle.ec_volume.specs.Update.{member};
-ghost use Rattle.ec_chains.specs.Front.{IsFront};
+ghost use Rattle.ec_base.specs.Tables.{at, at_or, keys};
+ghost use Rattle.ec_volume.specs.Update.{member, operands};
+ghost use Rattle.ec_chains.specs.Front.{IsFront, is_alone};
 ghost use Rattle.ec_chains.specs.Held as held;
 ghost use Rattle.ec_chains.specs.Slots.{live};
 ghost use Rattle.ec_chains.specs.Walk.{passes, walk};
@@ -12,7 +12,7 @@ ghost use Rattle.ec_chains.specs.declared.closure.Ask.TheVariants.{Object, Op};
 ghost use Rattle.ec_chains.specs.declared.order.OrderFault.TheVariants as fault;
 
 use crate::chain::Chain;
-use crate::chains::{chain_of, link, unlink};
+use crate::chains::{chain_of, link, sweep, unlink};
 use crate::closure::{Ask, closure};
 use crate::front::{first_on, last_on, note, reach_on};
 use crate::held::Held;
@@ -32,6 +32,8 @@ pub struct Order {
     shared: SortedMap<ObjId, OpNo>,
     // for objects the operations on them
     chains: SortedMap<ObjId, Chain>,
+    // once there are more chains the empty ones go
+    limit: usize,
 }
 
 impl Model for Order {
@@ -77,6 +79,7 @@ impl Order {
             held: Held::new(alloc),
             shared: SortedMap::new(alloc),
             chains: SortedMap::new(alloc),
+            limit: 0,
         })
     }
 
@@ -95,9 +98,11 @@ impl Order {
         ensures ok { OnOk result (self.new ≡ self.old ++ (op, update) ∷ []) }
         ensures err { OnErr result (self.new ≡ self.old) }
     {
-        let objs = operands(self.alloc, &update)?;
-        link(self.alloc, &mut self.chains, op, &objs)?;
-        note(self.alloc, &mut self.shared, op, &update)?;
+        let ready = prepare(self.alloc, &mut self.shared, &mut self.chains, op, &update);
+        if let Err(fault) = ready {
+            drop(update);
+            return Err(fault);
+        }
         self.held.push(op, update)
     }
 
@@ -221,6 +226,7 @@ impl Order {
     {
         let left = self.held.take(op);
         unlink(self.alloc, &mut self.chains, &self.held, left);
+        sweep(self.alloc, &mut self.chains, &mut self.limit);
     }
 
     /// No operation is held any more. It takes no memory.
@@ -230,5 +236,24 @@ impl Order {
         self.held.clear();
         self.shared = SortedMap::new(self.alloc);
         self.chains = SortedMap::new(self.alloc);
+        self.limit = 0;
     }
+}
+
+// The maps are ready for one more operation.
+fn prepare(
+    alloc: Global,
+    shared: &mut SortedMap<ObjId, OpNo>,
+    chains: &mut SortedMap<ObjId, Chain>,
+    op: OpNo,
+    update: &Update,
+) -> Result<(), NoMemory>
+    ensures old { (o n : ℕ) → n < op → T (member n (at_or [] o chains.old)) → T (member n (at_or [] o chains.new)) }
+    ensures new { OnOk result ((o : ℕ) → T (member o (operands update.now)) → T (member op (at_or [] o chains.new))) }
+    ensures raised { (o n : ℕ) → n ≤ at_or 0 o shared.old → n ≤ op → n ≤ at_or 0 o shared.new }
+    ensures noted { OnOk result (is_alone update.now ≡ false → (o : ℕ) → T (member o (operands update.now)) → op ≤ at_or 0 o shared.new) }
+{
+    let objs = operands(alloc, update)?;
+    link(alloc, chains, op, &objs)?;
+    note(alloc, shared, op, update)
 }

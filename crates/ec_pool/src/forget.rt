@@ -19,7 +19,7 @@ fn let_go(kept: &mut BTreeMap<u64, Sent>, pending: &SortedMap<u64, Link>, number
     ensures gone { IsTrue (is_some (at number kept.new.entries)) → IsTrue (is_some (at number pending.now)) }
 {
     if !pending.contains(&number) {
-        kept.remove(&number);
+        drop(kept.remove(&number));
     }
 }
 

@@ -79,6 +79,7 @@ impl Pool {
         ensures err { OnErr result (self.new ≡ self.old) }
     {
         if self.sent >= LAST_COUNTER {
+            drop(msg);
             return Err(NoMemory);
         }
         let number = self.sent + 1;
@@ -215,9 +216,9 @@ fn put_in(
     ensures err { OnErr result ((kept.new.entries ≡ kept.old.entries) × (pending.new ≡ pending.old)) }
 {
     let link = link_of(&sent);
-    kept.insert(number, sent)?;
+    drop(kept.insert(number, sent)?);
     if pending.insert(number, link).is_err() {
-        kept.remove(&number);
+        drop(kept.remove(&number));
         return Err(NoMemory);
     }
     Ok(())

@@ -234,12 +234,10 @@ judged_alike k owed cl None = elim (either-plain (images_held k) cl) [
 
 -- Nothing has to be read or reported before the update.
 
-passes : (k : CacheState) (owed : Owed) (cl : Call) (fresh : Option ℕ) (xs : List ℕ) (rest : Verdict) → first_unread k fresh xs ≡ None → reported (due (met owed cl xs) owed) (met owed cl xs) ≡ None → rest ≡ in_order k owed cl fresh xs rest
+pub passes : (k : CacheState) (owed : Owed) (cl : Call) (fresh : Option ℕ) (xs : List ℕ) (rest : Verdict) → first_unread k fresh xs ≡ None → reported (due (met owed cl xs) owed) (met owed cl xs) ≡ None → rest ≡ in_order k owed cl fresh xs rest
 passes k owed cl fresh xs rest unread lost =
     sym (ap (λ o. elim o as (λ _. Verdict) [ Some x ↦ Need x Read | None ↦ or_else rest (reported (due (met owed cl xs) owed) (met owed cl xs)) ]) unread ∙ ap (or_else rest) lost)
 
-pub goes_on : (k : CacheState) (owed : Owed) (cl : Call) (fresh : Option ℕ) (out : Outcome) (idless : Bool) (xs : List ℕ) → idless ≡ lacks_id fresh out.update → xs ≡ seen idless out.touched → first_unread k fresh xs ≡ None → reported (due (met owed cl xs) owed) (met owed cl xs) ≡ None → lacking k idless out ≡ judged k owed cl fresh out
-goes_on k owed cl fresh out idless xs is these unread lost =
-    passes k owed cl fresh xs (lacking k idless out) unread lost
-    ∙ ap (λ ys. in_order k owed cl fresh ys (lacking k idless out)) these
-    ∙ ap (λ b. in_order k owed cl fresh (seen b out.touched) (lacking k b out)) is
+pub goes_on : (k : CacheState) (owed : Owed) (cl : Call) (fresh : Option ℕ) (out : Outcome) (idless : Bool) (found : Option Verdict) → idless ≡ lacks_id fresh out.update → ((rest : Verdict) → or_else rest found ≡ in_order k owed cl fresh (seen idless out.touched) rest)
+    → or_else (lacking k idless out) found ≡ judged k owed cl fresh out
+goes_on k owed cl fresh out idless found is these = these (lacking k idless out) ∙ ap (λ b. in_order k owed cl fresh (seen b out.touched) (lacking k b out)) is

@@ -7,6 +7,8 @@ ghost use Rattle.ec_report.specs.Report.{due};
 ghost use Rattle.ec_volume.specs.Image.{is_id};
 ghost use Rattle.ec_volume.specs.Update.{is_make};
 ghost use Rattle.ec_resolve.specs.Resolve as resolve;
+ghost use Rattle.ec_resolve.specs.declared.verdict.Verdict.{Verdict as Of};
+ghost use Rattle.ec_resolve.specs.declared.verdict.Verdict.TheVariants.{Done};
 
 use crate::verdict::Verdict;
 use ec_base::{Hold, List, NoMemory, ObjId, OpNo};
@@ -54,14 +56,36 @@ fn judge(
     ensures { IfOk result (λ verdict. verdict ≡ resolve.judged cache.now owed.now call.now fresh.now outcome) }
 {
     let idless = lacks_id(fresh, &outcome.update);
+    match missing(alloc, cache, owed, call, fresh, idless, &outcome) {
+        Ok(None) => lacking(alloc, cache, idless, outcome),
+        Ok(Some(verdict)) => {
+            drop(outcome);
+            Ok(verdict)
+        }
+        Err(fault) => {
+            drop(outcome);
+            Err(fault)
+        }
+    }
+}
+
+// The first object that was read without a token, or what is owed on what the call meets.
+fn missing(
+    alloc: Global,
+    cache: &Cache,
+    owed: &Report,
+    call: &Call,
+    fresh: &Option<ObjId>,
+    idless: bool,
+    outcome: &Outcome,
+) -> Result<Option<Verdict>, NoMemory>
+    ensures { IfOk result (λ found. (rest : Of) → or_else rest found ≡ resolve.in_order cache.now owed.now call.now fresh.now (resolve.seen idless outcome.now.touched) rest) }
+{
     let touched = seen(idless, outcome.touched.as_slice());
     if let Some(id) = first_unread(cache, fresh, touched) {
-        return Ok(Verdict::Need(id, Hold::Read));
+        return Ok(Some(Verdict::Need(id, Hold::Read)));
     }
-    if let Some(lost) = reported(alloc, owed, call, touched)? {
-        return Ok(lost);
-    }
-    lacking(alloc, cache, idless, outcome)
+    reported(alloc, owed, call, touched)
 }
 
 // Whether the update makes an object, and there is no id for it.
@@ -163,15 +187,37 @@ fn lacking(
 ) -> Result<Verdict, NoMemory>
     ensures { IfOk result (λ verdict. verdict ≡ resolve.lacking cache.now idless outcome) }
 {
+    match lacked(alloc, cache, idless, &outcome) {
+        Ok(None) => Ok(Verdict::Done(outcome)),
+        Ok(Some(verdict)) => {
+            drop(outcome);
+            Ok(verdict)
+        }
+        Err(fault) => {
+            drop(outcome);
+            Err(fault)
+        }
+    }
+}
+
+// What the update lacks, if anything.
+fn lacked(
+    alloc: Global,
+    cache: &Cache,
+    idless: bool,
+    outcome: &Outcome,
+) -> Result<Option<Verdict>, NoMemory>
+    ensures { IfOk result (λ found. or_else (Done outcome.now) found ≡ resolve.lacking cache.now idless outcome.now) }
+{
     if let Some(id) = first_unwritten(alloc, cache, idless, &outcome.update)? {
-        return Ok(Verdict::Need(id, Hold::Write));
+        return Ok(Some(Verdict::Need(id, Hold::Write)));
     }
     if !idless {
-        return Ok(Verdict::Done(outcome));
+        return Ok(None);
     }
     let touched = seen(true, outcome.touched.as_slice());
     let touched = Vec::from_slice(alloc, touched)?;
-    Ok(Verdict::NeedIds(List::of(touched)))
+    Ok(Some(Verdict::NeedIds(List::of(touched))))
 }
 
 fn first_unwritten(

@@ -12,7 +12,7 @@ use Rattle.ec_chains.specs.Slots.{placed}
 use Rattle.ec_chains.specs.Walk.{passes}
 use Rattle.ec_chains.proofs.Live.{placed-length, placed-take, placed-there, there-apart, there-one, walk-live, none-awaits}
 use Rattle.ec_chains.proofs.Places.{get-front}
-use Rattle.ec_chains.proofs.Onward.{walking-begins, walking-sorted, walking-linked, walking-takes, walking-passes, walking-ends}
+use Rattle.ec_chains.proofs.Onward.{walking-begins, walking-sorted, walking-linked, walking-passes, walking-goes, walking-ends}
 use Rattle.ec_chains.proofs.closure.closure.Goals as goal
 
 pub walk-init : goal.walk-init
@@ -44,19 +44,6 @@ await_operands-requires-clause-linked c =
     subst (AreLinked c.args.chains.now) (sym (placed-take c.in-Some.place c.walk.rest.now))
     (walking-linked c.args.ask.now (placed c.args.held.now) (placed c.walk.rest.now) c.walk.places c.walk.ops.items c.walk.needed.others c.walk.needed.ranges c.walk.invariant.0 c.in-Some.place c.args.chains.now c.requires.linked)
 
-pub walk-preserved-in-Continue-branch-5 : goal.walk-preserved-in-Continue-branch-5
-walk-preserved-in-Continue-branch-5 c =
-    let rest = c.walk.rest.now in
-    let place = c.in-Some.place in
-    let x : ℕ × Option Update = c.index-rest-place.result in
-    let there : slice_get rest place ≡ Some x = slice_get_read rest (length rest) place x refl (subst (λ n. place < n) (placed-length rest) ((c.walk.invariant.0).within place c.in-Some.ensures.some.there)) c.index-rest-place.is in
-    let held : slice_get rest place ≡ Some (x.0, Some c.in-Some-update.update) = there ∙ ap (λ o. Some (x.0, o)) c.in-Some-update.is in (
-      walking-takes c.args.ask.now (placed c.args.held.now) (placed c.walk.rest.now) c.walk.places c.walk.ops.items c.walk.needed.others c.walk.needed.ranges c.walk.invariant.0 c.requires.sorted (there-one c.args.ask.now c.args.held.now c.requires.there) place c.take_last.new.places c.in-Some.ensures.some (x.0, c.in-Some-update.update)
-          (placed-there rest place (x.0, Some c.in-Some-update.update) held) (placed (take place rest)) (placed-take place rest) c.await_operands.new.places c.in_ok-await_operands.ensures
-          (sym c.in_ok-is_chosen.ensures ∙ c.if-branch.true) c.push.new.self.items c.add.new.self.others c.add.new.self.ranges c.in_ok-push.ensures.items c.in_ok-add.ensures,
-      λ i n e. c.walk.invariant.1 i n (get-front place i rest (n, None) e),
-    )
-
 pub walk-preserved : goal.walk-preserved
 walk-preserved c =
     let rest = c.walk.rest.now in
@@ -64,9 +51,9 @@ walk-preserved c =
     let x : ℕ × Option Update = c.index-rest-place.result in
     let there : slice_get rest place ≡ Some x = slice_get_read rest (length rest) place x refl (subst (λ n. place < n) (placed-length rest) ((c.walk.invariant.0).within place c.in-Some.ensures.some.there)) c.index-rest-place.is in
     let held : slice_get rest place ≡ Some (x.0, Some c.in-Some-update.update) = there ∙ ap (λ o. Some (x.0, o)) c.in-Some-update.is in (
-      walking-passes c.args.ask.now (placed c.args.held.now) (placed c.walk.rest.now) c.walk.places c.walk.ops.items c.walk.needed.others c.walk.needed.ranges c.walk.invariant.0 c.requires.sorted (there-one c.args.ask.now c.args.held.now c.requires.there) place c.take_last.new.places c.in-Some.ensures.some (x.0, c.in-Some-update.update)
+      walking-goes c.args.ask.now (placed c.args.held.now) (placed c.walk.rest.now) c.walk.places c.walk.ops.items c.walk.needed.others c.walk.needed.ranges c.walk.invariant.0 c.requires.sorted (there-one c.args.ask.now c.args.held.now c.requires.there) place c.take_last.new.places c.in-Some.ensures.some (x.0, c.in-Some-update.update)
           (placed-there rest place (x.0, Some c.in-Some-update.update) held) (placed (take place rest)) (placed-take place rest) c.await_operands.new.places c.in_ok-await_operands.ensures
-          (sym c.in_ok-is_chosen.ensures ∙ c.if-branch.false),
+          c.choose.new.ops.items c.choose.new.needed.others c.choose.new.needed.ranges c.in_ok-choose.ensures.chosen c.in_ok-choose.ensures.others,
       λ i n e. c.walk.invariant.1 i n (get-front place i rest (n, None) e),
     )
 
