@@ -12,10 +12,11 @@ ghost use Rattle.ec_watch.specs.Watches.{AreWatched};
 
 use crate::placing;
 use ec_base::{ClerkId, NoMemory, ObjId, OpNo};
-use ec_history::{Entry, Shown, Watch};
+use ec_history::{Entry, Shown};
 use ec_judge::HistoryFault;
 use ec_lines::{PlaceFault, begins};
 use ec_volume::Update;
+use ec_watching::Watching;
 use std::alloc::Global;
 use std::marker::Model;
 
@@ -93,7 +94,7 @@ pub fn place(alloc: Global, shown: &[Shown]) -> Result<History, HistoryFault>
         Err(PlaceFault::At(line, rule)) => return Err(HistoryFault::At(line, rule)),
         Err(PlaceFault::NoMemory) => return Err(HistoryFault::NoMemory),
     };
-    let mut watches = ec_watch::none_watched(alloc)?;
+    let mut watches = ec_watching::none_watched(alloc)?;
     let mut entries = Vec::new(alloc);
     place_all(alloc, &mut watches, shown, &begins, &mut entries)?;
     Ok(History { entries })
@@ -102,7 +103,7 @@ pub fn place(alloc: Global, shown: &[Shown]) -> Result<History, HistoryFault>
 // Adds the entries of these lines, whose calls began at these places.
 fn place_all(
     alloc: Global,
-    watches: &mut [Watch],
+    watches: &mut [Watching],
     shown: &[Shown],
     begins: &[u32],
     entries: &mut Vec<(u32, Entry)>,
@@ -115,7 +116,7 @@ fn place_all(
     for at in 0..shown.len() {
         let line = &shown[at];
         placing::push(alloc, watches, shown, begins, at, line, entries)?;
-        ec_watch::note(alloc, watches, line)?;
+        ec_watching::note(alloc, watches, line)?;
     }
     Ok(())
 }

@@ -7,7 +7,8 @@ ghost use Rattle.ec_lines.specs.Index.{AreBegins, begins as begun_at, begun_in};
 ghost use Rattle.ec_legal.specs.Watches.{IsHeld, call_of_start, own_call, late_calls, loss_of, answer_of};
 
 use ec_base::{ClerkId, Duplicate, List, NoMemory, OpNo};
-use ec_history::{Entry, Shown, Watch};
+use ec_history::{Entry, Shown};
+use ec_watching::Watching;
 use std::alloc::Global;
 
 // Where the call of the answer at this place began.
@@ -132,7 +133,7 @@ fn push_late(
 fn push_late_calls(
     alloc: Global,
     clerk: ClerkId,
-    watch: &Watch,
+    watch: &Watching,
     shown: &[Shown],
     begins: &[u32],
     at: usize,
@@ -146,11 +147,11 @@ fn push_late_calls(
     ensures entries { OnOk result (entries.new.items ≡ entries.old.items ++ late_calls clerk watch.now shown.now at) }
     ensures ops { OnOk result (ops.new.items ≡ ops.old.items ++ ops_in (late_calls clerk watch.now shown.now at)) }
 {
-    if ec_watch::ends_running(watch) {
+    if ec_watching::ends_running(watch) {
         push_late(
             alloc,
             clerk,
-            watch.starts,
+            ec_watching::starts(watch),
             shown,
             begins,
             at + 1,
@@ -165,7 +166,7 @@ fn push_late_calls(
 fn push_loss(
     alloc: Global,
     clerk: ClerkId,
-    watch: &Watch,
+    watch: &Watching,
     lost: &List<OpNo>,
     shown: &[Shown],
     begins: &[u32],
@@ -182,7 +183,7 @@ fn push_loss(
     push_late_calls(alloc, clerk, watch, shown, begins, at, entries, &mut ops)?;
     let entry = Entry::Loss {
         clerk,
-        boot: ec_watch::owner(watch).unwrap_or(0),
+        boot: ec_watching::owner(watch).unwrap_or(0),
         ops: List::of(ops),
     };
     entries.push((at as u32 + 1, entry))?;
@@ -192,7 +193,7 @@ fn push_loss(
 // Adds the entry of an answer, unless it stands with a loss above it.
 fn push_answer(
     alloc: Global,
-    watch: &Watch,
+    watch: &Watching,
     begun: u32,
     above: &[Shown],
     line: &Shown,
@@ -203,8 +204,15 @@ fn push_answer(
     requires begun { begun ≡ begun_in (start_behind watch.now).starts above.now line.now }
     ensures { OnOk result (entries.new.items ≡ entries.old.items ++ answer_of watch.now above.now line.now) }
 {
-    if watch.untold.is_none() {
-        push_call(alloc, ec_watch::start(watch), begun, above, line, entries)?;
+    if ec_watching::untold(watch).is_none() {
+        push_call(
+            alloc,
+            ec_watching::start(watch),
+            begun,
+            above,
+            line,
+            entries,
+        )?;
     }
     Ok(())
 }
@@ -212,7 +220,7 @@ fn push_answer(
 /// Adds the entries that the line at this place gives.
 pub fn push(
     alloc: Global,
-    watches: &[Watch],
+    watches: &[Watching],
     shown: &[Shown],
     begins: &[u32],
     at: usize,
@@ -227,12 +235,12 @@ pub fn push(
 {
     match line {
         Shown::Answered(_, clerk, _, _, _) => {
-            let watch = ec_watch::watch_of(watches, *clerk);
+            let watch = ec_watching::watch_of(watches, *clerk);
             let begun = begins_at(begins, shown, at, line);
             push_answer(alloc, watch, begun, &shown[..at], line, entries)
         }
         Shown::Ended(clerk, lost) => {
-            let watch = ec_watch::watch_of(watches, *clerk);
+            let watch = ec_watching::watch_of(watches, *clerk);
             push_loss(alloc, *clerk, watch, lost, shown, begins, at, entries)
         }
         _ => Ok(()),

@@ -13,8 +13,9 @@ use crate::calls;
 use crate::index::{self, Calls};
 use crate::seen::Seen;
 use ec_base::{ClerkId, List, NoMemory, OpNo};
-use ec_history::{Rule, Shown, Watch};
+use ec_history::{Rule, Shown};
 use ec_plain::Call;
+use ec_watching::Watching;
 use std::alloc::Global;
 
 /// The first rule that the line breaks behind those above it, as they are seen.
@@ -33,7 +34,7 @@ pub fn broken(
     }
     match ec_watch::clerk_of(line) {
         Some(clerk) => {
-            let named = is_named(alloc, ec_watch::watch_of(&seen.watches, clerk), line)?;
+            let named = is_named(alloc, ec_watching::watch_of(&seen.watches, clerk), line)?;
             if named {
                 Ok(None)
             } else {
@@ -98,47 +99,47 @@ fn is_unanswered(above: &[Shown], calls: &Calls, number: u32) -> bool
 }
 
 // Whether it names what it may behind the watch of its clerk.
-fn is_named(alloc: Global, watch: &Watch, line: &Shown) -> Result<bool, NoMemory>
+fn is_named(alloc: Global, watch: &Watching, line: &Shown) -> Result<bool, NoMemory>
     requires { watch.now.starts < 2 ^ 32 }
     ensures { IfOk result (λ named. Decides named (IsNamed watch.now line.now)) }
 {
     match line {
         Shown::Answered(_, _, call, answer, _) => {
-            Ok(!ec_watch::shows(call, answer) || ec_watch::may_show(watch))
+            Ok(!ec_watch::shows(call, answer) || ec_watching::may_show(watch))
         }
-        Shown::Durable(_, ops) => may_be_durable(alloc, watch, ops),
+        Shown::Durable(_, ops) => Ok(may_be_durable(watch, ops)),
         Shown::Ended(_, ops) => may_end(alloc, watch, ops),
-        Shown::Unseen(_) => Ok(watch.crashed && watch.open_start.is_none()),
+        Shown::Unseen(_) => Ok(ec_watching::may_be_unseen(watch)),
         Shown::Told(_, ops) => may_be_told(alloc, watch, ops),
         _ => Ok(true),
     }
 }
 
-fn may_be_durable(alloc: Global, watch: &Watch, ops: &List<OpNo>) -> Result<bool, NoMemory>
-    ensures { IfOk result (λ may. Decides may (T (list_all (λ n. member n watch.now.undurable) ops.now))) }
+// Whether these operations became durable.
+fn may_be_durable(watch: &Watching, ops: &List<OpNo>) -> bool
+    ensures { Decides result (T (list_all (λ n. member n watch.now.undurable) ops.now)) }
 {
-    let among = ec_watch::are_among(alloc, ops.as_slice(), watch.undurable.as_slice())?;
-    Ok(among)
+    ec_watching::may_be_durable(watch, ops.as_slice())
 }
 
 // Whether a session ends with these operations lost.
-fn may_end(alloc: Global, watch: &Watch, ops: &List<OpNo>) -> Result<bool, NoMemory>
+fn may_end(alloc: Global, watch: &Watching, ops: &List<OpNo>) -> Result<bool, NoMemory>
     ensures { IfOk result (λ may. Decides may (T (is_some (owner watch.now)) × T (same_numbers ops.now (to_lose watch.now)))) }
 {
-    if ec_watch::owner(watch).is_none() {
+    if ec_watching::owner(watch).is_none() {
         return Ok(false);
     }
-    let same = ec_watch::same_numbers(alloc, ops.as_slice(), ec_watch::to_lose(watch))?;
+    let same = ec_watching::loses(alloc, watch, ops.as_slice())?;
     Ok(same)
 }
 
 // Whether these operations are told as lost.
-fn may_be_told(alloc: Global, watch: &Watch, ops: &List<OpNo>) -> Result<bool, NoMemory>
+fn may_be_told(alloc: Global, watch: &Watching, ops: &List<OpNo>) -> Result<bool, NoMemory>
     ensures { IfOk result (λ may. Decides may (T (is_told watch.now ops.now))) }
 {
-    match &watch.untold {
+    match ec_watching::untold(watch) {
         Some(lost) => {
-            let same = ec_watch::same_numbers(alloc, ops.as_slice(), lost.as_slice())?;
+            let same = ec_watch::same_numbers(alloc, ops.as_slice(), lost)?;
             Ok(same)
         }
         None => Ok(false),

@@ -11,14 +11,15 @@ ghost use Rattle.ec_lines.specs.Seen.{Sees};
 
 use crate::index::{self, CallLines, Calls};
 use ec_base::{CLERK_COUNT, ClerkId, NoMemory};
-use ec_history::{Shown, Watch};
+use ec_history::Shown;
+use ec_watching::Watching;
 use std::alloc::Global;
 use std::collections::HashMap;
 
 /// What the lines so far show.
 #[derive(Drop)]
 pub struct Seen {
-    pub watches: Vec<Watch>,
+    pub watches: Vec<Watching>,
     pub calls: Calls,
     /// Of each clerk: the place, from 1, of the last line that gives an entry of the start that
     /// runs or comes next, or 0.
@@ -29,7 +30,7 @@ pub struct Seen {
 pub fn nothing(alloc: Global) -> Result<Seen, NoMemory>
     ensures { IfOk result (λ seen. Sees seen []) }
 {
-    let watches = ec_watch::none_watched(alloc)?;
+    let watches = ec_watching::none_watched(alloc)?;
     let last = no_entries(alloc)?;
     Ok(Seen {
         watches,
@@ -82,12 +83,12 @@ fn begun_at(lines: CallLines, boot: u64) -> u32
 }
 
 // The start of the clerk that runs, or comes next.
-fn start_of(watches: &[Watch], above: &[Shown], clerk: ClerkId) -> u64
+fn start_of(watches: &[Watching], above: &[Shown], clerk: ClerkId) -> u64
     requires few { length above.now < 2 ^ 31 }
     requires watched { AreWatched watches.now above.now }
     ensures { result ≡ start_of clerk above.now }
 {
-    ec_watch::start(ec_watch::watch_of(watches, clerk))
+    ec_watching::start(ec_watching::watch_of(watches, clerk))
 }
 
 fn last_of(last: &[u32], clerk: ClerkId) -> u32
@@ -110,7 +111,7 @@ pub fn note(alloc: Global, seen: &mut Seen, above: &[Shown], line: &Shown) -> Re
 
 fn note_call(
     calls: &mut Calls,
-    watches: &[Watch],
+    watches: &[Watching],
     last: &[u32],
     above: &[Shown],
     line: &Shown,
@@ -137,7 +138,7 @@ fn note_call(
 
 fn note_number(
     calls: &mut Calls,
-    watches: &[Watch],
+    watches: &[Watching],
     last: &[u32],
     above: &[Shown],
     number: u32,
@@ -158,7 +159,7 @@ fn note_number(
 
 fn note_clerk(
     alloc: Global,
-    watches: &mut [Watch],
+    watches: &mut [Watching],
     last: &mut [u32],
     above: &[Shown],
     line: &Shown,
@@ -192,7 +193,7 @@ fn note_clerk(
 
 fn note_watches(
     alloc: Global,
-    watches: &mut [Watch],
+    watches: &mut [Watching],
     above: &[Shown],
     line: &Shown,
 ) -> Result<(), NoMemory>
@@ -200,26 +201,26 @@ fn note_watches(
     requires watched { AreWatched watches.old above.now }
     ensures { OnOk result (AreWatched watches.new (above.now ++ line.now ∷ [])) }
 {
-    ec_watch::note(alloc, watches, line)?;
+    ec_watching::note(alloc, watches, line)?;
     Ok(())
 }
 
 // The start of the clerk that runs, or comes next, behind one more line.
-fn start_behind(watches: &[Watch], above: &[Shown], line: &Shown, clerk: ClerkId) -> u64
+fn start_behind(watches: &[Watching], above: &[Shown], line: &Shown, clerk: ClerkId) -> u64
     requires few { length above.now < 2 ^ 31 }
     requires watched { AreWatched watches.now (above.now ++ line.now ∷ []) }
     ensures { result ≡ start_of clerk (above.now ++ line.now ∷ []) }
 {
-    ec_watch::start(ec_watch::watch_of(watches, clerk))
+    ec_watching::start(ec_watching::watch_of(watches, clerk))
 }
 
 // Whether the line gives an entry of the clerk's start.
-fn gives(watches: &[Watch], above: &[Shown], clerk: ClerkId, line: &Shown) -> bool
+fn gives(watches: &[Watching], above: &[Shown], clerk: ClerkId, line: &Shown) -> bool
     requires few { length above.now < 2 ^ 31 }
     requires watched { AreWatched watches.now above.now }
     ensures { result ≡ gives_entry clerk (start_of clerk above.now) (watched clerk above.now) line.now }
 {
-    let watch = ec_watch::watch_of(watches, clerk);
+    let watch = ec_watching::watch_of(watches, clerk);
     gives_entry(clerk, start_of(watches, above, clerk), watch, line)
 }
 
@@ -243,13 +244,13 @@ fn last_after(before: u64, after: u64, gives: bool, above: usize, last: u32) -> 
 }
 
 // Whether the line gives an entry of this start.
-fn gives_entry(clerk: ClerkId, boot: u64, watch: &Watch, line: &Shown) -> bool
+fn gives_entry(clerk: ClerkId, boot: u64, watch: &Watching, line: &Shown) -> bool
     requires { watch.now.starts + 1 < 2 ^ 64 }
     ensures { result ≡ gives_entry clerk boot watch.now line.now }
 {
     match line {
-        Shown::Answered(_, of, _, _, _) => *of == clerk && ec_watch::start(watch) == boot,
-        Shown::Ended(of, _) => *of == clerk && ec_watch::owner(watch) == Some(boot),
+        Shown::Answered(_, of, _, _, _) => *of == clerk && ec_watching::start(watch) == boot,
+        Shown::Ended(of, _) => *of == clerk && ec_watching::owner(watch) == Some(boot),
         _ => false,
     }
 }

@@ -51,7 +51,7 @@ up_to-more count op u xs l b = list_all-append (λ x. nat_lt x.0 (op + 1)) xs ((
 
 -- Places.
 
-at_or-put : (n op place : ℕ) (ps : Table ℕ) → at_or 0 n (put op place ps) ≡ cond (n == op) place (at_or 0 n ps)
+pub at_or-put : (n op place : ℕ) (ps : Table ℕ) → at_or 0 n (put op place ps) ≡ cond (n == op) place (at_or 0 n ps)
 at_or-put n op place ps = ap (or_else 0) (at-put n op place ps) ∙ go (n == op)
   where
     go : (b : Bool) → or_else 0 (cond b (Some place) (at n ps)) ≡ cond b place (or_else 0 (at n ps))
@@ -73,13 +73,16 @@ within-more last next op place ps l m h n = subst (λ k. k ≤ next) (sym (at_or
 pub early-part : (lasts ps : Table ℕ) (p : ℕ × Update → Bool) (xs : Issued) → AreEarly lasts ps xs → AreEarly lasts ps (filter p xs)
 early-part lasts ps p xs h n u k = h n u (holds-part p xs n u k)
 
-held-lower : (op n : ℕ) (u : Update) (xs : Issued) → is_behind op xs ≡ true → Holds xs n u → n < op
+pub held-lower : (op n : ℕ) (u : Update) (xs : Issued) → is_behind op xs ≡ true → Holds xs n u → n < op
 held-lower op n u [] b h = absurd h
 held-lower op n u (x ∷ xs) b (inl e) = let parts = and_parts (nat_lt x.0 op) (is_behind op xs) b in lower x.0 n parts.0 e.0
   where
     lower : (m n : ℕ) → nat_lt m op ≡ true → m ≡ n → n < op
     lower m n l e = grind (arith, nat_tests)
 held-lower op n u (x ∷ xs) b (inr h) = held-lower op n u xs (and_parts (nat_lt x.0 op) (is_behind op xs) b).1 h
+
+pub early-kept : (last : ℕ) (ps lasts lasts' : Table ℕ) (xs : Issued) → AreWithin last ps → ((o n : ℕ) → n ≤ at_or 0 o lasts → n ≤ last → n ≤ at_or 0 o lasts') → AreEarly lasts ps xs → AreEarly lasts' ps xs
+early-kept last ps lasts lasts' xs within raised h n u k o t = raised o (at_or 0 n ps) (h n u k o t) (within n)
 
 module _ (op place last : ℕ) (ps lasts lasts' : Table ℕ) (xs : Issued) (behind : is_behind op xs ≡ true) (within : AreWithin last ps) (raised : (o n : ℕ) → n ≤ at_or 0 o lasts → n ≤ last → n ≤ at_or 0 o lasts') where
   other : (n : ℕ) (u : Update) → Holds xs n u → at_or 0 n (put op place ps) ≡ at_or 0 n ps

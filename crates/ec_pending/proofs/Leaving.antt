@@ -75,7 +75,7 @@ module _ (ps : Table ℕ) (p : Issue → Bool) where
           ∙ ap (λ l. issue_at ps x ∷ l) r
 
   -- by a test of the update alone, that agrees on these operations
-  taken-walk : (q : ℕ × Update → Bool) (xs : Issued) → ((n : ℕ) (u : Update) → Holds xs n u → p (issue_at ps (n, u)) ≡ q (n, u)) → taken p (issues ps xs) ≡ issues ps (walk q xs)
+  pub taken-walk : (q : ℕ × Update → Bool) (xs : Issued) → ((n : ℕ) (u : Update) → Holds xs n u → p (issue_at ps (n, u)) ≡ q (n, u)) → taken p (issues ps xs) ≡ issues ps (walk q xs)
   taken-walk q [] same = refl
   taken-walk q (x ∷ xs) same =
       ap (λ l. cond (p (issue_at ps x) || list_any (λ j. needs x.1 j.update) l) (issue_at ps x ∷ l) l) (taken-walk q xs (λ n u h. same n u (inr h)))

@@ -1,3 +1,5 @@
+pub mod Covering
 pub mod Holding
 pub mod Leaving
+pub mod Rising
 pub mod Walks

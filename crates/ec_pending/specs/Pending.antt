@@ -1,11 +1,13 @@
 -- Operations that are pending, and what is left of them where some are asked to be durable.
-use Rattle.std.specs.Prelude.{◌≡◌, ◌≤◌, ◌+◌, ℕ, T, Bool, true, false, ◌&&◌, ◌||◌, if◌then◌else◌, nat_le, map, List, [], ◌∷◌, Option, None, Some}
-use Rattle.std.specs.List.{list_any}
+use Rattle.std.specs.Prelude.{◌≡◌, ◌≤◌, ◌+◌, ℕ, T, Bool, true, false, ◌&&◌, ◌||◌, if◌then◌else◌, nat_le, map, List, [], ◌∷◌, Option, None, Some, ⊤}
+use Rattle.std.specs.List.{filter, list_any}
 use Rattle.ec_base.specs.Tables.{Table, at_or}
 use Rattle.ec_volume.specs.Update.{member, has_operand}
 use Rattle.ec_volume.specs.declared.update.Update.{Update}
 use Rattle.ec_order.specs.Order.{Issued, Holds, needs}
 use Rattle.ec_chains.specs.Held.{is_behind}
+use Rattle.ec_chains.specs.Walk.{passes}
+use Rattle.ec_chains.specs.declared.closure.Ask.{Ask}
 use Rattle.ec_pending.specs.declared.issue.Issue.{Issue}
 use Rattle.ec_pending.specs.declared.asked.Asked.{Asked}
 use Rattle.ec_pending.specs.declared.asked.Asked.TheVariants as asks
@@ -63,3 +65,16 @@ AreWithin last places = (n : ℕ) → at_or 0 n places ≤ last
 -- an object's operations have places up to the one that the table tells of it
 abbrev pub AreEarly : Table ℕ → Table ℕ → Issued → Type 0
 AreEarly lasts places held = (n : ℕ) (u : Update) → Holds held n u → (o : ℕ) → T (has_operand o u) → at_or 0 n places ≤ at_or 0 o lasts
+
+-- no operation has a place below that of an earlier one
+abbrev pub AreRising : Table ℕ → Issued → Type 0
+AreRising places [] = ⊤
+AreRising places (x ∷ xs) = ((n : ℕ) (u : Update) → Holds xs n u → at_or 0 x.0 places ≤ at_or 0 n places) × AreRising places xs
+
+-- an operation is asked for by itself, and its place is at most this one
+abbrev pub is_early : Table ℕ → Ask → ℕ → ℕ × Update → Bool
+is_early places ask begun x = nat_le (at_or 0 x.0 places) begun && passes ask x
+
+-- these are some of the others, in their order
+abbrev pub IsPart : Issued → Issued → Type 0
+IsPart some all = (p : ℕ × Update → Bool) × (some ≡ filter p all)

@@ -48,8 +48,8 @@ fn is_chosen(needed: &Needed, asked: &Asked, place: u32, update: &Update) -> Res
     needed.has(update)
 }
 
-// The place of the operation's entry.
-fn place_of(places: &SortedMap<OpNo, u32>, op: OpNo) -> u32
+/// The place of the operation's entry.
+pub fn place_of(places: &SortedMap<OpNo, u32>, op: OpNo) -> u32
     ensures { result ≡ at_or 0 op places.now }
 {
     match places.get(&op) {

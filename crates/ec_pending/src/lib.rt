@@ -4,6 +4,7 @@
 
 mod asked;
 mod closed;
+mod early;
 mod issue;
 mod pending;
 

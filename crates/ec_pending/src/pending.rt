@@ -1,13 +1,14 @@
 // The operations of a start that aren't covered.
-ghost use Rattle.std.specs.Prelude.{◌≡◌, ◌<◌, ◌≤◌, ◌++◌, ℕ, T, [], Some, IfOk, OnOk};
+ghost use Rattle.std.specs.Prelude.{◌≡◌, ◌<◌, ◌≤◌, ◌++◌, ℕ, T, [], Some, true, IfOk, OnOk, OnErr};
 ghost use Rattle.std.specs.Ordering.{nat_cmp};
 ghost use Rattle.std.specs.FinMap.{is_sorted};
-ghost use Rattle.ec_base.specs.Tables.{at_or};
-ghost use Rattle.ec_volume.specs.Update.{member};
+ghost use Rattle.ec_base.specs.Tables.{at_or, put};
+ghost use Rattle.ec_volume.specs.Update.{member, operands};
 ghost use Rattle.ec_pending.specs.Pending.{is_asked, issues_of, numbered, numbers_in, rest, taken};
 
 use crate::asked::Asked;
 use crate::closed::closed;
+use crate::early::cover_early;
 use ec_base::{NoMemory, ObjId, OpNo, SortedMap};
 use ec_chains::Order;
 use ec_volume::{Update, operands};
@@ -23,16 +24,18 @@ pub struct Pending {
     // of each operation that was issued the place of its entry, and the last one
     places: SortedMap<OpNo, u32>,
     last: u32,
+    // whether no held operation's entry is before that of an earlier one
+    rising: bool,
     // for objects the last one when an operation on them was issued
     lasts: SortedMap<ObjId, u32>,
 }
 
 impl Model for Pending {
-    ghost use Rattle.std.specs.Prelude.{List, ℕ};
+    ghost use Rattle.std.specs.Prelude.{◌≡◌, true, List, ℕ};
     ghost use Rattle.std.specs.Coded.{coded_list, coded×, coded_ℕ};
     ghost use Rattle.ec_pending.specs.contracts.issue.Issue as issue;
     ghost use Rattle.ec_pending.specs.declared.issue.Issue.{Issue};
-    ghost use Rattle.ec_pending.specs.Pending.{issues, AreEarly, AreUpTo, AreWithin};
+    ghost use Rattle.ec_pending.specs.Pending.{issues, AreEarly, AreRising, AreUpTo, AreWithin};
 
     ghost Value = { ℕ × List Issue };
 
@@ -40,7 +43,7 @@ impl Model for Pending {
 
     ghost view = { λ p. (p.count, issues p.places p.order) };
 
-    ghost invariant = { λ p. AreUpTo p.count p.order × AreWithin p.last p.places × AreEarly p.lasts p.places p.order };
+    ghost invariant = { λ p. AreUpTo p.count p.order × AreWithin p.last p.places × AreEarly p.lasts p.places p.order × (p.rising ≡ true → AreRising p.places p.order) };
 }
 
 impl Pending {
@@ -54,6 +57,7 @@ impl Pending {
             order: Order::new(alloc)?,
             places: SortedMap::new(alloc),
             last: 0,
+            rising: true,
             lasts: SortedMap::new(alloc),
         })
     }
@@ -81,10 +85,21 @@ impl Pending {
         let Some(update) = update else {
             return Ok(());
         };
+        self.rising = rises(self.rising, self.last, place);
         self.last = later(self.last, place);
-        let objs = operands(self.alloc, &update)?;
-        self.places.insert(op, place)?;
-        note_all(&mut self.lasts, &objs, self.last)?;
+        let ready = prepare(
+            self.alloc,
+            &mut self.places,
+            &mut self.lasts,
+            op,
+            place,
+            self.last,
+            &update,
+        );
+        if let Err(fault) = ready {
+            drop(update);
+            return Err(fault);
+        }
         self.order.hold(op, update)
     }
 
@@ -92,9 +107,21 @@ impl Pending {
     pub fn cover(&mut self, asked: &Asked) -> Result<(), NoMemory>
         ensures { OnOk result (self.new ≡ (self.old.0, rest (is_asked asked.now) self.old.1)) }
     {
+        if self.rising && self.is_early(asked) {
+            return cover_early(&mut self.order, &self.places, asked);
+        }
         let ops = self.covered(asked)?;
         self.order.settle(&ops);
         Ok(())
+    }
+
+    // Whether operations were issued behind what is asked.
+    fn is_early(&self, asked: &Asked) -> bool {
+        match asked {
+            Asked::Nothing => false,
+            Asked::On(obj, begun) => *begun < last_on(&self.lasts, *obj),
+            Asked::All(begun) => *begun < self.last,
+        }
     }
 
     // The numbers of those that are asked, and of those that they need. Those on an object are found by
@@ -112,6 +139,13 @@ impl Pending {
             _ => closed(self.alloc, held, &self.places, asked),
         }
     }
+}
+
+// Whether places rise with one more, behind which none was before.
+fn rises(rising: bool, last: u32, place: u32) -> bool
+    ensures { result ≡ true → (rising ≡ true) × (last ≤ place) }
+{
+    rising && last <= place
 }
 
 fn later(place: u32, other: u32) -> u32
@@ -132,6 +166,26 @@ fn last_on(lasts: &SortedMap<ObjId, u32>, obj: ObjId) -> u32
         Some(place) => *place,
         None => 0,
     }
+}
+
+// The tables are ready for one more operation, of an entry at the place. No entry is behind the last one.
+fn prepare(
+    alloc: Global,
+    places: &mut SortedMap<OpNo, u32>,
+    lasts: &mut SortedMap<ObjId, u32>,
+    op: OpNo,
+    place: u32,
+    last: u32,
+    update: &Update,
+) -> Result<(), NoMemory>
+    ensures ok { OnOk result (places.new ≡ put op place places.old) }
+    ensures err { OnErr result (places.new ≡ places.old) }
+    ensures old { (o n : ℕ) → n ≤ at_or 0 o lasts.old → n ≤ last → n ≤ at_or 0 o lasts.new }
+    ensures new { OnOk result ((o : ℕ) → T (member o (operands update.now)) → last ≤ at_or 0 o lasts.new) }
+{
+    let objs = operands(alloc, update)?;
+    note_all(lasts, &objs, last)?;
+    places.insert(op, place)
 }
 
 fn note_all(lasts: &mut SortedMap<ObjId, u32>, objs: &[ObjId], place: u32) -> Result<(), NoMemory>

@@ -6,5 +6,5 @@ use Rattle.ec_lines.proofs.lines.may_be_durable.Goals as goal
 
 pub returns : goal.returns
 returns c =
-    let same : c.in_ok-among.among ≡ list_all (λ n. member n c.args.watch.now.undurable) c.args.ops.now = search rules in
+    let same : c.may_be_durable.result ≡ list_all (λ n. member n c.args.watch.now.undurable) c.args.ops.now = search rules in
     tells _ _ same
