@@ -131,6 +131,7 @@ impl<L: Link> SharedClerk<L> {
     {
         let (number, place, reply) = self.start(rt, pass, call)?;
         if let Some(reply) = reply {
+            self.bell.called();
             return Ok(reply);
         }
         for _ in rt.forever() {

@@ -12,6 +12,12 @@ pub trait Bell {
 
     /// Waits until it has rung since it stood at `seen`. It may return earlier.
     fn wait<R: Wait>(&self, rt: &R, seen: u64);
+
+    /// Waits as `wait` does, but leaves the link to threads that wait, and then looks again a little later.
+    fn watch<R: Wait>(&self, rt: &R, seen: u64);
+
+    /// A thread made a call that needed no wait. Where more of them follow, one that gave way in `watch` looks at the link.
+    fn called(&self);
 }
 
 /// The bell of a link in memory.
@@ -39,6 +45,12 @@ impl Bell for MemBell {
     fn wait<R: Wait>(&self, rt: &R, seen: u64) {
         self.rings.park(rt, (seen % (1 << 32)) as u32);
     }
+
+    fn watch<R: Wait>(&self, rt: &R, seen: u64) {
+        self.wait(rt, seen);
+    }
+
+    fn called(&self) {}
 }
 
 /// The bell at the other end, which rings where this end sends and where it goes.

@@ -6,7 +6,7 @@ use std::alloc::Global;
 use std::io;
 use std::net::TcpStream;
 use std::os::fd::AsRawFd;
-use std::sync::atomic::{AtomicU64, Ordering};
+use std::sync::atomic::{AtomicBool, AtomicU64, Ordering};
 use std::sync::{Condvar, Mutex, Wait};
 use std::time::Duration;
 
@@ -17,8 +17,14 @@ const RING: Token = Token(1);
 // So many events are taken at once.
 const EVENTS: usize = 4;
 
-// Nobody waits for longer than so many seconds.
+// Nobody waits for the socket for longer than so many seconds.
 const LONGEST_WAIT: u64 = 1;
+
+// Who leaves the link to others looks again after so many milliseconds.
+const REST: u64 = 1;
+
+// It's woken where so many calls needed no wait.
+const CALLS: u64 = 2;
 
 #[derive(Drop)]
 struct Waiting {
@@ -27,12 +33,23 @@ struct Waiting {
 }
 
 /// One thread at a time takes `waiting` out and waits for the socket, outside of the lock. The others wait until it's
-/// back: each thread that puts it back counts a ring and wakes them all.
+/// back. A thread that found the socket ready counts a ring. One that has time gives way to those that wait.
 #[derive(Drop)]
 pub struct TcpBell {
     rings: AtomicU64,
+    // So many threads wait.
+    waits: AtomicU64,
+    // Whether a ring has to end a wait for the socket.
+    is_out: AtomicBool,
+    // Whether the one that waits for the socket has time.
+    is_idle: AtomicBool,
     waiting: Mutex<Option<Waiting>>,
     returned: Condvar,
+    // Whether one that has time sleeps, and on what.
+    is_resting: AtomicBool,
+    rests: AtomicU64,
+    // So many calls needed no wait since a thread waited.
+    calls: AtomicU64,
     waker: Waker,
 }
 
@@ -49,11 +66,89 @@ impl TcpBell {
         let waker = Waker::new(poll.registry(), RING)?;
         Ok(TcpBell {
             rings: AtomicU64::new(0),
+            waits: AtomicU64::new(0),
+            is_out: AtomicBool::new(false),
+            is_idle: AtomicBool::new(false),
             waiting: Mutex::new(Some(Waiting { poll, events })),
             returned: Condvar::new(),
+            is_resting: AtomicBool::new(false),
+            rests: AtomicU64::new(0),
+            calls: AtomicU64::new(0),
             waker,
         })
     }
+
+    // Waits for the socket unless it has rung since it stood at `seen`, and puts `waiting` back.
+    fn wait_out<R: Wait>(&self, rt: &R, mut waiting: Waiting, seen: u64) {
+        self.is_out.store(true, Ordering::SeqCst);
+        if self.rings() == seen && is_ready(&mut waiting) {
+            self.rings.fetch_add(1, Ordering::SeqCst);
+        }
+        self.is_out.store(false, Ordering::SeqCst);
+        let mut free = self.waiting.lock(rt);
+        self.is_idle.store(false, Ordering::SeqCst);
+        *free = Some(waiting);
+        self.returned.notify_all();
+    }
+
+    // Takes `waiting` out once it's back, where it hasn't rung since.
+    fn take<R: Wait>(&self, rt: &R, seen: u64) -> Option<Waiting> {
+        let free = self.waiting.lock(rt);
+        if self.is_idle.load(Ordering::SeqCst) {
+            let _ = self.waker.wake();
+        }
+        let mut free = self.returned.wait_while(
+            rt,
+            free,
+            |waiting| waiting.is_none() && self.rings() == seen,
+        );
+        if self.rings() != seen {
+            return None;
+        }
+        free.take()
+    }
+
+    // Takes `waiting` out where nobody waits.
+    fn take_idle<R: Wait>(&self, rt: &R) -> Option<Waiting> {
+        let mut free = self.waiting.lock(rt);
+        if self.waits.load(Ordering::SeqCst) > 0 {
+            return None;
+        }
+        let waiting = free.take()?;
+        self.is_idle.store(true, Ordering::SeqCst);
+        Some(waiting)
+    }
+
+    // Sleeps a little, and where it hasn't rung then, until those that wait look at the link.
+    fn give_way<R: Wait>(&self, rt: &R, seen: u64) {
+        let rests = self.rests.load(Ordering::SeqCst);
+        self.is_resting.store(true, Ordering::SeqCst);
+        self.rests.park_timeout(rt, (rests % (1 << 32)) as u32, Duration::from_millis(REST));
+        self.is_resting.store(false, Ordering::SeqCst);
+        let free = self.waiting.lock(rt);
+        let _free = self.returned.wait_while(
+            rt,
+            free,
+            |waiting| waiting.is_none() && self.rings() == seen,
+        );
+    }
+
+    // Wakes one that sleeps a little, where nobody waits and this is one call too many.
+    fn wake_resting(&self) {
+        let calls = self.calls.fetch_add(1, Ordering::SeqCst);
+        if self.waits.load(Ordering::SeqCst) == 0 && calls.saturating_add(1) >= CALLS {
+            self.is_resting.store(false, Ordering::SeqCst);
+            self.rests.fetch_add(1, Ordering::SeqCst);
+            self.rests.wake_all();
+        }
+    }
+}
+
+// Waits for the socket or a ring, and says whether it was the socket.
+fn is_ready(waiting: &mut Waiting) -> bool {
+    let longest = Some(Duration::from_secs(LONGEST_WAIT));
+    let _ = waiting.poll.poll(&mut waiting.events, longest);
+    waiting.events.iter().any(|event| event.token() == SOCKET)
 }
 
 impl Bell for TcpBell {
@@ -63,27 +158,30 @@ impl Bell for TcpBell {
 
     fn ring(&self) {
         self.rings.fetch_add(1, Ordering::SeqCst);
-        let _ = self.waker.wake();
+        if self.is_out.load(Ordering::SeqCst) {
+            let _ = self.waker.wake();
+        }
     }
 
     fn wait<R: Wait>(&self, rt: &R, seen: u64) {
-        let free = self.waiting.lock(rt);
-        let mut free = self.returned.wait_while(
-            rt,
-            free,
-            |waiting| waiting.is_none() && self.rings() == seen,
-        );
-        if self.rings() != seen {
-            return;
+        self.calls.store(0, Ordering::SeqCst);
+        self.waits.fetch_add(1, Ordering::SeqCst);
+        if let Some(waiting) = self.take(rt, seen) {
+            self.wait_out(rt, waiting, seen);
         }
-        let Some(mut waiting) = free.take() else {
-            return;
-        };
-        drop(free);
-        let _ = waiting.poll.poll(&mut waiting.events, Some(Duration::from_secs(LONGEST_WAIT)));
-        let mut free = self.waiting.lock(rt);
-        *free = Some(waiting);
-        self.rings.fetch_add(1, Ordering::SeqCst);
-        self.returned.notify_all();
+        self.waits.fetch_sub(1, Ordering::SeqCst);
+    }
+
+    fn watch<R: Wait>(&self, rt: &R, seen: u64) {
+        match self.take_idle(rt) {
+            Some(waiting) => self.wait_out(rt, waiting, seen),
+            None => self.give_way(rt, seen),
+        }
+    }
+
+    fn called(&self) {
+        if self.is_resting.load(Ordering::SeqCst) {
+            self.wake_resting();
+        }
     }
 }

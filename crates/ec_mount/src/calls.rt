@@ -75,7 +75,7 @@ fn flush_all<L: Link, R: Wait + Clock>(
         }
         match clerk.flush_turn(rt, &mut own, Asked::All) {
             Ok(Flushed::Sent(_)) => {}
-            Ok(_) => clerk.bell().wait(rt, seen),
+            Ok(_) => clerk.bell().watch(rt, seen),
             Err(fault) => return (own, Some(fault)),
         }
     }
