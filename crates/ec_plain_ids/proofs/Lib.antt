@@ -1,0 +1,4 @@
+mod Exchanging
+mod Alike
+pub mod Rising
+pub mod Counted
