@@ -76,16 +76,16 @@ module _ (j : Work) (l : ℕ) (cl : Call) (w : World) (sc : Scene) (g : System) 
   seen : IsSeen g sc
   seen = scenes-seen w g sc is.stands is.scene
 
-  start : (b : ℕ) × (g.running j.clerk ≡ Some b) × (g.clerks j.clerk b ≡ Some k)
+  pub start : (b : ℕ) × (g.running j.clerk ≡ Some b) × (g.clerks j.clerk b ≡ Some k)
   start = runs-in w g is.stands j.clerk k (ap (at j.clerk) is.scene.clerks ∙ is.its.there)
 
-  abbrev d : Doing
+  abbrev pub d : Doing
   d = doing (add_call cl k)
 
   abbrev wait : Waiting
   wait = record { no = k.calls + 1; call = cl; begun = k.log.next - 1 }
 
-  abbrev S : System
+  abbrev pub S : System
   S = called j.clerk (k.calls + 1) l cl g
 
   t : IsTrying g j.clerk start.0 (doing k) g.ghost
@@ -106,7 +106,7 @@ module _ (j : Work) (l : ℕ) (cl : Call) (w : World) (sc : Scene) (g : System) 
   opened : T (is_open g j.session)
   opened = at-open j.session g.durable.sessions j.clerk sl (ap (λ d. slot d j.clerk) seen.durable ∙ is.its.slot, is.its.session, subst T (sym i.inside.is_open) tt)
 
-  agreed : IsNewIn w l → IsAgreed (doing_in j.clerk start.0 d g.ghost S) j.clerk start.0 j.session d.clerk
+  pub agreed : IsNewIn w l → IsAgreed (doing_in j.clerk start.0 d g.ghost S) j.clerk start.0 j.session d.clerk
   agreed new =
       let x : HasBegun S j.clerk start.0 d g.ghost = has-begun g is.whole.all is.whole.calls is.whole.rest j.clerk start.0 k start.1 start.2 l cl (new-in w g is.stands l new) is.bounded true in
       record {

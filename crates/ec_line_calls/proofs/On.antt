@@ -13,6 +13,7 @@ use Rattle.ec_protocol.specs.declared.clerk.Clerk.{Clerk}
 use Rattle.ec_protocol.specs.declared.clerk.Waiting.{Waiting}
 use Rattle.ec_protocol.specs.declared.world.Event.TheVariants as event
 use Rattle.ec_protocol.specs.declared.world.World.{World}
+use Rattle.ec_coherence.specs.Steps.{Stands}
 use Rattle.ec_coherence.specs.System.{System}
 use Rattle.ec_coherence.proofs.Tables.{same_some}
 use Rattle.ec_frees.specs.Moves.{IsStill}
@@ -27,14 +28,14 @@ use Rattle.ec_quiet.specs.Phases.{InPhase, Phase}
 use Rattle.ec_quiet.specs.Scenes.{IsScene, Scene, done_by}
 use Rattle.ec_quiet.specs.Works.{Calls, Pushes, Task, Work}
 use Rattle.ec_clerk_phases.proofs.Beside.{other-at, own-at}
-use Rattle.ec_agreed_calls.specs.Calls.{IsAbout, kept_volume, max_about}
+use Rattle.ec_agreed_calls.specs.Calls.{IsAbout, kept_volume, max_about, touched_by}
 use Rattle.ec_agreed_calls.proofs.About.{lines-about}
 use Rattle.ec_line_worlds.specs.Lines.{IsOnLine, next_given, next_object}
 use Rattle.ec_line_steps.proofs.Stepping.{settle-still}
 use Rattle.ec_line_begins.specs.Begins.{IsStepOf, IsTold}
 use Rattle.ec_line_begins.proofs.Begun.{begins-are-steps}
 use Rattle.ec_line_begins.proofs.Kept.{first-steps-leave}
-use Rattle.ec_line_calls.specs.Calls.{IsCalled}
+use Rattle.ec_line_calls.specs.Calls.{IsCalled, LeavesVolume}
 use Rattle.ec_line_calls.proofs.May.{idle-own, object-there}
 
 still-given : (next : ℕ) (k now : Clerk) (o : Option Slot) → IsStill k now → next_given next now o ≡ next_given next k o
@@ -95,28 +96,55 @@ module _ (j : Work) (l : ℕ) (cl : Call) (w : World) (sc : Scene) (g : System) 
       begun : begin cl k ≡ settle (doing (add_call cl k))
       begun = ap (λ z. elim z as (λ y. Doing) [ true ↦ spend counter.CallNo (doing k) | false ↦ settle (doing (add_call cl k)) ]) is.calls
 
-  pub come-on : (q : Phase) → IsNewIn w l → (call j.clerk l cl w).fault ≡ None → IsScene u now → InPhase j now q → IsTold q → (h : System) × IsOnLine j u now h
+  -- behind the step, in this system
+  module _ (q : Phase) (h : System) (fh : F h) (sh : Stands u h) (then : IsScene u now) (iq : InPhase j now q) (told : IsTold q) where
+    about-it : IsAbout j (kept_volume g) × (length j.touched ≤ max_about)
+    about-it = lines-about j cl (kept_volume g) (next_object sc j.clerk k) is.task is.touched is.bounded
+
+    -- the call waits
+    module _ (a : Clerk) (here : at j.clerk now.clerks ≡ Some a) (waits : a.waiting ≡ [] → ⊥) where
+      waits-own : d.clerk.waiting ≡ [] → ⊥
+      waits-own = subst (λ z. z.waiting ≡ [] → ⊥) (sym (is-it a here)) waits
+
+      kept-same : kept_volume h ≡ kept_volume g
+      kept-same = first-steps-leave j w u sc now g h q is.whole is.stands is.scene is.idle fh.whole sh then fh.origin refl (step waits-own) iq told
+
+      object-same : next_object now j.clerk a ≡ next_object sc j.clerk k
+      object-same = ap (next_object now j.clerk) (sym (is-it a here)) ∙ same-object waits-own
+
+      touches : j.touched ≡ touched_by cl (kept_volume h) (next_object now j.clerk a)
+      touches = is.touched ∙ ap (λ v. touched_by cl v (next_object sc j.clerk k)) (sym kept-same) ∙ ap (touched_by cl (kept_volume h)) (sym object-same)
+
+    on-line : IsOnLine j u now h
+    on-line = record {
+      whole = fh.whole;
+      stands = sh;
+      order = is.order;
+      few = about-it.1;
+      about = λ a here waits. subst (IsAbout j) (sym (kept-same a here waits)) about-it.0;
+      id = λ a here waits. subst (λ z. T (member z j.touched)) (sym (object-same a here waits)) (object-there j l cl w sc g sl k is);
+      answered = λ n task a here. not-pushed n cl (sym task ∙ is.task);
+    }
+
+    leaves : LeavesVolume j now g h
+    leaves = record { origin = fh.origin; kept = kept-same }
+
+  -- what the line touches on the volume that is kept, with the id of its next object
+  abbrev pub Touches : System → Type 0
+  Touches h = (a : Clerk) → at j.clerk now.clerks ≡ Some a → (a.waiting ≡ [] → ⊥) → j.touched ≡ touched_by cl (kept_volume h) (next_object now j.clerk a)
+
+  pub come-on : (q : Phase) → IsNewIn w l → (call j.clerk l cl w).fault ≡ None → IsScene u now → InPhase j now q → IsTold q → (h : System) × IsOnLine j u now h × LeavesVolume j now g h × Touches h
   come-on q new f then iq told = go (holds new f)
     where
-      about-it : IsAbout j (kept_volume g) × (length j.touched ≤ max_about)
-      about-it = lines-about j cl (kept_volume g) (next_object sc j.clerk k) is.task is.touched is.bounded
+      go : steps.Holds F u → (h : System) × IsOnLine j u now h × LeavesVolume j now g h × Touches h
+      go (h, fh, sh) = (h, on-line q h fh sh then iq told, leaves q h fh sh then iq told, touches q h fh sh then iq told)
 
-      go : steps.Holds F u → (h : System) × IsOnLine j u now h
-      go (h, fh, sh) = (
-        h,
-        record {
-          whole = fh.whole;
-          stands = sh;
-          order = is.order;
-          few = about-it.1;
-          about = λ a here waits. subst (IsAbout j)
-              (sym (first-steps-leave j w u sc now g h q is.whole is.stands is.scene is.idle fh.whole sh then fh.origin refl (step (subst (λ z. z.waiting ≡ [] → ⊥) (sym (is-it a here)) waits)) iq told)) about-it.0;
-          id = λ a here waits. subst (λ z. T (member (next_object now j.clerk z) j.touched)) (is-it a here)
-              (subst (λ z. T (member z j.touched)) (sym (same-object (subst (λ z. z.waiting ≡ [] → ⊥) (sym (is-it a here)) waits))) (object-there j l cl w sc g sl k is));
-          answered = λ n task a here. not-pushed n cl (sym task ∙ is.task);
-        },
-      )
+pub calls-leave-kept : (j : Work) (l : ℕ) (cl : Call) (w : World) (sc : Scene) (g : System) (sl : Slot) (k : Clerk) (q : Phase) → IsCalled j cl w sc g sl k → IsNewIn w l → (call j.clerk l cl w).fault ≡ None
+    → IsScene (call j.clerk l cl w).world (done_by j.clerk (begin cl k) sc.mail sc) → InPhase j (done_by j.clerk (begin cl k) sc.mail sc) q → IsTold q
+    → (h : System) × IsOnLine j (call j.clerk l cl w).world (done_by j.clerk (begin cl k) sc.mail sc) h × LeavesVolume j (done_by j.clerk (begin cl k) sc.mail sc) g h
+    × ((a : Clerk) → at j.clerk (done_by j.clerk (begin cl k) sc.mail sc).clerks ≡ Some a → (a.waiting ≡ [] → ⊥) → j.touched ≡ touched_by cl (kept_volume h) (next_object (done_by j.clerk (begin cl k) sc.mail sc) j.clerk a))
+calls-leave-kept j l cl w sc g sl k q is new f then iq told = come-on j l cl w sc g sl k is q new f then iq told
 
 pub calls-come-on : (j : Work) (l : ℕ) (cl : Call) (w : World) (sc : Scene) (g : System) (sl : Slot) (k : Clerk) (q : Phase) → IsCalled j cl w sc g sl k → IsNewIn w l → (call j.clerk l cl w).fault ≡ None
     → IsScene (call j.clerk l cl w).world (done_by j.clerk (begin cl k) sc.mail sc) → InPhase j (done_by j.clerk (begin cl k) sc.mail sc) q → IsTold q → (h : System) × IsOnLine j (call j.clerk l cl w).world (done_by j.clerk (begin cl k) sc.mail sc) h
-calls-come-on j l cl w sc g sl k q is new f then iq told = come-on j l cl w sc g sl k is q new f then iq told
+calls-come-on j l cl w sc g sl k q is new f then iq told = let t = come-on j l cl w sc g sl k is q new f then iq told in (t.0, t.1)

@@ -14,6 +14,7 @@ use Rattle.ec_protocol.specs.World.{call, runs}
 use Rattle.ec_protocol.specs.declared.clerk.Clerk.{Clerk}
 use Rattle.ec_protocol.specs.declared.world.Event.TheVariants as event
 use Rattle.ec_protocol.specs.declared.world.World.{World}
+use Rattle.ec_coherence.specs.Steps.{Stands}
 use Rattle.ec_coherence.specs.System.{System}
 use Rattle.ec_coherence.proofs.Tables.{same_some}
 use Rattle.ec_steps.specs.Steps as steps
@@ -24,12 +25,12 @@ use Rattle.ec_lawful.proofs.Clerks.{clerks-keep-all}
 use Rattle.ec_quiet.specs.Phases.{Greets, InPhase, IsStarting}
 use Rattle.ec_quiet.specs.Scenes.{IsScene, Scene}
 use Rattle.ec_quiet.specs.Works.{Work}
-use Rattle.ec_agreed_calls.specs.Calls.{IsAbout, kept_volume, max_about}
+use Rattle.ec_agreed_calls.specs.Calls.{IsAbout, kept_volume, max_about, touched_by}
 use Rattle.ec_agreed_calls.proofs.About.{lines-about}
 use Rattle.ec_line_worlds.specs.Lines.{IsOnLine, next_given, next_object}
 use Rattle.ec_line_begins.specs.Begins.{IsStepOf}
 use Rattle.ec_line_begins.proofs.Kept.{first-steps-leave}
-use Rattle.ec_line_calls.specs.Calls.{IsCalledFirst}
+use Rattle.ec_line_calls.specs.Calls.{IsCalledFirst, LeavesVolume}
 use Rattle.ec_line_calls.proofs.May.{last-there}
 use Rattle.ec_line_calls.proofs.On.{not-pushed}
 
@@ -69,10 +70,17 @@ module _ (j : Work) (l : ℕ) (cl : Call) (w : World) (sc now : Scene) (g : Syst
   about-it : IsAbout j (kept_volume g) × (length j.touched ≤ max_about)
   about-it = lines-about j cl (kept_volume g) sc.server.durable.next_id is.task is.touched is.bounded
 
-  pub start-on : (h : System) × IsOnLine j u now h
+  -- what the line touches on the volume that is kept, with the id of its next object
+  abbrev pub Touches : System → Type 0
+  Touches h = (a : Clerk) → at j.clerk now.clerks ≡ Some a → (a.waiting ≡ [] → ⊥) → j.touched ≡ touched_by cl (kept_volume h) (next_object now j.clerk a)
+
+  pub start-on : (h : System) × IsOnLine j u now h × LeavesVolume j now g h × Touches h
   start-on = go holds
     where
-      go : steps.Holds F u → (h : System) × IsOnLine j u now h
+      kept-same : (h : System) → F h → Stands u h → kept_volume h ≡ kept_volume g
+      kept-same h fh sh = first-steps-leave j w u sc now g h (Greets age) is.whole is.stands is.scene is.idle fh.whole sh then fh.origin server step iq tt
+
+      go : steps.Holds F u → (h : System) × IsOnLine j u now h × LeavesVolume j now g h × Touches h
       go (h, fh, sh) = (
         h,
         record {
@@ -80,12 +88,20 @@ module _ (j : Work) (l : ℕ) (cl : Call) (w : World) (sc now : Scene) (g : Syst
           stands = sh;
           order = subst (λ v. IsInOrder v.durable) (sym server) is.order;
           few = about-it.1;
-          about = λ a here waits. subst (IsAbout j) (sym (first-steps-leave j w u sc now g h (Greets age) is.whole is.stands is.scene is.idle fh.whole sh then fh.origin server step iq tt)) about-it.0;
+          about = λ a here waits. subst (IsAbout j) (sym (kept-same h fh sh)) about-it.0;
           id = λ a here waits. subst (λ z. T (member z j.touched)) (sym (same-object a here)) object-there;
           answered = λ n task a here. not-pushed n cl (sym task ∙ is.task);
         },
+        record { origin = fh.origin; kept = λ a here waits. kept-same h fh sh },
+        λ a here waits. is.touched ∙ ap (λ v. touched_by cl v sc.server.durable.next_id) (sym (kept-same h fh sh)) ∙ ap (touched_by cl (kept_volume h)) (sym (same-object a here)),
       )
+
+pub starts-leave-kept : (j : Work) (l : ℕ) (cl : Call) (w : World) (sc now : Scene) (g : System) (age : Age) → IsCalledFirst j cl w sc g → steps.IsNewIn w l → (call j.clerk l cl w).fault ≡ None → IsScene (call j.clerk l cl w).world now
+    → now.server ≡ sc.server → ((a : ℕ) → (a == j.clerk) ≡ false → at a now.clerks ≡ at a sc.clerks) → InPhase j now (Greets age)
+    → (h : System) × IsOnLine j (call j.clerk l cl w).world now h × LeavesVolume j now g h
+    × ((a : Clerk) → at j.clerk now.clerks ≡ Some a → (a.waiting ≡ [] → ⊥) → j.touched ≡ touched_by cl (kept_volume h) (next_object now j.clerk a))
+starts-leave-kept j l cl w sc now g age is new f then server others iq = start-on j l cl w sc now g age is new f then server others iq
 
 pub starts-come-on : (j : Work) (l : ℕ) (cl : Call) (w : World) (sc now : Scene) (g : System) (age : Age) → IsCalledFirst j cl w sc g → steps.IsNewIn w l → (call j.clerk l cl w).fault ≡ None → IsScene (call j.clerk l cl w).world now
     → now.server ≡ sc.server → ((a : ℕ) → (a == j.clerk) ≡ false → at a now.clerks ≡ at a sc.clerks) → InPhase j now (Greets age) → (h : System) × IsOnLine j (call j.clerk l cl w).world now h
-starts-come-on j l cl w sc now g age is new f then server others iq = start-on j l cl w sc now g age is new f then server others iq
+starts-come-on j l cl w sc now g age is new f then server others iq = let t = start-on j l cl w sc now g age is new f then server others iq in (t.0, t.1)

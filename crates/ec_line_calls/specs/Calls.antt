@@ -1,5 +1,5 @@
 -- A call of a clerk where all is idle, as contracts name it.
-use Rattle.std.specs.Prelude.{◌≡◌, ◌<◌, ◌==◌, ℕ, T, false, nat_le, None}
+use Rattle.std.specs.Prelude.{◌≡◌, ◌<◌, ◌==◌, ℕ, T, false, nat_le, [], None, Some}
 use Rattle.ec_base.specs.Limits.{last_counter}
 use Rattle.ec_base.specs.Tables.{at}
 use Rattle.ec_plain.specs.Bounds.{is_bounded}
@@ -66,3 +66,21 @@ pub record IsCalledFirst (j : Work) (cl : Call) (w : World) (sc : Scene) (g : Sy
 abbrev pub StartsComeOn : Type 0
 StartsComeOn = (j : Work) (l : ℕ) (cl : Call) (w : World) (sc now : Scene) (g : System) (age : Age) → IsCalledFirst j cl w sc g → IsNewIn w l → (call j.clerk l cl w).fault ≡ None → IsScene (call j.clerk l cl w).world now
     → now.server ≡ sc.server → ((a : ℕ) → (a == j.clerk) ≡ false → at a now.clerks ≡ at a sc.clerks) → InPhase j now (Greets age) → (h : System) × IsOnLine j (call j.clerk l cl w).world now h
+
+-- The two systems began with the same volume; and while the line's call waits in this scene, the volume that is kept is the same in both.
+pub record LeavesVolume (j : Work) (sc : Scene) (g h : System) : Type 0 where
+  pub origin : h.origin ≡ g.origin
+  pub kept : (k : Clerk) → at j.clerk sc.clerks ≡ Some k → (k.waiting ≡ [] → ⊥) → kept_volume h ≡ kept_volume g
+
+-- So are the systems before and behind the first step; and the line is about what the call touches on that volume, with the id that its next object gets.
+abbrev pub CallsLeaveKept : Type 0
+CallsLeaveKept = (j : Work) (l : ℕ) (cl : Call) (w : World) (sc : Scene) (g : System) (sl : Slot) (k : Clerk) (q : Phase) → IsCalled j cl w sc g sl k → IsNewIn w l → (call j.clerk l cl w).fault ≡ None
+    → let now = done_by j.clerk (begin cl k) sc.mail sc in IsScene (call j.clerk l cl w).world now → InPhase j now q → IsTold q
+    → (h : System) × IsOnLine j (call j.clerk l cl w).world now h × LeavesVolume j now g h
+    × ((a : Clerk) → at j.clerk now.clerks ≡ Some a → (a.waiting ≡ [] → ⊥) → j.touched ≡ touched_by cl (kept_volume h) (next_object now j.clerk a))
+
+abbrev pub StartsLeaveKept : Type 0
+StartsLeaveKept = (j : Work) (l : ℕ) (cl : Call) (w : World) (sc now : Scene) (g : System) (age : Age) → IsCalledFirst j cl w sc g → IsNewIn w l → (call j.clerk l cl w).fault ≡ None → IsScene (call j.clerk l cl w).world now
+    → now.server ≡ sc.server → ((a : ℕ) → (a == j.clerk) ≡ false → at a now.clerks ≡ at a sc.clerks) → InPhase j now (Greets age)
+    → (h : System) × IsOnLine j (call j.clerk l cl w).world now h × LeavesVolume j now g h
+    × ((a : Clerk) → at j.clerk now.clerks ≡ Some a → (a.waiting ≡ [] → ⊥) → j.touched ≡ touched_by cl (kept_volume h) (next_object now j.clerk a))

@@ -2,7 +2,7 @@
 //! for. Each function has an empty body, and its contract is a law.
 #![tactic(auto)]
 
-ghost use Rattle.ec_line_calls.specs.Calls.{CallsComeOn, CallsMayBegin, StartsComeOn};
+ghost use Rattle.ec_line_calls.specs.Calls.{CallsComeOn, CallsLeaveKept, CallsMayBegin, StartsComeOn, StartsLeaveKept};
 
 /// Where all was idle, a call that is added to its clerk may go on.
 pub fn calls_may_begin()
@@ -18,4 +18,15 @@ pub fn calls_come_on_line()
 /// So it is where the clerk starts with the call.
 pub fn starts_come_on_line()
     ensures { StartsComeOn }
+{}
+
+/// What is kept stays as it is in that step, while the call waits: it's about what the call touches
+/// there, with the id of its next object.
+pub fn calls_leave_what_is_kept()
+    ensures { CallsLeaveKept }
+{}
+
+/// So it is where the clerk starts with the call.
+pub fn starts_leave_what_is_kept()
+    ensures { StartsLeaveKept }
 {}

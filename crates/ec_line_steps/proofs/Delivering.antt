@@ -44,6 +44,7 @@ use Rattle.ec_agreed_phases.proofs.Seen.{scenes-seen}
 use Rattle.ec_agreed_calls.specs.Calls.{IsAbout, kept_volume}
 use Rattle.ec_line_worlds.specs.Lines.{IsOnLine, IsSpare, next_object}
 use Rattle.ec_line_worlds.proofs.Taking.{next-sent, runs-in}
+use Rattle.ec_line_steps.specs.Staying.{LeavesKept}
 use Rattle.ec_line_steps.proofs.Standing.{Other, other}
 use Rattle.ec_line_steps.proofs.Serving as serving
 use Rattle.ec_line_steps.proofs.Stepping.{Leaves, LeavesOrAnswers, Steps, idle-leaves}
@@ -78,7 +79,7 @@ module _ (j : Work) (w : World) (sc : Scene) (g : System) (p q : Phase) (c : ℕ
   delivers = ap (λ o. elim o as (λ z. Moving) [ None ↦ fails fault.NoSuchMsg w | Some s ↦ deliver_to runs n s w ]) at-pool
 
   abbrev Goes : Moving → Scene → Type 0
-  Goes r after = r.fault ≡ None → (h : System) × IsOnLine j r.world after h
+  Goes r after = r.fault ≡ None → (h : System) × IsOnLine j r.world after h × LeavesKept j after g h
 
   -- The server takes it.
   module _ (for-server : is_for_server m ≡ true) (iq : InPhase j (served c m rest sc) q) where
@@ -122,9 +123,9 @@ module _ (j : Work) (w : World) (sc : Scene) (g : System) (p q : Phase) (c : ℕ
         none : t.spent ≡ None
         none = unspent t.spent refl f
 
-        by : IsMade g sc.server t → (h : System) × IsOnLine j (world.served runs t (settled n w)).world (served c m rest sc) h
+        by : IsMade g sc.server t → (h : System) × IsOnLine j (world.served runs t (settled n w)).world (served c m rest sc) h × LeavesKept j (served c m rest sc) g h
         by (inl s) = absurd (subst (λ o. T (is_some o)) none s)
-        by (inr (γ, st, mk)) = (serving_in t γ g, behind γ st mk none)
+        by (inr (γ, st, mk)) = (serving_in t γ g, behind γ st mk none, record { origin = refl; kept = λ a here waits. serving.kept-same j w sc g p q c m rest on scene ip mail for-server iq γ st mk })
 
   -- A clerk takes it.
   module _ (for-clerk : is_for_server m ≡ false) where
@@ -132,7 +133,11 @@ module _ (j : Work) (w : World) (sc : Scene) (g : System) (p q : Phase) (c : ℕ
     to-clerk-is = delivers ∙ ap (λ b. elim b as (λ z. Moving) [ true ↦ to_server runs n letter w.server w | false ↦ to_clerk c m (at c w.clerks) (settled n w) ]) for-clerk ∙ ap (λ cs. to_clerk c m (at c cs) (settled n w)) scene.clerks
 
     vanishes : at c sc.clerks ≡ None → Goes (moving (settled n w)) (record sc { mail = rest })
-    vanishes e f = (g, record { whole = on.whole; stands = settled-stands w g on.stands n; order = on.order; few = on.few; about = on.about; id = on.id; answered = on.answered })
+    vanishes e f = (
+      g,
+      record { whole = on.whole; stands = settled-stands w g on.stands n; order = on.order; few = on.few; about = on.about; id = on.id; answered = on.answered },
+      record { origin = refl; kept = λ a here waits. refl },
+    )
 
     module _ (k : Clerk) (there : at c sc.clerks ≡ Some k) where
       abbrev d : Doing
@@ -187,7 +192,7 @@ module _ (j : Work) (w : World) (sc : Scene) (g : System) (p q : Phase) (c : ℕ
         other-goes : Goes then now
         other-goes f = by (idle-leaves g on.whole c start.0 k start.1 start.2 m sent none-refused its.waiting)
           where
-            by : Leaves g on.whole c start.0 k start.1 start.2 m sent → (h : System) × IsOnLine j then.world now h
+            by : Leaves g on.whole c start.0 k start.1 start.2 m sent → (h : System) × IsOnLine j then.world now h × LeavesKept j now g h
             by (inl s) = absurd (refused s f)
             by (inr (γ, s, e)) = (
               doing_in c start.0 d γ g,
@@ -200,6 +205,7 @@ module _ (j : Work) (w : World) (sc : Scene) (g : System) (p q : Phase) (c : ℕ
                 id = λ a here waits. on.id a (sym as-before ∙ here) waits;
                 answered = λ o task a here. on.answered o task a (sym as-before ∙ here);
               },
+              record { origin = refl; kept = λ a here waits. e },
             )
 
       -- the line's own
@@ -247,7 +253,11 @@ module _ (j : Work) (w : World) (sc : Scene) (g : System) (p q : Phase) (c : ℕ
                 let f : d.clerk.waiting ≡ [] → ⊥ = subst (λ z. z.waiting ≡ [] → ⊥) (sym (is-it a here)) waits in
                 subst (λ z. T (member (next_object now j.clerk z) j.touched)) (is-it a here) (subst (λ z. T (member z j.touched)) (sym (same-object f)) (on.id k here-own (waited f)))
 
-            by : LeavesOrAnswers g on.whole c start.0 k start.1 start.2 m sent → (h : System) × IsOnLine j then.world now h
+            kept-now : (γ : Ghost) → (γ.kept ≡ g.ghost.kept) ⊎ (d.clerk.waiting ≡ []) → (a : Clerk) → at j.clerk now.clerks ≡ Some a → (a.waiting ≡ [] → ⊥) → γ.kept ≡ g.ghost.kept
+            kept-now γ (inl e) a here waits = e
+            kept-now γ (inr e) a here waits = absurd (waits (ap (λ z. z.waiting) (sym (is-it a here)) ∙ e))
+
+            by : LeavesOrAnswers g on.whole c start.0 k start.1 start.2 m sent → (h : System) × IsOnLine j then.world now h × LeavesKept j now g h
             by (inl s) = absurd (refused s f)
             by (inr (γ, s, e)) = (
               doing_in c start.0 d γ g,
@@ -260,6 +270,7 @@ module _ (j : Work) (w : World) (sc : Scene) (g : System) (p q : Phase) (c : ℕ
                 id = id-now;
                 answered = λ o task a here. subst (λ z. Each (IsAnswered z.cache) z.wanted) (is-it a here) (stays-answered j w sc g on spare scene m rest mail-own for-clerk k here-own p ip o task);
               },
+              record { origin = refl; kept = kept-now γ e },
             )
 
       pub runs-on : Goes then now
@@ -281,11 +292,19 @@ module _ (j : Work) (w : World) (sc : Scene) (g : System) (p q : Phase) (c : ℕ
   goes true e iq = subst (λ r. Goes r (served c m rest sc)) (sym (to-server-is e iq)) (server-goes e iq)
   goes false e iq = subst (λ r. Goes r (taken_by c m rest (at c sc.clerks) sc)) (sym (to-clerk-is e)) (clerk-goes e)
 
-  pub stays-on : (i : ℕ) → due w ≡ Some i → (deliver runs i w).fault ≡ None → InPhase j (delivered c m rest sc) q → (h : System) × IsOnLine j (deliver runs i w).world (delivered c m rest sc) h
+  pub stays-on : (i : ℕ) → due w ≡ Some i → (deliver runs i w).fault ≡ None → InPhase j (delivered c m rest sc) q
+      → (h : System) × IsOnLine j (deliver runs i w).world (delivered c m rest sc) h × LeavesKept j (delivered c m rest sc) g h
   stays-on i e f iq =
       let same : n ≡ i = same_some (sym (due-is w sc scene c m rest mail) ∙ e) in
-      subst (λ z. (h : System) × IsOnLine j (deliver runs z w).world (delivered c m rest sc) h) same (goes (is_for_server m) refl iq (subst (λ z. (deliver runs z w).fault ≡ None) (sym same) f))
+      subst (λ z. (h : System) × IsOnLine j (deliver runs z w).world (delivered c m rest sc) h × LeavesKept j (delivered c m rest sc) g h) same (goes (is_for_server m) refl iq (subst (λ z. (deliver runs z w).fault ≡ None) (sym same) f))
+
+pub lines-leave-kept : (j : Work) (w : World) (sc : Scene) (g : System) (p q : Phase) (m : ℕ × Msg) (rest : Mail) (n : ℕ) → IsOnLine j w sc g → IsSpare j sc → IsScene w sc → InPhase j sc p → sc.mail ≡ m ∷ rest
+    → due w ≡ Some n → (deliver runs n w).fault ≡ None → InPhase j (delivered m.0 m.1 rest sc) q
+    → (h : System) × IsOnLine j (deliver runs n w).world (delivered m.0 m.1 rest sc) h × LeavesKept j (delivered m.0 m.1 rest sc) g h
+lines-leave-kept j w sc g p q m rest n on spare scene ip mail e f iq = stays-on j w sc g p q m.0 m.1 rest on spare scene ip mail n e f iq
 
 pub lines-stay-on : (j : Work) (w : World) (sc : Scene) (g : System) (p q : Phase) (m : ℕ × Msg) (rest : Mail) (n : ℕ) → IsOnLine j w sc g → IsSpare j sc → IsScene w sc → InPhase j sc p → sc.mail ≡ m ∷ rest
     → due w ≡ Some n → (deliver runs n w).fault ≡ None → InPhase j (delivered m.0 m.1 rest sc) q → (h : System) × IsOnLine j (deliver runs n w).world (delivered m.0 m.1 rest sc) h
-lines-stay-on j w sc g p q m rest n on spare scene ip mail e f iq = stays-on j w sc g p q m.0 m.1 rest on spare scene ip mail n e f iq
+lines-stay-on j w sc g p q m rest n on spare scene ip mail e f iq =
+    let then = lines-leave-kept j w sc g p q m rest n on spare scene ip mail e f iq in
+    (then.0, then.1)

@@ -2,9 +2,14 @@
 //! until the line's call is answered. Each function has an empty body, and its contract is a law.
 #![tactic(auto)]
 
-ghost use Rattle.ec_line_steps.specs.Staying.{LinesStayOn};
+ghost use Rattle.ec_line_steps.specs.Staying.{LinesLeaveKept, LinesStayOn};
 
 /// Behind a delivery all facts hold again, and the line is about what its call touches, while it waits.
 pub fn lines_stay_on()
     ensures { LinesStayOn }
+{}
+
+/// And what is kept stays as it is, while the line's call waits.
+pub fn lines_leave_what_is_kept()
+    ensures { LinesLeaveKept }
 {}

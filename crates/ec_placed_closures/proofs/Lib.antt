@@ -1,3 +1,3 @@
 mod Renamed
 mod Placing
-mod Followed
+pub mod Followed

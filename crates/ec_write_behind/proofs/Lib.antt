@@ -11,7 +11,7 @@ mod Given
 mod Refused
 mod Saved
 pub mod Staying
-mod Begun
+pub mod Begun
 pub mod Shown
 pub mod Parts
 pub mod Worked

@@ -1,0 +1,5 @@
+mod Shown
+mod Line
+mod Begins
+pub mod Runs
+pub mod Drills
