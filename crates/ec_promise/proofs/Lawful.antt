@@ -26,33 +26,15 @@ use Rattle.ec_drill.specs.declared.status.Status.TheVariants as own
 use Rattle.ec_reached.proofs.Runs.{run-in-order}
 use Rattle.ec_promise.specs.Left.{EndsStored, IsStoredIn, LeavesStored}
 use Rattle.ec_promise.specs.Promise.{AreInOrder, AreLawfulOn, AreStoredOn, AreWholeOn, CutIsLawful, DrillsAreLawful, CleanIsLawful, IsLawful, MomentsAreStored, PartIsLawful, SpentIsLawful, WholeIsLawful, WholeState, base_on}
+use Rattle.ec_promise.proofs.Behind.{behind-kept, part-kept}
+use Rattle.ec_promise.proofs.Cut.{cut-front}
 use Rattle.ec_promise.proofs.Fit.{fit_script}
 use Rattle.ec_promise.proofs.Greatest.{greatest-id}
 use Rattle.ec_promise.proofs.Moments.{moment-stored, one-last}
+use Rattle.ec_promise.proofs.Plain.{plain-complete}
 use Rattle.ec_promise.proofs.Spared.{lose-nothing}
 
 -- Lists.
-
--- a front of lines and a last one is a front of the lines, or all of it
-cut-front : (xs more told last : List Shown) → xs ++ more ≡ told ++ last → length last ≤ 1 → ((rest : List Shown) × (xs ++ rest ≡ told)) ⊎ (xs ≡ told ++ last)
-cut-front [] more told last e le = inl (told, refl)
-cut-front (x ∷ xs) more [] last e le = inr (alone xs more last e le)
-  where
-    alone : (ys zs ls : List Shown) → x ∷ ys ++ zs ≡ ls → length ls ≤ 1 → x ∷ ys ≡ ls
-    alone [] [] ls e le = e
-    alone [] (z ∷ zs) ls e le = absurd (omega (arith, le, ap length (sym e)))
-    alone (y ∷ ys) zs ls e le = absurd (omega (arith, le, ap length (sym e)))
-cut-front (x ∷ xs) more (t ∷ told) last e le = go (cut-front xs more told last (tail e) le)
-  where
-    tail : (x ∷ xs) ++ more ≡ (t ∷ told) ++ last → xs ++ more ≡ told ++ last
-    tail h = ap (λ (ls : List Shown). drop 1 ls) h
-
-    head : x ≡ t
-    head = cc
-
-    go : ((rest : List Shown) × (xs ++ rest ≡ told)) ⊎ (xs ≡ told ++ last) → ((rest : List Shown) × ((x ∷ xs) ++ rest ≡ t ∷ told)) ⊎ (x ∷ xs ≡ (t ∷ told) ++ last)
-    go (inl (rest, q)) = inl (rest, ap (λ (y : Shown). y ∷ xs ++ rest) head ∙ ap (λ (ls : List Shown). t ∷ ls) q)
-    go (inr q) = inr (ap (λ (y : Shown). y ∷ xs) head ∙ ap (λ (ls : List Shown). t ∷ ls) q)
 
 each-front : (P : Shown → Type 0) (xs rest : List Shown) → EachLine P (xs ++ rest) → EachLine P xs
 each-front P [] rest each = tt
@@ -254,19 +236,19 @@ part-lawful most w last r = (lawful, stored)
         ∥∥₁_map is.formed (λ wf. leaves-stored w.disk_after r.reads r.fates r.state (whole-state r.state wf is.slots is.from_one) fit r.shown (open_world r.state) refl (r.left tells))
 
 cut-lawful : (most : ℕ) (w : Outside) (c : IsCut most w) → CutIsLawful most w c
-cut-lawful most w (inl part) = part-lawful most w part.0 part.1
+cut-lawful most w (inl part) = (part-lawful most w part.0 part.1, part-kept most w part.0 part.1)
 cut-lawful most w (inr refused) = tt
 
 clean-lawful : (most : ℕ) (w : Outside) (c : IsCutClean most w) → CleanIsLawful most w c
-clean-lawful most w (inl part) = part-lawful most w [] part
+clean-lawful most w (inl part) = (part-lawful most w [] part, part-kept most w [] part)
 clean-lawful most w (inr silent) = tt
 
 pub drills-lawful : (most : ℕ) (st : Status) (w : Outside) (d : Drilled most st w) → IsLawful most st w d
-drills-lawful most own.Done w d = whole-lawful most 0 w d (λ e. absurd cc)
-drills-lawful most own.BadLine w d = whole-lawful most 3 w d (λ e. absurd cc)
+drills-lawful most own.Done w d = (whole-lawful most 0 w d (λ e. absurd cc), behind-kept most 0 w d, plain-complete most 0 w d)
+drills-lawful most own.BadLine w d = (whole-lawful most 3 w d (λ e. absurd cc), behind-kept most 3 w d, plain-complete most 3 w d)
 drills-lawful most own.Limit w (inl tells) = tt
-drills-lawful most own.Limit w (inr d) = whole-lawful most 11 w d (λ e. absurd cc)
-drills-lawful most own.Spent w d = spent-lawful most 15 w d
+drills-lawful most own.Limit w (inr d) = (whole-lawful most 11 w d (λ e. absurd cc), behind-kept most 11 w d, plain-complete most 11 w d)
+drills-lawful most own.Spent w d = (spent-lawful most 15 w d, behind-kept most 15 w d, plain-complete most 15 w d)
 drills-lawful most own.SinkFault w d = cut-lawful most w d.1
 drills-lawful most own.DiskFault w d = clean-lawful most w d.1
 drills-lawful most own.NoMemory w (inl cut) = cut-lawful most w cut

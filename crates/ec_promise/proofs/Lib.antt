@@ -2,5 +2,9 @@ pub mod Greatest
 pub mod Fit
 pub mod Left
 pub mod Moments
+mod Plain
 pub mod Lawful
 pub mod Spared
+pub mod Named
+mod Cut
+pub mod Behind

@@ -1,3 +1,4 @@
 pub mod Spared
 pub mod Left
 pub mod Promise
+pub mod Behind

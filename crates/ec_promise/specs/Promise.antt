@@ -9,6 +9,7 @@ use Rattle.ec_history.specs.Lines.{IsStored}
 use Rattle.ec_history.specs.Placing.{EachLine, place}
 use Rattle.ec_history.specs.declared.shown.Shown.{Shown}
 use Rattle.ec_base.specs.Limits.{clerk_count}
+use Rattle.ec_base.specs.Outside.{Rose}
 use Rattle.ec_volume.specs.declared.image.Image.TheVariants.{Gone}
 use Rattle.ec_durable.specs.WellFormed as states
 use Rattle.ec_durable.specs.declared.state.Durable.{Durable}
@@ -18,6 +19,9 @@ use Rattle.ec_protocol.specs.declared.world.World.{World}
 use Rattle.ec_headline.specs.Headline.{AreEndsAsked, ArePieces, FrontsAreLawful, InScript, IsGreatest, Lines, Pieces, joined, placed_on}
 use Rattle.ec_steps.specs.Drills.{AreFit, lines_in}
 use Rattle.ec_reached.specs.Reached.{IsInOrder}
+use Rattle.ec_promise.specs.Behind.{BehindIsKept, PartIsKept}
+use Rattle.ec_complete.specs.Complete.{IsComplete}
+use Rattle.ec_plain_scripts.specs.Scripts.{IsPlainScript}
 use Rattle.ec_promise.specs.Spared.{LosesNothing, spares}
 use Rattle.ec_promise.specs.Left.{EndsStored, IsStoredIn, LeavesStored, SaysWhy}
 use Rattle.ec_drill.specs.Drill.{Outside, Drilled, IsCut, IsCutClean, IsToldAll, RanWhole, RanInPart, state_after}
@@ -86,26 +90,38 @@ WholeIsLawful most number w r = IsToldAll w → ∥ AreStoredOn r.reads r.state 
 abbrev pub SpentIsLawful : (most number : ℕ) (w : Outside) → RanWhole most number w → Type 0
 SpentIsLawful most number w r = IsToldAll w → ∥ AreWholeOn r.reads r.state r.shown × EndsStored r.reads r.fates r.state r.shown × AreInOrder r.reads r.fates r.state ∥₁
 
+-- The disk tells its content, of which it had none, and it didn't stop.
+pub record HasNewDisk (w : Outside) : Type 0 where
+  pub tells : w.tells
+  pub empty : length w.disk.gives ≡ 0
+  pub goes_on : Rose w.counts.stops w.counts_after.stops → ⊥
+
+-- Of a run that ended by itself on a new disk: where its script is plain, which its lines alone tell, its status is 0, no line says that messages didn't settle,
+-- and its answers are those of one plain volume to all calls of the script, so that none waits.
+abbrev pub PlainIsComplete : (most number : ℕ) (w : Outside) → RanWhole most number w → Type 0
+PlainIsComplete most number w r = HasNewDisk w → IsPlainScript most r.reads → ∥ (number ≡ 0) × IsComplete (images r.state.volume) (lines_in r.reads) r.shown number ∥₁
+
 abbrev pub PartIsLawful : (most : ℕ) (w : Outside) (last : List ℕ) → RanInPart most w last → Type 0
 PartIsLawful most w last r =
     (IsToldAll w → ∥ AreLawfulOn r.reads r.state r.shown × AreInOrder r.reads r.fates r.state ∥₁)
     × (w.tells → ∥ LeavesStored w.disk_after r.reads r.fates r.state (open_world r.state) r.shown ∥₁)
 
 abbrev pub CutIsLawful : (most : ℕ) (w : Outside) → IsCut most w → Type 0
-CutIsLawful most w (inl part) = PartIsLawful most w part.0 part.1
+CutIsLawful most w (inl part) = PartIsLawful most w part.0 part.1 × PartIsKept most w part.0 part.1
 CutIsLawful most w (inr refused) = ⊤
 
 abbrev pub CleanIsLawful : (most : ℕ) (w : Outside) → IsCutClean most w → Type 0
-CleanIsLawful most w (inl part) = PartIsLawful most w [] part
+CleanIsLawful most w (inl part) = PartIsLawful most w [] part × PartIsKept most w [] part
 CleanIsLawful most w (inr silent) = ⊤
 
--- Of each status, of which the drill did this: the lines written are lawful.
+-- Of each status, of which the drill did this: the lines written are lawful; where no fault was made, what they made durable is what the script's lines asked for, and those of
+-- a plain script are complete.
 abbrev pub IsLawful : (most : ℕ) (st : Status) (w : Outside) → Drilled most st w → Type 0
-IsLawful most status.Done w d = WholeIsLawful most 0 w d
-IsLawful most status.BadLine w d = WholeIsLawful most 3 w d
+IsLawful most status.Done w d = WholeIsLawful most 0 w d × BehindIsKept most 0 w d × PlainIsComplete most 0 w d
+IsLawful most status.BadLine w d = WholeIsLawful most 3 w d × BehindIsKept most 3 w d × PlainIsComplete most 3 w d
 IsLawful most status.Limit w (inl tells) = ⊤
-IsLawful most status.Limit w (inr d) = WholeIsLawful most 11 w d
-IsLawful most status.Spent w d = SpentIsLawful most 15 w d
+IsLawful most status.Limit w (inr d) = WholeIsLawful most 11 w d × BehindIsKept most 11 w d × PlainIsComplete most 11 w d
+IsLawful most status.Spent w d = SpentIsLawful most 15 w d × BehindIsKept most 15 w d × PlainIsComplete most 15 w d
 IsLawful most status.SinkFault w d = CutIsLawful most w d.1
 IsLawful most status.DiskFault w d = CleanIsLawful most w d.1
 IsLawful most status.NoMemory w (inl cut) = CutIsLawful most w cut

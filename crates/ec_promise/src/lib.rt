@@ -2,6 +2,7 @@
 //! law.
 #![tactic(auto)]
 
+ghost use Rattle.ec_promise.specs.Behind.{DrillsAreBehind};
 ghost use Rattle.ec_promise.specs.Promise.{DrillsAreLawful, MomentsAreStored};
 
 /// Whatever a drill did, the lines that it wrote stand in one legal history of one uncached volume.
@@ -13,4 +14,9 @@ pub fn drills_are_lawful()
 /// lines have named by then, with that of a record in doubt behind them.
 pub fn moments_are_stored()
     ensures { MomentsAreStored }
+{}
+
+/// What a drill without faults on a new disk made durable is what its lines asked for.
+pub fn drills_are_behind()
+    ensures { DrillsAreBehind }
 {}

@@ -1,0 +1,133 @@
+-- What a run without faults on an empty disk made durable is what its lines asked for.
+use Rattle.std.proofs.Common.{◌≡◌, refl, sym, ap, ◌∙◌, subst, arith, ◌≤◌, ℕ, List, [], ◌∷◌, ◌++◌, length, Result, Ok, Err, inl, inr, ◌⊎◌, append-nil}
+use Rattle.std.proofs.Math.Logic.{∥∥₁_map}
+use Rattle.ec_base.specs.Outside.{Rose}
+use Rattle.ec_base.specs.Tables.{once}
+use Rattle.ec_base.specs.declared.counter.Counter.{Counter}
+use Rattle.ec_volume.specs.Volume.{images}
+use Rattle.ec_history.specs.History.{Each}
+use Rattle.ec_history.specs.declared.shown.Shown.{Shown}
+use Rattle.ec_history.specs.declared.shown.Shown.TheVariants as show
+use Rattle.ec_durable.specs.Durable.{formatted}
+use Rattle.ec_durable.specs.WellFormed.{WellFormed}
+use Rattle.ec_durable.specs.declared.state.Durable.{Durable}
+use Rattle.ec_script.specs.Lines.{lines_of}
+use Rattle.ec_protocol.specs.World.{open_world}
+use Rattle.ec_protocol.specs.Drill.{Fates, Ran, Read, bound, close, drill, drill_in, joined, last_line, named_in, run_from}
+use Rattle.ec_protocol.specs.declared.world.World.{World}
+use Rattle.ec_headline.specs.Headline.{IsGreatest}
+use Rattle.ec_headline.specs.Headline as headline
+use Rattle.ec_steps.specs.Drills.{AreFit, lines_in}
+use Rattle.ec_whole.specs.Runs.{RunShows}
+use Rattle.ec_lawful.proofs.Shows.{runs-show}
+use Rattle.ec_world.specs.Steps.{Opens}
+use Rattle.ec_drill.specs.Drill.{IsGiven, Outside, RanInPart, RanWhole}
+use Rattle.ec_drill.specs.Fates as fates
+use Rattle.ec_line_runs.specs.Runs.{AllRun}
+use Rattle.ec_complete.specs.Complete.{IsFaultlessRead}
+use Rattle.ec_scripts_behind.specs.Pieces.{ArePiecesBehind, WritesBehind}
+use Rattle.ec_scripts_behind.proofs.Drills.{new-disks-behind}
+use Rattle.ec_promise.specs.Behind.{AreBehindOn, BehindIsKept, DrillsAreBehind, PartIsKept}
+use Rattle.ec_promise.proofs.Cut.{cut-front, cut-pieces}
+use Rattle.ec_promise.proofs.Fit.{fit_script}
+use Rattle.ec_promise.proofs.Greatest.{greatest-id}
+use Rattle.ec_promise.proofs.Moments.{one-last}
+use Rattle.ec_promise.proofs.Named.{as-many, few-named}
+
+same-joined : (pieces : List (List Shown)) → headline.joined pieces ≡ joined pieces
+same-joined [] = refl
+same-joined (p ∷ ps) = ap (λ (ls : List Shown). p ++ ls) (same-joined ps)
+
+-- the disk ran in each step
+all-run : (fs : Fates) → fates.AllRun fs → AllRun fs
+all-run [] a = tt
+all-run (f ∷ fs) a = (a.0, all-run fs a.1)
+
+each-runs : (fs : List Fates) → fates.EachRuns fs → Each AllRun fs
+each-runs [] a = tt
+each-runs (f ∷ fs) a = (all-run f a.0, each-runs fs a.1)
+
+module _ (most : ℕ) (reads : List Read) (fs : List Fates) (formed : WellFormed (formatted most)) (few : length reads ≤ 65536) (sixteen : length (once (named_in reads)) ≤ 16) (fit : AreFit reads) (faultless : Each IsFaultlessRead reads) (all : Each AllRun fs) where
+  abbrev d : Durable
+  d = formatted most
+
+  highest : (n : ℕ) × IsGreatest (images d.volume) n
+  highest = greatest-id d formed
+
+  unopened : (n : Counter) → AreBehindOn reads d (show.Spent n ∷ [])
+  unopened n = record { told = []; last = show.Spent n ∷ []; written = refl; at_most_one = omega arith; why = (tt, tt); pieces = []; in_pieces = refl; numbered = tt; top = highest.0; greatest = highest.1; behind = tt }
+
+  module _ (w : World) (o : open_world d ≡ Ok w) where
+    abbrev ran : Ran
+    ran = run_from (bound reads) 1 reads fs w
+
+    abbrev closed : Ran
+    closed = close ran.ending ran
+
+    shows : RunShows (images d.volume) highest.0 d.max_objects reads closed
+    shows = runs-show d formed refl refl w o reads fs fit highest.0 highest.1
+
+    writes : WritesBehind (headline.placed_on (images d.volume) highest.0) (lines_in reads) [] ran × (closed ≡ ran)
+    writes = new-disks-behind most formed w o highest.0 highest.1.least reads fs few sixteen fit faultless all
+
+    opened : AreBehindOn reads d (joined closed.pieces ++ last_line closed.ending)
+    opened = record {
+      told = headline.joined closed.pieces;
+      last = last_line closed.ending;
+      written = ap (λ (ls : List Shown). ls ++ last_line closed.ending) (sym (same-joined closed.pieces));
+      at_most_one = (one-last closed.ending).0;
+      why = (one-last closed.ending).1;
+      pieces = closed.pieces;
+      in_pieces = refl;
+      numbered = shows.numbered;
+      top = highest.0;
+      greatest = highest.1;
+      behind = subst (λ (r : Ran). ArePiecesBehind (headline.placed_on (images d.volume) highest.0) (lines_in reads) [] r.pieces) (sym writes.1) writes.0.pieces;
+    }
+
+  pub machine-behind : AreBehindOn reads d (drill reads fs d).0
+  machine-behind = go (open_world d) refl
+    where
+      go : (o : Result World Counter) → open_world d ≡ o → AreBehindOn reads d (drill_in reads fs o).0
+      go (Err n) e = unopened n
+      go (Ok w) e = opened w e
+
+pub machines-behind : DrillsAreBehind
+machines-behind most reads fs formed few sixteen fit faultless all = machine-behind most reads fs formed few sixteen fit faultless all
+
+-- So is a front of its lines.
+behind-cut : (reads : List Read) (state : Durable) (all xs more : List Shown) → AreBehindOn reads state all → xs ++ more ≡ all → AreBehindOn reads state xs
+behind-cut reads state all xs more a e = go (cut-front xs more a.told a.last (e ∙ a.written) a.at_most_one)
+  where
+    go : ((rest : List Shown) × (xs ++ rest ≡ a.told)) ⊎ (xs ≡ a.told ++ a.last) → AreBehindOn reads state xs
+    go (inr q) = record { told = a.told; last = a.last; written = q; at_most_one = a.at_most_one; why = a.why; pieces = a.pieces; in_pieces = a.in_pieces; numbered = a.numbered; top = a.top; greatest = a.greatest; behind = a.behind }
+    go (inl (rest, q)) =
+        let c = cut-pieces (headline.placed_on (images state.volume) a.top) (lines_in reads) 1 [] a.pieces xs rest (q ∙ a.in_pieces) a.numbered a.behind in
+        record { told = xs; last = []; written = sym (append-nil xs); at_most_one = omega arith; why = tt; pieces = c.pieces; in_pieces = c.is; numbered = c.numbered; top = a.top; greatest = a.greatest; behind = c.behind }
+
+module _ (most : ℕ) (w : Outside) (reads : List Read) (given : IsGiven w reads) (state : Durable) (opens : Opens w.tells w.disk.gives most state) (fs : List Fates) (stopped : fates.AreOf fs w.counts.stops w.counts_after.stops) where
+  fit : AreFit reads
+  fit = fit_script (lines_of given.script) reads given.read
+
+  few : length reads ≤ 65536
+  few = omega (arith, as-many (lines_of given.script) reads given.read, given.few_lines)
+
+  all-kept : w.tells → length w.disk.gives ≡ 0 → (Rose w.counts.stops w.counts_after.stops → ⊥) → Each IsFaultlessRead reads → WellFormed state → AreBehindOn reads state (drill reads fs state).0
+  all-kept tells empty stops faultless formed =
+      subst (λ d. AreBehindOn reads d (drill reads fs d).0) (sym is)
+      (machine-behind most reads fs (subst WellFormed is formed) few (few-named (lines_of given.script) reads given.read fit faultless) fit faultless (each-runs fs ran))
+    where
+      is : state ≡ formatted most
+      is = opens.empty tells empty
+
+      ran : fates.EachRuns fs
+      ran = elim stopped [ inl e ↦ e | inr rose ↦ absurd (stops rose) ]
+
+pub behind-kept : (most number : ℕ) (w : Outside) (r : RanWhole most number w) → BehindIsKept most number w r
+behind-kept most number w r tells empty stops faultless =
+    ∥∥₁_map r.opens.whole.formed (λ formed. subst (AreBehindOn r.reads r.state) (r.lines (inl tells)) (all-kept most w r.reads r.given r.state r.opens r.fates r.stopped tells empty stops faultless formed))
+
+pub part-kept : (most : ℕ) (w : Outside) (last : List ℕ) (r : RanInPart most w last) → PartIsKept most w last r
+part-kept most w last r tells empty stops faultless =
+    let f = r.front (inl tells) in
+    ∥∥₁_map r.opens.whole.formed (λ formed. behind-cut r.reads r.state (drill r.reads r.fates r.state).0 r.shown (r.unwritten ++ f.0) (all-kept most w r.reads r.given r.state r.opens r.fates r.stopped tells empty stops faultless formed) (sym f.1))

@@ -1,0 +1,54 @@
+-- Write-behind: what a run made durable is what its lines asked for, where no fault was made. It's told by the lines, the script and the volume of the disk alone.
+use Rattle.std.specs.Prelude.{◌≡◌, ◌≤◌, ℕ, List, [], ◌++◌, length}
+use Rattle.ec_base.specs.Outside.{Rose}
+use Rattle.ec_base.specs.Tables.{once}
+use Rattle.ec_volume.specs.Volume.{images}
+use Rattle.ec_history.specs.History.{Each}
+use Rattle.ec_history.specs.Placing.{EachLine}
+use Rattle.ec_history.specs.declared.shown.Shown.{Shown}
+use Rattle.ec_durable.specs.Durable.{formatted}
+use Rattle.ec_durable.specs.WellFormed.{WellFormed}
+use Rattle.ec_durable.specs.declared.state.Durable.{Durable}
+use Rattle.ec_protocol.specs.Drill.{Fates, Read, drill, named_in}
+use Rattle.ec_headline.specs.Headline.{ArePieces, IsGreatest, Pieces, joined, placed_on}
+use Rattle.ec_steps.specs.Drills.{AreFit, lines_in}
+use Rattle.ec_drill.specs.Drill.{Outside, RanInPart, RanWhole}
+use Rattle.ec_line_runs.specs.Runs.{AllRun}
+use Rattle.ec_complete.specs.Complete.{IsFaultlessRead}
+use Rattle.ec_scripts_behind.specs.Pieces.{ArePiecesBehind}
+use Rattle.ec_promise.specs.Left.{SaysWhy}
+
+-- The lines that a run over this script wrote, on a disk that stood for this state, in pieces, one for each line carried out: each operation that a durable line
+-- names lies in a closure that the line of the script asks for: of the object of its fsync, of the pushed operation, of all operations for a sync, or, where the
+-- operations are another clerk's, of an object that its call touches.
+pub record AreBehindOn (reads : List Read) (state : Durable) (shown : List Shown) : Type 0 where
+  -- all but the last one, where that says why the run ended early
+  pub told : List Shown
+  pub last : List Shown
+  pub written : shown ≡ told ++ last
+  pub at_most_one : length last ≤ 1
+  pub why : EachLine SaysWhy last
+  pub pieces : Pieces
+  pub in_pieces : told ≡ joined pieces
+  -- the first line of each call stands in the piece of the call's line
+  pub numbered : ArePieces 1 [] pieces
+  -- a new object has the id that is the greatest one of the volume plus the place of its call's line
+  pub top : ℕ
+  pub greatest : IsGreatest (images state.volume) top
+  pub behind : ArePiecesBehind (placed_on (images state.volume) top) (lines_in reads) [] pieces
+
+-- So it is on an empty disk that tells its content and made no stop, with a script of comments, calls and pushes: of a run that ended by itself, and of one that was
+-- cut off.
+abbrev pub IsKeptBehind : Outside → List Read → Durable → List Shown → Type 0
+IsKeptBehind w reads state shown = w.tells → length w.disk.gives ≡ 0 → (Rose w.counts.stops w.counts_after.stops → ⊥) → Each IsFaultlessRead reads → ∥ AreBehindOn reads state shown ∥₁
+
+abbrev pub BehindIsKept : (most number : ℕ) (w : Outside) → RanWhole most number w → Type 0
+BehindIsKept most number w r = IsKeptBehind w r.reads r.state r.shown
+
+abbrev pub PartIsKept : (most : ℕ) (w : Outside) (last : List ℕ) → RanInPart most w last → Type 0
+PartIsKept most w last r = IsKeptBehind w r.reads r.state r.shown
+
+-- Of the machine: the lines of each drill over such a script on a new disk, of at most 65,536 lines and 16 clerks.
+abbrev pub DrillsAreBehind : Type 0
+DrillsAreBehind = (most : ℕ) (reads : List Read) (fates : List Fates) → WellFormed (formatted most) → length reads ≤ 65536 → length (once (named_in reads)) ≤ 16 → AreFit reads → Each IsFaultlessRead reads → Each AllRun fates
+    → AreBehindOn reads (formatted most) (drill reads fates (formatted most)).0
