@@ -8,32 +8,18 @@ ghost use Rattle.std.specs.Process.{exit_status};
 ghost use Rattle.std.specs.String.{string_bytes};
 ghost use Rattle.ec_disk.specs.Turns.{counts_of};
 ghost use Rattle.ec_link.specs.Spawns.{faults_of};
-ghost use Rattle.echofs.specs.Echo.{Echoes, words_of};
-ghost use Rattle.echofs.specs.Statuses.{code};
-ghost use Rattle.echofs.specs.Words.{Spells};
-ghost use Rattle.echofs.specs.declared.command.Command.{Command};
-ghost use Rattle.echofs.specs.declared.status.Status.{Status};
-ghost use Rattle.echofs.specs.declared.status.Status.TheVariants as status;
+ghost use Rattle.ec_echo.specs.Echo.{Echoes};
+ghost use Rattle.ec_echo.specs.Statuses.{code};
+ghost use Rattle.ec_echo.specs.Words.{Spells};
+ghost use Rattle.ec_echo.specs.declared.command.Command.{Command};
+ghost use Rattle.ec_echo.specs.declared.status.Status.{Status};
+ghost use Rattle.ec_echo.specs.declared.status.Status.TheVariants as status;
+ghost use Rattle.echofs.specs.Arguments.{words_of};
 
-mod checking;
-mod command;
-mod making;
-mod serving;
-mod soaking;
-mod status;
-mod writing;
-
-use checking::check;
-use command::{Command, address_of, command_of};
 use ec_base::{Sink, Source, StdSink, StdSource};
 use ec_disk::{CrashDisk, FileDisk, MemDisk};
-use ec_drill::drill;
+use ec_echo::{Command, Status, command_of, echo_main};
 use ec_link::{Around, Net, Spawner, TcpNet, ThreadSpawner};
-use ec_mount::mount;
-use making::make;
-use serving::serve;
-use soaking::soak;
-use status::Status;
 use std::alloc::Global;
 use std::env::Args;
 use std::fs::File;
@@ -47,64 +33,6 @@ const DISK_FILE: &str = "echofs.disk";
 
 const USAGE: &str =
     "usage: echofs drill [N] < SCRIPT, echofs check [N] < TRANSCRIPT, echofs make N, echofs soak N, echofs serve ADDR COUNT, or echofs mount ADDR CLERK < LANES";
-
-/// Does all that the program does, over any source, sink and disk that isn't armed, and answers the
-/// exit status. The words are those behind the program's name; `boot` is the number of this start of
-/// the process.
-pub fn echo_main<R: Around + Eprint, S: Source, K: Sink, D: CrashDisk + Send, N: Net>(
-    rt: &R,
-    words: &[String],
-    source: &mut S,
-    sink: &mut K,
-    disk: &mut D,
-    net: &mut N,
-    spawner: &mut Spawner,
-    boot: u64,
-) -> u8
-    requires { (D.counts disk.old).armed ≡ None }
-    ensures usage { (result ≡ 2) ↔ ((c : Command) → Spells (map string_bytes words.now) c → ⊥) }
-    ensures later { (S.faults source.old ≤ S.faults source.new) × (K.faults sink.old ≤ K.faults sink.new) }
-    ensures counts { ((D.counts disk.old).faults ≤ (D.counts disk.new).faults) × ((D.counts disk.old).stops ≤ (D.counts disk.new).stops) }
-    ensures net { (N.faults net.old ≤ N.faults net.new) × (faults_of spawner.old ≤ faults_of spawner.new) }
-    ensures echoes { (status : Status) × (result ≡ code status)
-        × Echoes boot (map string_bytes words.now) status (record {
-          left = S.left source.old;
-          left_after = S.left source.new;
-          reads = S.faults source.old;
-          reads_after = S.faults source.new;
-          held = K.held sink.old;
-          held_after = K.held sink.new;
-          writes = K.faults sink.old;
-          writes_after = K.faults sink.new;
-          tells = D.tells;
-          disk = D.view disk.old;
-          disk_after = D.view disk.new;
-          counts = D.counts disk.old;
-          counts_after = D.counts disk.new;
-        })
-        (record {
-          before = record { faults = N.faults net.old; bad = N.bad net.old; ended = N.ended net.old; starts = faults_of spawner.old };
-          later = record { faults = N.faults net.new; bad = N.bad net.new; ended = N.ended net.new; starts = faults_of spawner.new };
-        }) }
-{
-    let Some(command) = command_of(words) else {
-        return Status::Usage.code();
-    };
-    match command {
-        Command::Drill(max_objects) => {
-            Status::of_drill(drill(rt.alloc(), source, sink, disk, max_objects)).code()
-        }
-        Command::Check(max_objects) => check(rt.alloc(), source, sink, max_objects).code(),
-        Command::Make(number) => make(rt.alloc(), number, sink).code(),
-        Command::Soak(number) => soak(rt.alloc(), number, sink, disk).code(),
-        Command::Serve(count) => {
-            serve(rt, sink, disk, net, spawner, address_of(words), count).code()
-        }
-        Command::Mount(clerk) => {
-            Status::of_mount(mount(rt, source, sink, net, address_of(words), clerk, boot)).code()
-        }
-    }
-}
 
 // What the program says of a status on standard error.
 fn reason(status: u8) -> Option<&'static str>
@@ -275,6 +203,3 @@ fn main(rt: HostRuntime) -> ExitCode {
         }
     }
 }
-
-#[cfg(test)]
-mod tests;

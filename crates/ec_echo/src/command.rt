@@ -1,0 +1,113 @@
+// What the words of the program ask for.
+ghost use Rattle.std.specs.Prelude.{◌≡◌, [], ◌∷◌, map, MatchOption, MatchBool};
+ghost use Rattle.std.specs.String.{string_bytes};
+ghost use Rattle.ec_echo.specs.Words.{Spells, IsAddress, uses_disk};
+ghost use Rattle.ec_echo.specs.declared.command.Command.{Command};
+
+use ec_base::ClerkId;
+use ec_drill::MOST_OBJECTS;
+use ec_words::{clerk_of, number_in};
+
+/// What the program does.
+#[derive(Clone, Copy, Debug, Drop, PartialEq, Eq)]
+pub enum Command {
+    /// Drills a script. A new disk is formatted for so many objects.
+    Drill(u32),
+    /// Judges a transcript that began on a disk formatted for so many objects.
+    Check(u32),
+    /// Writes the script of this number.
+    Make(u32),
+    /// Drills the script of this number, and counts what the transcript tells.
+    Soak(u32),
+    /// Serves so many links.
+    Serve(u32),
+    /// Runs a lane script by this clerk.
+    Mount(ClerkId),
+}
+
+impl Command {
+    /// Whether it uses the disk.
+    pub fn uses_disk(self) -> bool
+        ensures { result ≡ uses_disk self }
+    {
+        match self {
+            Command::Drill(_) | Command::Soak(_) | Command::Serve(_) => true,
+            Command::Check(_) | Command::Make(_) | Command::Mount(_) => false,
+        }
+    }
+}
+
+/// What these words ask for.
+pub fn command_of(words: &[String]) -> Option<Command>
+    ensures { MatchOption result ((c : Command) → Spells (map string_bytes words.now) c → ⊥) (λ c. Spells (map string_bytes words.now) c) }
+{
+    match words {
+        [word] => alone(word.as_bytes()),
+        [word, number] => numbered(word.as_bytes(), number.as_bytes()),
+        [word, addr, last] => addressed(word.as_bytes(), addr.as_bytes(), last.as_bytes()),
+        _ => None,
+    }
+}
+
+fn alone(word: &[u8]) -> Option<Command>
+    ensures { MatchOption result ((c : Command) → Spells (word.now ∷ []) c → ⊥) (λ c. Spells (word.now ∷ []) c) }
+{
+    if word == b"drill".as_slice() {
+        return Some(Command::Drill(MOST_OBJECTS));
+    }
+    if word == b"check".as_slice() {
+        return Some(Command::Check(MOST_OBJECTS));
+    }
+    None
+}
+
+fn numbered(word: &[u8], number: &[u8]) -> Option<Command>
+    ensures { MatchOption result ((c : Command) → Spells (word.now ∷ number.now ∷ []) c → ⊥) (λ c. Spells (word.now ∷ number.now ∷ []) c) }
+{
+    if word == b"drill".as_slice() {
+        return Some(Command::Drill(number_in(number, 32, 1_024)? as u32));
+    }
+    if word == b"check".as_slice() {
+        return Some(Command::Check(number_in(number, 32, 1_024)? as u32));
+    }
+    if word == b"make".as_slice() {
+        return Some(Command::Make(number_in(number, 0, 4_294_967_295)? as u32));
+    }
+    if word == b"soak".as_slice() {
+        return Some(Command::Soak(number_in(number, 0, 4_294_967_295)? as u32));
+    }
+    None
+}
+
+fn addressed(word: &[u8], addr: &[u8], last: &[u8]) -> Option<Command>
+    ensures { MatchOption result ((c : Command) → Spells (word.now ∷ addr.now ∷ last.now ∷ []) c → ⊥) (λ c. Spells (word.now ∷ addr.now ∷ last.now ∷ []) c) }
+{
+    if !is_address(addr) {
+        return None;
+    }
+    if word == b"serve".as_slice() {
+        return Some(Command::Serve(number_in(last, 1, 1_000_000)? as u32));
+    }
+    if word == b"mount".as_slice() {
+        return Some(Command::Mount(clerk_of(last)?));
+    }
+    None
+}
+
+// A word that isn't empty, and doesn't begin with a hyphen.
+fn is_address(word: &[u8]) -> bool
+    ensures { MatchBool result (IsAddress word.now) (IsAddress word.now → ⊥) }
+{
+    match word {
+        [first, ..] => *first != b'-',
+        [] => false,
+    }
+}
+
+/// The address among the words, which is the second.
+pub fn address_of(words: &[String]) -> &str {
+    match words {
+        [_, addr, _] => addr.as_str(),
+        _ => "",
+    }
+}

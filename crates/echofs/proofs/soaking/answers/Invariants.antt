@@ -1,6 +1,0 @@
-use Rattle.std.proofs.Common.{◌≡◌, ◌+◌, ◌≤◌, drop}
-use Rattle.echofs.specs.Soak.{answers}
-use Rattle.echofs.proofs.soaking.answers.Given as goal
-
-abbrev pub invariant-counting : goal.invariant-counting
-invariant-counting l = (l.count + answers (drop l.sort-index l.sorts) ≡ answers l.sorts) × (l.count ≤ l.sort-index)
