@@ -73,9 +73,10 @@ fn grant(obj: ObjId, number: u64, image: Image) -> Msg {
 
 fn take(clerk: &mut Clerk, msg: Msg) -> Option<()> {
     if !msg.sound() {
+        drop(msg);
         return None;
     }
-    clerk.take(msg).ok()?;
+    drop(clerk.take(msg).ok()?);
     Some(())
 }
 

@@ -45,7 +45,9 @@ fn answered(alloc: Global, size: u32) -> Result<Vec<u8>, NoMemory> {
 
 fn print_read(alloc: Global, line: &[u8], rounds: u32) -> Option<()> {
     let shown = read(alloc, line).ok()?;
-    print_lines(alloc, &shown, rounds).ok()
+    let done = print_lines(alloc, &shown, rounds).ok();
+    drop(shown);
+    done
 }
 
 // So many bytes between these.
@@ -95,7 +97,9 @@ fn recode(alloc: Global, bytes: Vec<u8>, rounds: u32) -> Result<Vec<u8>, WireFau
 
 fn recode_once(alloc: Global, bytes: &[u8]) -> Result<Vec<u8>, WireFault> {
     let message = decode(alloc, bytes)?;
-    match encode(alloc, &message) {
+    let again = encode(alloc, &message);
+    drop(message);
+    match again {
         Ok(again) => Ok(again),
         Err(_) => Err(WireFault::NoMemory),
     }

@@ -5,7 +5,7 @@ ghost use Rattle.ec_durable.specs.Codes.{is_sound_record};
 use ec_codes::CodeFault;
 use ec_disk::FileDisk;
 use ec_durable::{Record, decode};
-use ec_store::{Store, StoreFault};
+use ec_store::Store;
 use std::alloc::{AllocError, AllocFailed, Global};
 use std::time::{Duration, Instant};
 
@@ -27,12 +27,6 @@ impl<T: Drop> From<AllocFailed<T>> for NotDone {
 
 impl From<CodeFault> for NotDone {
     fn from(_: CodeFault) -> Self {
-        NotDone
-    }
-}
-
-impl From<StoreFault> for NotDone {
-    fn from(_: StoreFault) -> Self {
         NotDone
     }
 }
@@ -136,15 +130,22 @@ fn fill_some(alloc: Global, on: &mut OnDisk, got: u32) -> Result<(), NotDone> {
 
 /// Opens the disk, and tells how many objects it holds.
 pub fn open(alloc: Global, mut disk: FileDisk) -> Option<u64> {
-    let store = Store::open(alloc, &mut disk).ok()?;
+    let Ok(store) = Store::open(alloc, &mut disk) else {
+        drop(disk);
+        return None;
+    };
     let live = store.view().volume.live();
     drop(store);
+    drop(disk);
     Some(u64::from(live))
 }
 
 fn begin(alloc: Global, disk: FileDisk) -> Result<OnDisk, NotDone> {
     let mut disk = disk;
-    let store = Store::format(alloc, &mut disk, 1_024)?;
+    let Ok(store) = Store::format(alloc, &mut disk, 1_024) else {
+        drop(disk);
+        return Err(NotDone);
+    };
     let mut on = OnDisk {
         store,
         disk,
@@ -159,14 +160,14 @@ fn begin(alloc: Global, disk: FileDisk) -> Result<OnDisk, NotDone> {
 }
 
 fn open_session(alloc: Global, on: &mut OnDisk) -> Result<(), NotDone> {
-    commit(on, &sound_record(alloc, OPEN)?)
+    commit_bytes(alloc, on, OPEN)
 }
 
 // The ids of a grant are granted, and their objects made.
 fn grant(alloc: Global, on: &mut OnDisk, got: u32) -> Result<(), NotDone> {
     let first = got.saturating_mul(IDS_PER_GRANT).saturating_add(2);
     let ids = ids(alloc, got, first)?;
-    commit(on, &sound_record(alloc, &ids)?)?;
+    commit_bytes(alloc, on, &ids)?;
     let makes = makes(alloc, on.number, first)?;
     commit_batch(alloc, on, &makes)
 }
@@ -185,7 +186,15 @@ fn put_all(
 
 fn commit_batch(alloc: Global, on: &mut OnDisk, bytes: &[u8]) -> Result<(), NotDone> {
     on.number = on.number.saturating_add(1);
-    commit(on, &sound_record(alloc, bytes)?)
+    commit_bytes(alloc, on, bytes)
+}
+
+// The record of these bytes.
+fn commit_bytes(alloc: Global, on: &mut OnDisk, bytes: &[u8]) -> Result<(), NotDone> {
+    let sound = sound_record(alloc, bytes)?;
+    let done = commit(on, &sound);
+    drop(sound);
+    done
 }
 
 fn commit(on: &mut OnDisk, sound: &Sound) -> Result<(), NotDone> {

@@ -8,25 +8,26 @@ mod calls;
 mod feed;
 mod serving;
 
-use anyhow::bail;
 use calls::{What, call_often, read_beside};
 use ec_base::ClerkId;
 use ec_clerk::Clerk;
 use ec_clerknode::{Node, SharedClerk, send_all};
-use ec_link::{Around, Link, Net, Sent, TcpLink, TcpNet};
+use ec_link::{Around, Link, Net, Sent, TcpNet};
 use ec_lock::Pass;
 use feed::{Granted, give_grant, give_session};
 use serving::serve_messages;
 use std::alloc::Global;
 use std::env;
 use std::net::{TcpListener, TcpStream};
+use std::process::ExitCode;
 use std::sync::Wait;
 use std::thread::Threads;
 use std::time::Clock;
 
 const ADDRESS: &str = "127.0.0.1:4714";
 
-const USAGE: &str = "usage: ec_node_bench reads|beside|writes|messages COUNT";
+const USAGE: &str =
+    "usage: ec_node_bench reads|beside|writes|messages COUNT; or a call or a message had no answer";
 
 // The calls that are timed.
 #[derive(Clone, Copy, Debug, Drop)]
@@ -36,7 +37,19 @@ enum Work {
     Beside,
 }
 
-// A clerk that has greeted, over this end of a link.
+// A clerk that has greeted over this end of a link.
+fn greeted<L: Link, R: Wait + Clock>(rt: &R, alloc: Global, link: &mut L) -> Option<Clerk> {
+    let id = ClerkId::new(0)?;
+    let (clerk, outs) = Clerk::start(alloc, id, 1).ok()?;
+    let (_, end) = send_all(rt, alloc, link, &outs);
+    drop(outs);
+    if end != Sent::Done {
+        drop(clerk);
+        return None;
+    }
+    Some(clerk)
+}
+
 fn shared<L: Link + Drop, R: Wait + Clock>(
     rt: &R,
     alloc: Global,
@@ -45,11 +58,7 @@ fn shared<L: Link + Drop, R: Wait + Clock>(
 ) -> Option<(SharedClerk<L>, Pass<Node<L>>)>
     ensures { IfSome result (λ made. IsPassOf made.0.lock made.1) }
 {
-    let (clerk, outs) = Clerk::start(alloc, ClerkId::new(0)?, 1).ok()?;
-    let (_, end) = send_all(rt, alloc, &mut link, &outs);
-    if end != Sent::Done {
-        return None;
-    }
+    let clerk = greeted(rt, alloc, &mut link)?;
     SharedClerk::new(alloc, clerk, link, bell).ok()
 }
 
@@ -71,10 +80,15 @@ fn make_calls<L: Link + Send + Drop, R: Threads + Wait + Clock + Sync>(
         Work::Beside => What::Read,
     };
     if !call_often(rt, alloc, clerk, &mut pass, what, 1) {
+        drop(pass);
         return Some(false);
     }
     match work {
-        Work::Alone(_) => Some(call_often(rt, alloc, clerk, &mut pass, what, count)),
+        Work::Alone(_) => {
+            let is_done = call_often(rt, alloc, clerk, &mut pass, what, count);
+            drop(pass);
+            Some(is_done)
+        }
         Work::Beside => read_beside(rt, alloc, clerk, pass, far, count),
     }
 }
@@ -90,71 +104,93 @@ fn call_over<L: Link + Send + Drop, R: Threads + Wait + Clock + Sync>(
     count: u32,
 ) -> Option<bool> {
     let (clerk, pass) = shared(rt, alloc, near, bell)?;
-    make_calls(rt, alloc, &clerk, pass, far, work, count)
+    let done = make_calls(rt, alloc, &clerk, pass, far, work, count);
+    drop(clerk);
+    done
 }
 
-// Both ends of a link over loopback.
-fn ends<R: Around>(rt: &R) -> anyhow::Result<(TcpLink, TcpLink)> {
-    let mut net = TcpNet::new();
-    let Ok(mut door) = net.listen(rt, ADDRESS) else {
-        bail!("nobody can listen at {ADDRESS}");
-    };
-    let (Ok(near), Ok(far)) = (net.call(rt, ADDRESS), net.accept(rt, &mut door)) else {
-        bail!("no link");
-    };
-    Ok((near, far))
-}
-
-// So many calls over loopback.
-fn call<R: Around>(rt: &R, work: Work, count: u32) -> anyhow::Result<()> {
-    let (mut near, mut far) = ends(rt)?;
+// The same, where the far end says it first.
+fn call_between<L: Link + Send + Drop, R: Around>(
+    rt: &R,
+    mut near: L,
+    mut far: L,
+    work: Work,
+    count: u32,
+) -> Option<bool> {
     let alloc = rt.alloc();
-    let Ok(bell) = near.bell(rt) else {
-        bail!("no bell");
-    };
     let is_fed = give_session(rt, &mut far)
         && give_grant(rt, alloc, &mut far, Granted::Root)
         && give_grant(rt, alloc, &mut far, Granted::F);
     if !is_fed {
-        bail!("the link failed");
+        return None;
     }
-    match call_over(rt, alloc, near, bell, far, work, count) {
-        Some(true) => Ok(()),
-        Some(false) => bail!("a call had no answer"),
-        None => bail!("out of memory"),
-    }
+    let bell = near.bell(rt).ok()?;
+    call_over(rt, alloc, near, bell, far, work, count)
 }
 
-// The calls that this word asks for. None asks for messages.
-fn named(name: &str) -> anyhow::Result<Option<Work>> {
-    match name.as_bytes() {
-        b"reads" => Ok(Some(Work::Alone(What::Read))),
-        b"beside" => Ok(Some(Work::Beside)),
-        b"writes" => Ok(Some(Work::Alone(What::Write))),
-        b"messages" => Ok(None),
-        _ => bail!("{USAGE}"),
-    }
+// Both ends of a link over this net.
+fn ends<N: Net, R: Around>(rt: &R, net: &mut N) -> Option<(N::Link, N::Link)> {
+    let mut door = net.listen(rt, ADDRESS).ok()?;
+    let near = net.call(rt, ADDRESS).ok()?;
+    let far = net.accept(rt, &mut door).ok()?;
+    Some((near, far))
 }
 
-fn main(rt: HostRuntime) -> anyhow::Result<()> {
-    // so that the program's table has the types of the net
-    let _types: (Option<TcpListener>, Option<TcpStream>) = (None, None);
-    let mut words = Vec::new(rt.alloc());
-    for word in env::args(&rt)?.skip(1) {
-        words.push(word)?;
-    }
-    let [name, count] = words.as_slice() else {
-        bail!("{USAGE}");
+// So many calls over this net. True if each was answered.
+fn call<N: Net, R: Around>(rt: &R, net: &mut N, work: Work, count: u32) -> Option<bool> {
+    let (near, far) = ends(rt, net)?;
+    call_between(rt, near, far, work, count)
+}
+
+// The work that this word asks for; so many messages, or calls.
+fn does<R: Around>(rt: &R, name: &str, count: u32) -> Option<bool> {
+    let work = match name.as_bytes() {
+        b"reads" => Work::Alone(What::Read),
+        b"beside" => Work::Beside,
+        b"writes" => Work::Alone(What::Write),
+        b"messages" => return Some(serve_messages(rt, rt.alloc(), count)),
+        _ => return None,
     };
-    let count = count.parse::<u32>()?;
-    match named(name)? {
-        Some(work) => call(&rt, work, count)?,
+    let mut net = TcpNet::new();
+    call(rt, &mut net, work, count)
+}
+
+fn words(rt: HostRuntime) -> Option<Vec<String>> {
+    let mut words = Vec::new(rt.alloc());
+    for word in env::args(&rt).ok()?.skip(1) {
+        words.push(word).ok()?;
+    }
+    Some(words)
+}
+
+// How much was done. None says that the words ask for nothing, or that it can't be done.
+fn run<R: Around>(rt: &R, words: &[String]) -> Option<u32> {
+    let [name, count] = words else {
+        return None;
+    };
+    let count = count.parse::<u32>().ok()?;
+    if does(rt, name, count)? {
+        Some(count)
+    } else {
+        None
+    }
+}
+
+fn main(rt: HostRuntime) -> ExitCode {
+    // so that the program's table has the types of the net
+    drop::<(Option<TcpListener>, Option<TcpStream>)>((None, None));
+    let done = match words(rt) {
+        Some(words) => run(&rt, words.as_slice()),
+        None => None,
+    };
+    match done {
+        Some(count) => {
+            let _ = println!(&rt; "{count}");
+            ExitCode::SUCCESS
+        }
         None => {
-            if !serve_messages(&rt, rt.alloc(), count) {
-                bail!("a message had no answer");
-            }
+            let _ = eprintln!(&rt; "{USAGE}");
+            ExitCode::FAILURE
         }
     }
-    println!(rt; "{count}")?;
-    Ok(())
 }

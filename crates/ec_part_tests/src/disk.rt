@@ -88,64 +88,70 @@ fn disk_over<F: FileExt + OpenFile + Drop>(alloc: Global, file: F) -> io::Result
     }
 }
 
-// A call on a disk.
-#[derive(Clone, Copy)]
-enum Call<'a> {
-    Write(u64, &'a [u8]),
-    Sync,
-    Len,
-    Arm(u64),
-    Disarm,
-    Cut(Choice),
+fn letter(answer: DiskAnswer) -> u8 {
+    match answer {
+        DiskAnswer::Done => b'.',
+        DiskAnswer::Failed => b'!',
+        DiskAnswer::Stopped => b'#',
+        DiskAnswer::NoMemory => b'-',
+    }
 }
 
-use Call::*;
-
-// What it answers.
-#[derive(Clone, Copy, PartialEq)]
-enum Told {
-    Is(DiskAnswer),
-    HasLen(DiskLen),
-    Nothing,
+// A length from 256 on is a plus.
+fn digit(len: DiskLen) -> u8 {
+    match len {
+        DiskLen::Len(len) => {
+            match u8::try_from(len) {
+                Ok(len) => b'0'.wrapping_add(len),
+                Err(_) => b'+',
+            }
+        }
+        DiskLen::Failed => b'!',
+        DiskLen::Stopped => b'#',
+    }
 }
 
-const DONE: Told = Told::Is(DiskAnswer::Done);
-
-const FAILED: Told = Told::Is(DiskAnswer::Failed);
-
-const STOPPED: Told = Told::Is(DiskAnswer::Stopped);
-
-const NOTHING: Told = Told::Nothing;
-
-fn bytes(len: u64) -> Told {
-    Told::HasLen(DiskLen::Len(len))
+// Of a digit.
+fn number(letter: u8) -> u64 {
+    u64::from(letter.wrapping_sub(b'0'))
 }
 
-fn answer<D: CrashDisk>(disk: &mut D, call: Call) -> Told {
+fn choice_of(letter: u8) -> Choice {
+    match letter {
+        b'o' => Choice::Old,
+        b'n' => Choice::New,
+        _ => Choice::Torn,
+    }
+}
+
+// Whether a call answers so. The first letter is its answer, the next ones what it is: a write at a place, a sync, a cut, the length, or a stop
+// that is armed behind so many calls, or disarmed.
+fn answers<D: CrashDisk>(disk: &mut D, call: &[u8]) -> bool {
     match call {
-        Write(at, piece) => Told::Is(disk.write_at(at, piece)),
-        Sync => Told::Is(disk.sync()),
-        Len => Told::HasLen(disk.len()),
-        Arm(calls) => {
-            disk.arm(calls);
-            Told::Nothing
+        [told, b'w', at, piece @ ..] => letter(disk.write_at(number(*at), piece)) == *told,
+        [told, b's'] => letter(disk.sync()) == *told,
+        [told, b'c', choice] => letter(disk.power_cut(choice_of(*choice))) == *told,
+        [told, b'l'] => digit(disk.len()) == *told,
+        [b'.', b'a', calls] => {
+            disk.arm(number(*calls));
+            true
         }
-        Disarm => {
+        [b'.', b'd'] => {
             disk.disarm();
-            Told::Nothing
+            true
         }
-        Cut(choice) => Told::Is(disk.power_cut(choice)),
+        _ => false,
     }
 }
 
-// The place of the first call that answers otherwise.
-fn first_wrong<D: CrashDisk>(disk: &mut D, calls: &[(Call, Told)]) -> Option<usize> {
-    for (place, (call, told)) in calls.iter().enumerate() {
-        if answer(disk, *call) != *told {
-            return Some(place);
+// Whether all calls answer so, one after the other.
+fn all_answer<D: CrashDisk>(disk: &mut D, calls: &[u8]) -> bool {
+    for call in calls.split(|byte| *byte == b' ') {
+        if !answers(disk, call) {
+            return false;
         }
     }
-    None
+    true
 }
 
 fn byte_at(disk: &mut FileDisk<File>, at: u64) -> Option<u8> {
@@ -157,34 +163,28 @@ fn byte_at(disk: &mut FileDisk<File>, at: u64) -> Option<u8> {
     }
 }
 
-// A write and a sync are taken back to what the last good sync kept.
-const BEFORE_A_CUT: [(Call<'static>, Told); 9] = [
-    (Write(0, b"abcd"), DONE),
-    (Sync, DONE),
-    (Write(1, b"xyz"), DONE),
-    (Arm(1), NOTHING),
-    (Write(1, b"XYZ"), STOPPED),
-    (Sync, STOPPED),
-    (Disarm, NOTHING),
-    (Write(6, b"QR"), DONE),
-    (Write(8, b"S"), DONE),
-];
-
 // What a cut leaves in the file.
-fn left(rt: HostRuntime, path: &str, choice: Choice, len: u64) -> io::Result<Option<Vec<u8>>> {
+fn left(rt: HostRuntime, path: &str, choice: u8, len: u64) -> io::Result<Option<Vec<u8>>> {
     let mut disk = disk_over(rt.alloc(), file_of(rt, path, b"")?)?;
     let is_right = is_cut(&mut disk, choice, len);
     drop(disk);
+    image_at(rt, path, is_right)
+}
+
+// What the file holds, where all was right. It's removed.
+fn image_at(rt: HostRuntime, path: &str, is_right: bool) -> io::Result<Option<Vec<u8>>> {
     let image = fs::read(&rt, path)?;
     fs::remove_file(&rt, path)?;
     Ok(if is_right { Some(image) } else { None })
 }
 
-fn is_cut(disk: &mut FileDisk<File>, choice: Choice, len: u64) -> bool {
-    first_wrong(disk, &BEFORE_A_CUT).is_none()
+// A write and a sync are taken back to what the last good sync kept.
+fn is_cut(disk: &mut FileDisk<File>, choice: u8, len: u64) -> bool {
+    all_answer(disk, b".w0abcd .s .w1xyz .a1 #w1XYZ #s .d .w6QR .w8S")
         && byte_at(disk, 6) == Some(b'Q')
         && byte_at(disk, 9).is_none()
-        && first_wrong(disk, &[(Cut(choice), DONE), (Len, bytes(len))]).is_none()
+        && answers(disk, &[b'.', b'c', choice])
+        && disk.len() == DiskLen::Len(len)
 }
 
 fn is_image(image: io::Result<Option<Vec<u8>>>, want: &[u8]) -> bool {
@@ -196,31 +196,30 @@ fn is_image(image: io::Result<Option<Vec<u8>>>, want: &[u8]) -> bool {
 
 #[test]
 fn cuts_leave_old_new_or_torn_in_the_file(rt: HostRuntime) {
-    let cases = [
-        (Choice::Old, "old.img", b"abcd".as_slice()),
-        (Choice::New, "new.img", b"aXYZ\0\0QRS".as_slice()),
-        (Choice::Torn, "torn.img", b"abYd\0\0Q\0S".as_slice()),
+    let cases: [(u8, &str, &[u8]); 3] = [
+        (b'o', "old.img", b"abcd"),
+        (b'n', "new.img", b"aXYZ\0\0QRS"),
+        (b't', "torn.img", b"abYd\0\0Q\0S"),
     ];
     for (choice, path, want) in cases {
         let image = left(rt, path, choice, want.len() as u64);
-        assert!(rt; is_image(image, want), "after {choice:?}");
+        assert!(rt; is_image(image, want));
     }
 }
 
 // Writes inside, over the end, behind the end, and of nothing behind the end, and then a cut.
-const LENGTHS: [(Call<'static>, u64); 5] = [
-    (Write(0, b"x"), 3),
-    (Write(2, b"yz"), 4),
-    (Write(6, b"q"), 7),
-    (Write(9, b""), 9),
-    (Cut(Choice::Old), 3),
+const LENGTHS: [(&[u8], u64); 5] = [
+    (b".w0x 3l", 3),
+    (b".w2yz 4l", 4),
+    (b".w6q 7l", 7),
+    (b".w9 9l", 9),
+    (b".co 3l", 3),
 ];
 
 // Whether disk and file have this length behind each call.
 fn have_lengths(rt: HostRuntime, disk: &mut FileDisk<File>, path: &str) -> io::Result<bool> {
-    for (call, len) in LENGTHS {
-        let is_right = first_wrong(disk, &[(call, DONE), (Len, bytes(len))]).is_none();
-        if !is_right || fs::metadata(&rt, path)?.len() != len {
+    for (calls, len) in LENGTHS {
+        if !all_answer(disk, calls) || fs::metadata(&rt, path)?.len() != len {
             return Ok(false);
         }
     }
@@ -229,11 +228,9 @@ fn have_lengths(rt: HostRuntime, disk: &mut FileDisk<File>, path: &str) -> io::R
 
 fn cut_back(rt: HostRuntime, path: &str) -> io::Result<Option<Vec<u8>>> {
     let mut disk = disk_over(rt.alloc(), file_of(rt, path, b"abc")?)?;
-    let is_right = have_lengths(rt, &mut disk, path)?;
+    let is_right = have_lengths(rt, &mut disk, path);
     drop(disk);
-    let image = fs::read(&rt, path)?;
-    fs::remove_file(&rt, path)?;
-    Ok(if is_right { Some(image) } else { None })
+    image_at(rt, path, is_right?)
 }
 
 #[test]
@@ -241,19 +238,18 @@ fn length_is_that_of_the_file(rt: HostRuntime) {
     assert!(rt; is_image(cut_back(rt, "length.img"), b"abc"));
 }
 
-// Calls over a watched file, and how many syncs it saw behind each.
+// Calls over a watched file, and how many syncs it saw behind each. A sync that failed keeps what it would have to take back.
 fn are_synced(watch: &Watch, disk: &mut FileDisk<Watched>) -> bool {
-    let calls = [
-        (false, Write(0, b"x"), DONE, 0),
-        (false, Sync, DONE, 1),
-        (false, Write(1, b"y"), DONE, 1),
-        (true, Sync, FAILED, 2),
-        // A sync that failed keeps what it would have to take back.
-        (false, Cut(Choice::Old), DONE, 3),
+    let calls: [(bool, &[u8], u32); 5] = [
+        (false, b".w0x", 0),
+        (false, b".s", 1),
+        (false, b".w1y", 1),
+        (true, b"!s", 2),
+        (false, b".co", 3),
     ];
-    for (is_failing, call, told, syncs) in calls {
+    for (is_failing, call, syncs) in calls {
         watch.is_sync_failing.set(is_failing);
-        if answer(disk, call) != told || watch.syncs.get() != syncs {
+        if !answers(disk, call) || watch.syncs.get() != syncs {
             return false;
         }
     }
@@ -263,9 +259,9 @@ fn are_synced(watch: &Watch, disk: &mut FileDisk<Watched>) -> bool {
 // A write for which there is no room in its middle is taken back.
 fn is_taken_back(watch: &Watch, disk: &mut FileDisk<Watched>) -> bool {
     watch.room.set(3);
-    let has_failed = first_wrong(disk, &[(Write(3, b"WXYZ"), FAILED), (Len, bytes(6))]).is_none();
+    let has_failed = all_answer(disk, b"!w3WXYZ 6l");
     watch.room.set(usize::MAX);
-    has_failed && first_wrong(disk, &[(Cut(Choice::Old), DONE), (Len, bytes(4))]).is_none()
+    has_failed && all_answer(disk, b".co 4l")
 }
 
 // What is left in a watched file of `abcd`, which has no room in a write, or whose syncs are counted.
@@ -285,9 +281,7 @@ fn left_in(rt: HostRuntime, path: &str, is_full: bool) -> io::Result<Option<Vec<
         are_synced(&watch, &mut disk)
     };
     drop(disk);
-    let image = fs::read(&rt, path)?;
-    fs::remove_file(&rt, path)?;
-    Ok(if is_right { Some(image) } else { None })
+    image_at(rt, path, is_right)
 }
 
 #[test]
@@ -313,49 +307,27 @@ fn holds(alloc: Global, disk: &mut MemDisk, want: &[u8]) -> bool {
     }
 }
 
-// Whether the calls on a new disk in memory, of which the first and the third fail where that's asked, answer so, and leave these bytes.
-fn goes(alloc: Global, fails: &[u64], calls: &[(Call, Told)], want: &[u8]) -> bool {
+// Whether the calls on a new disk in memory, of which these fail, answer so, and leave these bytes.
+fn goes(alloc: Global, fails: &[u64], calls: &[u8], want: &[u8]) -> bool {
     let Ok(fails) = fails.to_vec(alloc) else {
         return false;
     };
-    match MemDisk::new(alloc, fails) {
-        Ok(mut disk) => first_wrong(&mut disk, calls).is_none() && holds(alloc, &mut disk, want),
-        Err(_) => false,
-    }
-}
-
-fn written(choice: Choice) -> [(Call<'static>, Told); 6] {
-    [
-        (Write(0, b"abcd"), DONE),
-        (Sync, DONE),
-        (Write(1, b"xyz"), DONE),
-        (Write(1, b"XYZ"), DONE),
-        (Write(6, b"QR"), DONE),
-        (Cut(choice), DONE),
-    ]
+    let Ok(mut disk) = MemDisk::new(alloc, fails) else {
+        return false;
+    };
+    let is_right = all_answer(&mut disk, calls) && holds(alloc, &mut disk, want);
+    drop(disk);
+    is_right
 }
 
 #[test]
 fn disks_in_memory(rt: HostRuntime) {
-    let stopped = [
-        (Write(0, b"abc"), DONE),
-        (Arm(1), NOTHING),
-        (Sync, STOPPED),
-        (Len, Told::HasLen(DiskLen::Stopped)),
-        (Cut(Choice::Old), DONE),
-        (Len, bytes(0)),
-    ];
-    let failing = [
-        (Len, Told::HasLen(DiskLen::Failed)),
-        (Write(0, b"a"), DONE),
-        (Write(0, b"b"), FAILED),
-    ];
-    let cases: [(&[u64], &[(Call, Told)], &[u8]); 5] = [
-        (&[], &stopped, b""),
-        (&[1, 3], &failing, b"a"),
-        (&[], &written(Choice::Old), b"abcd"),
-        (&[], &written(Choice::New), b"aXYZ\0\0QR"),
-        (&[], &written(Choice::Torn), b"abYd\0\0Q\0"),
+    let cases: [(&[u64], &[u8], &[u8]); 5] = [
+        (&[], b".w0abc .a1 #s #l .co 0l", b""),
+        (&[1, 3], b"!l .w0a !w0b", b"a"),
+        (&[], b".w0abcd .s .w1xyz .w1XYZ .w6QR .co", b"abcd"),
+        (&[], b".w0abcd .s .w1xyz .w1XYZ .w6QR .cn", b"aXYZ\0\0QR"),
+        (&[], b".w0abcd .s .w1xyz .w1XYZ .w6QR .ct", b"abYd\0\0Q\0"),
     ];
     for (fails, calls, want) in cases {
         assert!(rt; goes(rt.alloc(), fails, calls, want));

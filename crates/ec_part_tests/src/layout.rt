@@ -7,16 +7,26 @@ use ec_layout::{
 };
 use std::alloc::Global;
 
-// A disk whose slot 0 holds `root` and whose even table is `table 1`, by eight calls.
-fn laid_out(alloc: Global) -> Result<MemDisk, JournalFault> {
-    let mut disk = MemDisk::new(alloc, Vec::new(alloc))?;
+// Slot 0 holds `root`, and the even table is `table 1`.
+fn lay_out(alloc: Global, disk: &mut MemDisk) -> Result<(), JournalFault> {
     let mut pieces = Vec::new(alloc);
     pieces.push((0, b"root".to_vec(alloc)?))?;
-    if prepare(&mut disk, Side::Even, pieces.as_slice(), b"table 1") != DiskAnswer::Done {
+    if prepare(disk, Side::Even, pieces.as_slice(), b"table 1") != DiskAnswer::Done {
         return Err(JournalFault::DiskFailed);
     }
-    write_head(&mut disk, 32)?;
-    Ok(disk)
+    write_head(disk, 32)
+}
+
+// A disk that is laid out so, by eight calls.
+fn laid_out(alloc: Global) -> Result<MemDisk, JournalFault> {
+    let mut disk = MemDisk::new(alloc, Vec::new(alloc))?;
+    match lay_out(alloc, &mut disk) {
+        Ok(()) => Ok(disk),
+        Err(fault) => {
+            drop(disk);
+            Err(fault)
+        }
+    }
 }
 
 fn bytes_at(
@@ -31,9 +41,11 @@ fn bytes_at(
     }
 }
 
-fn has(alloc: Global, disk: &mut MemDisk, at: u64, want: &[u8]) -> Result<bool, JournalFault> {
-    let bytes = bytes_at(alloc, disk, at, want.len() as u64)?;
-    Ok(bytes.as_slice() == want)
+fn has(alloc: Global, disk: &mut MemDisk, at: u64, want: &[u8]) -> bool {
+    match bytes_at(alloc, disk, at, want.len() as u64) {
+        Ok(bytes) => bytes.as_slice() == want,
+        Err(_) => false,
+    }
 }
 
 const HEAD: [u8; 16] = *b"ECHOFS1\n\0\0\0 \0\x01\0\0";
@@ -41,21 +53,21 @@ const HEAD: [u8; 16] = *b"ECHOFS1\n\0\0\0 \0\x01\0\0";
 #[test]
 fn head_stands_in_front(rt: HostRuntime) {
     let mut disk = laid_out(rt.alloc()).expect(&rt, "disk");
-    assert_eq!(rt; has(rt.alloc(), &mut disk, 0, &HEAD), Ok(true));
-    assert_eq!(rt; disk.steps().len(), 8);
+    let is_there = has(rt.alloc(), &mut disk, 0, &HEAD) && disk.steps().len() == 8;
+    drop(disk);
     let want = Head {
         has_first_word: true,
         max_objects: 32,
         side: Side::Even,
         has_form: true,
     };
-    assert_eq!(rt; Head::read(&HEAD), want);
+    assert!(rt; is_there && Head::read(&HEAD) == want);
 }
 
 #[test]
 fn free_slots_are_the_others(rt: HostRuntime) {
     let free = free_slots(rt.alloc(), 6, &[4, 0, 1]).expect(&rt, "free");
-    assert_eq!(rt; free.as_slice(), [2, 3, 5].as_slice());
+    assert!(rt; free.as_slice() == [2, 3, 5].as_slice());
 }
 
 // A checkpoint of slot 1 on the odd side.
@@ -74,27 +86,36 @@ fn side_of(alloc: Global, disk: &mut MemDisk) -> Result<Side, JournalFault> {
 }
 
 // Whether what the side names is there.
-fn is_whole(alloc: Global, disk: &mut MemDisk, side: Side) -> Result<bool, JournalFault> {
-    let root = has(alloc, disk, slot_at(0), b"root")?;
-    match side {
-        Side::Even => Ok(root && has(alloc, disk, side.table_at(), b"table 1")?),
+fn is_whole(alloc: Global, disk: &mut MemDisk, side: Side) -> bool {
+    let is_named = match side {
+        Side::Even => has(alloc, disk, side.table_at(), b"table 1"),
         Side::Odd => {
-            let leaf = has(alloc, disk, slot_at(1), b"leaf")?;
-            Ok(root && leaf && has(alloc, disk, side.table_at(), b"table 2")?)
+            has(alloc, disk, slot_at(1), b"leaf") && has(alloc, disk, side.table_at(), b"table 2")
         }
+    };
+    is_named && has(alloc, disk, slot_at(0), b"root")
+}
+
+// A checkpoint that stops in one of its calls, and a cut: the side that is selected, where what that names is there.
+fn cut(alloc: Global, disk: &mut MemDisk, call: u64, choice: Choice) -> Result<Side, JournalFault> {
+    disk.arm(call);
+    let is_done = write_leaf(alloc, disk)? == DiskAnswer::Done;
+    if is_done != (call == 7) || disk.power_cut(choice) != DiskAnswer::Done {
+        return Err(JournalFault::DiskFailed);
+    }
+    let side = side_of(alloc, disk)?;
+    if is_whole(alloc, disk, side) {
+        Ok(side)
+    } else {
+        Err(JournalFault::NoMemory)
     }
 }
 
-// A checkpoint that stops in one of its calls, and a cut: whether it was answered, the side that is selected, and whether what that names is there.
-fn left(alloc: Global, call: u64, choice: Choice) -> Result<(bool, Side, bool), JournalFault> {
+fn left(alloc: Global, call: u64, choice: Choice) -> Result<Side, JournalFault> {
     let mut disk = laid_out(alloc)?;
-    disk.arm(call);
-    let is_done = write_leaf(alloc, &mut disk)? == DiskAnswer::Done;
-    if disk.power_cut(choice) != DiskAnswer::Done {
-        return Err(JournalFault::DiskFailed);
-    }
-    let side = side_of(alloc, &mut disk)?;
-    Ok((is_done, side, is_whole(alloc, &mut disk, side)?))
+    let side = cut(alloc, &mut disk, call, choice);
+    drop(disk);
+    side
 }
 
 #[test]
@@ -109,12 +130,7 @@ fn stop_in_each_call_of_a_checkpoint_leaves_one_side(rt: HostRuntime) {
         (7, Side::Odd, Side::Odd),
     ] {
         for (choice, want) in [(Choice::Old, old), (Choice::New, new), (Choice::Torn, new)] {
-            let found = left(rt.alloc(), call, choice);
-            assert_eq!(rt;
-                found,
-                Ok((call == 7, want, true)),
-                "{choice:?} in call {call}"
-            );
+            assert!(rt; left(rt.alloc(), call, choice) == Ok(want));
         }
     }
 }

@@ -1,12 +1,11 @@
 //! Two passes, one of which makes a step. The other knows it by a note, and then goes into it.
-ghost use Rattle.std.specs.Prelude.{◌≡◌, ◌<◌, [], ◌∷◌, ◌++◌, length, IsTrue, MatchBool};
+ghost use Rattle.std.specs.Prelude.{◌≡◌, ◌<◌, [], ◌∷◌, ◌++◌, length, IfSome, IsTrue, MatchBool};
 ghost use Rattle.ec_lock.specs.Laws.{steps_of};
 ghost use Rattle.ec_lock.specs.Passes.{front, IsPassOf};
 
 use ec_lock::{Pass, Traced, TracedLock};
 use std::alloc::Global;
 use std::sync::Wait;
-use std::test::*;
 use std::thread;
 
 // The numbers of the passes that made the steps. Its floor is how many they are.
@@ -95,31 +94,67 @@ fn make_steps<R: Wait>(
     (pass, made)
 }
 
-#[test]
-fn both_know_one_step(rt: HostRuntime) -> Result<(), Fail> {
+fn new_lock(alloc: Global) -> Option<(TracedLock<Row>, Pass<Row>)>
+    ensures { IfSome result (λ made. IsPassOf made.0 made.1) }
+{
     let row = Row {
-        steps: Vec::new(rt.alloc()),
+        steps: Vec::new(alloc),
     };
-    let (lock, mut one) = TracedLock::new(rt.alloc(), row).ok().ok_or("no memory")?;
-    let mut other = lock.split(&rt, &mut one).ok_or("no number")?;
-    assert_eq!(rt; (one.number(), other.number()), (0, 1));
-    assert!(rt; make_step(&rt, &lock, &mut one));
-    let note = lock.note(&mut one);
+    TracedLock::new(alloc, row).ok()
+}
+
+// Whether there are so many steps, and so many of them of this pass.
+fn has_steps<R: Wait>(
+    rt: &R,
+    lock: &TracedLock<Row>,
+    pass: &mut Pass<Row>,
+    count: usize,
+    number: u64,
+    own: usize,
+) -> bool
+    requires { IsPassOf lock.now pass.old }
+{
+    let row = lock.enter(rt, pass).into_value();
+    let steps = row.steps.as_slice();
+    let found = steps.iter().filter(|step| **step == number).count();
+    steps.len() == count && found == own
+}
+
+// Whether the second of two passes knows by a note the step that the first one makes. Then it goes into the first one.
+fn is_known<R: Wait>(
+    rt: &R,
+    lock: &TracedLock<Row>,
+    one: &mut Pass<Row>,
+    mut other: Pass<Row>,
+) -> bool
+    requires one { IsPassOf lock.now one.old }
+    requires other { IsPassOf lock.now other }
+    ensures { IsPassOf lock.now one.new }
+{
+    let are_numbered = one.number() == 0 && other.number() == 1;
+    let is_made = make_step(rt, lock, one);
+    let note = lock.note(one);
     lock.meet(&mut other, note);
-    lock.join(&mut one, other);
-    let row = lock.enter(&rt, &mut one).into_value();
-    assert_eq!(rt; row.steps.as_slice(), [0].as_slice());
-    Ok(())
+    lock.join(one, other);
+    are_numbered && is_made
 }
 
 #[test]
-fn turns_of_two_threads(rt: HostRuntime) -> Result<(), Fail> {
-    let row = Row {
-        steps: Vec::new(rt.alloc()),
-    };
-    let (made, mut one) = TracedLock::new(rt.alloc(), row).ok().ok_or("no memory")?;
+fn both_know_one_step(rt: HostRuntime) {
+    let (lock, mut one) = new_lock(rt.alloc()).expect(&rt, "memory");
+    let other = lock.split(&rt, &mut one).expect(&rt, "a number");
+    let is_known = is_known(&rt, &lock, &mut one, other);
+    let has_one = has_steps(&rt, &lock, &mut one, 1, 0, 1);
+    drop(one);
+    drop(lock);
+    assert!(rt; is_known && has_one);
+}
+
+#[test]
+fn turns_of_two_threads(rt: HostRuntime) {
+    let (made, mut one) = new_lock(rt.alloc()).expect(&rt, "memory");
     let lock = &made;
-    let other = lock.split(&rt, &mut one).ok_or("no number")?;
+    let other = lock.split(&rt, &mut one).expect(&rt, "a number");
     let number = other.number();
     let ((mut one, first), (other, second)) = thread::join(
         &rt,
@@ -127,26 +162,36 @@ fn turns_of_two_threads(rt: HostRuntime) -> Result<(), Fail> {
         || make_steps(&rt, lock, other, 200),
     );
     lock.join(&mut one, other);
-    let row = lock.enter(&rt, &mut one).into_value();
-    assert_eq!(rt; (first, second, row.steps.len()), (200, 200, 400));
-    assert_eq!(rt;
-        row.steps.iter().filter(|step| **step == number).count(),
-        200
-    );
-    Ok(())
+    let has_all = has_steps(&rt, lock, &mut one, 400, number, 200);
+    drop(one);
+    drop(made);
+    assert!(rt; first == 200 && second == 200 && has_all);
+}
+
+// The marks that the second pass sees, before and behind a mark of the first one.
+fn marks<R: Wait>(
+    rt: &R,
+    lock: &TracedLock<Row>,
+    one: &mut Pass<Row>,
+    other: &mut Pass<Row>,
+) -> (u64, u64)
+    requires one { IsPassOf lock.now one.old }
+    requires other { IsPassOf lock.now other.old }
+{
+    let before = lock.mark(other);
+    if make_step(rt, lock, one) {
+        lock.raise(one, 1);
+    }
+    (before, lock.mark(other))
 }
 
 #[test]
-fn mark_is_what_was_raised(rt: HostRuntime) -> Result<(), Fail> {
-    let row = Row {
-        steps: Vec::new(rt.alloc()),
-    };
-    let (lock, mut one) = TracedLock::new(rt.alloc(), row).ok().ok_or("no memory")?;
-    let mut other = lock.split(&rt, &mut one).ok_or("no number")?;
-    assert_eq!(rt; lock.mark(&mut other), 0);
-    if make_step(&rt, &lock, &mut one) {
-        lock.raise(&mut one, 1);
-    }
-    assert_eq!(rt; lock.mark(&mut other), 1);
-    Ok(())
+fn mark_is_what_was_raised(rt: HostRuntime) {
+    let (lock, mut one) = new_lock(rt.alloc()).expect(&rt, "memory");
+    let mut other = lock.split(&rt, &mut one).expect(&rt, "a number");
+    let marks = marks(&rt, &lock, &mut one, &mut other);
+    drop(other);
+    drop(one);
+    drop(lock);
+    assert!(rt; marks == (0, 1));
 }

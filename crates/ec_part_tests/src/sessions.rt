@@ -8,12 +8,10 @@ use std::alloc::Global;
 #[tactic(auto, unfolding(ec_sessions::specs::Windows::marked))]
 fn five_marks(rt: HostRuntime) {
     let mut window = Window { low: 0, mask: 0 };
-    assert_eq!(rt; window.mark(2), Marked::Marked);
-    assert_eq!(rt; window.mark(1), Marked::Marked);
-    assert_eq!(rt; window, Window { low: 2, mask: 0 });
-    assert_eq!(rt; window.mark(11), Marked::Beyond(2));
-    assert_eq!(rt; window.mark(10), Marked::Marked);
-    assert_eq!(rt; window.mark(2), Marked::Already);
+    let first = (window.mark(2), window.mark(1));
+    assert!(rt; first == (Marked::Marked, Marked::Marked) && window == Window { low: 2, mask: 0 });
+    let next = (window.mark(11), window.mark(10), window.mark(2));
+    assert!(rt; next == (Marked::Beyond(2), Marked::Marked, Marked::Already));
     assert!(rt; window.has(10) && !window.has(3));
 }
 
@@ -55,12 +53,17 @@ fn spends(sessions: &mut Sessions, clerk: ClerkId, first: ObjId) -> bool {
 }
 
 // Clerk A's first session, which has the ids from 2 on.
-fn opened(alloc: Global) -> Option<Sessions> {
-    let (clerk, first) = (ClerkId::new(0)?, ObjId::new(2)?);
-    let mut sessions = Sessions::new(alloc).ok()?;
-    sessions.open(clerk, age(2), SessionNo(1)).ok()?;
-    sessions.reserve(clerk, first).ok()?;
-    Some(sessions)
+fn opened(alloc: Global) -> Result<Sessions, NoMemory> {
+    let Some(clerk) = ClerkId::new(0) else {
+        return Err(NoMemory);
+    };
+    let Some(first) = ObjId::new(2) else {
+        return Err(NoMemory);
+    };
+    let mut sessions = Sessions::new(alloc)?;
+    sessions.open(clerk, age(2), SessionNo(1))?;
+    sessions.reserve(clerk, first)?;
+    Ok(sessions)
 }
 
 #[test]
@@ -73,10 +76,10 @@ fn one_clerk(rt: HostRuntime) {
         Greeting::Same(SessionNo(1)),
         Greeting::Greater(Some(SessionNo(1))),
     ];
-    assert_eq!(rt; greetings(&sessions, clerk), want);
-    assert!(rt; spends(&mut sessions, clerk, first));
+    let is_greeted = greetings(&sessions, clerk) == want;
+    let is_spent = spends(&mut sessions, clerk, first);
     let sessions = again(sessions).expect(&rt, "memory");
-    assert!(rt; is_in_its_slot(&sessions, clerk, first));
+    assert!(rt; is_greeted && is_spent && is_in_its_slot(&sessions, clerk, first));
 }
 
 #[test]
@@ -88,10 +91,8 @@ fn one_end(rt: HostRuntime) {
         .expect(&rt, "memory");
     let marked = sessions.mark(clerk, 1);
     let ended = (sessions.end(clerk), sessions.end(clerk));
-    assert_eq!(rt;
-        (marked, ended),
-        (Marked::Marked, (Some(SessionNo(7)), None))
-    );
-    let greeting = Greeting::Ended(SessionNo(7), Window { low: 1, mask: 0 });
-    assert_eq!(rt; sessions.hello(clerk, age(1)), greeting);
+    let greeting = sessions.hello(clerk, age(1));
+    drop(sessions);
+    assert!(rt; marked == Marked::Marked && ended == (Some(SessionNo(7)), None));
+    assert!(rt; greeting == Greeting::Ended(SessionNo(7), Window { low: 1, mask: 0 }));
 }

@@ -2,7 +2,6 @@
 
 use ec_base::{Hold, NoMemory, ObjId, SessionNo};
 use ec_tokens::{ClaimFault, Tokens};
-use std::alloc::Global;
 
 const FIVE: u32 = 5;
 
@@ -27,22 +26,20 @@ fn is_held_by(
 }
 
 // A reader is in a writer's way, whose claim tells the clash.
-fn reads(tokens: &mut Tokens, obj: ObjId) -> Result<[bool; 4], NoMemory> {
+fn reads(tokens: &mut Tokens, obj: ObjId) -> Result<bool, NoMemory> {
     if !tokens.is_clear(SessionNo(1), obj, Hold::Read) {
-        return Ok([false; 4]);
+        return Ok(false);
     }
     tokens.grant(SessionNo(1), obj, Hold::Read, 1)?;
     let clash = tokens.claim(SessionNo(2), &[(obj, Hold::Write)]);
-    Ok([
-        tokens.token(SessionNo(1), obj) == Some((Hold::Read, 1)),
-        conflicts_with(tokens, obj, (1, Hold::Read, 1))?,
-        is_held_by(tokens, obj, Some((1, Hold::Read, 1)))?,
-        clash == Err(ClaimFault::Clash(obj, SessionNo(1))),
-    ])
+    let is_held = tokens.token(SessionNo(1), obj) == Some((Hold::Read, 1));
+    let row = (1, Hold::Read, 1);
+    let is_told = conflicts_with(tokens, obj, row)? && is_held_by(tokens, obj, Some(row))?;
+    Ok(is_held && is_told && clash == Err(ClaimFault::Clash(obj, SessionNo(1))))
 }
 
 // A session claims, gives back by the right number alone, and leaves.
-fn claims(tokens: &mut Tokens, obj: ObjId) -> Result<[bool; 4], NoMemory> {
+fn claims(tokens: &mut Tokens, obj: ObjId) -> Result<bool, NoMemory> {
     if tokens.claim(SessionNo(1), &[(obj, Hold::Write)]).is_err() {
         return Err(NoMemory);
     }
@@ -50,22 +47,18 @@ fn claims(tokens: &mut Tokens, obj: ObjId) -> Result<[bool; 4], NoMemory> {
     let by_its_number = tokens.give_back(SessionNo(1), obj, 0, Hold::Read);
     let is_lowered = tokens.token(SessionNo(1), obj) == Some((Hold::Read, 0));
     tokens.drop_session(SessionNo(1));
-    Ok([
-        !by_another_number,
-        by_its_number,
-        is_lowered,
-        is_held_by(tokens, obj, None)?,
-    ])
-}
-
-fn all(alloc: Global) -> Result<([bool; 4], [bool; 4]), NoMemory> {
-    let obj = ObjId::new(FIVE).ok_or(NoMemory)?;
-    let mut read = Tokens::new(alloc)?;
-    let mut claimed = Tokens::new(alloc)?;
-    Ok((reads(&mut read, obj)?, claims(&mut claimed, obj)?))
+    let is_gone = is_held_by(tokens, obj, None)?;
+    Ok(!by_another_number && by_its_number && is_lowered && is_gone)
 }
 
 #[test]
 fn sessions_hold_claim_and_give_back(rt: HostRuntime) {
-    assert_eq!(rt; all(rt.alloc()), Ok(([true; 4], [true; 4])));
+    let obj = ObjId::new(FIVE).expect(&rt, "an id");
+    let mut tokens = Tokens::new(rt.alloc()).expect(&rt, "memory");
+    let read = reads(&mut tokens, obj);
+    drop(tokens);
+    let mut tokens = Tokens::new(rt.alloc()).expect(&rt, "memory");
+    let claimed = claims(&mut tokens, obj);
+    drop(tokens);
+    assert!(rt; read == Ok(true) && claimed == Ok(true));
 }

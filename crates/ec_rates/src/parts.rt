@@ -33,13 +33,22 @@ struct Parts {
 pub fn read_and_write(alloc: Global, reads: u32, writes: u32) -> Option<(u32, u32)> {
     let calls = calls(alloc).ok()?;
     let mut parts = new_parts(alloc).ok()?;
-    run(&mut parts, calls.as_slice(), reads, writes)
+    let done = run(&mut parts, calls.as_slice(), reads, writes);
+    drop(parts);
+    done
 }
 
 fn new_parts(alloc: Global) -> Result<Parts, NoMemory> {
     let owed = Report::new(alloc)?;
-    let log = Log::new(alloc)?;
-    let cache = held_cache(alloc)?;
+    let Ok(log) = Log::new(alloc) else {
+        drop(owed);
+        return Err(NoMemory);
+    };
+    let Ok(cache) = held_cache(alloc) else {
+        drop(log);
+        drop(owed);
+        return Err(NoMemory);
+    };
     Ok(Parts {
         alloc,
         owed,
@@ -50,7 +59,10 @@ fn new_parts(alloc: Global) -> Result<Parts, NoMemory> {
 
 fn held_cache(alloc: Global) -> Result<Cache, NoMemory> {
     let mut cache = Cache::new(alloc, TOKENS)?;
-    hold(alloc, &mut cache)?;
+    if hold(alloc, &mut cache).is_err() {
+        drop(cache);
+        return Err(NoMemory);
+    }
     Ok(cache)
 }
 
@@ -120,10 +132,13 @@ impl Parts {
 
     // Whether the call reads the whole file.
     fn reads(&self, call: &Call) -> bool {
-        match evaluate(self.alloc, &self.cache, &self.owed, call, None) {
+        let verdict = evaluate(self.alloc, &self.cache, &self.owed, call, None);
+        let is_whole = match &verdict {
             Ok(Verdict::Done(outcome)) => is_whole(&outcome.reply),
             _ => false,
-        }
+        };
+        drop(verdict);
+        is_whole
     }
 
     fn write_all(&mut self, write: &Call, count: u32) -> u32 {
@@ -153,6 +168,7 @@ impl Parts {
         if self.change(&update) {
             self.issue(update)
         } else {
+            drop(update);
             false
         }
     }

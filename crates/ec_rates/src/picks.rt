@@ -8,7 +8,9 @@ use std::alloc::Global;
 /// each batch durable before the next pick. Tells how many batches there were.
 pub fn pick_all(alloc: Global, files: u32, count: u32) -> Option<u64> {
     let mut log = Log::new(alloc).ok()?;
-    issue_and_pick(&mut log, files, count)
+    let done = issue_and_pick(&mut log, files, count);
+    drop(log);
+    done
 }
 
 fn issue_and_pick(log: &mut Log, files: u32, count: u32) -> Option<u64> {

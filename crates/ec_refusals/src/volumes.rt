@@ -6,7 +6,6 @@ use ec_base::{NoMemory, ObjId};
 use ec_volume::{Entries, Image, Volume};
 use ec_well_formed::is_well_formed_volume;
 use std::alloc::Global;
-use std::test::*;
 
 // An empty directory, as the root is at first.
 fn dir(alloc: Global) -> Image
@@ -43,25 +42,41 @@ fn is_formatted(volume: &Volume) -> bool {
     root && volume.live() == 1
 }
 
+fn is_well_formed(alloc: Global, volume: &Volume) -> bool {
+    is_well_formed_volume(alloc, volume) == Ok(true)
+}
+
 #[test]
-fn root_alone(rt: HostRuntime) -> Result<(), Fail> {
-    let volume = alone(rt.alloc(), ObjId::root())?;
-    let formatted = Volume::formatted(rt.alloc())?;
-    assert!(rt; is_formatted(&volume) && is_formatted(&formatted));
-    assert!(rt; is_well_formed_volume(rt.alloc(), &volume)?);
-    Ok(())
+fn root_alone(rt: HostRuntime) {
+    let volume = alone(rt.alloc(), ObjId::root()).expect(&rt, "memory");
+    let is_well = is_formatted(&volume) && is_well_formed(rt.alloc(), &volume);
+    drop(volume);
+    let formatted = Volume::formatted(rt.alloc()).expect(&rt, "memory");
+    let is_same = is_formatted(&formatted);
+    drop(formatted);
+    assert!(rt; is_well && is_same);
+}
+
+// The root, and an object that no directory names.
+fn apart(alloc: Global) -> Result<Volume, NoMemory> {
+    let Some(other) = ObjId::new(2) else {
+        return Err(NoMemory);
+    };
+    let mut images = Vec::new(alloc);
+    images.push((ObjId::root(), dir(alloc)))?;
+    images.push((other, dir(alloc)))?;
+    Volume::of(images)
 }
 
 // No root, and an object that no directory names.
 #[test]
-fn lone_objects(rt: HostRuntime) -> Result<(), Fail> {
-    let other = ObjId::new(2).ok_or("id")?;
-    let volume = alone(rt.alloc(), other)?;
-    assert!(rt; !is_well_formed_volume(rt.alloc(), &volume)?);
-    let mut images = Vec::new(rt.alloc());
-    images.push((ObjId::root(), dir(rt.alloc())))?;
-    images.push((other, dir(rt.alloc())))?;
-    let volume = Volume::of(images)?;
-    assert!(rt; !is_well_formed_volume(rt.alloc(), &volume)?);
-    Ok(())
+fn lone_objects(rt: HostRuntime) {
+    let other = ObjId::new(2).expect(&rt, "an id");
+    let rootless = alone(rt.alloc(), other).expect(&rt, "memory");
+    let is_rooted = is_well_formed(rt.alloc(), &rootless);
+    drop(rootless);
+    let apart = apart(rt.alloc()).expect(&rt, "memory");
+    let is_whole = is_well_formed(rt.alloc(), &apart);
+    drop(apart);
+    assert!(rt; !is_rooted && !is_whole);
 }

@@ -10,52 +10,74 @@ use ec_cache::Cache;
 use ec_volume::{Image, Look, Update};
 use std::alloc::Global;
 
-// A call on objects by their numbers, and what it answers.
-#[derive(Clone, Copy)]
-enum Step<'a> {
-    Takes(u32, Hold, u64, bool),
-    TakesFile(u32, u64),
-    Passes(u32, u64),
-    Uses(u32),
-    Lowers(u32, Hold),
-    Limits(u32, Hold),
-    Changes(u32, u16, bool),
-    IsHeld(u32, Hold, bool),
-    IsLast(u32, u64),
-    IsKept(u32, bool),
-    IsShown(u32, bool),
-    GivesUp(&'a [u32], Option<(u32, u64)>),
-    Lists(&'a [(u32, Hold)]),
-    BeginsAnew(&'a [(u32, Hold)]),
+// Of a digit.
+fn number(letter: u8) -> u64 {
+    u64::from(letter.wrapping_sub(b'0'))
 }
 
-use Step::*;
-
-fn are_pairs(held: &[(ObjId, Hold)], want: &[(u32, Hold)]) -> bool {
-    held.iter()
-        .map(|(obj, hold)| (obj.get(), *hold))
-        .eq(want.iter().copied())
+fn digit(number: u64) -> u8 {
+    match u8::try_from(number) {
+        Ok(number) => b'0'.wrapping_add(number),
+        Err(_) => b'+',
+    }
 }
 
-fn gives_up(
-    cache: &mut Cache,
-    pinned: &[ObjId],
-    want: Option<(u32, u64)>,
-) -> Result<bool, NoMemory> {
+fn object(letter: u8) -> ObjId {
+    ObjId::new(u32::from(letter.wrapping_sub(b'0'))).unwrap_or(ObjId::root())
+}
+
+fn hold(letter: u8) -> Hold {
+    match letter {
+        b'r' => Read,
+        b'w' => Write,
+        _ => Free,
+    }
+}
+
+fn letter(hold: Hold) -> u8 {
+    match hold {
+        Read => b'r',
+        Write => b'w',
+        Free => b'f',
+    }
+}
+
+fn sign(is_so: bool) -> u8 {
+    if is_so { b'+' } else { b'-' }
+}
+
+fn are_pairs(held: &[(ObjId, Hold)], want: &[u8]) -> bool {
+    let mut rest = want;
+    for (obj, hold) in held {
+        let pair = [digit(u64::from(obj.get())), letter(*hold)];
+        match rest.strip_prefix(pair.as_slice()) {
+            Some(behind) => rest = behind,
+            None => return false,
+        }
+    }
+    rest.is_empty()
+}
+
+// Whether this object alone, or none, is given up, with this number.
+fn is_gone(gone: &[(ObjId, u64)], want: &[u8]) -> bool {
+    match gone {
+        [] => want.is_empty(),
+        [(obj, number)] => want == [digit(u64::from(obj.get())), digit(*number)].as_slice(),
+        _ => false,
+    }
+}
+
+fn gives_up(cache: &mut Cache, pinned: &[ObjId], want: &[u8]) -> Result<bool, NoMemory> {
     let gone = cache.evict(pinned)?;
-    Ok(
-        gone.iter()
-            .map(|(obj, number)| (obj.get(), *number))
-            .eq(want),
-    )
+    Ok(is_gone(gone.as_slice(), want))
 }
 
-fn lists(cache: &Cache, want: &[(u32, Hold)]) -> Result<bool, NoMemory> {
+fn lists(cache: &Cache, want: &[u8]) -> Result<bool, NoMemory> {
     let held = cache.tokens()?;
     Ok(are_pairs(held.as_slice(), want))
 }
 
-fn begins_anew(cache: &mut Cache, want: &[(u32, Hold)]) -> Result<bool, NoMemory> {
+fn begins_anew(cache: &mut Cache, want: &[u8]) -> Result<bool, NoMemory> {
     let held = cache.new_epoch()?;
     Ok(are_pairs(held.as_slice(), want))
 }
@@ -70,13 +92,15 @@ fn fits_at(cache: &Cache, update: &Update, obj: ObjId) -> bool
 }
 
 // Changes the mode of an object where that fits.
-fn changes(cache: &mut Cache, obj: ObjId, mode: u16) -> Result<bool, NoMemory> {
+fn changes(cache: &mut Cache, obj: ObjId, mode: u16) -> bool {
     let update = Update::Mode { obj, mode };
-    if !update.sound() || !fits_at(cache, &update, obj) {
-        return Ok(false);
-    }
-    cache.change(&update)?;
-    Ok(mode_of(cache, obj) == Some(mode))
+    let is_done = if update.sound() && fits_at(cache, &update, obj) {
+        cache.change(&update).is_ok()
+    } else {
+        false
+    };
+    drop(update);
+    is_done && mode_of(cache, obj) == Some(mode)
 }
 
 fn mode_of(cache: &Cache, obj: ObjId) -> Option<u16> {
@@ -106,31 +130,14 @@ fn file(alloc: Global) -> Image
     }
 }
 
-fn object(number: u32) -> Result<ObjId, NoMemory> {
-    ObjId::new(number).ok_or(NoMemory)
+// Whether the token is taken, of an object that is gone.
+fn takes(cache: &mut Cache, obj: ObjId, hold: Hold, number: u64) -> Result<bool, NoMemory> {
+    cache.take(obj, hold, number, Image::Gone)
 }
 
-// Whether the call answers so.
-fn answers(alloc: Global, cache: &mut Cache, step: &Step) -> Result<bool, NoMemory> {
-    match step {
-        Takes(obj, hold, number, is_taken) => {
-            Ok(cache.take(object(*obj)?, *hold, *number, Image::Gone)? == *is_taken)
-        }
-        TakesFile(obj, number) => cache.take(object(*obj)?, Write, *number, file(alloc)),
-        Passes(obj, number) => cache.passed(object(*obj)?, *number).map(|_| true),
-        Uses(obj) => Ok(uses(cache, object(*obj)?)),
-        Lowers(obj, to) => Ok(lowers(cache, object(*obj)?, *to)),
-        Limits(obj, to) => Ok(limits(cache, object(*obj)?, *to)),
-        Changes(obj, mode, is_changed) => Ok(changes(cache, object(*obj)?, *mode)? == *is_changed),
-        IsHeld(obj, hold, is_held) => Ok(cache.holds(object(*obj)?, *hold) == *is_held),
-        IsLast(obj, number) => Ok(cache.last(object(*obj)?) == *number),
-        IsKept(obj, is_kept) => Ok(cache.image(object(*obj)?).is_some() == *is_kept),
-        IsShown(obj, is_shown) => Ok(cache.look(object(*obj)?).is_some() == *is_shown),
-        GivesUp([], want) => gives_up(cache, &[], *want),
-        GivesUp([obj, ..], want) => gives_up(cache, &[object(*obj)?], *want),
-        Lists(want) => lists(cache, *want),
-        BeginsAnew(want) => begins_anew(cache, *want),
-    }
+fn passes(cache: &mut Cache, obj: ObjId, number: u64) -> Result<bool, NoMemory> {
+    cache.passed(obj, number)?;
+    Ok(true)
 }
 
 fn uses(cache: &mut Cache, obj: ObjId) -> bool {
@@ -143,115 +150,88 @@ fn lowers(cache: &mut Cache, obj: ObjId, to: Hold) -> bool {
     true
 }
 
-// The place of the first call that answers otherwise, over a new cache for so many tokens.
-fn first_wrong(alloc: Global, capacity: usize, steps: &[Step]) -> Result<Option<usize>, NoMemory> {
-    let mut cache = Cache::new(alloc, capacity)?;
-    find_wrong(alloc, &mut cache, steps)
+// The letter at this place of a step, or 0.
+fn at(step: &[u8], place: usize) -> u8 {
+    step.get(place).copied().unwrap_or(0)
 }
 
-fn find_wrong(alloc: Global, cache: &mut Cache, steps: &[Step]) -> Result<Option<usize>, NoMemory> {
-    for (place, step) in steps.iter().enumerate() {
-        if !answers(alloc, cache, step)? {
-            return Ok(Some(place));
+// The letters from this place on.
+fn from(step: &[u8], place: usize) -> &[u8] {
+    step.get(place..).unwrap_or(&[])
+}
+
+// Whether a step that changes the cache answers so: a token that is taken, with a file too, or passed, used, lowered or limited, and a mode that
+// is changed. Objects and numbers are digits.
+fn acts(alloc: Global, cache: &mut Cache, step: &[u8]) -> Result<bool, NoMemory> {
+    let obj = object(at(step, 1));
+    let letter = at(step, 2);
+    match at(step, 0) {
+        b't' => {
+            let is_taken = takes(cache, obj, hold(letter), number(at(step, 3)))?;
+            Ok(sign(is_taken) == at(step, 4))
+        }
+        b'f' => cache.take(obj, Write, number(letter), file(alloc)),
+        b'p' => passes(cache, obj, number(letter)),
+        b'u' => Ok(uses(cache, obj)),
+        b'l' => Ok(lowers(cache, obj, hold(letter))),
+        b'm' => Ok(limits(cache, obj, hold(letter))),
+        b'c' => Ok(sign(changes(cache, obj, 0o600)) == letter),
+        _ => shows(cache, obj, step),
+    }
+}
+
+// The same of one that asks whether a token is held, its number, whether its image is kept or shown, what is given up beside an object that is
+// pinned, and the tokens, which may begin a new epoch.
+fn shows(cache: &mut Cache, obj: ObjId, step: &[u8]) -> Result<bool, NoMemory> {
+    let letter = at(step, 2);
+    match at(step, 0) {
+        b'h' => Ok(sign(cache.holds(obj, hold(letter))) == at(step, 3)),
+        b'n' => Ok(cache.last(obj) == number(letter)),
+        b'k' => Ok(sign(cache.image(obj).is_some()) == letter),
+        b's' => Ok(sign(cache.look(obj).is_some()) == letter),
+        b'g' => gives_up(cache, &[obj], from(step, 2)),
+        b'T' => lists(cache, from(step, 1)),
+        b'E' => begins_anew(cache, from(step, 1)),
+        _ => Ok(false),
+    }
+}
+
+// Whether all steps answer so.
+fn go(alloc: Global, cache: &mut Cache, steps: &[u8]) -> Result<bool, NoMemory> {
+    for step in steps.split(|byte| *byte == b' ') {
+        if !acts(alloc, cache, step)? {
+            return Ok(false);
         }
     }
-    Ok(None)
+    Ok(true)
 }
 
-// Three tokens where two may stay; the first one taken was used since.
-const FULL: [Step<'static>; 4] = [
-    Takes(5, Read, 1, true),
-    Takes(6, Read, 2, true),
-    Uses(5),
-    Takes(7, Read, 3, true),
-];
+// The same over a new cache for so many tokens.
+fn run(alloc: Global, capacity: usize, steps: &[u8]) -> Result<bool, NoMemory> {
+    let mut cache = Cache::new(alloc, capacity)?;
+    let done = go(alloc, &mut cache, steps);
+    drop(cache);
+    done
+}
 
 #[test]
 fn calls_on_caches(rt: HostRuntime) {
-    let rows: [(usize, &[Step]); 6] = [
+    // In three rows there are three tokens where two may stay, and the first one taken was used since.
+    let rows: [(usize, &[u8]); 6] = [
         // Numbers rise, also over one that was only passed.
-        (
-            4096,
-            &[
-                Takes(9, Read, 3, true),
-                Takes(9, Read, 3, false),
-                Passes(9, 7),
-                IsLast(9, 7),
-                Takes(9, Read, 5, false),
-                IsKept(9, true),
-                Lists(&[(9, Read)]),
-            ],
-        ),
+        (4096, b"t9r3+ t9r3- p97 n97 t9r5- k9+ T9r"),
         // What is lowered is held less, and its number stays.
-        (
-            1,
-            &[
-                Takes(5, Write, 1, true),
-                Takes(6, Write, 2, true),
-                Uses(5),
-                Lowers(5, Read),
-                IsHeld(5, Read, true),
-                IsHeld(5, Write, false),
-                Lowers(6, Free),
-                IsHeld(6, Read, false),
-                IsKept(6, false),
-                IsLast(6, 2),
-            ],
-        ),
+        (1, b"t5w1+ t6w2+ u5 l5r h5r+ h5w- l6f h6r- k6- n62"),
         // The least used token is given up.
-        (
-            2,
-            &[
-                FULL[0],
-                FULL[1],
-                FULL[2],
-                FULL[3],
-                GivesUp(&[], Some((6, 2))),
-                GivesUp(&[], None),
-            ],
-        ),
+        (2, b"t5r1+ t6r2+ u5 t7r3+ g462 g4"),
         // A pinned one isn't.
-        (
-            2,
-            &[
-                FULL[0],
-                FULL[1],
-                FULL[2],
-                FULL[3],
-                GivesUp(&[6], Some((5, 1))),
-                IsKept(6, true),
-            ],
-        ),
+        (2, b"t5r1+ t6r2+ u5 t7r3+ g651 k6+"),
         // Tokens are listed by rising ids, and stay in a new epoch, without their numbers and images.
-        (
-            2,
-            &[
-                FULL[0],
-                FULL[1],
-                FULL[2],
-                FULL[3],
-                Uses(5),
-                Lists(&[(5, Read), (6, Read), (7, Read)]),
-                BeginsAnew(&[(5, Read), (6, Read), (7, Read)]),
-                IsLast(7, 0),
-                IsHeld(6, Read, true),
-                IsShown(5, false),
-            ],
-        ),
+        (2, b"t5r1+ t6r2+ u5 t7r3+ u5 T5r6r7r E5r6r7r n70 h6r+ s5-"),
         // An image is changed in place, and a token under recall counts less.
-        (
-            4096,
-            &[
-                Changes(9, 0o600, false),
-                TakesFile(9, 1),
-                Changes(9, 0o600, true),
-                Limits(9, Read),
-                IsHeld(9, Read, true),
-                IsHeld(9, Write, false),
-            ],
-        ),
+        (4096, b"c9- f91 c9+ m9r h9r+ h9w-"),
     ];
     for (capacity, steps) in rows {
-        assert_eq!(rt; first_wrong(rt.alloc(), capacity, steps), Ok(None));
+        assert!(rt; run(rt.alloc(), capacity, steps) == Ok(true));
     }
 }

@@ -19,14 +19,30 @@ fn overwrite(alloc: Global, obj: ObjId) -> Result<Update, NoMemory> {
     })
 }
 
+fn overwrites(alloc: Global) -> Result<Vec<Update>, NoMemory> {
+    let mut updates = Vec::new(alloc);
+    updates.push(overwrite(alloc, file(2))?)?;
+    updates.push(overwrite(alloc, file(3))?)?;
+    Ok(updates)
+}
+
+// Operations 5 and 7, and the forder 6 between them.
+fn tied_by(alloc: Global, first: &Update, last: &Update) -> Result<Order, NoMemory> {
+    let objs = List::of(Vec::from_slice(alloc, &[file(2), file(3)])?);
+    let mut order = Order::new(alloc)?;
+    order.add(OpNo(5), first)?;
+    order.hold(OpNo(6), Update::Order { objs })?;
+    order.add(OpNo(7), last)?;
+    Ok(order)
+}
+
 // Operations 5 on file 2 and 7 on file 3, and the forder 6 between them.
 fn tied(alloc: Global) -> Result<Order, NoMemory> {
-    let mut order = Order::new(alloc)?;
-    order.add(OpNo(5), &overwrite(alloc, file(2))?)?;
-    let objs = List::of(Vec::from_slice(alloc, &[file(2), file(3)])?);
-    order.hold(OpNo(6), Update::Order { objs })?;
-    order.add(OpNo(7), &overwrite(alloc, file(3))?)?;
-    Ok(order)
+    let updates = overwrites(alloc)?;
+    match updates.as_slice() {
+        [first, last] => tied_by(alloc, first, last),
+        _ => Err(NoMemory),
+    }
 }
 
 fn is_closure(ops: &[OpNo], want: &[u64]) -> bool {
@@ -54,9 +70,8 @@ fn lacks_the_ninth(order: &Order) -> bool {
     )
 }
 
-fn without(mut order: Order, op: u64) -> Order {
+fn settle(order: &mut Order, op: u64) {
     order.settle(&[OpNo(op)]);
-    order
 }
 
 // Whether the sixth operation left an empty place between the others.
@@ -66,14 +81,21 @@ fn is_emptied(order: &Order) -> bool {
         && order.first(Ask::Object(file(3))) == Some(OpNo(7))
 }
 
+// All of them are in the closure of the last file, until the first two settle.
+fn are_tied(order: &mut Order) -> bool {
+    let are_tied = is_of_object(order, file(3), &[5, 6, 7])
+        && is_of_op(order, 5, &[5])
+        && lacks_the_ninth(order);
+    settle(order, 6);
+    let is_emptied = is_emptied(order);
+    settle(order, 5);
+    are_tied && is_emptied && is_of_object(order, file(3), &[7])
+}
+
 #[test]
 fn a_forder_ties_two_files(rt: HostRuntime) {
-    let order = tied(rt.alloc()).expect(&rt, "memory");
-    assert!(rt; is_of_object(&order, file(3), &[5, 6, 7]));
-    assert!(rt; is_of_op(&order, 5, &[5]));
-    assert!(rt; lacks_the_ninth(&order));
-    let order = without(order, 6);
-    assert!(rt; is_emptied(&order));
-    let order = without(order, 5);
-    assert!(rt; is_of_object(&order, file(3), &[7]));
+    let mut order = tied(rt.alloc()).expect(&rt, "memory");
+    let are_tied = are_tied(&mut order);
+    drop(order);
+    assert!(rt; are_tied);
 }

@@ -42,7 +42,9 @@ fn short(verdict: &Verdict) -> Told {
 
 fn asked(alloc: Global, cache: &Cache, owed: &Report, call: &Call) -> Result<Told, NoMemory> {
     let verdict = evaluate(alloc, cache, owed, call, None)?;
-    Ok(short(&verdict))
+    let told = short(&verdict);
+    drop(verdict);
+    Ok(told)
 }
 
 // `stat /` and `create /f`.
@@ -93,6 +95,13 @@ fn over_a_cache(alloc: Global, calls: &Calls) -> Result<([Told; 4], Told), NoMem
     Ok((told, reported(alloc, &cache, calls)?))
 }
 
+fn all_told(alloc: Global) -> Option<([Told; 4], Told)> {
+    let calls = both(alloc)?;
+    let told = over_a_cache(alloc, &calls);
+    drop(calls);
+    told.ok()
+}
+
 #[test]
 fn a_clerk_asks_for_the_root_and_then_answers(rt: HostRuntime) {
     let want = [
@@ -101,9 +110,5 @@ fn a_clerk_asks_for_the_root_and_then_answers(rt: HostRuntime) {
         Told::Need(1, Hold::Write),
         Told::NeedIds(1),
     ];
-    let calls = both(rt.alloc()).expect(&rt, "memory");
-    assert_eq!(rt;
-        over_a_cache(rt.alloc(), &calls),
-        Ok((want, Told::Lost(1, 1)))
-    );
+    assert!(rt; all_told(rt.alloc()) == Some((want, Told::Lost(1, 1))));
 }

@@ -1,17 +1,31 @@
 //! Lines that are read, and lines that aren't.
 
-use ec_base::{List, NoMemory, OpNo};
-use ec_history::{Answer, Shown};
-use ec_plain::{Call, Reply};
+use ec_history::Shown;
 use ec_script::LineFault;
 use ec_shown::read;
 use ec_text::{print, print_answer, print_call};
 use std::alloc::Global;
 
+// Whether the line ends with the call and its answer as they are printed alone, where it has them.
+fn ends_with_parts(alloc: Global, shown: &Shown, line: &[u8]) -> Option<bool> {
+    let Shown::Answered(_, _, call, answer, op) = shown else {
+        return Some(true);
+    };
+    let answered = print_answer(alloc, answer, *op).ok()?;
+    let asked = print_call(alloc, call).ok()?;
+    let front = line.strip_suffix(answered.as_slice())?;
+    Some(front.strip_suffix(b" -> ")?.ends_with(asked.as_slice()))
+}
+
 // Whether the line is read, and is printed so again.
 fn reads(alloc: Global, line: &[u8]) -> bool {
     match read(alloc, line) {
-        Ok(shown) => prints(alloc, &shown, line),
+        Ok(shown) => {
+            let is_printed = prints(alloc, &shown, line)
+                && ends_with_parts(alloc, &shown, line) == Some(true);
+            drop(shown);
+            is_printed
+        }
         Err(_) => false,
     }
 }
@@ -23,16 +37,26 @@ fn prints(alloc: Global, shown: &Shown, line: &[u8]) -> bool {
     }
 }
 
-fn refused(alloc: Global, line: &[u8]) -> Option<u32> {
+fn column(fault: LineFault) -> u32 {
+    match fault {
+        LineFault::At(column) => column,
+        LineFault::NoMemory => 0,
+    }
+}
+
+fn refused(alloc: Global, line: &[u8]) -> u32 {
     match read(alloc, line) {
-        Err(LineFault::At(column)) => Some(column),
-        _ => None,
+        Ok(shown) => {
+            drop(shown);
+            0
+        }
+        Err(fault) => column(fault),
     }
 }
 
 #[test]
 fn lines_that_are_read(rt: HostRuntime) {
-    let lines: [&[u8]; 21] = [
+    let lines: [&[u8]; 27] = [
         b"1 A create /f -> waits",
         b"1 A create /f -> ok op 1",
         b"2 A chown /f 7 -> ok op 2",
@@ -54,6 +78,12 @@ fn lines_that_are_read(rt: HostRuntime) {
         b"disk bad 0",
         b"limit bytes 1048577",
         b"spent Id",
+        b"none",
+        b"ended A lost 1 2",
+        b"told A lost -",
+        b"durable A 1 2",
+        b"4 B read /%C3%A9%25 0 9 -> data 3 h%20%00",
+        b"11 A stat /f -> lost 3 4",
     ];
     for line in lines {
         assert!(rt; reads(rt.alloc(), line));
@@ -62,7 +92,6 @@ fn lines_that_are_read(rt: HostRuntime) {
 
 #[test]
 fn lines_that_are_refused(rt: HostRuntime) {
-    let alloc = rt.alloc();
     let lines: [(&[u8], u32); 17] = [
         (b"", 1),
         (b"1 A create /%c3%a9 -> waits", 12),
@@ -83,35 +112,6 @@ fn lines_that_are_refused(rt: HostRuntime) {
         (b"none ", 6),
     ];
     for (line, column) in lines {
-        assert_eq!(rt; refused(alloc, line), Some(column));
+        assert!(rt; refused(rt.alloc(), line) == column);
     }
-}
-
-fn is_text(text: Result<Vec<u8>, NoMemory>, want: &[u8]) -> bool {
-    match text {
-        Ok(text) => text.as_slice() == want,
-        Err(_) => false,
-    }
-}
-
-fn losses(alloc: Global) -> Result<Answer, NoMemory> {
-    let mut ops = Vec::new(alloc);
-    ops.push(OpNo(1))?;
-    ops.push(OpNo(4))?;
-    Ok(Answer::Lost(List::of(ops)))
-}
-
-fn prints_losses(alloc: Global) -> bool {
-    match losses(alloc) {
-        Ok(lost) => is_text(print_answer(alloc, &lost, None), b"lost 1 4"),
-        Err(_) => false,
-    }
-}
-
-#[test]
-fn parts_of_a_line(rt: HostRuntime) {
-    assert!(rt; is_text(print_call(rt.alloc(), &Call::Sync), b"sync"));
-    let answered = print_answer(rt.alloc(), &Answer::Reply(Reply::Ok), Some(OpNo(7)));
-    assert!(rt; is_text(answered, b"ok op 7"));
-    assert!(rt; prints_losses(rt.alloc()));
 }

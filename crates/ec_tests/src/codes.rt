@@ -47,8 +47,8 @@ fn makes(alloc: Global, code: &[u8]) -> Option<bool> {
 #[test]
 fn a_make(rt: HostRuntime) {
     let code = [1, 0, 0, 0, 1, 0, 0, 0, 2, 1, 1, 102];
-    assert_eq!(rt; makes(rt.alloc(), &code), Some(true));
-    assert_eq!(rt; reads(rt.alloc(), &code), Some(true));
+    assert!(rt; makes(rt.alloc(), &code) == Some(true));
+    assert!(rt; reads(rt.alloc(), &code) == Some(true));
 }
 
 fn writes_image(alloc: Global, image: &Image, code: &[u8]) -> Option<bool>
@@ -97,22 +97,13 @@ fn writes_file(alloc: Global) -> Option<bool> {
 // The codes of no object and of a file with an owner; an image of version 1 has owner 0.
 #[test]
 fn images(rt: HostRuntime) {
-    assert_eq!(rt; writes_image(rt.alloc(), &Image::Gone, &[0]), Some(true));
-    assert_eq!(rt; writes_file(rt.alloc()), Some(true));
-    assert_eq!(rt; short(get_image(rt.alloc(), &[0], 0)), Ok((Kept::Gone, 1)));
-    assert_eq!(rt;
-        short(get_image(rt.alloc(), &[3], 0)),
-        Err(CodeFault::Field(0))
-    );
-    assert_eq!(rt;
-        short(get_image(rt.alloc(), &FILE, 0)),
-        Ok((Kept::File(7), 21))
-    );
+    assert!(rt; writes_image(rt.alloc(), &Image::Gone, &[0]) == Some(true));
+    assert!(rt; writes_file(rt.alloc()) == Some(true));
+    assert!(rt; short(get_image(rt.alloc(), &[0], 0)) == Ok((Kept::Gone, 1)));
+    assert!(rt; short(get_image(rt.alloc(), &[3], 0)) == Err(CodeFault::Field(0)));
+    assert!(rt; short(get_image(rt.alloc(), &FILE, 0)) == Ok((Kept::File(7), 21)));
     let old = [2, 1, 237, 0, 0, 0, 0, 0, 0, 0, 0, 0];
-    assert_eq!(rt;
-        short(get_image_v1(rt.alloc(), &old, 0)),
-        Ok((Kept::Dir(0), 12))
-    );
+    assert!(rt; short(get_image_v1(rt.alloc(), &old, 0)) == Ok((Kept::Dir(0), 12)));
 }
 
 fn refusal(alloc: Global, bytes: &[u8]) -> Option<CodeFault> {
@@ -146,6 +137,6 @@ fn refused_updates(rt: HostRuntime) {
         (&[8, 2, 0, 0, 0, 2, 0, 0, 0, 2], CodeFault::Field(6)),
     ];
     for (bytes, fault) in rows {
-        assert_eq!(rt; refusal(rt.alloc(), bytes), Some(fault));
+        assert!(rt; refusal(rt.alloc(), bytes) == Some(fault));
     }
 }

@@ -65,7 +65,7 @@ fn each_record(rt: HostRuntime) {
         (&EPOCH, Short::Epoch(6)),
     ];
     for (code, want) in rows {
-        assert_eq!(rt; read(rt.alloc(), code), Some(want));
+        assert!(rt; read(rt.alloc(), code) == Some(want));
     }
 }
 
@@ -97,7 +97,7 @@ fn refused_records(rt: HostRuntime) {
         ),
     ];
     for (bytes, fault) in rows {
-        assert_eq!(rt; refusal(rt.alloc(), bytes), Some(fault));
+        assert!(rt; refusal(rt.alloc(), bytes) == Some(fault));
     }
 }
 
@@ -109,12 +109,9 @@ fn an_id_that_isnt_reserved_isnt_made(rt: HostRuntime) -> Result<(), Fail> {
     let other = ObjId::new(99).ok_or("an id")?;
     let mut state = Durable::formatted(alloc, 32)?;
     let open = Record::Open(clerk, Age { boot: 1, round: 0 }, SessionNo(1));
-    assert_eq!(rt; state.step(&open), Ok(()));
-    assert_eq!(rt;
-        state.step(&Record::Ids(clerk, SessionNo(1), 0, first)),
-        Ok(())
-    );
-    assert_eq!(rt; state.sessions.reserved(), 16);
+    assert!(rt; state.step(&open) == Ok(()));
+    assert!(rt; state.step(&Record::Ids(clerk, SessionNo(1), 0, first)) == Ok(()));
+    assert!(rt; state.sessions.reserved() == 16);
     let mut ops = Vec::new(alloc);
     ops.push((
         OpNo(1),
@@ -126,15 +123,9 @@ fn an_id_that_isnt_reserved_isnt_made(rt: HostRuntime) -> Result<(), Fail> {
         },
     ))?;
     let batch = Record::Batch(clerk, SessionNo(1), 1, List::of(ops));
-    assert_eq!(rt;
-        state.step(&batch),
-        Err(RecordFault::NotReserved(OpNo(1), other))
-    );
-    assert_eq!(rt; state.step(&Record::Epoch(1)), Ok(()));
-    assert_eq!(rt; state.step(&Record::End(clerk, SessionNo(1))), Ok(()));
-    assert_eq!(rt;
-        state.step(&Record::End(clerk, SessionNo(1))),
-        Err(RecordFault::NoSession)
-    );
+    assert!(rt; state.step(&batch) == Err(RecordFault::NotReserved(OpNo(1), other)));
+    assert!(rt; state.step(&Record::Epoch(1)) == Ok(()));
+    assert!(rt; state.step(&Record::End(clerk, SessionNo(1))) == Ok(()));
+    assert!(rt; state.step(&Record::End(clerk, SessionNo(1))) == Err(RecordFault::NoSession));
     Ok(())
 }

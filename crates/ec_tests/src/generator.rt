@@ -34,5 +34,5 @@ fn sums(text: &[u8]) -> (usize, u32, u32) {
 #[test]
 fn draws_2000_lines(rt: HostRuntime) {
     let text = script(rt.alloc(), 1, 2000).expect(&rt, "memory");
-    assert_eq!(rt; sums(text.as_slice()), (33_740, 2000, 2_308_268));
+    assert!(rt; sums(text.as_slice()) == (33_740, 2000, 2_308_268));
 }

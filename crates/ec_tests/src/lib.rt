@@ -14,8 +14,6 @@ mod plain;
 #[cfg(test)]
 mod script;
 #[cfg(test)]
-mod text;
-#[cfg(test)]
 mod volume;
 #[cfg(test)]
 mod wire;

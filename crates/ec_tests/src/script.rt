@@ -31,9 +31,9 @@ fn lane(alloc: Global, line: &[u8]) -> Result<u8, LineFault> {
 #[test]
 fn lines_of_each_form(rt: HostRuntime) {
     assert!(rt; pushes_the_first(rt.alloc(), b"push A 1"));
-    assert_eq!(rt; owner(rt.alloc(), b"P chown /a%2Fb 7"), Some(7));
-    assert_eq!(rt; lane(rt.alloc(), b"8 sync"), Ok(8));
-    assert_eq!(rt; lane(rt.alloc(), b"9 sync"), Err(LineFault::At(1)));
+    assert!(rt; owner(rt.alloc(), b"P chown /a%2Fb 7") == Some(7));
+    assert!(rt; lane(rt.alloc(), b"8 sync") == Ok(8));
+    assert!(rt; lane(rt.alloc(), b"9 sync") == Err(LineFault::At(1)));
 }
 
 #[test]
@@ -64,16 +64,16 @@ fn columns_of_bad_lines(rt: HostRuntime) {
         (b"stop A".as_slice(), 6),
     ];
     for (line, want) in cases {
-        assert_eq!(rt; column(rt.alloc(), line), want);
+        assert!(rt; column(rt.alloc(), line) == want);
     }
 }
 
 #[test]
 fn lines_of_a_script(rt: HostRuntime) {
-    assert_eq!(rt; count_lines(b""), 0);
-    assert_eq!(rt; count_lines(b"a\n"), 1);
-    assert_eq!(rt; count_lines(b"a\n\n"), 2);
+    assert!(rt; count_lines(b"") == 0);
+    assert!(rt; count_lines(b"a\n") == 1);
+    assert!(rt; count_lines(b"a\n\n") == 2);
     let (line, rest) = split_line(b"a b\n\nc");
-    assert_eq!(rt; line, b"a b".as_slice());
-    assert_eq!(rt; rest, b"\nc".as_slice());
+    assert!(rt; line == b"a b".as_slice());
+    assert!(rt; rest == b"\nc".as_slice());
 }
