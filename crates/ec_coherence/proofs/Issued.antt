@@ -18,8 +18,8 @@ use Rattle.ec_plain.specs.declared.call.Call.{Call}
 use Rattle.ec_order.specs.Order.{Holds}
 use Rattle.ec_history.specs.History.{Each, Op, updates, of_start}
 use Rattle.ec_laws.proofs.Objects.{fits-next, after-append}
-use Rattle.ec_picks.proofs.Logging.{issue-log, issue-batch, sorted-more}
-use Rattle.ec_picks.proofs.Resting.{issue-rest, issue-tells}
+use Rattle.ec_machine_laws.proofs.Logging.{issue-log, issue-batch, sorted-more}
+use Rattle.ec_machine_laws.proofs.Resting.{issue-rest, issue-tells}
 use Rattle.ec_sessions.specs.declared.slot.Slot.{Slot}
 use Rattle.ec_base.specs.Holds.{rank, clash, is_write}
 use Rattle.ec_wire.specs.Messages.{is_held_mode}
@@ -238,7 +238,7 @@ module _ (g : System) (sa : SessionsAgree g) (ta : TokensAgree (view g)) (lo : L
         durable = kn.durable;
         agrees = each-more (λ o. dur o ≡ kn.durable o.number) (filter own ks) (op ∷ []) kn.agrees (new-op ∙ sym fresh, tt);
         sure = kn.sure;
-        rest = subst (λ z. Rattle.ec_picks.specs.Picks.IsRest z kn.known (issue u k.log)) (sym (map-more (λ o. (o.number, o.update)) (filter own ks) (op ∷ [])))
+        rest = subst (λ z. Rattle.ec_machine_laws.specs.Picks.IsRest z kn.known (issue u k.log)) (sym (map-more (λ o. (o.number, o.update)) (filter own ks) (op ∷ [])))
             (issue-rest (numbered (filter own ks)) kn.known k.log kn.rest u (held-below own own-of) (no (kn.known k.log.next) (kn.durable k.log.next) (kn.sure k.log.next) fresh));
         tells = issue-tells sl.window k.log kn.durable kn.tells u fresh;
         log = issue-log k.log kn.log u;

@@ -14,3 +14,13 @@ pub mod BatchLaws
 pub mod ChangeLaws
 pub mod ClerkLaws
 pub mod Opening
+pub mod Answers
+pub mod Comes
+pub mod EventLaws
+pub mod Watches
+pub mod Starts
+pub mod CommitLaws
+pub mod StandLaws
+pub mod Ends
+pub mod EndLaws
+pub mod Makes

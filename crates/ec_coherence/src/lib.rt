@@ -1,10 +1,15 @@
-//! What holds of all nodes and messages together, in every state of a run, and that each step
-//! keeps it. Each function has an empty body, and its contract is a law.
+//! What holds of all nodes and messages in every state of a run, and what keeps it: behind a server's records and messages, ends of sessions, a
+//! change of one clerk, a crash, a stop and a start. Each function has an empty body, and its contract is a law.
 #![tactic(auto)]
 
 mod batches;
 mod changes;
 mod clerk;
+mod clerk_changes;
+mod commits;
+mod ends;
+mod events;
+mod makes;
 mod opening;
 mod server;
 
@@ -14,5 +19,12 @@ pub use changes::{
     operations_are_issued_in_agreement, sessions_change_in_agreement,
 };
 pub use clerk::clerks_keep_tokens;
+pub use clerk_changes::{
+    batches_stand, clerks_may_ask, clerks_may_change, clerks_may_step, nodes_may_stop,
+};
+pub use commits::{lines_show_what_stands, messages_stand, records_stand};
+pub use ends::{ends_stand, running_servers_keep_all};
+pub use events::answers_keep_the_history;
+pub use makes::steps_make_their_ghosts;
 pub use opening::the_opening_agrees;
 pub use server::server_steps_stand;

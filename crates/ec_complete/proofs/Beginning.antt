@@ -13,17 +13,17 @@ use Rattle.ec_protocol.specs.declared.script.Line.TheVariants as line
 use Rattle.ec_protocol.specs.declared.world.World.{World}
 use Rattle.ec_quiet.specs.Quiet.{IsIdle}
 use Rattle.ec_quiet.specs.Scenes.{IsScene, Scene}
-use Rattle.ec_measures.proofs.Bounded.{measure-most}
-use Rattle.ec_scenes.proofs.Delivering as delivering
-use Rattle.ec_scenes.specs.Settling.{here}
-use Rattle.ec_settling.specs.Settling.{Counts, IsSettled}
-use Rattle.ec_settling.proofs.Counting.{calls, pushes}
-use Rattle.ec_settling.proofs.Mail.{few, pending-is}
-use Rattle.ec_settling.proofs.Showing.{settled-lines}
-use Rattle.ec_line_scenes.proofs.Ending.{ends}
-use Rattle.ec_line_runs.specs.Runs.{HasSettled}
-use Rattle.ec_line_runs.proofs.Lines.{line-settles}
-use Rattle.ec_line_runs.proofs.Settled.{stops}
+use Rattle.ec_quiet.proofs.Bounded.{measure-most}
+use Rattle.ec_quiet.proofs.Delivering as delivering
+use Rattle.ec_quiet.specs.SettlingScenes.{here}
+use Rattle.ec_quiet.specs.Settling.{Counts, IsSettled}
+use Rattle.ec_quiet.proofs.Counting.{calls, pushes}
+use Rattle.ec_quiet.proofs.Mail.{few, pending-is}
+use Rattle.ec_quiet.proofs.Showing.{settled-lines}
+use Rattle.ec_quiet.proofs.Ending.{ends}
+use Rattle.ec_deliveries.specs.Runs.{HasSettled}
+use Rattle.ec_deliveries.proofs.Lines.{line-settles}
+use Rattle.ec_deliveries.proofs.Settled.{stops}
 use Rattle.ec_complete.specs.Complete.{EachSettles, IsFaultless, IsFaultlessRead}
 use Rattle.ec_complete.specs.Begins.{Begins, EachBegins, IsBegun, RunsSettle, bound_for, most_sent}
 

@@ -8,7 +8,7 @@ use Rattle.ec_history.specs.declared.shown.Shown.{Shown}
 use Rattle.ec_history.specs.declared.shown.Shown.TheVariants as show
 use Rattle.ec_protocol.specs.declared.script.Line.{Line}
 use Rattle.ec_protocol.specs.declared.script.Line.TheVariants as line
-use Rattle.ec_headline.specs.Headline.{AreEndsAsked, Lines, Pieces, ends, joined, may_end}
+use Rattle.ec_lawful.specs.Headline.{AreEndsAsked, Lines, Pieces, ends, joined, may_end}
 use Rattle.ec_complete.specs.Complete.{IsFaultless}
 use Rattle.ec_complete.proofs.Plainness.{NoEnd}
 

@@ -19,21 +19,21 @@ use Rattle.ec_protocol.specs.declared.world.Event.TheVariants as event
 use Rattle.ec_protocol.specs.declared.world.World.{World}
 use Rattle.ec_coherence.proofs.Tables.{none_some}
 use Rattle.ec_coherence.specs.System.{System}
-use Rattle.ec_steps.specs.Calls.{AreOf, IsOf}
-use Rattle.ec_steps.specs.Drills.{IsFit}
+use Rattle.ec_lawful.specs.Calls.{AreOf, IsOf}
+use Rattle.ec_lawful.specs.Drills.{IsFit}
 use Rattle.ec_protocol.specs.Drill.{reads}
-use Rattle.ec_steps.specs.Steps.{Holds, IsNewIn, StepsKeep}
-use Rattle.ec_steps.proofs.Calls.{deliver-tells, event-tells}
-use Rattle.ec_steps.proofs.Events.{deliver-holds, event-holds}
-use Rattle.ec_reached.proofs.Worlds.{F, kept-by}
-use Rattle.ec_scenes.specs.Settling.{Reaches, here, on}
+use Rattle.ec_lawful.specs.Steps.{Holds, IsNewIn, StepsKeep}
+use Rattle.ec_lawful.proofs.CallsShown.{deliver-tells, event-tells}
+use Rattle.ec_lawful.proofs.Events.{deliver-holds, event-holds}
+use Rattle.ec_lawful.proofs.Worlds.{F, kept-by}
+use Rattle.ec_quiet.specs.SettlingScenes.{Reaches, here, on}
 use Rattle.ec_quiet.specs.Quiet.{IsIdle}
 use Rattle.ec_quiet.specs.Scenes.{IsScene, Scene}
-use Rattle.ec_quiet_worlds.proofs.Quieting.{quiets}
-use Rattle.ec_plain_answers.specs.Answers.{asked_in, asking_in}
-use Rattle.ec_line_answers.specs.Answered.{IsAnswered, IsCalled, NoneCalls}
-use Rattle.ec_line_answers.proofs.Reaching.{calls-once, others-none}
-use Rattle.ec_line_runs.specs.Runs.{HasSettled}
+use Rattle.ec_complete.proofs.Quieting.{quiets}
+use Rattle.ec_machine_laws.specs.Answers.{asked_in, asking_in}
+use Rattle.ec_agreed_lines.specs.Answered.{IsAnswered, IsCalled, NoneCalls}
+use Rattle.ec_agreed_lines.proofs.Reaching.{calls-once, others-none}
+use Rattle.ec_deliveries.specs.Runs.{HasSettled}
 use Rattle.ec_complete.specs.Complete.{IsFaultless}
 use Rattle.ec_complete.proofs.Numbers.{Below, later, unshown}
 

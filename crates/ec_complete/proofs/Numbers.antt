@@ -6,7 +6,7 @@ use Rattle.ec_plain.specs.declared.call.Call.{Call}
 use Rattle.ec_history.specs.Placing.{EachLine, is_numbered}
 use Rattle.ec_history.specs.declared.shown.Shown.{Shown}
 use Rattle.ec_history.specs.declared.shown.Shown.TheVariants as show
-use Rattle.ec_steps.specs.Calls.{IsOf}
+use Rattle.ec_lawful.specs.Calls.{IsOf}
 
 -- the call is of an earlier line
 abbrev pub Below : ℕ → ℕ → ℕ → Call → Type 0

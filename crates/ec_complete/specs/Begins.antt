@@ -8,9 +8,9 @@ use Rattle.ec_quiet.specs.Measure.{sum, unsent_by}
 use Rattle.ec_quiet.specs.Quiet.{IsIdle}
 use Rattle.ec_quiet.specs.Scenes.{IsScene, Scene}
 use Rattle.ec_quiet.specs.Works.{Work}
-use Rattle.ec_measures.specs.Bounds.{other_rows}
-use Rattle.ec_first_steps.specs.First.{HasFirst}
-use Rattle.ec_line_runs.specs.Runs.{CanSettle}
+use Rattle.ec_quiet.specs.Bounds.{other_rows}
+use Rattle.ec_quiet.specs.First.{HasFirst}
+use Rattle.ec_deliveries.specs.Runs.{CanSettle}
 use Rattle.ec_complete.specs.Complete.{EachSettles, IsFaultlessRead}
 
 -- so many messages are far below the limits of counters

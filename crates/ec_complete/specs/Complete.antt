@@ -14,13 +14,13 @@ use Rattle.ec_protocol.specs.World.{forget, open_world, runs}
 use Rattle.ec_protocol.specs.declared.script.Line.{Line}
 use Rattle.ec_protocol.specs.declared.script.Line.TheVariants as line
 use Rattle.ec_protocol.specs.declared.world.World.{World}
-use Rattle.ec_headline.specs.Headline.{IsGreatest}
-use Rattle.ec_steps.specs.Drills.{AreFit, lines_in}
+use Rattle.ec_lawful.specs.Headline.{IsGreatest}
+use Rattle.ec_lawful.specs.Drills.{AreFit, lines_in}
 use Rattle.ec_quiet.specs.Quiet.{IsIdle}
 use Rattle.ec_quiet.specs.Scenes.{IsScene, Scene}
-use Rattle.ec_settling.specs.Settling.{IsSettled}
-use Rattle.ec_line_runs.specs.Runs.{AllRun, HasSettled}
-use Rattle.ec_plain_answers.specs.Answers.{answers_in, asked_from, plain_answers}
+use Rattle.ec_quiet.specs.Settling.{IsSettled}
+use Rattle.ec_deliveries.specs.Runs.{AllRun, HasSettled}
+use Rattle.ec_machine_laws.specs.Answers.{answers_in, asked_from, plain_answers}
 
 -- The line makes no fault: it's a comment, a call or a push.
 abbrev pub IsFaultless : Line → Type 0

@@ -14,9 +14,9 @@ use Rattle.ec_protocol.specs.declared.clerk.Clerk.{Clerk}
 use Rattle.ec_protocol.specs.declared.server.Server.{Server}
 use Rattle.ec_quiet.specs.Facts.{IsOrderly, IsIdleBut, Same, clerk_of}
 use Rattle.ec_quiet.specs.Phases.{lowered_to}
-use Rattle.ec_serving.specs.Holding.{left_at}
-use Rattle.ec_serving.specs.Serving.{IsAtWork}
-use Rattle.ec_serving.proofs.Rows.{same-self}
+use Rattle.ec_machine_laws.specs.Holding.{left_at}
+use Rattle.ec_machine_laws.specs.Serving.{IsAtWork}
+use Rattle.ec_machine_laws.proofs.Rows.{same-self}
 use Rattle.ec_deliveries.specs.Orderly.{IsLikeBut}
 use Rattle.ec_deliveries.proofs.Ordering.{all-at}
 

@@ -11,9 +11,9 @@ use Rattle.ec_quiet.specs.Measure.{measure, if_more}
 use Rattle.ec_quiet.specs.Phases.{Phase, Claims, Wants, Ends, InPhase, IsWorking, IsWanting, HasEnded, main, is_back, first_want}
 use Rattle.ec_quiet.specs.Scenes.{Mail, Scene, delivered}
 use Rattle.ec_quiet.specs.Works.{Work, is_saving}
-use Rattle.ec_serving.specs.Serving.{IsAtWork}
-use Rattle.ec_serving.proofs.Rows.{same-self}
-use Rattle.ec_serving.proofs.Stepping.{claimed-twice}
+use Rattle.ec_machine_laws.specs.Serving.{IsAtWork}
+use Rattle.ec_machine_laws.proofs.Rows.{same-self}
+use Rattle.ec_machine_laws.proofs.Stepping.{claimed-twice}
 use Rattle.ec_deliveries.specs.Orderly.{IsLikeBut, KeepsBacks}
 use Rattle.ec_deliveries.proofs.Working.{working-stays, wanting-stays, keeps-backs, main-joins, main-front}
 

@@ -10,10 +10,10 @@ use Rattle.ec_durable.specs.declared.state.Durable.{Durable}
 use Rattle.ec_protocol.specs.declared.clerk.Clerk.{Clerk}
 use Rattle.ec_protocol.specs.declared.server.Server.{Server}
 use Rattle.ec_quiet.specs.Facts.{IsIn, IsIdleBut}
-use Rattle.ec_serving.specs.Holding.{left_at}
-use Rattle.ec_serving.specs.Records.{IsRestOf}
-use Rattle.ec_serving.specs.Serving.{lowering}
-use Rattle.ec_serving.proofs.Given.{lowered-tokens}
+use Rattle.ec_machine_laws.specs.Holding.{left_at}
+use Rattle.ec_machine_laws.specs.Records.{IsRestOf}
+use Rattle.ec_machine_laws.specs.Serving.{lowering}
+use Rattle.ec_machine_laws.proofs.Given.{lowered-tokens}
 use Rattle.ec_deliveries.specs.Orderly.{IsLike}
 
 pub in-stays : (v w : Server) (c : ℕ) (sl : Slot) (k : Clerk) → IsLike v w c sl.session → IsIn v c sl k → IsIn w c sl k

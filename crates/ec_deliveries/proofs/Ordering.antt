@@ -26,12 +26,12 @@ use Rattle.ec_protocol.specs.Server.{add_claimed, is_claimed, has_claimed, clerk
 use Rattle.ec_protocol.specs.declared.clerk.Clerk.{Clerk}
 use Rattle.ec_protocol.specs.declared.server.Server.{Server}
 use Rattle.ec_quiet.specs.Facts.{IsOrderly, clerk_of}
-use Rattle.ec_serving.specs.Holding.{left_at, AreOwn}
-use Rattle.ec_serving.specs.Records.{IsRestOf}
-use Rattle.ec_serving.specs.Serving.{lowering, giving_ids}
-use Rattle.ec_serving.proofs.Given.{lowered-tokens, ids-tokens, ids-sound}
-use Rattle.ec_serving.proofs.Recording.{batch-own, batch-rest, batch-session, ids-own, ids-rest, ids-session, open-own, open-rest, open-session}
-use Rattle.ec_serving.proofs.Rows.{same-self}
+use Rattle.ec_machine_laws.specs.Holding.{left_at, AreOwn}
+use Rattle.ec_machine_laws.specs.Records.{IsRestOf}
+use Rattle.ec_machine_laws.specs.Serving.{lowering, giving_ids}
+use Rattle.ec_machine_laws.proofs.Given.{lowered-tokens, ids-tokens, ids-sound}
+use Rattle.ec_machine_laws.proofs.Recording.{batch-own, batch-rest, batch-session, ids-own, ids-rest, ids-session, open-own, open-rest, open-session}
+use Rattle.ec_machine_laws.proofs.Rows.{same-self}
 
 -- Tokens.
 

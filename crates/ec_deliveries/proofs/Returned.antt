@@ -14,7 +14,7 @@ use Rattle.ec_tokens.specs.Laws.{holder_has}
 use Rattle.ec_tokens.specs.Tokens.{Tokens, Holder, IsSound, token, holders, held_by, is_conflict, conflicts, fits_back, lowered}
 use Rattle.ec_tokens.specs.declared.token.Token.{Token}
 use Rattle.ec_recall.specs.Due.{recall_to}
-use Rattle.ec_serving.proofs.Rows.{conflicts-lowered}
+use Rattle.ec_machine_laws.proofs.Rows.{conflicts-lowered}
 
 -- Sessions of holders rise.
 

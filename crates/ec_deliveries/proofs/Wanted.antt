@@ -26,10 +26,10 @@ use Rattle.ec_quiet.specs.Measure.{fresh_rank, measure}
 use Rattle.ec_quiet.specs.Phases.{Phase, Wants, Grants, Recalls, InPhase, IsWanting, IsLeaving, IsGivenBack, backs, main, is_back}
 use Rattle.ec_quiet.specs.Scenes.{Mail, Scene, delivered}
 use Rattle.ec_quiet.specs.Works.{Work}
-use Rattle.ec_serving.specs.Serving.{IsAtWork, IsKnown, new_want, telling, recalls_of, granting}
-use Rattle.ec_serving.proofs.Rows.{same-self}
-use Rattle.ec_serving.proofs.Stepping.{want-granted, want-waits, grant-sent}
-use Rattle.ec_measures.proofs.Falling.{want-granted as granted-falls, want-noted as noted-falls}
+use Rattle.ec_machine_laws.specs.Serving.{IsAtWork, IsKnown, new_want, telling, recalls_of, granting}
+use Rattle.ec_machine_laws.proofs.Rows.{same-self}
+use Rattle.ec_machine_laws.proofs.Stepping.{want-granted, want-waits, grant-sent}
+use Rattle.ec_quiet.proofs.Falling.{want-granted as granted-falls, want-noted as noted-falls}
 use Rattle.ec_deliveries.specs.Orderly.{IsLikeBut, KeepsBacks, are_no_backs}
 use Rattle.ec_deliveries.proofs.Idling.{idle-stays, like-grant, like-wants}
 use Rattle.ec_deliveries.proofs.Ordering.{grant-orderly, wants-orderly}

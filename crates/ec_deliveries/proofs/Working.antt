@@ -17,7 +17,7 @@ use Rattle.ec_quiet.specs.Facts.{IsIn}
 use Rattle.ec_quiet.specs.Phases.{IsWorking, IsWanting, IsLeaving, IsGivenBack, backs, main, is_back, is_back_message}
 use Rattle.ec_quiet.specs.Scenes.{Mail, Scene}
 use Rattle.ec_quiet.specs.Works.{Work}
-use Rattle.ec_serving.proofs.Rows.{same-self}
+use Rattle.ec_machine_laws.proofs.Rows.{same-self}
 use Rattle.ec_deliveries.specs.Orderly.{IsLikeBut, HasMoved, KeepsBacks, are_no_backs}
 
 pub in-moves : (xs : List ℕ) (v w : Server) (c s : ℕ) (sl sm : Slot) (k : Clerk) → sl.session ≡ s → HasMoved xs v w c s sl sm → IsIn v c sl k → IsIn w c sm k

@@ -11,7 +11,7 @@ ghost use Rattle.ec_protocol.specs.Server.{serving};
 ghost use Rattle.ec_protocol.specs.declared.clerk.Clerk.{Clerk};
 ghost use Rattle.ec_protocol.specs.declared.server.Server.{Server};
 ghost use Rattle.ec_quiet.specs.Facts.{IsOrderly, clerk_of};
-ghost use Rattle.ec_serving.specs.Serving.{IsAtWork};
+ghost use Rattle.ec_machine_laws.specs.Serving.{IsAtWork};
 
 /// The first holder that conflicts with a want is of another session, has its token by its number,
 /// and may give it back to the mode that it's recalled to; then just the others conflict.

@@ -12,8 +12,8 @@ ghost use Rattle.ec_protocol.specs.declared.clerk.Clerk.{Clerk};
 ghost use Rattle.ec_protocol.specs.declared.server.Server.{Server};
 ghost use Rattle.ec_quiet.specs.Facts.{IsIn, IsIdleBut, Same};
 ghost use Rattle.ec_deliveries.specs.Orderly.{IsLike, IsLikeBut};
-ghost use Rattle.ec_serving.specs.Records.{IsRestOf};
-ghost use Rattle.ec_serving.specs.Serving.{lowering};
+ghost use Rattle.ec_machine_laws.specs.Records.{IsRestOf};
+ghost use Rattle.ec_machine_laws.specs.Serving.{lowering};
 
 /// A clerk in its session stays so, and an idle one idle, where the server keeps its slot and its
 /// tokens; one that gave a token back is idle on all objects once the server has what it gave.

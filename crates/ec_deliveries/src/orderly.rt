@@ -17,8 +17,8 @@ ghost use Rattle.ec_protocol.specs.Server.{add_claimed};
 ghost use Rattle.ec_protocol.specs.declared.clerk.Clerk.{Clerk};
 ghost use Rattle.ec_protocol.specs.declared.server.Server.{Server};
 ghost use Rattle.ec_quiet.specs.Facts.{IsOrderly};
-ghost use Rattle.ec_serving.specs.Holding.{AreOwn};
-ghost use Rattle.ec_serving.specs.Serving.{lowering, giving_ids};
+ghost use Rattle.ec_machine_laws.specs.Holding.{AreOwn};
+ghost use Rattle.ec_machine_laws.specs.Serving.{lowering, giving_ids};
 
 /// An orderly server stays so where wants are noted or leave, where an open session is granted a
 /// token that conflicts with nobody's, and where one gives a token back.

@@ -12,11 +12,11 @@ use Rattle.ec_volume.specs.Image.{is_gone}
 use Rattle.ec_volume.specs.Update.{distinct, member, is_sound}
 use Rattle.ec_volume.specs.Volume.{after, WellFormed}
 use Rattle.ec_overlay.specs.Shown.{shown}
-use Rattle.ec_formed.specs.Bases.{AreAtLines, LeaveWellFormed, is_bounded_entry}
-use Rattle.ec_formed.proofs.Bases.{base-formatted}
-use Rattle.ec_formed.proofs.Kept.{kept-formed, kept-held}
-use Rattle.ec_formed.proofs.Laws.{kept-reached, call-sound, call-fits}
-use Rattle.ec_formed.proofs.Keeping.{whole, gone}
+use Rattle.ec_laws.specs.Bases.{AreAtLines, LeaveWellFormed, is_bounded_entry}
+use Rattle.ec_laws.proofs.Bases.{base-formatted}
+use Rattle.ec_laws.proofs.KeptFormed.{kept-formed, kept-held}
+use Rattle.ec_laws.proofs.Laws.{kept-reached, call-sound, call-fits}
+use Rattle.ec_laws.proofs.Keeping.{whole, gone}
 use Rattle.ec_history.specs.History.{History, Throughout, Each, updates, of_issue, kept, outcome}
 use Rattle.ec_history.specs.Legal.{IsFull, IsLegal, IsLegalNext, from_formatted}
 use Rattle.ec_history.specs.declared.entry.Answer.{Answer}

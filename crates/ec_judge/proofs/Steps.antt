@@ -26,7 +26,7 @@ use Rattle.ec_history.specs.declared.entry.Entry.{Entry}
 use Rattle.ec_history.specs.declared.entry.Entry.TheVariants as entry
 use Rattle.ec_history.specs.declared.rule.Rule.{Rule}
 use Rattle.ec_history.specs.declared.rule.Rule.TheVariants as rule
-use Rattle.ec_formed.proofs.Laws.{call-sound, call-fits}
+use Rattle.ec_laws.proofs.Laws.{call-sound, call-fits}
 use Rattle.ec_laws.proofs.More.{kept-step, count-next}
 use Rattle.ec_laws.proofs.Numbers.{count, IsUpTo, issued-up_to, kept-up_to, each-append}
 use Rattle.ec_laws.proofs.Objects.{holds, is-true, after-append}

@@ -16,7 +16,7 @@ use Rattle.ec_history.specs.Legal.{leaves, is_op_of, is_closed, IsLegal, IsLegal
 use Rattle.ec_history.specs.declared.entry.Entry.{Entry}
 use Rattle.ec_history.specs.declared.rule.Rule.{Rule}
 use Rattle.ec_history.specs.declared.rule.Rule.TheVariants as rule
-use Rattle.ec_formed.specs.Bases.{is_bounded_entry}
+use Rattle.ec_laws.specs.Bases.{is_bounded_entry}
 use Rattle.ec_judge.specs.Faults.{BreaksEntry}
 use Rattle.ec_pending.specs.Pending.{is_in, is_asked, rest, issues_of}
 use Rattle.ec_judge.specs.declared.carried.Kept.{Kept}

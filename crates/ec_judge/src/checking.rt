@@ -1,6 +1,6 @@
 // Whether entries make a legal history.
 ghost use Rattle.std.specs.Prelude.{◌≡◌, ◌<◌, ◌^◌, ℕ, IfOk, OnOk, IfErr};
-ghost use Rattle.ec_formed.specs.Bases.{AreAtLines};
+ghost use Rattle.ec_laws.specs.Bases.{AreAtLines};
 ghost use Rattle.ec_history.specs.History.{Each, updates, kept, owed};
 ghost use Rattle.ec_history.specs.Legal.{IsLegal, from_formatted};
 ghost use Rattle.ec_judge.specs.Carried.{Carries, ops_of};

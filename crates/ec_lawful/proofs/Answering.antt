@@ -8,17 +8,17 @@ use Rattle.ec_protocol.specs.declared.clerk.Out.TheVariants as out
 use Rattle.ec_protocol.specs.declared.clerk.Waiting.{Waiting}
 use Rattle.ec_coherence.specs.System.{System, Ghost}
 use Rattle.ec_coherence.specs.Steps.{doing_in}
-use Rattle.ec_commits.specs.Laws.{AllAgree}
-use Rattle.ec_calls.specs.Laws.{Passes}
-use Rattle.ec_calls.specs.Waits.{HasLine}
-use Rattle.ec_events.specs.Answers.{Gives}
-use Rattle.ec_answers.specs.Answering.{Suits, answered_clerk}
-use Rattle.ec_answers.specs.Trying.{IsTrying}
-use Rattle.ec_answers.proofs.Single as single
-use Rattle.ec_answers.proofs.Singles.{singles}
-use Rattle.ec_fresh.proofs.Answering.{answer-fresh-step}
-use Rattle.ec_whole.specs.Whole.{ShowsAll}
-use Rattle.ec_whole.proofs.Telling.{answer-step-tells}
+use Rattle.ec_coherence.specs.CommitLaws.{AllAgree}
+use Rattle.ec_clerk_steps.specs.CallLaws.{Passes}
+use Rattle.ec_clerk_steps.specs.Waits.{HasLine}
+use Rattle.ec_coherence.specs.Answers.{Gives}
+use Rattle.ec_clerk_steps.specs.Answering.{Suits, answered_clerk}
+use Rattle.ec_clerk_steps.specs.Trying.{IsTrying}
+use Rattle.ec_clerk_steps.proofs.Single as single
+use Rattle.ec_clerk_steps.proofs.Singles.{singles}
+use Rattle.ec_lawful.proofs.FreshAnswering.{answer-fresh-step}
+use Rattle.ec_lawful.specs.Whole.{ShowsAll}
+use Rattle.ec_lawful.proofs.Telling.{answer-step-tells}
 
 pub all-in : (g : System) (c b : ℕ) (d : Doing) (γ : Ghost) → IsTrying g c b d γ → AllAgree (doing_in c b d γ g)
 all-in g c b d γ t = (((t.stands).0).invariant, (t.stands).1, (t.stands).2, (t.stands).3)

@@ -9,24 +9,24 @@ use Rattle.ec_coherence.specs.System.{System, Ghost}
 use Rattle.ec_coherence.specs.Steps.{doing_in, sends}
 use Rattle.ec_coherence.proofs.Lists.{each-more}
 use Rattle.ec_coherence.proofs.Needs.{each-of}
-use Rattle.ec_answers.specs.Frees.{IsFull}
-use Rattle.ec_zeros.specs.Fulls.{IsFullAt}
-use Rattle.ec_zeros.proofs.Sent.{own-full, resend-own}
-use Rattle.ec_steps.specs.Steps.{IsDone}
-use Rattle.ec_whole.specs.Whole.{ShowsAll, Whole}
-use Rattle.ec_whole.proofs.Runs.{ClerksKeep}
-use Rattle.ec_settles.specs.Laws.{IsLined}
-use Rattle.ec_settles.proofs.Beginning.{begins}
-use Rattle.ec_settles.proofs.Resending.{resends-keep}
-use Rattle.ec_settles.proofs.Carrying.{same-shows}
-use Rattle.ec_settles.proofs.Settling as settling
+use Rattle.ec_clerk_steps.specs.Frees.{IsFull}
+use Rattle.ec_clerk_steps.specs.Fulls.{IsFullAt}
+use Rattle.ec_clerk_steps.proofs.Sent.{own-full, resend-own}
+use Rattle.ec_lawful.specs.Steps.{IsDone}
+use Rattle.ec_lawful.specs.Whole.{ShowsAll, Whole}
+use Rattle.ec_lawful.proofs.Runs.{ClerksKeep}
+use Rattle.ec_lawful.specs.SettleLaws.{IsLined}
+use Rattle.ec_lawful.proofs.Beginning.{begins}
+use Rattle.ec_lawful.proofs.Resending.{resends-keep}
+use Rattle.ec_lawful.proofs.Carrying.{same-shows}
+use Rattle.ec_lawful.proofs.Settling as settling
 use Rattle.ec_lawful.proofs.Taken.{messages-done}
 use Rattle.ec_lawful.proofs.Answering.{all-in}
 use Rattle.ec_lawful.proofs.Tries.{answers-show, tries-show}
 use Rattle.ec_lawful.specs.Rooms.{unasked}
 use Rattle.ec_lawful.proofs.Forgets.{forgets}
 use Rattle.ec_lawful.proofs.Refuses.{no-room}
-use Rattle.ec_lawful.proofs.Calls.{calls-whole}
+use Rattle.ec_lawful.proofs.CallsBegin.{calls-whole}
 use Rattle.ec_lawful.proofs.Starts.{starts-whole}
 
 -- what goes on with them beside

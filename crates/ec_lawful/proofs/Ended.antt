@@ -20,24 +20,24 @@ use Rattle.ec_coherence.specs.System.{System, Ghost, with_start}
 use Rattle.ec_coherence.specs.Events.{EventsAgree}
 use Rattle.ec_coherence.specs.Steps.{call_of, calls_after, doing_in, sends}
 use Rattle.ec_coherence.specs.ChangeLaws.{Calls}
-use Rattle.ec_calls.specs.Calls.{CallsAgree}
-use Rattle.ec_calls.specs.Waits.{HasLine}
-use Rattle.ec_calls.proofs.Told.{told-calls}
-use Rattle.ec_doings.specs.Orderly.{IsOrderly}
-use Rattle.ec_doings.proofs.Calling.{order-stays}
-use Rattle.ec_names.proofs.Changing.{ended-keeps}
-use Rattle.ec_answers.specs.Trying.{IsTrying}
-use Rattle.ec_zeros.proofs.Behind.{steps-keep}
-use Rattle.ec_zeros.proofs.Parts.{have-no-zero}
-use Rattle.ec_frees.proofs.Stored.{ended-keeps-frees}
-use Rattle.ec_joins.specs.Laws.{IsGoing, tell_loss}
-use Rattle.ec_joins.proofs.Wholes as wholes
-use Rattle.ec_commits.specs.Laws.{AllAgree}
-use Rattle.ec_changes.specs.Laws.{ClerkStands}
-use Rattle.ec_fresh.proofs.Steps.{step-fresh}
-use Rattle.ec_whole.specs.Whole.{Whole}
-use Rattle.ec_whole.proofs.Telling.{line-step-tells}
-use Rattle.ec_settles.specs.Laws.{IsLined}
+use Rattle.ec_clerk_steps.specs.Calls.{CallsAgree}
+use Rattle.ec_clerk_steps.specs.Waits.{HasLine}
+use Rattle.ec_clerk_steps.proofs.Told.{told-calls}
+use Rattle.ec_clerk_steps.specs.Orderly.{IsOrderly}
+use Rattle.ec_clerk_steps.proofs.Calling.{order-stays}
+use Rattle.ec_clerk_steps.proofs.NamesChanging.{ended-keeps}
+use Rattle.ec_clerk_steps.specs.Trying.{IsTrying}
+use Rattle.ec_clerk_steps.proofs.ZerosBehind.{steps-keep}
+use Rattle.ec_clerk_steps.proofs.Parts.{have-no-zero}
+use Rattle.ec_clerk_steps.proofs.FreesStored.{ended-keeps-frees}
+use Rattle.ec_clerk_steps.specs.JoinLaws.{IsGoing, tell_loss}
+use Rattle.ec_clerk_steps.proofs.Wholes as wholes
+use Rattle.ec_coherence.specs.CommitLaws.{AllAgree}
+use Rattle.ec_coherence.specs.StandLaws.{ClerkStands}
+use Rattle.ec_lawful.proofs.FreshSteps.{step-fresh}
+use Rattle.ec_lawful.specs.Whole.{Whole}
+use Rattle.ec_lawful.proofs.Telling.{line-step-tells}
+use Rattle.ec_lawful.specs.SettleLaws.{IsLined}
 use Rattle.ec_lawful.proofs.Same.{first, lined-so, no-zero}
 
 module _ (g : System) (whole : Whole g) (c b : ℕ) (k : Clerk) (runs : g.running c ≡ Some b) (at-start : g.clerks c b ≡ Some k) (s : ℕ) (within : k.session ≡ Some s) (low mask : ℕ) (sent : Contains g.pool (c, Ended s low mask)) where

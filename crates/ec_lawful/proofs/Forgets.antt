@@ -9,20 +9,20 @@ use Rattle.ec_coherence.specs.Steps.{doing_in}
 use Rattle.ec_coherence.proofs.Goes.{goes-rest}
 use Rattle.ec_coherence.proofs.ClerkIn.{start-same}
 use Rattle.ec_coherence.proofs.Tables.{none_some, same_some}
-use Rattle.ec_changes.specs.Laws.{IsUnderWay}
-use Rattle.ec_calls.specs.Laws.{IsQuiet}
-use Rattle.ec_calls.specs.Waits.{HasLine}
-use Rattle.ec_calls.proofs.Quiet.{quiet-calls, quiet-lines}
-use Rattle.ec_doings.specs.Laws.{IsInHand}
-use Rattle.ec_doings.proofs.CacheLogs as kept
-use Rattle.ec_doings.proofs.Hand as hand
-use Rattle.ec_doings.proofs.Moving as moving
-use Rattle.ec_joins.proofs.Calm.{are-calm}
-use Rattle.ec_joins.proofs.Going.{calm-keeps}
-use Rattle.ec_zeros.proofs.Behind.{steps-keep}
-use Rattle.ec_frees.proofs.Stored.{stills-keep}
-use Rattle.ec_answers.specs.Trying.{IsTrying}
-use Rattle.ec_answers.specs.Zeros.{HasNoZero}
+use Rattle.ec_coherence.specs.StandLaws.{IsUnderWay}
+use Rattle.ec_clerk_steps.specs.CallLaws.{IsQuiet}
+use Rattle.ec_clerk_steps.specs.Waits.{HasLine}
+use Rattle.ec_clerk_steps.proofs.Quiet.{quiet-calls, quiet-lines}
+use Rattle.ec_clerk_steps.specs.DoingLaws.{IsInHand}
+use Rattle.ec_clerk_steps.proofs.CacheLogs as kept
+use Rattle.ec_clerk_steps.proofs.Hand as hand
+use Rattle.ec_clerk_steps.proofs.Moving as moving
+use Rattle.ec_clerk_steps.proofs.Calm.{are-calm}
+use Rattle.ec_clerk_steps.proofs.Going.{calm-keeps}
+use Rattle.ec_clerk_steps.proofs.ZerosBehind.{steps-keep}
+use Rattle.ec_clerk_steps.proofs.FreesStored.{stills-keep}
+use Rattle.ec_clerk_steps.specs.Trying.{IsTrying}
+use Rattle.ec_clerk_steps.specs.Zeros.{HasNoZero}
 use Rattle.ec_lawful.specs.Rooms.{unasked}
 
 module _ (g : System) (c b s : ℕ) (d : Doing) (γ : Ghost) (t : IsTrying g c b d γ) (within : d.clerk.session ≡ Some s) where

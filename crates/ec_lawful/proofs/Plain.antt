@@ -16,32 +16,32 @@ use Rattle.ec_coherence.specs.Steps.{doing_in}
 use Rattle.ec_coherence.specs.Tokens.{Fits, view}
 use Rattle.ec_coherence.proofs.Needs.{each-of}
 use Rattle.ec_coherence.proofs.Tables.{equal}
-use Rattle.ec_calls.specs.Laws.{is_calm}
-use Rattle.ec_calls.proofs.Quiets.{quiet-taken}
-use Rattle.ec_doings.specs.Laws.{IsInHand}
-use Rattle.ec_doings.proofs.Restarting.{takes-restarted}
-use Rattle.ec_doings.proofs.Taking.{takes-grant, takes-kept, takes-recall}
-use Rattle.ec_doings.proofs.TakingIds.{takes-ids}
-use Rattle.ec_joins.specs.Cuts.{CutsAgree}
-use Rattle.ec_joins.specs.Frames.{IsCalm}
-use Rattle.ec_joins.proofs.Calm.{are-calm}
-use Rattle.ec_joins.proofs.Going.{calm-keeps, kept-keeps}
-use Rattle.ec_joins.proofs.Wholes as wholes
-use Rattle.ec_answers.specs.Frees.{FreesAgree}
-use Rattle.ec_answers.specs.Trying.{IsTrying}
-use Rattle.ec_answers.specs.Zeros.{HasNoZero}
-use Rattle.ec_zeros.specs.Laws.{SameParts}
-use Rattle.ec_zeros.proofs.Parts.{have-no-zero, ids-have-none}
-use Rattle.ec_frees.specs.Moves.{IsStill}
-use Rattle.ec_frees.proofs.Stilling.{are-still, restarts-still}
-use Rattle.ec_frees.proofs.Stored.{stills-keep}
-use Rattle.ec_frees.proofs.StoredIds.{ids-keep-frees}
-use Rattle.ec_commits.specs.Laws.{AllAgree}
-use Rattle.ec_fresh.specs.Fresh.{FreshAgrees}
-use Rattle.ec_fresh.proofs.Ids.{ids-fresh}
-use Rattle.ec_whole.specs.Whole.{Whole}
-use Rattle.ec_settles.specs.Laws.{IsLined}
-use Rattle.ec_settles.proofs.Carrying.{goes-lined, in-hand, same-shows}
+use Rattle.ec_clerk_steps.specs.CallLaws.{is_calm}
+use Rattle.ec_clerk_steps.proofs.Quiets.{quiet-taken}
+use Rattle.ec_clerk_steps.specs.DoingLaws.{IsInHand}
+use Rattle.ec_clerk_steps.proofs.Restarting.{takes-restarted}
+use Rattle.ec_clerk_steps.proofs.Taking.{takes-grant, takes-kept, takes-recall}
+use Rattle.ec_clerk_steps.proofs.TakingIds.{takes-ids}
+use Rattle.ec_clerk_steps.specs.Cuts.{CutsAgree}
+use Rattle.ec_clerk_steps.specs.Frames.{IsCalm}
+use Rattle.ec_clerk_steps.proofs.Calm.{are-calm}
+use Rattle.ec_clerk_steps.proofs.Going.{calm-keeps, kept-keeps}
+use Rattle.ec_clerk_steps.proofs.Wholes as wholes
+use Rattle.ec_clerk_steps.specs.Frees.{FreesAgree}
+use Rattle.ec_clerk_steps.specs.Trying.{IsTrying}
+use Rattle.ec_clerk_steps.specs.Zeros.{HasNoZero}
+use Rattle.ec_clerk_steps.specs.ZeroLaws.{SameParts}
+use Rattle.ec_clerk_steps.proofs.Parts.{have-no-zero, ids-have-none}
+use Rattle.ec_clerk_steps.specs.Moves.{IsStill}
+use Rattle.ec_clerk_steps.proofs.Stilling.{are-still, restarts-still}
+use Rattle.ec_clerk_steps.proofs.FreesStored.{stills-keep}
+use Rattle.ec_clerk_steps.proofs.StoredIds.{ids-keep-frees}
+use Rattle.ec_coherence.specs.CommitLaws.{AllAgree}
+use Rattle.ec_lawful.specs.Fresh.{FreshAgrees}
+use Rattle.ec_lawful.proofs.Ids.{ids-fresh}
+use Rattle.ec_lawful.specs.Whole.{Whole}
+use Rattle.ec_lawful.specs.SettleLaws.{IsLined}
+use Rattle.ec_lawful.proofs.Carrying.{goes-lined, in-hand, same-shows}
 use Rattle.ec_lawful.proofs.Same.{first, no-zero}
 
 module _ (g : System) (whole : Whole g) (c b : ℕ) (k : Clerk) (runs : g.running c ≡ Some b) (at-start : g.clerks c b ≡ Some k) (s : ℕ) (within : k.session ≡ Some s) where

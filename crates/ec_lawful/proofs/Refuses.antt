@@ -14,12 +14,12 @@ use Rattle.ec_protocol.specs.declared.clerk.Out.TheVariants as out
 use Rattle.ec_protocol.specs.declared.clerk.Waiting.{Waiting}
 use Rattle.ec_coherence.specs.System.{System, Ghost}
 use Rattle.ec_coherence.specs.Steps.{doing_in}
-use Rattle.ec_calls.specs.Laws.{Passes}
-use Rattle.ec_calls.specs.Waits.{HasLine}
-use Rattle.ec_events.specs.Answers.{Gives}
-use Rattle.ec_answers.specs.Answering.{Suits, answered_clerk}
-use Rattle.ec_answers.specs.Frees.{FullsAgree, IsFull}
-use Rattle.ec_answers.specs.Trying.{IsTrying}
+use Rattle.ec_clerk_steps.specs.CallLaws.{Passes}
+use Rattle.ec_clerk_steps.specs.Waits.{HasLine}
+use Rattle.ec_coherence.specs.Answers.{Gives}
+use Rattle.ec_clerk_steps.specs.Answering.{Suits, answered_clerk}
+use Rattle.ec_clerk_steps.specs.Frees.{FullsAgree, IsFull}
+use Rattle.ec_clerk_steps.specs.Trying.{IsTrying}
 use Rattle.ec_lawful.specs.Rooms.{IsCarried, OneAnswers, answered_by, left_with, unasked}
 use Rattle.ec_lawful.proofs.Forgets.{forgets}
 

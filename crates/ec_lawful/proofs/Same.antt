@@ -13,32 +13,32 @@ use Rattle.ec_coherence.specs.Clerks.{take_session}
 use Rattle.ec_coherence.specs.Steps.{call_of, doing_in}
 use Rattle.ec_coherence.proofs.ClerkIn.{start-same}
 use Rattle.ec_coherence.proofs.Tables.{same}
-use Rattle.ec_commits.specs.Laws.{AllAgree}
-use Rattle.ec_changes.specs.Laws.{ClerkStands}
-use Rattle.ec_calls.specs.Calls.{Began, CallsAgree, IsOpenCall, StartCalls}
-use Rattle.ec_calls.specs.Waits.{HasLine}
-use Rattle.ec_calls.specs.Laws.{IsQuiet}
-use Rattle.ec_calls.proofs.Quiet.{quiet-calls, quiet-lines}
-use Rattle.ec_doings.specs.Names.{NamesAgree}
-use Rattle.ec_doings.specs.Orderly.{IsOrderly}
-use Rattle.ec_names.proofs.Frames.{names-read}
-use Rattle.ec_names.proofs.Changing.{opened-keeps}
-use Rattle.ec_answers.specs.Frees.{FreesAgree}
-use Rattle.ec_answers.specs.Zeros.{HasNoZero, ZerosAgree}
-use Rattle.ec_answers.specs.Trying.{IsTrying}
-use Rattle.ec_zeros.proofs.Behind.{steps-keep}
-use Rattle.ec_frees.proofs.Stored.{opened-keeps-frees, stills-keep}
-use Rattle.ec_joins.specs.Laws.{IsGoing}
-use Rattle.ec_joins.proofs.Joined as joins
-use Rattle.ec_joins.proofs.Wholes as wholes
-use Rattle.ec_fresh.specs.Fresh.{FreshAgrees}
-use Rattle.ec_fresh.proofs.Ids.{opened-old}
-use Rattle.ec_fresh.proofs.Steps.{start-fresh, twice}
-use Rattle.ec_whole.specs.Whole.{ShowsAll, Whole}
-use Rattle.ec_whole.proofs.Telling.{quiet-step-tells}
-use Rattle.ec_settles.specs.Laws.{IsLined}
-use Rattle.ec_settles.proofs.Beginning.{begins}
-use Rattle.ec_settles.proofs.Carrying.{same-shows}
+use Rattle.ec_coherence.specs.CommitLaws.{AllAgree}
+use Rattle.ec_coherence.specs.StandLaws.{ClerkStands}
+use Rattle.ec_clerk_steps.specs.Calls.{Began, CallsAgree, IsOpenCall, StartCalls}
+use Rattle.ec_clerk_steps.specs.Waits.{HasLine}
+use Rattle.ec_clerk_steps.specs.CallLaws.{IsQuiet}
+use Rattle.ec_clerk_steps.proofs.Quiet.{quiet-calls, quiet-lines}
+use Rattle.ec_clerk_steps.specs.Names.{NamesAgree}
+use Rattle.ec_clerk_steps.specs.Orderly.{IsOrderly}
+use Rattle.ec_clerk_steps.proofs.NameFrames.{names-read}
+use Rattle.ec_clerk_steps.proofs.NamesChanging.{opened-keeps}
+use Rattle.ec_clerk_steps.specs.Frees.{FreesAgree}
+use Rattle.ec_clerk_steps.specs.Zeros.{HasNoZero, ZerosAgree}
+use Rattle.ec_clerk_steps.specs.Trying.{IsTrying}
+use Rattle.ec_clerk_steps.proofs.ZerosBehind.{steps-keep}
+use Rattle.ec_clerk_steps.proofs.FreesStored.{opened-keeps-frees, stills-keep}
+use Rattle.ec_clerk_steps.specs.JoinLaws.{IsGoing}
+use Rattle.ec_clerk_steps.proofs.Joined as joins
+use Rattle.ec_clerk_steps.proofs.Wholes as wholes
+use Rattle.ec_lawful.specs.Fresh.{FreshAgrees}
+use Rattle.ec_lawful.proofs.Ids.{opened-old}
+use Rattle.ec_lawful.proofs.FreshSteps.{start-fresh, twice}
+use Rattle.ec_lawful.specs.Whole.{ShowsAll, Whole}
+use Rattle.ec_lawful.proofs.Telling.{quiet-step-tells}
+use Rattle.ec_lawful.specs.SettleLaws.{IsLined}
+use Rattle.ec_lawful.proofs.Beginning.{begins}
+use Rattle.ec_lawful.proofs.Carrying.{same-shows}
 
 same-ages : (a b : Age) → a ≡ b → same_age a b ≡ true
 same-ages a b e = ap (λ z. same_age z b) e ∙ ap (λ z. z && (b.round == b.round)) (same b.boot) ∙ same b.round

@@ -8,13 +8,13 @@ use Rattle.ec_durable.specs.declared.state.Durable.{Durable}
 use Rattle.ec_protocol.specs.Drill.{Fates, Read, bound, close, run_from}
 use Rattle.ec_protocol.specs.World.{open_world}
 use Rattle.ec_protocol.specs.declared.world.World.{World}
-use Rattle.ec_found.specs.Olds.{opened_in}
-use Rattle.ec_found.proofs.Opens.{world-stands}
-use Rattle.ec_opening.proofs.Opens.{opened-whole}
-use Rattle.ec_headline.specs.Headline.{IsGreatest}
-use Rattle.ec_steps.specs.Drills.{AreFit}
-use Rattle.ec_whole.specs.Runs.{OfRun, RunShows}
-use Rattle.ec_whole.proofs.Runs.{run-shows}
+use Rattle.ec_lawful.specs.Olds.{opened_in}
+use Rattle.ec_lawful.proofs.Opens.{world-stands}
+use Rattle.ec_lawful.proofs.OpensWhole.{opened-whole}
+use Rattle.ec_lawful.specs.Headline.{IsGreatest}
+use Rattle.ec_lawful.specs.Drills.{AreFit}
+use Rattle.ec_lawful.specs.Runs.{OfRun, RunShows}
+use Rattle.ec_lawful.proofs.Runs.{run-shows}
 use Rattle.ec_lawful.proofs.Clerks.{clerks-keep-all}
 
 module _ (d : Durable) (wf : WellFormed d) (sixteen : length d.sessions ≡ 16) (zero : images d.volume 0 ≡ Gone) (w : World) (opens : open_world d ≡ Ok w) (ls : List Read) (fs : List Fates) (fit : AreFit ls) where

@@ -26,40 +26,40 @@ use Rattle.ec_coherence.specs.ChangeLaws.{Calls}
 use Rattle.ec_coherence.specs.Steps.{call_of, calls_after, doing_in, less_call, out_lines, sends}
 use Rattle.ec_coherence.proofs.Lists.{each-more, each-turn}
 use Rattle.ec_coherence.proofs.Tables.{at-put, none_some, same, same_some}
-use Rattle.ec_commits.specs.Laws.{AllAgree}
-use Rattle.ec_changes.specs.Laws.{lined}
-use Rattle.ec_calls.specs.Calls.{is_shown}
-use Rattle.ec_calls.specs.Laws.{prepared}
-use Rattle.ec_calls.specs.Waits.{HasLine, IsAtRest, does_wait}
-use Rattle.ec_calls.proofs.Begin.{call-put}
-use Rattle.ec_calls.proofs.Quiet.{split-start}
-use Rattle.ec_joins.specs.Laws.{started}
-use Rattle.ec_found.proofs.From.{doubts-stay}
-use Rattle.ec_doings.specs.Orderly.{IsOrderly, OrderlyAgree}
-use Rattle.ec_doings.specs.Names.{AreOnNamed, NamesAgree}
-use Rattle.ec_doings.proofs.Calling.{order-agrees, order-stays}
-use Rattle.ec_names.proofs.Changing.{clerks-keep}
-use Rattle.ec_frees.proofs.Stored.{clerks-keep-frees}
-use Rattle.ec_fresh.specs.Fresh.{FreshAgrees}
-use Rattle.ec_fresh.specs.Laws.{HasOld}
-use Rattle.ec_fresh.proofs.Answered.{answers-fresh}
-use Rattle.ec_fresh.proofs.Steps.{hidden-was, start-fresh, taken-was}
-use Rattle.ec_headline.proofs.Lines.{line-tells}
-use Rattle.ec_answers.specs.Frees.{FreesAgree, FullsAgree}
-use Rattle.ec_answers.specs.Trying.{IsTrying}
-use Rattle.ec_answers.specs.Zeros.{HasNoZero, ZerosAgree}
-use Rattle.ec_zeros.specs.Fulls.{IsFullAt}
-use Rattle.ec_zeros.proofs.Sent.{own-full, settle-own}
-use Rattle.ec_begins.specs.Laws.{answered_start, behind_first, first_call, first_ghost}
-use Rattle.ec_begins.proofs.Answered.{first-answers}
-use Rattle.ec_begins.proofs.First.{first-begun, first-counts, first-cuts}
-use Rattle.ec_steps.specs.Steps.{IsDone, IsNew, begun, calling, in_call}
-use Rattle.ec_steps.specs.Ties.{called, waiting}
-use Rattle.ec_whole.specs.Whole.{ShowsAll, Whole}
-use Rattle.ec_settles.specs.Laws.{Beside, TriesAll}
-use Rattle.ec_settles.proofs.Settling.{settles-call}
-use Rattle.ec_lawful.proofs.Calls.{shown-by}
-use Rattle.ec_lawful.proofs.Lines.{lines-at-end}
+use Rattle.ec_coherence.specs.CommitLaws.{AllAgree}
+use Rattle.ec_coherence.specs.StandLaws.{lined}
+use Rattle.ec_clerk_steps.specs.Calls.{is_shown}
+use Rattle.ec_clerk_steps.specs.CallLaws.{prepared}
+use Rattle.ec_clerk_steps.specs.Waits.{HasLine, IsAtRest, does_wait}
+use Rattle.ec_clerk_steps.proofs.Begin.{call-put}
+use Rattle.ec_clerk_steps.proofs.Quiet.{split-start}
+use Rattle.ec_clerk_steps.specs.JoinLaws.{started}
+use Rattle.ec_lawful.proofs.From.{doubts-stay}
+use Rattle.ec_clerk_steps.specs.Orderly.{IsOrderly, OrderlyAgree}
+use Rattle.ec_clerk_steps.specs.Names.{AreOnNamed, NamesAgree}
+use Rattle.ec_clerk_steps.proofs.Calling.{order-agrees, order-stays}
+use Rattle.ec_clerk_steps.proofs.NamesChanging.{clerks-keep}
+use Rattle.ec_clerk_steps.proofs.FreesStored.{clerks-keep-frees}
+use Rattle.ec_lawful.specs.Fresh.{FreshAgrees}
+use Rattle.ec_lawful.specs.FreshLaws.{HasOld}
+use Rattle.ec_lawful.proofs.FreshAnswered.{answers-fresh}
+use Rattle.ec_lawful.proofs.FreshSteps.{hidden-was, start-fresh, taken-was}
+use Rattle.ec_lawful.proofs.LinesTell.{line-tells}
+use Rattle.ec_clerk_steps.specs.Frees.{FreesAgree, FullsAgree}
+use Rattle.ec_clerk_steps.specs.Trying.{IsTrying}
+use Rattle.ec_clerk_steps.specs.Zeros.{HasNoZero, ZerosAgree}
+use Rattle.ec_clerk_steps.specs.Fulls.{IsFullAt}
+use Rattle.ec_clerk_steps.proofs.Sent.{own-full, settle-own}
+use Rattle.ec_lawful.specs.BeginLaws.{answered_start, behind_first, first_call, first_ghost}
+use Rattle.ec_lawful.proofs.FirstAnswered.{first-answers}
+use Rattle.ec_lawful.proofs.First.{first-begun, first-counts, first-cuts}
+use Rattle.ec_lawful.specs.Steps.{IsDone, IsNew, begun, calling, in_call}
+use Rattle.ec_lawful.specs.Ties.{called, waiting}
+use Rattle.ec_lawful.specs.Whole.{ShowsAll, Whole}
+use Rattle.ec_lawful.specs.SettleLaws.{Beside, TriesAll}
+use Rattle.ec_lawful.proofs.Settling.{settles-call}
+use Rattle.ec_lawful.proofs.CallsBegin.{shown-by}
+use Rattle.ec_lawful.proofs.LinesLeft.{lines-at-end}
 
 twice : (c b : ℕ) (k now : Clerk) (f : ℕ → ℕ → Option Clerk) → with_start c b now (with_start c b k f) ≡ with_start c b now f
 twice c b k now f = λ j x y. point ((x == c) && (y == b)) x y j

@@ -19,19 +19,19 @@ use Rattle.ec_protocol.specs.declared.clerk.Waiting.{Waiting}
 use Rattle.ec_coherence.specs.System.{System, Ghost}
 use Rattle.ec_coherence.specs.Steps.{doing_in}
 use Rattle.ec_coherence.proofs.Tables.{same_some}
-use Rattle.ec_calls.specs.Laws.{is_answer}
-use Rattle.ec_calls.specs.Waits.{HasLine, does_wait}
-use Rattle.ec_calls.proofs.Still.{tries-answer}
-use Rattle.ec_events.specs.Answers.{Gives}
-use Rattle.ec_answers.specs.Answering.{Suits, answered_clerk, done_clerk}
-use Rattle.ec_answers.specs.Laws.{IsTried}
-use Rattle.ec_answers.specs.Trying.{IsTrying}
-use Rattle.ec_answers.proofs.Single as single
-use Rattle.ec_answers.proofs.Singles.{tries-on}
-use Rattle.ec_frees.specs.Moves.{IsStill}
-use Rattle.ec_frees.proofs.Stilling.{are-still}
-use Rattle.ec_whole.specs.Whole.{ShowsAll}
-use Rattle.ec_settles.proofs.Carrying.{same-shows}
+use Rattle.ec_clerk_steps.specs.CallLaws.{is_answer}
+use Rattle.ec_clerk_steps.specs.Waits.{HasLine, does_wait}
+use Rattle.ec_clerk_steps.proofs.Still.{tries-answer}
+use Rattle.ec_coherence.specs.Answers.{Gives}
+use Rattle.ec_clerk_steps.specs.Answering.{Suits, answered_clerk, done_clerk}
+use Rattle.ec_clerk_steps.specs.AnswerLaws.{IsTried}
+use Rattle.ec_clerk_steps.specs.Trying.{IsTrying}
+use Rattle.ec_clerk_steps.proofs.Single as single
+use Rattle.ec_clerk_steps.proofs.Singles.{tries-on}
+use Rattle.ec_clerk_steps.specs.Moves.{IsStill}
+use Rattle.ec_clerk_steps.proofs.Stilling.{are-still}
+use Rattle.ec_lawful.specs.Whole.{ShowsAll}
+use Rattle.ec_lawful.proofs.Carrying.{same-shows}
 use Rattle.ec_lawful.proofs.Answering.{Comes, all-in, comes-so}
 
 -- A call that waits on leaves the clerk's session and its ids.

@@ -5,10 +5,10 @@ use Rattle.ec_wire.specs.declared.msg.Msg.TheVariants.{NoRoom}
 use Rattle.ec_protocol.specs.Clerk.{doing, is_session, take, taken}
 use Rattle.ec_protocol.specs.declared.clerk.Clerk.{Clerk}
 use Rattle.ec_coherence.specs.System.{System}
-use Rattle.ec_joins.specs.Laws.{joined}
-use Rattle.ec_settles.specs.Laws.{IsLined, TriesAll}
-use Rattle.ec_steps.specs.Steps.{IsDone}
-use Rattle.ec_whole.specs.Whole.{Whole}
+use Rattle.ec_clerk_steps.specs.JoinLaws.{joined}
+use Rattle.ec_lawful.specs.SettleLaws.{IsLined, TriesAll}
+use Rattle.ec_lawful.specs.Steps.{IsDone}
+use Rattle.ec_lawful.specs.Whole.{Whole}
 
 -- the message answers no call: it doesn't refuse the ids that the clerk asked for
 abbrev pub AnswersNone : Clerk → Msg → Type 0

@@ -3,8 +3,8 @@ use Rattle.std.specs.Prelude.{ℕ}
 use Rattle.ec_protocol.specs.Clerk.{Doing}
 use Rattle.ec_coherence.specs.System.{System, Ghost}
 use Rattle.ec_coherence.specs.Steps.{doing_in}
-use Rattle.ec_whole.specs.Whole.{ShowsAll}
-use Rattle.ec_settles.specs.Laws.{TriesAll}
+use Rattle.ec_lawful.specs.Whole.{ShowsAll}
+use Rattle.ec_lawful.specs.SettleLaws.{TriesAll}
 use Rattle.ec_lawful.specs.Rooms.{OneAnswers}
 
 -- behind the tries of all calls

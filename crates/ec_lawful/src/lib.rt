@@ -1,42 +1,36 @@
-//! Whole runs of the composition: the lines that they show are lawful. The function has an empty body,
-//! and its contract is a law.
+//! All facts together, behind each step of a node and at the opening, and what follows of a whole run: it is lawful, with places as the ids of new
+//! objects, and each world that it reaches is in order. Each function has an empty body, and its contract is a law.
 #![tactic(auto)]
 
-ghost use Rattle.ec_lawful.specs.Goes.{StepsEndLined};
-ghost use Rattle.ec_lawful.specs.Laws.{RunsShow};
-ghost use Rattle.ec_lawful.specs.Rooms.{AskingsAreForgotten};
-ghost use Rattle.ec_lawful.specs.Taking.{MessagesAreDone, MessagesStand};
-ghost use Rattle.ec_lawful.specs.Tries.{EachAnswers, EachTries};
+mod asked;
+mod begins;
+mod found;
+mod fresh;
+mod headline;
+mod lawful;
+mod opening;
+mod places;
+mod reached;
+mod settles;
+mod steps;
+mod whole;
 
-/// All facts of a step under way stand behind the clerk's forgetting that it asked for ids.
-pub fn askings_are_forgotten()
-    ensures { AskingsAreForgotten }
-{}
-
-/// A step under way stands behind the tries of all waiting calls, and behind each single answer, with its lines and with
-/// what they show.
-pub fn tries_tell()
-    ensures tried { EachTries }
-    ensures answered { EachAnswers }
-{}
-
-/// At the end of a step each waiting call has its line, where each call that was under way has one or was
-/// answered in the step.
-pub fn steps_end_with_their_lines()
-    ensures { StepsEndLined }
-{}
-
-/// A clerk takes any message that was sent and answers no call, in a session and without one; it takes a session so,
-/// and leaves it.
-pub fn clerks_take_messages()
-    ensures stand { MessagesStand }
-    ensures done { MessagesAreDone }
-{}
-
-/// The lines of each run over a well-formed state are lawful: they stand in one legal history of one
-/// uncached volume, each front of them too, in which a new object has the place of its call's line above
-/// the greatest id as its id; each answer is that of its line; no session ends unasked; and
-/// the disk's volume is what durable lines leave.
-pub fn runs_are_lawful()
-    ensures { RunsShow }
-{}
+pub use asked::{nobody_says_goodbye, sessions_end_as_asked};
+pub use begins::{calls_have_begun, first_calls_are_answered};
+pub use found::{
+    disks_open, records_are_in_doubt, restarts_stand, worlds_stand_behind_stops_and_restarts,
+};
+pub use fresh::{ids_stay_fresh, nodes_keep_ids_fresh};
+pub use headline::{facts_show_lawful_runs, lines_go_on_to_tell};
+pub use lawful::{
+    askings_are_forgotten, clerks_take_messages, runs_are_lawful, steps_end_with_their_lines,
+    tries_tell,
+};
+pub use opening::disks_open_whole;
+pub use places::new_ids_are_places;
+pub use reached::{legal_histories_are_fitting, reached_worlds_are_in_order, runs_stay_in_order};
+pub use settles::{steps_come_to_tries, steps_end_whole};
+pub use steps::worlds_stand_behind_events;
+pub use whole::{
+    crashes_keep_all_facts, servers_keep_all_facts, stops_and_restarts_keep_all_facts,
+};

@@ -1,3 +1,10 @@
 pub mod Example
 pub mod Needs
 pub mod ListExample
+pub mod Bases
+pub mod FormedExample
+pub mod Accounts
+pub mod Laws
+pub mod Renaming
+pub mod RenamedExample
+pub mod Placing

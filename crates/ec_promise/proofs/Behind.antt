@@ -15,18 +15,18 @@ use Rattle.ec_script.specs.Lines.{lines_of}
 use Rattle.ec_protocol.specs.World.{open_world}
 use Rattle.ec_protocol.specs.Drill.{Fates, Ran, Read, bound, close, drill, drill_in, joined, last_line, named_in, run_from}
 use Rattle.ec_protocol.specs.declared.world.World.{World}
-use Rattle.ec_headline.specs.Headline.{IsGreatest}
-use Rattle.ec_headline.specs.Headline as headline
-use Rattle.ec_steps.specs.Drills.{AreFit, lines_in}
-use Rattle.ec_whole.specs.Runs.{RunShows}
+use Rattle.ec_lawful.specs.Headline.{IsGreatest}
+use Rattle.ec_lawful.specs.Headline as headline
+use Rattle.ec_lawful.specs.Drills.{AreFit, lines_in}
+use Rattle.ec_lawful.specs.Runs.{RunShows}
 use Rattle.ec_lawful.proofs.Shows.{runs-show}
 use Rattle.ec_world.specs.Steps.{Opens}
 use Rattle.ec_drill.specs.Drill.{IsGiven, Outside, RanInPart, RanWhole}
 use Rattle.ec_drill.specs.Fates as fates
-use Rattle.ec_line_runs.specs.Runs.{AllRun}
+use Rattle.ec_deliveries.specs.Runs.{AllRun}
 use Rattle.ec_complete.specs.Complete.{IsFaultlessRead}
-use Rattle.ec_scripts_behind.specs.Pieces.{ArePiecesBehind, WritesBehind}
-use Rattle.ec_scripts_behind.proofs.Drills.{new-disks-behind}
+use Rattle.ec_complete.specs.Pieces.{ArePiecesBehind, WritesBehind}
+use Rattle.ec_complete.proofs.Drills.{new-disks-behind}
 use Rattle.ec_promise.specs.Behind.{AreBehindOn, BehindIsKept, DrillsAreBehind, PartIsKept}
 use Rattle.ec_promise.proofs.Cut.{cut-front, cut-pieces}
 use Rattle.ec_promise.proofs.Fit.{fit_script}

@@ -3,9 +3,9 @@ use Rattle.std.proofs.Common.{◌≡◌, refl, sym, ap, ◌∙◌, subst, arith,
 use Rattle.ec_history.specs.History.{Base}
 use Rattle.ec_history.specs.declared.shown.Shown.{Shown}
 use Rattle.ec_protocol.specs.declared.script.Line.{Line}
-use Rattle.ec_headline.specs.Headline.{ArePieces, IsPiece, Lines, Pieces, joined}
-use Rattle.ec_write_behind.specs.Scripts.{AreWriteBehind}
-use Rattle.ec_scripts_behind.specs.Pieces.{ArePiecesBehind}
+use Rattle.ec_lawful.specs.Headline.{ArePieces, IsPiece, Lines, Pieces, joined}
+use Rattle.ec_deliveries.specs.Scripts.{AreWriteBehind}
+use Rattle.ec_complete.specs.Pieces.{ArePiecesBehind}
 
 -- a front of lines and a last one is a front of the lines, or all of it
 pub cut-front : (xs more told last : List Shown) → xs ++ more ≡ told ++ last → length last ≤ 1 → ((rest : List Shown) × (xs ++ rest ≡ told)) ⊎ (xs ≡ told ++ last)

@@ -7,8 +7,8 @@ use Rattle.ec_volume.specs.declared.image.Image.{Image}
 use Rattle.ec_volume.specs.declared.image.Image.TheVariants.{Gone, File, Dir}
 use Rattle.ec_durable.specs.WellFormed.{WellFormed}
 use Rattle.ec_durable.specs.declared.state.Durable.{Durable}
-use Rattle.ec_found.proofs.Volumes.{known-id}
-use Rattle.ec_headline.specs.Headline.{IsGreatest}
+use Rattle.ec_lawful.proofs.Volumes.{known-id}
+use Rattle.ec_lawful.specs.Headline.{IsGreatest}
 
 -- of ids below this one
 below : (v : Images) (n : ℕ) → ((x : ℕ) → T (not (is_gone (v x))) → x < n) → (x : ℕ) → T (not (is_gone (v x))) → (m : ℕ) × IsGreatest v m

@@ -14,16 +14,16 @@ use Rattle.ec_durable.specs.declared.state.Durable.{Durable}
 use Rattle.ec_protocol.specs.World.{open_world}
 use Rattle.ec_protocol.specs.Drill.{Read, Fates, Ran, Ending, IsSpent, Done, BadLine, TooMany, bound, close, drill, drill_in, joined, last_line, run_from, status}
 use Rattle.ec_protocol.specs.declared.world.World.{World}
-use Rattle.ec_headline.specs.Headline.{AreLawful, FrontsAreLawful, IsGreatest}
-use Rattle.ec_headline.specs.Headline as headline
-use Rattle.ec_steps.specs.Drills.{AreFit, IsUnspent}
-use Rattle.ec_whole.specs.Runs.{RunShows}
+use Rattle.ec_lawful.specs.Headline.{AreLawful, FrontsAreLawful, IsGreatest}
+use Rattle.ec_lawful.specs.Headline as headline
+use Rattle.ec_lawful.specs.Drills.{AreFit, IsUnspent}
+use Rattle.ec_lawful.specs.Runs.{RunShows}
 use Rattle.ec_lawful.proofs.Shows.{runs-show}
 use Rattle.ec_drill.specs.Drill.{Outside, Drilled, IsCut, IsCutClean, IsToldAll, RanWhole, RanInPart, end_of, state_after}
 use Rattle.ec_drill.specs.Left.{LeavesOf, at_end}
 use Rattle.ec_drill.specs.declared.status.Status.{Status}
 use Rattle.ec_drill.specs.declared.status.Status.TheVariants as own
-use Rattle.ec_reached.proofs.Runs.{run-in-order}
+use Rattle.ec_lawful.proofs.RunsInOrder.{run-in-order}
 use Rattle.ec_promise.specs.Left.{EndsStored, IsStoredIn, LeavesStored}
 use Rattle.ec_promise.specs.Promise.{AreInOrder, AreLawfulOn, AreStoredOn, AreWholeOn, CutIsLawful, DrillsAreLawful, CleanIsLawful, IsLawful, MomentsAreStored, PartIsLawful, SpentIsLawful, WholeIsLawful, WholeState, base_on}
 use Rattle.ec_promise.proofs.Behind.{behind-kept, part-kept}

@@ -24,14 +24,14 @@ use Rattle.ec_coherence.specs.Steps as steps
 use Rattle.ec_coherence.specs.Steps.{Stands, end_lines, ended_line, found, record_lines, running_clerk, to_show}
 use Rattle.ec_coherence.specs.Stops.{RunsOn}
 use Rattle.ec_coherence.proofs.Tables.{none_some}
-use Rattle.ec_found.specs.Founds.{with_found}
-use Rattle.ec_found.proofs.Founds.{found-shown, founds-stand, steps-so}
-use Rattle.ec_joins.proofs.Steps.{step-most}
-use Rattle.ec_headline.specs.Headline.{FrontsAreLawful, IsGreatest, placed_on}
-use Rattle.ec_headline.proofs.Stored.{show-lawfully}
-use Rattle.ec_places.proofs.Serving.{disk-there, fronts-there}
-use Rattle.ec_whole.specs.Runs.{OfRun}
-use Rattle.ec_whole.proofs.Halts.{found-whole}
+use Rattle.ec_lawful.specs.Founds.{with_found}
+use Rattle.ec_lawful.proofs.Founds.{found-shown, founds-stand, steps-so}
+use Rattle.ec_clerk_steps.proofs.Steps.{step-most}
+use Rattle.ec_lawful.specs.Headline.{FrontsAreLawful, IsGreatest, placed_on}
+use Rattle.ec_lawful.proofs.Stored.{show-lawfully}
+use Rattle.ec_lawful.proofs.PlacesServe.{disk-there, fronts-there}
+use Rattle.ec_lawful.specs.Runs.{OfRun}
+use Rattle.ec_lawful.proofs.Halts.{found-whole}
 use Rattle.ec_promise.specs.Left.{IsStoredIn, in_doubt}
 
 module _ (v : Images) (most : ℕ) (g : System) (f : OfRun v most g) (w : World) (st : Stands w g) where

@@ -23,14 +23,14 @@ use Rattle.ec_protocol.specs.declared.world.World.{World}
 use Rattle.ec_protocol.specs.declared.world.WorldFault.{WorldFault}
 use Rattle.ec_coherence.specs.Steps.{call_of}
 use Rattle.ec_coherence.proofs.Tables.{none_some}
-use Rattle.ec_headline.specs.Headline.{IsGreatest, Lines, Pieces}
-use Rattle.ec_headline.specs.Headline as headline
-use Rattle.ec_steps.specs.Calls.{AreOf, IsOf}
-use Rattle.ec_steps.specs.Drills.{AreFit, Closed, Comes, IsCallIn, IsFit, Sofar, lines_in}
-use Rattle.ec_steps.specs.Steps.{Holds}
-use Rattle.ec_steps.proofs.Drills.{drills-on, runs-on}
+use Rattle.ec_lawful.specs.Headline.{IsGreatest, Lines, Pieces}
+use Rattle.ec_lawful.specs.Headline as headline
+use Rattle.ec_lawful.specs.Calls.{AreOf, IsOf}
+use Rattle.ec_lawful.specs.Drills.{AreFit, Closed, Comes, IsCallIn, IsFit, Sofar, lines_in}
+use Rattle.ec_lawful.specs.Steps.{Holds}
+use Rattle.ec_lawful.proofs.Drills.{drills-on, runs-on}
 use Rattle.ec_drill.specs.Left.{Moment, behind_lines, in_line, at_end, fates_behind}
-use Rattle.ec_reached.proofs.Worlds.{F, kept-by, no-calls, no-lines, opened-holds}
+use Rattle.ec_lawful.proofs.Worlds.{F, kept-by, no-calls, no-lines, opened-holds}
 use Rattle.ec_promise.specs.Left.{IsStoredIn, SaysWhy, in_doubt}
 use Rattle.ec_promise.proofs.Left.{stored-in}
 

@@ -13,12 +13,12 @@ use Rattle.ec_words.specs.declared.name.Keyword.TheVariants as keyword
 use Rattle.ec_script.specs.Grammar.{IsLine, Spells, Says}
 use Rattle.ec_script.specs.declared.line.Line.{Line}
 use Rattle.ec_script.specs.declared.line.Line.TheVariants as line
-use Rattle.ec_needs.proofs.Once.{AreOnce, fewer}
+use Rattle.ec_machine_laws.proofs.Once.{AreOnce, fewer}
 use Rattle.ec_protocol.specs.Drill.{Read, named_in, reads, unfit}
 use Rattle.ec_protocol.specs.declared.script.Line.{Line as MachineLine}
 use Rattle.ec_protocol.specs.declared.script.Line.TheVariants as machine
 use Rattle.ec_drill.specs.Script.{AreRead, IsRead, machine_line}
-use Rattle.ec_steps.specs.Drills.{AreFit, IsFit}
+use Rattle.ec_lawful.specs.Drills.{AreFit, IsFit}
 use Rattle.ec_complete.specs.Complete.{IsFaultlessRead}
 
 -- Numbers below a bound, each once.

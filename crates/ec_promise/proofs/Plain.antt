@@ -8,10 +8,10 @@ use Rattle.ec_durable.specs.Durable.{formatted}
 use Rattle.ec_durable.specs.WellFormed.{WellFormed}
 use Rattle.ec_durable.specs.declared.state.Durable.{Durable}
 use Rattle.ec_protocol.specs.Drill.{Fates, Read, drill}
-use Rattle.ec_steps.specs.Drills.{AreFit, lines_in}
-use Rattle.ec_line_runs.specs.Runs as runs
+use Rattle.ec_lawful.specs.Drills.{AreFit, lines_in}
+use Rattle.ec_deliveries.specs.Runs as runs
 use Rattle.ec_complete.specs.Complete.{IsComplete}
-use Rattle.ec_plain_scripts.proofs.Scripts.{plain-scripts-complete}
+use Rattle.ec_complete.proofs.PlainScripts.{plain-scripts-complete}
 use Rattle.ec_drill.specs.Drill.{Outside, IsToldAll, RanWhole}
 use Rattle.ec_drill.specs.Fates.{AllRun, AreOf, EachRuns}
 use Rattle.ec_drill.specs.Script.{AreRead}

@@ -10,12 +10,12 @@ use Rattle.ec_durable.specs.Durable.{formatted}
 use Rattle.ec_durable.specs.WellFormed.{WellFormed}
 use Rattle.ec_durable.specs.declared.state.Durable.{Durable}
 use Rattle.ec_protocol.specs.Drill.{Fates, Read, drill, named_in}
-use Rattle.ec_headline.specs.Headline.{ArePieces, IsGreatest, Pieces, joined, placed_on}
-use Rattle.ec_steps.specs.Drills.{AreFit, lines_in}
+use Rattle.ec_lawful.specs.Headline.{ArePieces, IsGreatest, Pieces, joined, placed_on}
+use Rattle.ec_lawful.specs.Drills.{AreFit, lines_in}
 use Rattle.ec_drill.specs.Drill.{Outside, RanInPart, RanWhole}
-use Rattle.ec_line_runs.specs.Runs.{AllRun}
+use Rattle.ec_deliveries.specs.Runs.{AllRun}
 use Rattle.ec_complete.specs.Complete.{IsFaultlessRead}
-use Rattle.ec_scripts_behind.specs.Pieces.{ArePiecesBehind}
+use Rattle.ec_complete.specs.Pieces.{ArePiecesBehind}
 use Rattle.ec_promise.specs.Left.{SaysWhy}
 
 -- The lines that a run over this script wrote, on a disk that stood for this state, in pieces, one for each line carried out: each operation that a durable line

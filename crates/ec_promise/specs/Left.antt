@@ -12,7 +12,7 @@ use Rattle.ec_stands.specs.Stands.{StandsFor}
 use Rattle.ec_protocol.specs.Drill.{Fates, Read, bound}
 use Rattle.ec_protocol.specs.World.{moving, open_world, show_noted}
 use Rattle.ec_protocol.specs.declared.world.World.{World}
-use Rattle.ec_headline.specs.Headline.{FrontsAreLawful, IsGreatest, placed_on}
+use Rattle.ec_lawful.specs.Headline.{FrontsAreLawful, IsGreatest, placed_on}
 use Rattle.ec_drill.specs.Drill.{end_of}
 use Rattle.ec_drill.specs.Left.{EachLeft, IsOfMoment}
 

@@ -16,12 +16,12 @@ use Rattle.ec_durable.specs.declared.state.Durable.{Durable}
 use Rattle.ec_protocol.specs.Drill.{Read, Fates, bound, drill, run_from}
 use Rattle.ec_protocol.specs.World.{open_world}
 use Rattle.ec_protocol.specs.declared.world.World.{World}
-use Rattle.ec_headline.specs.Headline.{AreEndsAsked, ArePieces, FrontsAreLawful, InScript, IsGreatest, Lines, Pieces, joined, placed_on}
-use Rattle.ec_steps.specs.Drills.{AreFit, lines_in}
-use Rattle.ec_reached.specs.Reached.{IsInOrder}
+use Rattle.ec_lawful.specs.Headline.{AreEndsAsked, ArePieces, FrontsAreLawful, InScript, IsGreatest, Lines, Pieces, joined, placed_on}
+use Rattle.ec_lawful.specs.Drills.{AreFit, lines_in}
+use Rattle.ec_lawful.specs.Reached.{IsInOrder}
 use Rattle.ec_promise.specs.Behind.{BehindIsKept, PartIsKept}
 use Rattle.ec_complete.specs.Complete.{IsComplete}
-use Rattle.ec_plain_scripts.specs.Scripts.{IsPlainScript}
+use Rattle.ec_complete.specs.PlainScripts.{IsPlainScript}
 use Rattle.ec_promise.specs.Spared.{LosesNothing, spares}
 use Rattle.ec_promise.specs.Left.{EndsStored, IsStoredIn, LeavesStored, SaysWhy}
 use Rattle.ec_drill.specs.Drill.{Outside, Drilled, IsCut, IsCutClean, IsToldAll, RanWhole, RanInPart, state_after}

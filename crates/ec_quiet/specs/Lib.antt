@@ -8,3 +8,13 @@ pub mod Sums
 pub mod Tests
 pub mod Trials
 pub mod Scripts
+pub mod Bounds
+pub mod SettlingScenes
+pub mod Settling
+pub mod Tries
+pub mod Frames
+pub mod Evictions
+pub mod Takings
+pub mod Goes
+pub mod First
+pub mod Lines

@@ -25,7 +25,7 @@ use Rattle.ec_durable.specs.Steps.{AreSound}
 use Rattle.ec_durable.specs.Codes.{record_code, said}
 use Rattle.ec_durable.specs.CodeLaws.{said_again}
 use Rattle.ec_durable.specs.WellFormed.{IsInOrder}
-use Rattle.ec_kept.proofs.Volumes.{step_well}
+use Rattle.ec_stands.proofs.Volumes.{step_well}
 use Rattle.ec_table.specs.Codes.{table_code, described, numbers_in, place_after}
 use Rattle.ec_table.specs.declared.table.Version.{Version}
 use Rattle.ec_table.specs.declared.table.Version.TheVariants.{Two}

@@ -26,7 +26,7 @@ use Rattle.ec_store.specs.Places.{ArePlaces}
 use Rattle.ec_store.specs.Stepping.{picked, behind, all_fit_ahead, with_volume, tried, IsBatchOf, IsSpare, IsTried}
 use Rattle.ec_store.proofs.Ahead.{operations_ahead}
 use Rattle.ec_durable.proofs.Batches.{not_Ok}
-use Rattle.ec_kept.proofs.Volumes.{formatted_well}
+use Rattle.ec_stands.proofs.Volumes.{formatted_well}
 use Rattle.ec_store.proofs.Members.{told, member_here, member_later}
 
 -- two volumes have the same images of these objects

@@ -10,8 +10,8 @@ use Rattle.ec_protocol.specs.World.{Fate, Moving, forget, happen, open_world}
 use Rattle.ec_protocol.specs.declared.world.Event.{Event}
 use Rattle.ec_protocol.specs.declared.world.World.{World as State}
 use Rattle.ec_protocol.specs.declared.world.WorldFault.{WorldFault}
-use Rattle.ec_reached.specs.Reached.{Reached, opens, happens, forgets, unsettles}
-use Rattle.ec_reached.proofs.Worlds.{reached-in-order}
+use Rattle.ec_lawful.specs.Reached.{Reached, opens, happens, forgets, unsettles}
+use Rattle.ec_lawful.proofs.Worlds.{reached-in-order}
 use Rattle.ec_world.specs.Reaching.{IsReached, Leads, LeadsKnown, Stays}
 use Rattle.ec_world.specs.Steps.{FateOf, IsTold, IsWhole, Opens}
 use Rattle.ec_world.specs.Worlds.{view_of}

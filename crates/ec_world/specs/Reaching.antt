@@ -5,8 +5,8 @@ use Rattle.ec_disk.specs.Disk.{Counts}
 use Rattle.ec_protocol.specs.World.{Fate}
 use Rattle.ec_protocol.specs.declared.world.Event.{Event}
 use Rattle.ec_protocol.specs.declared.world.World.{World as State}
-use Rattle.ec_steps.specs.Steps.{MayHappen}
-use Rattle.ec_reached.specs.Reached.{IsInOrder, Reached}
+use Rattle.ec_lawful.specs.Steps.{MayHappen}
+use Rattle.ec_lawful.specs.Reached.{IsInOrder, Reached}
 use Rattle.ec_world.specs.Steps.{FateOf, IsTold, IsWhole}
 
 -- The world is one of a run over the state: so its lines are lawful, it's coherent, and what is kept fits.

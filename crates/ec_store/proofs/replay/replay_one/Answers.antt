@@ -1,7 +1,7 @@
 use Rattle.std.proofs.Common.{rules, ℕ, List, ap, sym, ◌∙◌}
 use Rattle.ec_volume.specs.Update.{member}
 use Rattle.ec_durable.proofs.Kept.{below_kept}
-use Rattle.ec_kept.proofs.Volumes.{step_well}
+use Rattle.ec_stands.proofs.Volumes.{step_well}
 use Rattle.ec_store.proofs.Images.{step_images}
 use Rattle.ec_store.proofs.Replaying.{operands_more}
 use Rattle.ec_store.specs.declared.fault.StoreFault.TheVariants.{BadDisk}

@@ -3,7 +3,7 @@ use Rattle.std.specs.Int.{w32, to_be_bytes}
 use Rattle.ec_volume.specs.Volume as volume
 use Rattle.ec_durable.specs.declared.state.Durable.{Durable}
 use Rattle.ec_durable.specs.WellFormed.{WellFormed, IsInOrder}
-use Rattle.ec_kept.proofs.Volumes.{formatted_well}
+use Rattle.ec_stands.proofs.Volumes.{formatted_well}
 use Rattle.ec_durable.specs.Durable.{formatted}
 use Rattle.ec_layout.specs.Head.{first_word, empty_awaits}
 use Rattle.ec_layout.specs.Traces.{no_sync_yet}

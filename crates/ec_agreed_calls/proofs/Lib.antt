@@ -1,3 +1,0 @@
-pub mod Pinned
-pub mod Shown
-pub mod About

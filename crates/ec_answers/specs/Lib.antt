@@ -1,5 +1,0 @@
-pub mod Zeros
-pub mod Answering
-pub mod Frees
-pub mod Trying
-pub mod Laws

@@ -1,5 +1,0 @@
-pub mod Called
-pub mod First
-pub mod Alone
-pub mod Nothing
-pub mod Answered

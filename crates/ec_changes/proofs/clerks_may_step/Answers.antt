@@ -1,8 +1,0 @@
-use Rattle.ec_changes.proofs.Doings.{begins-stand, goes-on-stand}
-use Rattle.ec_changes.proofs.clerks_may_step.Goals as goal
-
-pub returns-clause-begin : goal.returns-clause-begin
-returns-clause-begin z = begins-stand
-
-pub returns-clause-on : goal.returns-clause-on
-returns-clause-on z = goes-on-stand

@@ -1,9 +1,0 @@
-//! The first step of a line of a script without faults. The function has an empty body, and its contract is a law.
-#![tactic(auto)]
-
-ghost use Rattle.ec_clerk_lines.specs.Lines.{CallsBegin};
-
-/// Where all is idle, a call of a clerk that runs leads to a phase: it wants, asks or saves, or it's answered.
-pub fn calls_begin()
-    ensures { CallsBegin }
-{}

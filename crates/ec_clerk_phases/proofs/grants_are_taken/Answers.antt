@@ -1,5 +1,0 @@
-use Rattle.ec_clerk_phases.proofs.Taking.{arrives, ready}
-use Rattle.ec_clerk_phases.proofs.grants_are_taken.Goals as goal
-
-pub returns : goal.returns
-returns c j sc x h n rest q head out = (q.facts.3.clerk, q.facts.3.slot, q.facts.3.working.there, arrives j sc x h n rest q head out, ready j sc x h n rest q head out)

@@ -1,5 +1,0 @@
-use Rattle.ec_clerk_phases.proofs.Begun.{grants, ids, keeps, recalls}
-use Rattle.ec_clerk_phases.proofs.messages_begin_steps.Goals as goal
-
-pub returns : goal.returns
-returns c s e k of = (grants s e k of, recalls s e k of, keeps s e k of, ids s e k of)

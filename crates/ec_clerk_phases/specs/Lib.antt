@@ -1,5 +1,0 @@
-pub mod Tries
-pub mod Frames
-pub mod Evictions
-pub mod Takings
-pub mod Goes

@@ -1,3 +1,0 @@
-pub mod Watches
-pub mod Starts
-pub mod Laws

@@ -1,0 +1,91 @@
+-- The first step of a call of a clerk that runs: its work is the line's, and it sends only what the line asks for.
+use Rattle.std.proofs.Common.{◌≡◌, refl, sym, ap, ◌∙◌, subst, ℕ, T}
+use Rattle.std.specs.Prelude.{[], None, Some}
+use Rattle.ec_base.specs.Tables.{at}
+use Rattle.ec_volume.specs.Volume.{Images}
+use Rattle.ec_plain.specs.declared.call.Call.{Call}
+use Rattle.ec_sessions.specs.declared.slot.Slot.{Slot}
+use Rattle.ec_protocol.specs.Clerk.{add_call, begin}
+use Rattle.ec_protocol.specs.World.{Moving, call}
+use Rattle.ec_protocol.specs.declared.clerk.Clerk.{Clerk}
+use Rattle.ec_protocol.specs.declared.script.Line.TheVariants as line
+use Rattle.ec_protocol.specs.declared.world.World.{World}
+use Rattle.ec_coherence.specs.Steps.{doing_in}
+use Rattle.ec_coherence.specs.System.{System}
+use Rattle.ec_lawful.specs.Steps.{IsNewIn}
+use Rattle.ec_quiet.specs.Phases.{Phase, Greets, Opens, Claims, Wants, Recalls, Flushes, Keeps, Grants, Asks, Gives, Refuses, Saves, Saved, Ends, InPhase}
+use Rattle.ec_quiet.specs.Scenes.{IsScene, Scene, done_by}
+use Rattle.ec_quiet.specs.Works.{Work}
+use Rattle.ec_quiet.proofs.Calling.{called}
+use Rattle.ec_quiet.specs.Frames.{IsAsked}
+use Rattle.ec_quiet.specs.Goes.{MayGo}
+use Rattle.ec_agreed_lines.specs.Lines.{HasBegun}
+use Rattle.ec_agreed_lines.proofs.Beginning.{begins}
+use Rattle.ec_complete.specs.WaitingCalls.{kept_volume, touched_by}
+use Rattle.ec_complete.specs.Lines.{IsOnLine, next_object}
+use Rattle.ec_complete.specs.FirstSteps.{IsTold}
+use Rattle.ec_complete.specs.LineCalls.{IsCalled, LeavesVolume}
+use Rattle.ec_complete.proofs.May as may
+use Rattle.ec_complete.proofs.On.{calls-leave-kept}
+use Rattle.ec_complete.specs.Worlds.{IsCounted}
+use Rattle.ec_deliveries.specs.Behind.{IsBehind, Sees}
+use Rattle.ec_deliveries.proofs.Begun.{calls-begin}
+use Rattle.ec_deliveries.proofs.Seen.{shown-seen}
+use Rattle.ec_complete.specs.Following.{BeginsBehind, IsCountedIn, IsWorked}
+use Rattle.ec_complete.proofs.Following.{same-scene}
+use Rattle.ec_complete.proofs.Seeing.{shows}
+use Rattle.ec_complete.proofs.Works.{calls-worked}
+
+told : (p : Phase) → IsAsked p → IsTold p
+told (Wants x h n) a = tt
+told (Asks again got ask) a = tt
+told (Saves b ops rest) a = tt
+told Ends a = tt
+told (Greets age) a = absurd a
+told (Opens age) a = absurd a
+told (Claims o) a = absurd a
+told (Recalls x h rs bs) a = absurd a
+told (Flushes x h r b ops rest) a = absurd a
+told (Keeps x h r b rest) a = absurd a
+told (Grants x h n) a = absurd a
+told (Gives got n first) a = absurd a
+told (Refuses again ask live reserved) a = absurd a
+told (Saved b rest) a = absurd a
+
+module _ (j : Work) (number : ℕ) (cl : Call) (w : World) (sc : Scene) (g : System) (sl : Slot) (k : Clerk) (calls : ℕ) (is : IsCalled j cl w sc g sl k) (new : IsNewIn w number) (fine : (call j.clerk number cl w).fault ≡ None) (counted : IsCountedIn calls (call j.clerk number cl w).world) where
+  abbrev now : Scene
+  now = done_by j.clerk (begin cl k) sc.mail sc
+
+  abbrev m : Moving
+  m = call j.clerk number cl w
+
+  abbrev v : Images
+  v = kept_volume g
+
+  goes : MayGo j (add_call cl k)
+  goes = may.calls-may-begin j number cl w sc g sl k is new
+
+  begun : HasBegun j now
+  begun = begins j sc sl k cl is.idle is.its is.calls goes
+
+  stands : IsScene m.world now
+  stands = (called w sc is.scene j.clerk number cl k (ap (at j.clerk) is.scene.clerks ∙ is.its.there) fine).1
+
+  kept : (h : System) × IsOnLine j m.world now h × LeavesVolume j now g h × ((a : Clerk) → at j.clerk now.clerks ≡ Some a → (a.waiting ≡ [] → ⊥) → j.touched ≡ touched_by cl (kept_volume h) (next_object now j.clerk a))
+  kept = calls-leave-kept j number cl w sc g sl k begun.phase is new fine stands begun.comes (told begun.phase begun.asked)
+
+  worked : IsWorked (line.Call j.clerk cl) (kept.0).origin v j now kept.0
+  worked = calls-worked cl v j m.world now kept.0 begun.phase kept.1 stands begun.comes is.task (λ a here waits. (kept.2.kept a here waits, kept.3 a here waits))
+
+  sees : Sees v j (add_call cl k)
+  sees = shown-seen v j (add_call cl k)
+      (shows (doing_in j.clerk (may.start j number cl w sc g sl k is).0 (may.d j number cl w sc g sl k is) g.ghost (may.S j number cl w sc g sl k is)) j.clerk (may.start j number cl w sc g sl k is).0 j.session (add_call cl k) (may.agreed j number cl w sc g sl k is new))
+
+  pub call-begins : BeginsBehind (line.Call j.clerk cl) g.origin v j calls m
+  call-begins = record {
+    known = record {
+      known = record { scene = now; stands = stands; phase = begun.phase; comes = begun.comes; system = kept.0; facts = kept.1; counted = subst (IsCounted calls m.world) (same-scene m.world counted.0 now counted.1 stands) counted.2 };
+      worked = record { origin_is = kept.2.origin; works = worked.works };
+    };
+    behind = calls-begin v j sc is.idle k is.its.there sc.mail cl goes sees;
+  }

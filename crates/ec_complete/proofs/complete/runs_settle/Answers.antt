@@ -1,0 +1,5 @@
+use Rattle.ec_complete.proofs.Beginning.{runs-settle}
+use Rattle.ec_complete.proofs.complete.runs_settle.Goals as goal
+
+pub returns : goal.returns
+returns z = runs-settle

@@ -1,0 +1,5 @@
+use Rattle.ec_complete.proofs.May.{calls-may-begin}
+use Rattle.ec_complete.proofs.line_calls.calls_may_begin.Goals as goal
+
+pub returns : goal.returns
+returns c = calls-may-begin

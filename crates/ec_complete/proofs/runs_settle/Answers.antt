@@ -1,5 +1,0 @@
-use Rattle.ec_complete.proofs.Beginning.{runs-settle}
-use Rattle.ec_complete.proofs.runs_settle.Goals as goal
-
-pub returns : goal.returns
-returns z = runs-settle

@@ -1,0 +1,13 @@
+// Write-behind over scripts without faults: each piece of lines makes durable only what its line of the script asks for.
+ghost use Rattle.ec_complete.specs.Pieces.{DrillsWriteBehind, RunsWriteBehind};
+
+/// In a world that is ready for them, the lines of a script without faults write behind, also where a
+/// push names an operation that wasn't issued, which ends the run.
+pub fn runs_write_behind()
+    ensures { RunsWriteBehind }
+{}
+
+/// So does each drill over such a script on a new disk.
+pub fn drills_write_behind()
+    ensures { DrillsWriteBehind }
+{}

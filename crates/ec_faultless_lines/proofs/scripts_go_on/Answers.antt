@@ -1,8 +1,0 @@
-use Rattle.ec_faultless_lines.proofs.Scripts.{scripts-go-on, scripts-settle}
-use Rattle.ec_faultless_lines.proofs.scripts_go_on.Goals as goal
-
-pub returns-clause-on : goal.returns-clause-on
-returns-clause-on c = scripts-go-on
-
-pub returns-clause-settle : goal.returns-clause-settle
-returns-clause-settle c = scripts-settle

@@ -1,4 +1,0 @@
-pub mod Empty
-mod Once
-pub mod Starting
-pub mod Pushing

@@ -1,4 +1,0 @@
-pub mod Olds
-pub mod Doubts
-pub mod Founds
-pub mod Fates

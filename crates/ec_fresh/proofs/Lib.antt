@@ -1,9 +1,0 @@
-pub mod Grows
-pub mod Quiet
-pub mod Goes
-pub mod Answered
-pub mod Steps
-pub mod Ids
-pub mod Makes
-pub mod Answering
-pub mod Begins

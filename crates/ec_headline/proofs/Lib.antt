@@ -1,3 +1,0 @@
-pub mod Rebase
-pub mod Lines
-pub mod Stored

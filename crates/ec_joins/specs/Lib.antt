@@ -1,4 +1,0 @@
-pub mod Cuts
-pub mod Counts
-pub mod Frames
-pub mod Laws

@@ -1,0 +1,6 @@
+use Rattle.ec_lawful.proofs.Opens.{world-stands}
+use Rattle.ec_lawful.proofs.OpensWhole.{opened-whole}
+use Rattle.ec_lawful.proofs.opening.disks_open_whole.Goals as goal
+
+pub returns : goal.returns
+returns z d wf sixteen zero w o = (opened-whole d wf sixteen zero, world-stands d sixteen w o)

@@ -1,5 +1,0 @@
-use Rattle.ec_line_begins.proofs.Kept.{first-steps-leave}
-use Rattle.ec_line_begins.proofs.first_steps_leave_what_is_kept.Goals as goal
-
-pub returns : goal.returns
-returns c = first-steps-leave

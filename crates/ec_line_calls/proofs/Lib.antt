@@ -1,3 +1,0 @@
-pub mod May
-pub mod On
-pub mod Starts

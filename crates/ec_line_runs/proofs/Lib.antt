@@ -1,5 +1,0 @@
-pub mod Getting
-pub mod Fine
-pub mod Settled
-pub mod Running
-pub mod Lines

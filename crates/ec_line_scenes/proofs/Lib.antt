@@ -1,5 +1,0 @@
-pub mod Stepping
-mod Starting
-mod Pushing
-pub mod Ending
-mod Opening

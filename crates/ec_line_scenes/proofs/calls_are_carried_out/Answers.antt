@@ -1,5 +1,0 @@
-use Rattle.ec_line_scenes.proofs.Stepping.{called-on}
-use Rattle.ec_line_scenes.proofs.calls_are_carried_out.Goals as goal
-
-pub returns : goal.returns
-returns c w sc a line cl k i there unspent = called-on w sc a line cl k i there unspent

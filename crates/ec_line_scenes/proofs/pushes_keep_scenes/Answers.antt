@@ -1,5 +1,0 @@
-use Rattle.ec_line_scenes.proofs.Pushing.{pushed}
-use Rattle.ec_line_scenes.proofs.pushes_keep_scenes.Goals as goal
-
-pub returns : goal.returns
-returns c w sc a n k i there issued unspent = pushed w sc i a n k unspent issued

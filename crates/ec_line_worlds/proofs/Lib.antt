@@ -1,3 +1,0 @@
-pub mod Aging
-pub mod Suiting
-pub mod Taking

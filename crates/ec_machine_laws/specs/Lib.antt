@@ -1,0 +1,12 @@
+pub mod Picks
+pub mod Logs
+pub mod Covers
+pub mod PickExample
+pub mod Needs
+pub mod NeedExample
+pub mod Holding
+pub mod Records
+pub mod Serving
+pub mod Counts
+pub mod Unspent
+pub mod Answers

@@ -1,5 +1,0 @@
-use Rattle.ec_measures.proofs.Bounded.{measure-most}
-use Rattle.ec_measures.proofs.bounds.measures_are_bounded_where_lines_begin.Goals as goal
-
-pub returns : goal.returns
-returns c = measure-most

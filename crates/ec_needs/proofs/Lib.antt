@@ -1,5 +1,0 @@
-pub mod Few
-pub mod Needing
-pub mod Closing
-pub mod Once
-pub mod Evicting

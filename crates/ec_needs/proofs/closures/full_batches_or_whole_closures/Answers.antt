@@ -1,5 +1,0 @@
-use Rattle.ec_needs.proofs.Closing.{full-or-whole}
-use Rattle.ec_needs.proofs.closures.full_batches_or_whole_closures.Goals as goal
-
-pub returns : goal.returns
-returns c = full-or-whole

@@ -1,5 +1,0 @@
-use Rattle.ec_needs.proofs.Closing.{begins}
-use Rattle.ec_needs.proofs.closures.picks_begin_where_no_batch_is_under_way.Goals as goal
-
-pub returns : goal.returns
-returns c = begins

@@ -1,3 +1,0 @@
-mod Renamed
-mod Placing
-pub mod Followed

@@ -1,5 +1,0 @@
-use Rattle.ec_plain_answers.proofs.Answering.{answers}
-use Rattle.ec_plain_answers.proofs.legal_lines_are_answered_plainly.Goals as goal
-
-pub returns : goal.returns
-returns z base most ss legal plain = answers base most ss legal plain

@@ -1,4 +1,0 @@
-mod Exchanging
-mod Alike
-pub mod Rising
-pub mod Counted

@@ -1,5 +1,0 @@
-use Rattle.ec_quiet_worlds.proofs.Quieting.{quiets}
-use Rattle.ec_quiet_worlds.proofs.idle_worlds_are_quiet.Goals as goal
-
-pub returns : goal.returns
-returns z w g sc sessions calls stands i idle = quiets w g sc sessions calls stands i idle

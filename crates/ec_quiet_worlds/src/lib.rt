@@ -1,9 +1,0 @@
-//! Worlds in which all is idle, and of which all facts hold, are quiet. The function has an empty body, and its contract is a law.
-#![tactic(auto)]
-
-ghost use Rattle.ec_quiet_worlds.specs.Quiet.{IdleWorldsAreQuiet};
-
-/// Where all is idle no call is under way, and so the world is quiet.
-pub fn idle_worlds_are_quiet()
-    ensures { IdleWorldsAreQuiet }
-{}

@@ -1,3 +1,0 @@
-pub mod Coherent
-pub mod Reached
-pub mod Laws

@@ -1,5 +1,0 @@
-use Rattle.ec_scenes.proofs.Calling.{called}
-use Rattle.ec_scenes.proofs.calls_keep_scenes.Goals as goal
-
-pub returns : goal.returns
-returns z w sc c line cl k i e f = called w sc i c line cl k e f

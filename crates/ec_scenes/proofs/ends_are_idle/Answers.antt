@@ -1,5 +1,0 @@
-use Rattle.ec_scenes.proofs.Idle.{all-idle}
-use Rattle.ec_scenes.proofs.ends_are_idle.Goals as goal
-
-pub returns : goal.returns
-returns c j sc p q e = all-idle j sc e p q

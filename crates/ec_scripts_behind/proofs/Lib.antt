@@ -1,5 +1,0 @@
-mod Shown
-mod Line
-mod Begins
-pub mod Runs
-pub mod Drills

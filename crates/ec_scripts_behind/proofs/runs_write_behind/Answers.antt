@@ -1,6 +1,0 @@
-use Rattle.ec_faultless_lines.proofs.Going.{lines-go-on}
-use Rattle.ec_scripts_behind.proofs.Runs.{runs-behind}
-use Rattle.ec_scripts_behind.proofs.runs_write_behind.Goals as goal
-
-pub returns : goal.returns
-returns c v most names top number ls fs w formed bound q sixteen first few a fit named all = runs-behind lines-go-on v most names top formed bound sixteen ls fs number w q first few a fit named all

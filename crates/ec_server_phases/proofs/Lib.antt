@@ -1,9 +1,0 @@
-pub mod Frames
-pub mod Returning
-pub mod Committed
-pub mod Given
-pub mod Greeted
-pub mod Left
-pub mod Staying
-pub mod Delivered
-pub mod Batched

@@ -1,8 +1,0 @@
-use Rattle.ec_serving.proofs.Rows.{granted-elsewhere, lowered-elsewhere}
-use Rattle.ec_serving.proofs.holders.changes_stay_with_their_object.Goals as goal
-
-pub returns-clause-granted : goal.returns-clause-granted
-returns-clause-granted c = granted-elsewhere
-
-pub returns-clause-lowered : goal.returns-clause-lowered
-returns-clause-lowered c = lowered-elsewhere

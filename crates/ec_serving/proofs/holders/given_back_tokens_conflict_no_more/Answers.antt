@@ -1,5 +1,0 @@
-use Rattle.ec_serving.proofs.Rows.{conflicts-lowered}
-use Rattle.ec_serving.proofs.holders.given_back_tokens_conflict_no_more.Goals as goal
-
-pub returns : goal.returns
-returns c = conflicts-lowered

@@ -1,8 +1,0 @@
-use Rattle.ec_serving.proofs.Wanting.{serve-granted, serve-recalled}
-use Rattle.ec_serving.proofs.rounds.one_want_is_served.Goals as goal
-
-pub returns-clause-granted : goal.returns-clause-granted
-returns-clause-granted c = serve-granted
-
-pub returns-clause-recalled : goal.returns-clause-recalled
-returns-clause-recalled c = serve-recalled

@@ -1,5 +1,0 @@
-use Rattle.ec_serving.proofs.Stepping.{at-work}
-use Rattle.ec_serving.proofs.steps.messages_of_claimed_sessions_are_taken.Goals as goal
-
-pub returns : goal.returns
-returns c = λ c ss e sl t w n f. at-work c ss e n f t sl w

@@ -1,8 +1,0 @@
-use Rattle.ec_serving.proofs.Stepping.{want-granted, want-waits}
-use Rattle.ec_serving.proofs.steps.wants_are_granted_or_wait.Goals as goal
-
-pub returns-clause-granted : goal.returns-clause-granted
-returns-clause-granted c = want-granted
-
-pub returns-clause-waits : goal.returns-clause-waits
-returns-clause-waits c = want-waits

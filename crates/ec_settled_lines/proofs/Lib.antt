@@ -1,2 +1,0 @@
-mod Spare
-pub mod Settling

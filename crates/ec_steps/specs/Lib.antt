@@ -1,4 +1,0 @@
-pub mod Ties
-pub mod Steps
-pub mod Calls
-pub mod Drills

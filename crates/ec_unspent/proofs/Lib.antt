@@ -1,4 +1,0 @@
-pub mod Serving
-pub mod Growing
-pub mod Trying
-pub mod Taking

@@ -1,8 +1,0 @@
-pub mod Follows
-pub mod Stores
-pub mod Server
-pub mod Halts
-pub mod Fates
-pub mod Telling
-pub mod Lined
-pub mod Runs

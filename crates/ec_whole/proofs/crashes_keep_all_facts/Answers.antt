@@ -1,8 +1,0 @@
-use Rattle.ec_whole.proofs.Halts.{crashed-whole, nothing-whole, unsettled-whole}
-use Rattle.ec_whole.proofs.crashes_keep_all_facts.Goals as goal
-
-pub returns-clause-crashes : goal.returns-clause-crashes
-returns-clause-crashes z g w c = crashed-whole g w c
-
-pub returns-clause-lines : goal.returns-clause-lines
-returns-clause-lines z g w = (nothing-whole g w, unsettled-whole g w)

@@ -1,5 +1,0 @@
-use Rattle.ec_whole.proofs.Server.{ends-whole, takes-whole}
-use Rattle.ec_whole.proofs.servers_keep_all_facts.Goals as goal
-
-pub returns : goal.returns
-returns z g v w up = (takes-whole g v w up, ends-whole g v w up)

@@ -1,4 +1,0 @@
-pub mod Behind
-pub mod Parts
-pub mod Sent
-pub mod Served

@@ -1,2 +1,0 @@
-pub mod Fulls
-pub mod Laws
