@@ -10,7 +10,7 @@ use ec_base::{List, NoMemory};
 use std::alloc::{AllocError, Global};
 
 /// One change of a disk in memory.
-#[derive(Debug, Drop)]
+#[derive(Drop)]
 pub enum Step {
     /// These bytes from this place on.
     Write(u64, List<u8>),

@@ -11,7 +11,7 @@ pub enum Turn {
 }
 
 /// The calls so far, the faults and stops among them, and those to come.
-#[derive(Debug, Drop)]
+#[derive(Drop)]
 pub struct Turns {
     fails: Vec<u64>,
     calls: u64,

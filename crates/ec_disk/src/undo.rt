@@ -7,7 +7,7 @@ use ec_base::List;
 use std::alloc::{AllocError, Global};
 
 /// The bytes that stood in a range before a write, zeros past the end.
-#[derive(Debug, Drop)]
+#[derive(Drop)]
 pub struct Undo {
     pub at: u64,
     pub old: List<u8>,

@@ -13,7 +13,7 @@ use ec_script::{Line, LineFault, last_column, read_line, split_line};
 use std::alloc::Global;
 
 /// A line of a script, as it was read.
-#[derive(Debug, Drop)]
+#[derive(Drop)]
 pub(crate) enum ScriptLine {
     /// The line, and the column of its last word.
     Fits(Line, u32),

@@ -40,7 +40,7 @@ fn shown_length(length: usize) -> u32
 }
 
 /// A stream of frames that comes in pieces: the bytes that are fed and not yet taken.
-#[derive(Debug, Drop)]
+#[derive(Drop)]
 pub struct Frames {
     bytes: Vec<u8>,
     // how many of the bytes are taken

@@ -3,7 +3,7 @@ use ec_base::{ClerkId, Duplicate, List, NoMemory, OpNo};
 use ec_plain::{Call, Reply};
 
 /// What a call was answered.
-#[derive(Debug, Drop)]
+#[derive(Drop)]
 pub enum Answer {
     Reply(Reply),
     /// No room for a new object: how many objects live, and how many ids are reserved.
@@ -14,7 +14,7 @@ pub enum Answer {
 
 /// An entry of a history. A start of a clerk runs from a boot to its crash; `boot` counts the
 /// clerk's starts in the transcript, from 1.
-#[derive(Debug, Drop)]
+#[derive(Drop)]
 pub enum Entry {
     /// A call and its answer. `line` is its number in the script. `begun` is the place, from 1, of
     /// the last transcript line before the call's first one that gave an entry of this start, or 0.

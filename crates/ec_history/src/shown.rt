@@ -12,7 +12,7 @@ pub enum LimitName {
 }
 
 /// One line of a transcript. A first number is that of a script line, from 1.
-#[derive(Debug, Drop)]
+#[derive(Drop)]
 pub enum Shown {
     /// The call isn't answered in the step that begins it.
     Waits(u32, ClerkId, Call),

@@ -2,7 +2,7 @@
 use ec_base::{List, OpNo};
 
 /// What the lines so far show of one clerk. Its starts count from 1.
-#[derive(Debug, Drop)]
+#[derive(Drop)]
 pub struct Watch {
     /// How many starts began.
     pub starts: u64,

@@ -21,7 +21,7 @@ const CLOSED: u8 = 0;
 /// A row of records in a range of a disk.
 ///
 /// A closed gate stands behind the last one. It's on the disk before the gate in front of that record opens.
-#[derive(Debug, Drop)]
+#[derive(Drop)]
 pub struct Journal {
     at: u64,
     size: u64,

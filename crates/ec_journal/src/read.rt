@@ -24,7 +24,7 @@ const HEAD_BYTES: usize = 1 + LENGTH_BYTES;
 pub const AROUND_BYTES: usize = HEAD_BYTES + 1;
 
 /// The records at the front of a journal.
-#[derive(Debug, Drop)]
+#[derive(Drop)]
 pub struct Found {
     /// The bodies of those whose gates are open.
     pub bodies: List<List<u8>>,

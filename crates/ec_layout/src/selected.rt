@@ -8,7 +8,7 @@ use ec_journal::{Journal, JournalFault};
 use std::alloc::Global;
 
 /// The side that a disk's select byte picks, with its journal.
-#[derive(Debug, Drop)]
+#[derive(Drop)]
 pub struct Selected {
     side: Side,
     journal: Journal,

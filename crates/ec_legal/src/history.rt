@@ -22,7 +22,7 @@ use std::marker::Model;
 
 /// Entries, each with the place of its transcript line, from 1. Each stands at a line of its own,
 /// and its call is within its bounds.
-#[derive(Debug, Drop)]
+#[derive(Drop)]
 pub struct History {
     entries: Vec<(u32, Entry)>,
 }

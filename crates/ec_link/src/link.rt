@@ -21,7 +21,7 @@ pub enum Sent {
 }
 
 /// What a link gives.
-#[derive(Debug, Drop)]
+#[derive(Drop)]
 pub enum Got {
     Body(Vec<u8>),
     /// No whole frame was there.

@@ -7,7 +7,7 @@ pub const MAX_READ_BYTES: u32 = 4_096;
 
 /// A call. A write has from 1 to `MAX_WRITE_BYTES` bytes, a read asks for at most `MAX_READ_BYTES`,
 /// a mode is at most `MAX_MODE` and a `Forder` has from 1 to `MAX_ORDERED` paths.
-#[derive(Debug, Drop)]
+#[derive(Drop)]
 pub enum Call {
     Mkdir(Path),
     Create(Path),
@@ -46,7 +46,7 @@ pub enum Refusal {
 }
 
 /// What a call replies.
-#[derive(Debug, Drop)]
+#[derive(Drop)]
 pub enum Reply {
     Ok,
     Data(List<u8>),
@@ -63,7 +63,7 @@ pub enum Reply {
 }
 
 /// What a call comes to: its reply, its update, if any, and the objects that it touched.
-#[derive(Debug, Drop)]
+#[derive(Drop)]
 pub struct Outcome {
     pub reply: Reply,
     pub update: Option<Update>,

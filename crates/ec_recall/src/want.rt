@@ -2,7 +2,7 @@ use ec_base::{Hold, List, ObjId, SessionNo};
 
 /// A session's want of a mode on an object, and what was recalled for it since it was last noted:
 /// each holder's session, with the number of its token.
-#[derive(Debug, Drop)]
+#[derive(Drop)]
 pub struct Want {
     pub session: SessionNo,
     pub obj: ObjId,

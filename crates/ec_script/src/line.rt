@@ -14,7 +14,7 @@ use thiserror::Error;
 
 /// A line of a script. The number behind a kind of message counts those of this kind between this
 /// clerk and the server.
-#[derive(Debug, Drop)]
+#[derive(Drop)]
 pub enum Line {
     /// An empty line, or one that begins with `#`.
     Comment,

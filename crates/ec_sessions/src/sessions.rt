@@ -10,7 +10,7 @@ use std::alloc::Global;
 use std::marker::Model;
 
 /// The last session of each of the sixteen clerks.
-#[derive(Debug, Drop)]
+#[derive(Drop)]
 pub struct Sessions {
     slots: Vec<Option<Slot>>,
 }

@@ -11,7 +11,7 @@ use std::alloc::Global;
 
 /// The last session of a clerk: its age, whether it's open, the window of its batches, how often it was granted ids,
 /// the first id of the last grant, and the ids that it hasn't spent.
-#[derive(Debug, Drop)]
+#[derive(Drop)]
 pub struct Slot {
     pub age: Age,
     pub session: SessionNo,

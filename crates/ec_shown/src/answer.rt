@@ -19,7 +19,7 @@ use ec_words::{Misfit, Words, first, no_more, one, two};
 use std::alloc::Global;
 
 /// What became of a call.
-#[derive(Debug, Drop)]
+#[derive(Drop)]
 pub(crate) enum Outcome {
     Waits,
     /// The answer, and the number of its operation, if it issued one.

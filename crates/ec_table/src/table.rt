@@ -3,7 +3,7 @@ use ec_sessions::Slot;
 
 /// What a side's table on a disk says: the durable state but its images, and in which slot of the disk the image of each live
 /// object stands, by rising ids.
-#[derive(Debug, Drop)]
+#[derive(Drop)]
 pub struct Table {
     pub next_id: u32,
     pub next_session: u64,

@@ -8,7 +8,7 @@ use std::alloc::Global;
 use std::marker::Model;
 
 /// The entries of a directory: names and ids, with the names rising in byte order.
-#[derive(Debug, Drop)]
+#[derive(Drop)]
 pub struct Entries {
     map: SortedMap<Name, ObjId>,
 }

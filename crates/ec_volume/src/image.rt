@@ -17,7 +17,7 @@ pub enum Kind {
 
 /// What stands under an id. A mode is at most `MAX_MODE`, a file has at most `MAX_FILE_BYTES` bytes
 /// and a directory at most `MAX_ENTRIES` entries.
-#[derive(Debug, Drop)]
+#[derive(Drop)]
 pub enum Image {
     Gone,
     File {

@@ -11,7 +11,7 @@ use ec_base::{Duplicate, List, Name, NoMemory, ObjId, duplicate_bytes};
 use std::alloc::Global;
 
 /// A change of some objects. Its operands are the objects that it tests or changes.
-#[derive(Debug, Drop)]
+#[derive(Drop)]
 pub enum Update {
     /// A new object of the kind, as an entry of the directory.
     Make {

@@ -38,7 +38,7 @@ impl From<NoMemory> for ApplyFault {
 }
 
 /// A volume: its live objects' images by rising ids.
-#[derive(Debug, Drop)]
+#[derive(Drop)]
 pub struct Volume {
     map: SortedMap<ObjId, Image>,
 }
