@@ -107,6 +107,16 @@ impl<K: Ord, V> SortedMap<K, V> {
         value_at(&self.items, key)
     }
 
+    /// The key's place, counted from 0 by rising keys, and its value.
+    pub fn find(&self, key: &K) -> Option<(usize, &V)>
+        ensures { MatchOption result (find K.cmp key.now self.now ≡ None) (λ found. Stands K.cmp key.now self.now found.0 × (find K.cmp key.now self.now ≡ Some found.1.now)) }
+    {
+        match slot_of(&self.items, key) {
+            Ok(at) => Some((at, &self.items[at].1)),
+            Err(_) => None,
+        }
+    }
+
     /// Whether the key is there.
     pub fn contains(&self, key: &K) -> bool
         ensures { result ≡ is_some (find K.cmp key.now self.now) }
@@ -141,6 +151,16 @@ impl<K: Ord, V> SortedMap<K, V> {
         ensures err { OnErr result (self.new ≡ self.old) }
     {
         change_in(&mut self.items, key, by)
+    }
+
+    /// Changes the value of a key that stands at this place.
+    pub fn change_at<C: Change<V>>(&mut self, key: &K, place: usize, by: &C) -> Result<(), NoMemory>
+        requires stands { Stands K.cmp key.now self.old place }
+        requires ready { C.ready by.now }
+        ensures ok { OnOk result (MatchOption (find K.cmp key.now self.old) (self.new ≡ self.old) (λ v. self.new ≡ put K.cmp key.now (C.makes by.now v) self.old)) }
+        ensures err { OnErr result (self.new ≡ self.old) }
+    {
+        change_value(&mut self.items, key, place, by)
     }
 
     /// Removes the key. It takes no memory.
@@ -246,6 +266,20 @@ fn change_in<K: Ord, V, C: Change<V>>(
         Ok(at) => by.change(&mut items[at].1),
         Err(_) => Ok(()),
     }
+}
+
+fn change_value<K: Ord, V, C: Change<V>>(
+    items: &mut Vec<(K, V)>,
+    key: &K,
+    place: usize,
+    by: &C,
+) -> Result<(), NoMemory>
+    requires stands { Stands K.cmp key.now items.old.items place }
+    requires ready { C.ready by.now }
+    ensures ok { OnOk result (MatchOption (find K.cmp key.now items.old.items) (items.new.items ≡ items.old.items) (λ v. items.new.items ≡ put K.cmp key.now (C.makes by.now v) items.old.items)) }
+    ensures err { OnErr result (items.new.items ≡ items.old.items) }
+{
+    by.change(&mut items[place].1)
 }
 
 fn remove_in<K: Ord + Drop, V>(items: &mut Vec<(K, V)>, key: &K) -> Option<V>

@@ -112,6 +112,9 @@ absent_cases (Some i) e h = absurd (let t : is_gone i ≡ false = h i refl in cc
 pub absent : (es : List (ℕ × Image)) (k : ℕ) → IsVolume es → is_gone (images es k) ≡ true → find nat_cmp k es ≡ None
 absent es k v h = absent_cases (find nat_cmp k es) (ap is_gone (sym (images_find es k)) ∙ h) (λ i f. held_live i (found_held es k i v.held f))
 
+pub found_live : (es : List (ℕ × Image)) (k : ℕ) (i : Image) → IsVolume es → find nat_cmp k es ≡ Some i → is_gone (images es k) ≡ false
+found_live es k i v f = ap is_gone (images_find es k ∙ ap (λ r. unwrap_or r Gone) f) ∙ held_live i (found_held es k i v.held f)
+
 pub image_held : (es : List (ℕ × Image)) (k : ℕ) → IsVolume es → is_gone (images es k) ≡ false → is_held (images es k) ≡ true
 image_held es k v h = found_held es k (images es k) v.held (found es k h)
 

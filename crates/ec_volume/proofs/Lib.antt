@@ -6,3 +6,4 @@ pub mod Shift
 pub mod Within
 pub mod Changed
 pub mod Fitting
+pub mod Alone

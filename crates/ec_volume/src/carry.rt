@@ -2,6 +2,7 @@
 ghost use Rattle.std.specs.Prelude.{◌≡◌, ◌==◌, ℕ, T, true, false, None, [], ◌∷◌, OnOk, OnErr, is_some};
 ghost use Rattle.std.specs.Ordering.{nat_cmp};
 ghost use Rattle.std.specs.FinMap.{find, put};
+ghost use Rattle.ec_base.specs.Sorted.{Stands};
 ghost use Rattle.ec_volume.specs.Entries.{without_entry};
 ghost use Rattle.ec_volume.specs.Image.{is_gone, with_entries, new_object};
 ghost use Rattle.ec_volume.specs.Update.{is_sound, operands, first_unfit, fits, effect};
@@ -129,6 +130,27 @@ fn change(map: &mut SortedMap<ObjId, Image>, update: &Update, id: ObjId) -> Resu
 {
     let alloc = *map.allocator();
     map.change(&id, &Step { alloc, update, id })
+}
+
+/// The same, where the object stands at this place of the map.
+pub(crate) fn change_at(
+    map: &mut SortedMap<ObjId, Image>,
+    update: &Update,
+    id: ObjId,
+    place: usize,
+) -> Result<(), NoMemory>
+    requires volume { IsVolume map.old }
+    requires stands { Stands nat_cmp id map.old place }
+    requires sound { T (is_sound update.now) }
+    requires fits { fits update.now id (images map.old id) ≡ true }
+    requires live { is_gone (images map.old id) ≡ false }
+    requires stays { is_gone (effect update.now id (images map.old id)) ≡ false }
+    ensures ok { OnOk result ((o : ℕ) → images map.new o ≡ instead id (effect update.now id (images map.old id)) (images map.old) o) }
+    ensures volume { IsVolume map.new }
+    ensures err { OnErr result (map.new ≡ map.old) }
+{
+    let alloc = *map.allocator();
+    map.change_at(&id, place, &Step { alloc, update, id })
 }
 
 // Removes an entry of a directory.

@@ -6,9 +6,10 @@ ghost use Rattle.ec_volume.specs.Image.{is_gone, new_object};
 ghost use Rattle.ec_volume.specs.Update.{root, is_sound, operands, first_unfit, fits};
 ghost use Rattle.ec_volume.specs.Volume.{images, formatted, after};
 ghost use Rattle.ec_volume.specs.declared.image.Kind.TheVariants as kind;
+ghost use Rattle.ec_volume.specs.Carry.{renames};
 ghost use Rattle.ec_volume.specs.Held.{IsVolume, is_held, changed, Unfits};
 
-use crate::carry::carry_out;
+use crate::carry::{carry_out, change_at};
 use crate::image::{Image, Kind};
 use crate::look::Look;
 use crate::update::{Update, operands};
@@ -118,27 +119,50 @@ impl Volume {
         ensures unfit { IfErr result (λ fault. Unfits fault update.now (images self.old)) }
         ensures err { OnErr result (self.new ≡ self.old) }
     {
-        if let Some(id) = self.unfit(update)? {
-            return Err(ApplyFault::Unfit(id));
-        }
-        Ok(carry_out(&mut self.map, update)?)
-    }
-
-    // The first operand at which the update doesn't fit. An update of one operand takes no memory.
-    fn unfit(&self, update: &Update) -> Result<Option<ObjId>, NoMemory>
-        ensures { IfOk result (λ found. found ≡ first_unfit update.now (images self.now) (operands update.now)) }
-    {
         match update {
             Update::Put { obj, .. }
             | Update::Len { obj, .. }
             | Update::Mode { obj, .. }
             | Update::Stamp { obj, .. }
-            | Update::Owner { obj, .. } => Ok(self.first_unfit(update, &[*obj])),
-            _ => {
-                let ids = operands(*self.map.allocator(), update)?;
-                Ok(self.first_unfit(update, &ids))
-            }
+            | Update::Owner { obj, .. } => self.apply_itself(update, *obj),
+            _ => self.apply_all(update),
         }
+    }
+
+    // An update of an object's own parts. The object is looked up once.
+    fn apply_itself(&mut self, update: &Update, id: ObjId) -> Result<(), ApplyFault>
+        requires sound { T (is_sound update.now) }
+        requires itself { renames update.now ≡ false }
+        requires operand { operands update.now ≡ id ∷ [] }
+        ensures ok { OnOk result ((o : ℕ) → images self.new o ≡ after (images self.old) (update.now ∷ []) o) }
+        ensures changed { OnOk result (self.new ≡ changed update.now self.old) }
+        ensures fits { OnOk result (first_unfit update.now (images self.old) (operands update.now) ≡ None) }
+        ensures unfit { IfErr result (λ fault. Unfits fault update.now (images self.old)) }
+        ensures err { OnErr result (self.new ≡ self.old) }
+    {
+        let Some((place, image)) = self.map.find(&id) else {
+            return Err(ApplyFault::Unfit(id));
+        };
+        if !image.fits(update, id) {
+            return Err(ApplyFault::Unfit(id));
+        }
+        Ok(change_at(&mut self.map, update, id, place)?)
+    }
+
+    // An update of several objects.
+    fn apply_all(&mut self, update: &Update) -> Result<(), ApplyFault>
+        requires { T (is_sound update.now) }
+        ensures ok { OnOk result ((o : ℕ) → images self.new o ≡ after (images self.old) (update.now ∷ []) o) }
+        ensures changed { OnOk result (self.new ≡ changed update.now self.old) }
+        ensures fits { OnOk result (first_unfit update.now (images self.old) (operands update.now) ≡ None) }
+        ensures unfit { IfErr result (λ fault. Unfits fault update.now (images self.old)) }
+        ensures err { OnErr result (self.new ≡ self.old) }
+    {
+        let ids = operands(*self.map.allocator(), update)?;
+        if let Some(id) = self.first_unfit(update, &ids) {
+            return Err(ApplyFault::Unfit(id));
+        }
+        Ok(carry_out(&mut self.map, update)?)
     }
 
     // The first of the operands at which the update doesn't fit.
