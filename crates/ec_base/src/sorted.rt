@@ -7,6 +7,7 @@ ghost use Rattle.ec_base.specs.Sorted.{Stands, Goes, without};
 
 use crate::list::{Duplicate, NoMemory, duplicate_all};
 use std::alloc::Global;
+use std::cmp::Ordering;
 use std::marker::Model;
 use std::mem;
 
@@ -107,11 +108,11 @@ impl<K: Ord, V> SortedMap<K, V> {
         value_at(&self.items, key)
     }
 
-    /// The key's place, counted from 0 by rising keys, and its value.
-    pub fn find(&self, key: &K) -> Option<(usize, &V)>
+    /// The key's place, counted from 0 by rising keys, and its value. It's looked for at the place `near` first.
+    pub fn find(&self, key: &K, near: usize) -> Option<(usize, &V)>
         ensures { MatchOption result (find K.cmp key.now self.now ≡ None) (λ found. Stands K.cmp key.now self.now found.0 × (find K.cmp key.now self.now ≡ Some found.1.now)) }
     {
-        match slot_of(&self.items, key) {
+        match slot_near(&self.items, key, near) {
             Ok(at) => Some((at, &self.items[at].1)),
             Err(_) => None,
         }
@@ -228,6 +229,19 @@ fn slot_of<K: Ord, V>(items: &[(K, V)], key: &K) -> Result<usize, usize>
     ensures { MatchResult result (Stands K.cmp key.now items.now) (Goes K.cmp key.now items.now) }
 {
     items.binary_search_by(|(here, _)| here.cmp(key))
+}
+
+// The same, where one place is looked at first.
+fn slot_near<K: Ord, V>(items: &[(K, V)], key: &K, near: usize) -> Result<usize, usize>
+    requires { T (is_sorted K.cmp items.now) }
+    ensures { MatchResult result (Stands K.cmp key.now items.now) (Goes K.cmp key.now items.now) }
+{
+    if let Some((here, _)) = items.get(near) {
+        if let Ordering::Equal = here.cmp(key) {
+            return Ok(near);
+        }
+    }
+    slot_of(items, key)
 }
 
 fn value_at<'a, K: Ord, V>(items: &'a [(K, V)], key: &K) -> Option<&'a V>

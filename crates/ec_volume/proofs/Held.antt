@@ -1,6 +1,6 @@
 -- What a volume's list shows after a change, and that it stays one.
-use Rattle.std.proofs.Common.{Bor, ◌≡◌, ℕ, suc, ◌+◌, ◌-◌, ◌≤◌, ◌<◌, arith, length, List, [], ◌∷◌, Option, None, Some, Bool, true, false, cond, refl, sym, ap, subst, ◌∙◌}
-use Rattle.std.specs.Prelude.{◌==◌, if◌then◌else◌, T, unwrap_or, is_some, Result, Ok, Err, is_err, OnOk, OnErr, OnSome, IfSome, MatchOption, option_copied, slice_get}
+use Rattle.std.proofs.Common.{◌≡◌, ℕ, suc, ◌+◌, ◌-◌, ◌≤◌, ◌<◌, arith, length, List, [], ◌∷◌, Option, None, Some, Bool, true, false, cond, refl, sym, ap, subst, ◌∙◌}
+use Rattle.std.specs.Prelude.{◌==◌, if◌then◌else◌, T, unwrap_or, is_some, Result, Ok, Err, is_err, OnOk, OnErr, OnSome, MatchOption, slice_get}
 use Rattle.std.specs.declared.cmp.Ordering.TheVariants.{Less, Equal, Greater}
 use Rattle.std.specs.List.{list_all}
 use Rattle.std.specs.Ordering.{nat_cmp, eq_by_cmp, is_lt}
@@ -176,13 +176,11 @@ image_stays k o i es new h e = changed k i es new e o ∙ rw h
 
 -- What a look-up and a count give.
 
-pub looked : (es : List (ℕ × Image)) (k : ℕ) (r : Option (Bor Image)) → IsVolume es → option_copied r ≡ find nat_cmp k es → MatchOption r (images es k ≡ Gone) (λ i. (images es k ≡ i.now) × (is_gone i.now ≡ false))
-looked es k None v e = images_find es k ∙ ap (λ f. unwrap_or f Gone) (sym e)
-looked es k (Some i) v e = (images_find es k ∙ ap (λ f. unwrap_or f Gone) (sym e), held_live i.now (found_held es k i.now v.held (sym e)))
+pub looked : (es : List (ℕ × Image)) (k : ℕ) (i : Image) → IsVolume es → find nat_cmp k es ≡ Some i → (images es k ≡ i) × (is_gone i ≡ false)
+looked es k i v f = (images_find es k ∙ ap (λ r. unwrap_or r Gone) f, held_live i (found_held es k i v.held f))
 
-pub looked_held : (es : List (ℕ × Image)) (k : ℕ) (r : Option (Bor Image)) → IsVolume es → option_copied r ≡ find nat_cmp k es → IfSome r (λ i. is_held i.now ≡ true)
-looked_held es k None v e = tt
-looked_held es k (Some i) v e = found_held es k i.now v.held (sym e)
+pub looked_held : (es : List (ℕ × Image)) (k : ℕ) (i : Image) → IsVolume es → find nat_cmp k es ≡ Some i → is_held i ≡ true
+looked_held es k i v f = found_held es k i v.held f
 
 lower : (a b : ℕ) → T (is_lt (nat_cmp a b)) → a < b
 lower a b h = grind (arith, nat_tests)

@@ -42,6 +42,8 @@ impl From<NoMemory> for ApplyFault {
 #[derive(Drop)]
 pub struct Volume {
     map: SortedMap<ObjId, Image>,
+    // The place of the object that was changed last.
+    near: usize,
 }
 
 impl Model for Volume {
@@ -65,7 +67,7 @@ impl Volume {
     {
         let mut map = SortedMap::new(alloc);
         map.insert(ObjId::root(), Image::new_object(alloc, Kind::Dir))?;
-        Ok(Volume { map })
+        Ok(Volume { map, near: 0 })
     }
 
     /// The volume of these images, by rising ids. It takes no memory.
@@ -75,6 +77,7 @@ impl Volume {
     {
         Ok(Volume {
             map: SortedMap::of(list),
+            near: 0,
         })
     }
 
@@ -83,7 +86,10 @@ impl Volume {
         ensures image { MatchOption result (images self.now id ≡ Image.Gone) (λ image. (images self.now id ≡ image.now) × (is_gone image.now ≡ false)) }
         ensures limits { IfSome result (λ image. is_held image.now ≡ true) }
     {
-        self.map.get(&id)
+        match self.map.find(&id, self.near) {
+            Some((_, image)) => Some(image),
+            None => None,
+        }
     }
 
     /// How many live objects there are.
@@ -140,12 +146,13 @@ impl Volume {
         ensures unfit { IfErr result (λ fault. Unfits fault update.now (images self.old)) }
         ensures err { OnErr result (self.new ≡ self.old) }
     {
-        let Some((place, image)) = self.map.find(&id) else {
+        let Some((place, image)) = self.map.find(&id, self.near) else {
             return Err(ApplyFault::Unfit(id));
         };
         if !image.fits(update, id) {
             return Err(ApplyFault::Unfit(id));
         }
+        self.near = place;
         Ok(change_at(&mut self.map, update, id, place)?)
     }
 
@@ -199,6 +206,7 @@ impl Duplicate for Volume {
     fn duplicate(&self) -> Result<Self, NoMemory> {
         Ok(Volume {
             map: self.map.duplicate()?,
+            near: self.near,
         })
     }
 }
