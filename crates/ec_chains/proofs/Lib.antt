@@ -13,6 +13,5 @@ pub mod Operands
 pub mod Places
 pub mod Reached
 pub mod Rising
-pub mod Swept
 pub mod Taken
 pub mod Walks

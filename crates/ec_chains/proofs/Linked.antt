@@ -88,9 +88,13 @@ first-stays (Ok a) obj o n now old middle new none same ok err t =
     go true e = absurd (subst (λ l. T (member n l)) (ap (λ p. at_or [] p old) (alike e) ∙ ap (or_else []) none) t)
     go false e = t
 
--- the empty chain stays that took the place of one that got empty
-pub emptied-at : (obj o : ℕ) (none now : List ℕ) (old new : Table (List ℕ)) → new ≡ put obj none old → none ≡ [] → now ≡ [] → at_or [] o new ≡ or_else [] (cond (o == obj) (Some now) (at o old))
-emptied-at obj o none now old new a e f = ap (at_or [] o) a ∙ ap (or_else []) (at-put o obj none old ∙ ap (λ l. cond (o == obj) (Some l) (at o old)) (e ∙ sym f))
+-- a chain that got empty is removed
+pub removed-at : (obj o : ℕ) (none now : List ℕ) (old middle new : Table (List ℕ)) → middle ≡ put obj none old → ((p : ℕ) → at p new ≡ cond (p == obj) None (at p middle)) → now ≡ [] → at_or [] o new ≡ or_else [] (cond (o == obj) (Some now) (at o old))
+removed-at obj o none now old middle new a b e = ap (or_else []) (b o) ∙ go (o == obj) refl
+  where
+    go : (c : Bool) → (o == obj) ≡ c → or_else [] (cond c None (at o middle)) ≡ or_else [] (cond c (Some now) (at o old))
+    go true q = sym e
+    go false q = ap (or_else []) (ap (at o) a ∙ at-put o obj none old ∙ ap (λ c. cond c (Some none) (at o old)) q)
 
 pub on-both : {A E P Q R : Type 0} (r : Result A E) → OnOk r P → OnOk r Q → (P → Q → R) → OnOk r R
 on-both (Ok a) p q f = f p q

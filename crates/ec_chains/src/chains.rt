@@ -7,13 +7,13 @@ ghost use Rattle.ec_chains.specs.Chains.{AreKept};
 
 use crate::chain::Chain;
 use crate::held::Held;
-use ec_base::{Name, NoMemory, ObjId, OpNo, SortedMap};
+use ec_base::{Name, NoMemory, ObjId, OpNo};
+use ec_objmap::ObjMap;
 use ec_volume::Update;
 use std::alloc::Global;
-use std::mem;
 
 /// The numbers of the object's chain, rising.
-pub fn chain_of(chains: &SortedMap<ObjId, Chain>, obj: ObjId) -> &[OpNo]
+pub fn chain_of(chains: &ObjMap<Chain>, obj: ObjId) -> &[OpNo]
     ensures value { result.now ≡ at_or [] obj chains.now }
     ensures rising { IsNonDecreasing result.now }
 {
@@ -26,7 +26,7 @@ pub fn chain_of(chains: &SortedMap<ObjId, Chain>, obj: ObjId) -> &[OpNo]
 /// One more operation on these objects. Numbers that aren't below it leave their chains.
 pub fn link(
     alloc: Global,
-    chains: &mut SortedMap<ObjId, Chain>,
+    chains: &mut ObjMap<Chain>,
     op: OpNo,
     objs: &[ObjId],
 ) -> Result<(), NoMemory>
@@ -44,7 +44,7 @@ pub fn link(
 
 fn link_one(
     alloc: Global,
-    chains: &mut SortedMap<ObjId, Chain>,
+    chains: &mut ObjMap<Chain>,
     op: OpNo,
     obj: ObjId,
 ) -> Result<(), NoMemory>
@@ -67,18 +67,18 @@ fn link_one(
 }
 
 // Puts a chain where one is there.
-fn put_back(chains: &mut SortedMap<ObjId, Chain>, obj: ObjId, chain: Chain)
+fn put_back(chains: &mut ObjMap<Chain>, obj: ObjId, chain: Chain)
     requires { is_some (at obj chains.old) ≡ true }
     ensures { chains.new ≡ put obj chain chains.old }
 {
     chains.replace(&obj, chain);
 }
 
-/// What has left goes from the fronts of the chains of the objects on which this one was. A chain that
-/// gets empty stays in the map. It takes no memory.
+/// What has left goes from the fronts of the chains of the objects on which this one was. Chains that get
+/// empty go too. It takes no memory.
 pub fn unlink(
     alloc: Global,
-    chains: &mut SortedMap<ObjId, Chain>,
+    chains: &mut ObjMap<Chain>,
     held: &Held,
     left: Option<Update>,
 )
@@ -92,7 +92,7 @@ pub fn unlink(
 
 fn unlink_operands(
     alloc: Global,
-    chains: &mut SortedMap<ObjId, Chain>,
+    chains: &mut ObjMap<Chain>,
     held: &Held,
     update: &Update,
 )
@@ -136,21 +136,23 @@ fn unlink_operands(
     }
 }
 
-fn unlink_one(alloc: Global, chains: &mut SortedMap<ObjId, Chain>, obj: ObjId, held: &Held)
+fn unlink_one(alloc: Global, chains: &mut ObjMap<Chain>, obj: ObjId, held: &Held)
     ensures { AreKept held.now chains.old chains.new }
 {
     let Some(mut chain) = chains.replace(&obj, Chain::new(alloc)) else {
         return;
     };
     chain.leave(held);
-    if !is_empty(&chain) {
+    if is_empty(&chain) {
+        drop(chains.remove(&obj));
+    } else {
         put_back(chains, obj, chain);
     }
 }
 
 fn unlink_victim(
     alloc: Global,
-    chains: &mut SortedMap<ObjId, Chain>,
+    chains: &mut ObjMap<Chain>,
     victim: Option<ObjId>,
     held: &Held,
 )
@@ -161,7 +163,7 @@ fn unlink_victim(
     }
 }
 
-fn unlink_all(alloc: Global, chains: &mut SortedMap<ObjId, Chain>, objs: &[ObjId], held: &Held)
+fn unlink_all(alloc: Global, chains: &mut ObjMap<Chain>, objs: &[ObjId], held: &Held)
     ensures { AreKept held.now chains.old chains.new }
 {
     'each: for obj in objs {
@@ -171,7 +173,7 @@ fn unlink_all(alloc: Global, chains: &mut SortedMap<ObjId, Chain>, objs: &[ObjId
 
 fn unlink_above(
     alloc: Global,
-    chains: &mut SortedMap<ObjId, Chain>,
+    chains: &mut ObjMap<Chain>,
     up: &[(ObjId, Name)],
     held: &Held,
 )
@@ -179,18 +181,6 @@ fn unlink_above(
 {
     'each: for (obj, _) in up {
         unlink_one(alloc, chains, *obj, held);
-    }
-}
-
-/// The empty chains go once there are more chains than the limit. It's then twice what is left.
-pub fn sweep(alloc: Global, chains: &mut SortedMap<ObjId, Chain>, limit: &mut usize)
-    ensures { (o : ℕ) → at_or [] o chains.new ≡ at_or [] o chains.old }
-{
-    if chains.len() > *limit {
-        let mut items = mem::replace(chains, SortedMap::new(alloc)).into_vec();
-        items.retain(|item| !is_empty(&item.1));
-        *limit = items.len().saturating_mul(2);
-        *chains = SortedMap::of(items);
     }
 }
 

@@ -15,7 +15,8 @@ use crate::needed::Needed;
 use crate::operand::has_operand;
 use crate::slots::Slot;
 use crate::walking::{await_operands, begin, take_last};
-use ec_base::{NoMemory, ObjId, OpNo, SortedMap};
+use ec_base::{NoMemory, ObjId, OpNo};
+use ec_objmap::ObjMap;
 use ec_volume::Update;
 use std::alloc::Global;
 
@@ -64,7 +65,7 @@ fn choose(
 pub fn closure(
     alloc: Global,
     held: &[Slot],
-    chains: &SortedMap<ObjId, Chain>,
+    chains: &ObjMap<Chain>,
     ask: &Ask,
 ) -> Result<Vec<OpNo>, NoMemory>
     requires sorted { T (is_sorted nat_cmp (placed held.now)) }

@@ -15,7 +15,8 @@ ghost use Rattle.ec_chains.specs.declared.closure.Ask.TheVariants.{Object};
 
 use crate::slots::Slot;
 use crate::walking::place_on;
-use ec_base::{NoMemory, ObjId, OpNo, SortedMap};
+use ec_base::{NoMemory, ObjId, OpNo};
+use ec_objmap::ObjMap;
 use ec_volume::{Update, operands};
 use std::alloc::Global;
 
@@ -72,7 +73,7 @@ pub fn is_alone(update: &Update) -> bool
 }
 
 /// The last of these operations on the object, or 0.
-pub fn last_on(shared: &SortedMap<ObjId, OpNo>, obj: ObjId) -> u64
+pub fn last_on(shared: &ObjMap<OpNo>, obj: ObjId) -> u64
     ensures { result ≡ at_or 0 obj shared.now }
 {
     match shared.get(&obj) {
@@ -84,7 +85,7 @@ pub fn last_on(shared: &SortedMap<ObjId, OpNo>, obj: ObjId) -> u64
 /// An operation that is on several objects is the last such one on each of them.
 pub fn note(
     alloc: Global,
-    shared: &mut SortedMap<ObjId, OpNo>,
+    shared: &mut ObjMap<OpNo>,
     op: OpNo,
     update: &Update,
 ) -> Result<(), NoMemory>
@@ -98,7 +99,7 @@ pub fn note(
     note_all(shared, &objs, op)
 }
 
-fn note_all(shared: &mut SortedMap<ObjId, OpNo>, objs: &[ObjId], op: OpNo) -> Result<(), NoMemory>
+fn note_all(shared: &mut ObjMap<OpNo>, objs: &[ObjId], op: OpNo) -> Result<(), NoMemory>
     ensures old { (o n : ℕ) → n ≤ at_or 0 o shared.old → n ≤ op → n ≤ at_or 0 o shared.new }
     ensures new { OnOk result ((o : ℕ) → T (member o objs.now) → op ≤ at_or 0 o shared.new) }
 {

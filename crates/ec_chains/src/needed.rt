@@ -7,7 +7,8 @@ ghost use Rattle.ec_volume.specs.declared.update.Update.{Update as Of};
 ghost use Rattle.ec_order.specs.Order.{needs, meet};
 ghost use Rattle.ec_chains.specs.Needed.{range_of, is_on, is_needed};
 
-use ec_base::{List, NoMemory, ObjId, SortedMap};
+use ec_base::{List, NoMemory, ObjId};
+use ec_objmap::ObjMap;
 use ec_volume::{Update, operands};
 use std::alloc::Global;
 
@@ -16,8 +17,8 @@ use std::alloc::Global;
 #[derive(Drop)]
 pub struct Needed {
     alloc: Global,
-    pub others: SortedMap<ObjId, ()>,
-    pub ranges: SortedMap<ObjId, List<(u32, usize)>>,
+    pub others: ObjMap<()>,
+    pub ranges: ObjMap<List<(u32, usize)>>,
 }
 
 /// The bytes of an overwrite: the file, the place of the first one, and their number.
@@ -36,8 +37,8 @@ impl Needed {
     {
         Needed {
             alloc,
-            others: SortedMap::new(alloc),
-            ranges: SortedMap::new(alloc),
+            others: ObjMap::new(alloc),
+            ranges: ObjMap::new(alloc),
         }
     }
 
@@ -96,8 +97,8 @@ fn range_of(update: &Update) -> Option<Range>
 
 // Whether an operation is chosen on one of the objects.
 fn is_on_one(
-    others: &SortedMap<ObjId, ()>,
-    ranges: &SortedMap<ObjId, List<(u32, usize)>>,
+    others: &ObjMap<()>,
+    ranges: &ObjMap<List<(u32, usize)>>,
     objs: &[ObjId],
 ) -> bool
     ensures { result ≡ list_any (λ o. is_on o others.now ranges.now) objs.now }
@@ -109,8 +110,8 @@ fn is_on_one(
 }
 
 fn is_on(
-    others: &SortedMap<ObjId, ()>,
-    ranges: &SortedMap<ObjId, List<(u32, usize)>>,
+    others: &ObjMap<()>,
+    ranges: &ObjMap<List<(u32, usize)>>,
     obj: ObjId,
 ) -> bool
     ensures { result ≡ is_on obj others.now ranges.now }
@@ -138,7 +139,7 @@ fn is_below_end(place: u32, from: u32, len: usize) -> bool
 }
 
 // An operation that is no overwrite is chosen on each of the objects.
-fn note_all(others: &mut SortedMap<ObjId, ()>, objs: &[ObjId]) -> Result<(), NoMemory>
+fn note_all(others: &mut ObjMap<()>, objs: &[ObjId]) -> Result<(), NoMemory>
     ensures { OnOk result ((o : ℕ) → is_some (found o others.new) ≡ (member o objs.now || is_some (found o others.old))) }
 {
     match objs {
@@ -153,7 +154,7 @@ fn note_all(others: &mut SortedMap<ObjId, ()>, objs: &[ObjId]) -> Result<(), NoM
 // An overwrite of this range of the file is chosen.
 fn add_range(
     alloc: Global,
-    ranges: &mut SortedMap<ObjId, List<(u32, usize)>>,
+    ranges: &mut ObjMap<List<(u32, usize)>>,
     range: &Range,
 ) -> Result<(), NoMemory>
     ensures { OnOk result ((o : ℕ) → found o ranges.new ≡ (if o == range.now.obj then Some (at_or [] range.now.obj ranges.old ++ (range.now.at, range.now.len) ∷ []) else found o ranges.old)) }
@@ -166,7 +167,7 @@ fn add_range(
 // Takes the ranges of the file out.
 fn take_ranges(
     alloc: Global,
-    ranges: &mut SortedMap<ObjId, List<(u32, usize)>>,
+    ranges: &mut ObjMap<List<(u32, usize)>>,
     obj: ObjId,
 ) -> Vec<(u32, usize)>
     ensures ranges { result.items ≡ at_or [] obj ranges.old }

@@ -12,12 +12,13 @@ ghost use Rattle.ec_chains.specs.declared.closure.Ask.TheVariants.{Object, Op};
 ghost use Rattle.ec_chains.specs.declared.order.OrderFault.TheVariants as fault;
 
 use crate::chain::Chain;
-use crate::chains::{chain_of, link, sweep, unlink};
+use crate::chains::{chain_of, link, unlink};
 use crate::closure::{Ask, closure};
 use crate::front::{first_on, last_on, note, reach_on};
 use crate::held::Held;
 use crate::slots::{Slot, first_numbers};
-use ec_base::{Duplicate, NoMemory, ObjId, OpNo, SortedMap};
+use ec_base::{Duplicate, NoMemory, ObjId, OpNo};
+use ec_objmap::ObjMap;
 use ec_volume::{Update, operands};
 use std::alloc::Global;
 use std::marker::Model;
@@ -29,11 +30,9 @@ pub struct Order {
     alloc: Global,
     held: Held,
     // for objects the last operation on them that is on others too, or a later number
-    shared: SortedMap<ObjId, OpNo>,
+    shared: ObjMap<OpNo>,
     // for objects the operations on them
-    chains: SortedMap<ObjId, Chain>,
-    // once there are more chains the empty ones go
-    limit: usize,
+    chains: ObjMap<Chain>,
 }
 
 impl Model for Order {
@@ -77,9 +76,8 @@ impl Order {
         Ok(Order {
             alloc,
             held: Held::new(alloc),
-            shared: SortedMap::new(alloc),
-            chains: SortedMap::new(alloc),
-            limit: 0,
+            shared: ObjMap::new(alloc),
+            chains: ObjMap::new(alloc),
         })
     }
 
@@ -226,7 +224,6 @@ impl Order {
     {
         let left = self.held.take(op);
         unlink(self.alloc, &mut self.chains, &self.held, left);
-        sweep(self.alloc, &mut self.chains, &mut self.limit);
     }
 
     /// No operation is held any more. It takes no memory.
@@ -234,17 +231,16 @@ impl Order {
         ensures { self.new ≡ [] }
     {
         self.held.clear();
-        self.shared = SortedMap::new(self.alloc);
-        self.chains = SortedMap::new(self.alloc);
-        self.limit = 0;
+        self.shared = ObjMap::new(self.alloc);
+        self.chains = ObjMap::new(self.alloc);
     }
 }
 
 // The maps are ready for one more operation.
 fn prepare(
     alloc: Global,
-    shared: &mut SortedMap<ObjId, OpNo>,
-    chains: &mut SortedMap<ObjId, Chain>,
+    shared: &mut ObjMap<OpNo>,
+    chains: &mut ObjMap<Chain>,
     op: OpNo,
     update: &Update,
 ) -> Result<(), NoMemory>

@@ -16,6 +16,7 @@ use crate::chains::chain_of;
 use crate::closure::Ask;
 use crate::slots::{Slot, has_operand, slot_of};
 use ec_base::{NoMemory, ObjId, OpNo, SortedMap};
+use ec_objmap::ObjMap;
 use ec_volume::{Update, operands};
 use std::alloc::Global;
 
@@ -43,7 +44,7 @@ fn last_of(places: &[(usize, ())]) -> Option<usize>
 pub fn await_operands(
     alloc: Global,
     places: &mut SortedMap<usize, ()>,
-    chains: &SortedMap<ObjId, Chain>,
+    chains: &ObjMap<Chain>,
     held: &[Slot],
     update: &Update,
 ) -> Result<(), NoMemory>
@@ -57,7 +58,7 @@ pub fn await_operands(
 
 fn await_all(
     places: &mut SortedMap<usize, ()>,
-    chains: &SortedMap<ObjId, Chain>,
+    chains: &ObjMap<Chain>,
     held: &[Slot],
     objs: &[ObjId],
 ) -> Result<(), NoMemory>
@@ -76,7 +77,7 @@ fn await_all(
 
 fn await_one(
     places: &mut SortedMap<usize, ()>,
-    chains: &SortedMap<ObjId, Chain>,
+    chains: &ObjMap<Chain>,
     held: &[Slot],
     obj: ObjId,
 ) -> Result<(), NoMemory>
@@ -94,7 +95,7 @@ fn await_one(
 pub fn begin(
     alloc: Global,
     held: &[Slot],
-    chains: &SortedMap<ObjId, Chain>,
+    chains: &ObjMap<Chain>,
     ask: &Ask,
 ) -> Result<SortedMap<usize, ()>, NoMemory>
     requires sorted { T (is_sorted nat_cmp (placed held.now)) }
@@ -117,7 +118,7 @@ fn one_place(alloc: Global, place: usize) -> Result<SortedMap<usize, ()>, NoMemo
     Ok(places)
 }
 
-fn last_asked(held: &[Slot], chains: &SortedMap<ObjId, Chain>, ask: &Ask) -> Option<usize>
+fn last_asked(held: &[Slot], chains: &ObjMap<Chain>, ask: &Ask) -> Option<usize>
     requires sorted { T (is_sorted nat_cmp (placed held.now)) }
     requires linked { AreLinked chains.now (placed held.now) }
     requires one { IsOne ask.now }
