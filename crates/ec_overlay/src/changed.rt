@@ -3,7 +3,8 @@ ghost use Rattle.std.specs.Prelude.{◌≡◌, ◌==◌, true, if◌then◌else�
 ghost use Rattle.ec_base.specs.Tables.{at, put};
 ghost use Rattle.ec_overlay.specs.Fine.{is_fine};
 
-use ec_base::{NoMemory, ObjId, SortedMap};
+use ec_base::{NoMemory, ObjId};
+use ec_objmap::ObjMap;
 use ec_volume::Image;
 use std::alloc::Global;
 use std::marker::Model;
@@ -11,7 +12,7 @@ use std::marker::Model;
 /// Images by object. Objects that are gone have one too.
 #[derive(Drop)]
 pub struct Changed {
-    map: SortedMap<ObjId, Image>,
+    map: ObjMap<Image>,
 }
 
 impl Model for Changed {
@@ -33,7 +34,7 @@ impl Changed {
         ensures { result ≡ [] }
     {
         Changed {
-            map: SortedMap::new(alloc),
+            map: ObjMap::new(alloc),
         }
     }
 

@@ -7,8 +7,9 @@ ghost use Rattle.ec_history.specs.History.{distinct_numbers, meets};
 ghost use Rattle.ec_owes.specs.Owes.{on_none, on_one, span, staying, AreIn};
 
 use crate::spans::{Span, extend, reach, span_of, take_out};
-use ec_base::{NoMemory, ObjId, OpNo, SortedMap};
+use ec_base::{NoMemory, ObjId, OpNo};
 use ec_numbers::Numbers;
+use ec_objmap::ObjMap;
 use ec_plain::{Call, Outcome};
 use std::alloc::Global;
 use std::marker::Model;
@@ -21,7 +22,7 @@ pub struct Owes {
     // those that were taken out stay here
     pairs: Vec<(OpNo, ObjId)>,
     // from where on the pairs on each object stay, and up to where some stand
-    spans: SortedMap<ObjId, (usize, usize)>,
+    spans: ObjMap<(usize, usize)>,
 }
 
 impl Model for Owes {
@@ -45,7 +46,7 @@ impl Owes {
         Owes {
             alloc,
             pairs: Vec::new(alloc),
-            spans: SortedMap::new(alloc),
+            spans: ObjMap::new(alloc),
         }
     }
 
@@ -123,7 +124,7 @@ impl Owes {
         ensures { self.new ≡ [] }
     {
         self.pairs.clear();
-        self.spans = SortedMap::new(self.alloc);
+        self.spans = ObjMap::new(self.alloc);
     }
 }
 
@@ -148,7 +149,7 @@ fn numbers_of(alloc: Global, pairs: &[(OpNo, ObjId)]) -> Result<Vec<OpNo>, NoMem
 fn found(
     alloc: Global,
     pairs: &[(OpNo, ObjId)],
-    spans: &SortedMap<ObjId, Span>,
+    spans: &ObjMap<Span>,
     objs: &[ObjId],
 ) -> Result<Vec<(OpNo, ObjId)>, NoMemory>
     requires { AreIn spans.now 0 pairs.now }
@@ -169,7 +170,7 @@ fn found(
 }
 
 // Whether the object is one of these, and the pair on it stays at the place.
-fn is_found(spans: &SortedMap<ObjId, Span>, objs: &[ObjId], obj: ObjId, at: usize) -> bool
+fn is_found(spans: &ObjMap<Span>, objs: &[ObjId], obj: ObjId, at: usize) -> bool
     ensures { result ≡ (member obj objs.now && nat_le (span obj spans.now).0 at) }
 {
     objs.contains(&obj) && is_staying(spans, obj, at)
@@ -186,7 +187,7 @@ fn lesser(one: usize, other: usize) -> usize
 }
 
 // Whether the pair on the object stays at the place.
-fn is_staying(spans: &SortedMap<ObjId, Span>, obj: ObjId, at: usize) -> bool
+fn is_staying(spans: &ObjMap<Span>, obj: ObjId, at: usize) -> bool
     ensures { result ≡ nat_le (span obj spans.now).0 at }
 {
     span_of(spans, obj).0 <= at

@@ -4,13 +4,14 @@ ghost use Rattle.ec_base.specs.Tables.{at, put};
 ghost use Rattle.ec_volume.specs.Update.{member};
 ghost use Rattle.ec_owes.specs.Owes.{span, extended, from_to, HasAll};
 
-use ec_base::{NoMemory, ObjId, SortedMap};
+use ec_base::{NoMemory, ObjId};
+use ec_objmap::ObjMap;
 
 /// From one place on and up to another one.
 pub type Span = (usize, usize);
 
 /// The span of the object; it's empty where none is known.
-pub fn span_of(spans: &SortedMap<ObjId, Span>, obj: ObjId) -> Span
+pub fn span_of(spans: &ObjMap<Span>, obj: ObjId) -> Span
     ensures { result ≡ span obj spans.now }
 {
     match spans.get(&obj) {
@@ -20,7 +21,7 @@ pub fn span_of(spans: &SortedMap<ObjId, Span>, obj: ObjId) -> Span
 }
 
 /// A span that has those of all of the objects.
-pub fn reach(spans: &SortedMap<ObjId, Span>, objs: &[ObjId]) -> Span
+pub fn reach(spans: &ObjMap<Span>, objs: &[ObjId]) -> Span
     ensures { HasAll spans.now objs.now result }
 {
     match objs {
@@ -44,7 +45,7 @@ fn join(one: Span, other: Span) -> Span
 }
 
 /// One more pair on the object, at the end.
-pub fn extend(spans: &mut SortedMap<ObjId, Span>, obj: ObjId, end: usize) -> Result<(), NoMemory>
+pub fn extend(spans: &mut ObjMap<Span>, obj: ObjId, end: usize) -> Result<(), NoMemory>
     requires { end + 1 < 2 ^ 64 }
     ensures ok { OnOk result (spans.new ≡ put obj (extended (span obj spans.old) end) spans.old) }
     ensures err { OnErr result (spans.new ≡ spans.old) }
@@ -64,7 +65,7 @@ fn extended(span: Span, end: usize) -> Span
 }
 
 /// The pairs on these objects are taken out, as far as there are some.
-pub fn take_out(spans: &mut SortedMap<ObjId, Span>, objs: &[ObjId], end: usize)
+pub fn take_out(spans: &mut ObjMap<Span>, objs: &[ObjId], end: usize)
     ensures { (o : ℕ) → at o spans.new ≡ (if member o objs.now && is_some (at o spans.old) then Some (from_to end end) else at o spans.old) }
 {
     match objs {

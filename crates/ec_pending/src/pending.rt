@@ -11,6 +11,7 @@ use crate::closed::closed;
 use crate::early::cover_early;
 use ec_base::{NoMemory, ObjId, OpNo, SortedMap};
 use ec_chains::Order;
+use ec_objmap::ObjMap;
 use ec_volume::{Update, operands};
 use std::alloc::Global;
 use std::marker::Model;
@@ -27,7 +28,7 @@ pub struct Pending {
     // whether no held operation's entry is before that of an earlier one
     rising: bool,
     // for objects the last one when an operation on them was issued
-    lasts: SortedMap<ObjId, u32>,
+    lasts: ObjMap<u32>,
 }
 
 impl Model for Pending {
@@ -58,7 +59,7 @@ impl Pending {
             places: SortedMap::new(alloc),
             last: 0,
             rising: true,
-            lasts: SortedMap::new(alloc),
+            lasts: ObjMap::new(alloc),
         })
     }
 
@@ -159,7 +160,7 @@ fn later(place: u32, other: u32) -> u32
 }
 
 // The last place of an operation on the object, or a later one, or 0.
-fn last_on(lasts: &SortedMap<ObjId, u32>, obj: ObjId) -> u32
+fn last_on(lasts: &ObjMap<u32>, obj: ObjId) -> u32
     ensures { result ≡ at_or 0 obj lasts.now }
 {
     match lasts.get(&obj) {
@@ -172,7 +173,7 @@ fn last_on(lasts: &SortedMap<ObjId, u32>, obj: ObjId) -> u32
 fn prepare(
     alloc: Global,
     places: &mut SortedMap<OpNo, u32>,
-    lasts: &mut SortedMap<ObjId, u32>,
+    lasts: &mut ObjMap<u32>,
     op: OpNo,
     place: u32,
     last: u32,
@@ -188,7 +189,7 @@ fn prepare(
     places.insert(op, place)
 }
 
-fn note_all(lasts: &mut SortedMap<ObjId, u32>, objs: &[ObjId], place: u32) -> Result<(), NoMemory>
+fn note_all(lasts: &mut ObjMap<u32>, objs: &[ObjId], place: u32) -> Result<(), NoMemory>
     ensures old { (o n : ℕ) → n ≤ at_or 0 o lasts.old → n ≤ place → n ≤ at_or 0 o lasts.new }
     ensures new { OnOk result ((o : ℕ) → T (member o objs.now) → place ≤ at_or 0 o lasts.new) }
 {
