@@ -1,13 +1,14 @@
 -- Fields written one behind the other.
-use Rattle.std.proofs.Common.{◌≡◌, ℕ, zero, suc, ◌+◌, Bool, true, List, [], ◌∷◌, ◌++◌, take, length, Option, Some, refl, sym, ap, ◌∙◌, append_assoc, arith}
+use Rattle.std.proofs.Common.{◌≡◌, ℕ, zero, suc, ◌+◌, Bool, true, false, List, [], ◌∷◌, ◌++◌, take, length, Option, Some, refl, sym, ap, ◌∙◌, append_assoc, arith}
 use Rattle.std.proofs.lemmas.List.{append-nil}
 use Rattle.std.specs.Prelude.{◌&&◌, slice_get}
 use Rattle.std.specs.List.{flat_map, list_all}
-use Rattle.std.specs.Int.{w32, w64}
+use Rattle.std.specs.Int.{w16, w32, w64, to_be_bytes}
 use Rattle.std.proofs.lemmas.Bool.{and_from, and_parts}
 use Rattle.ec_volume.specs.Entries.{Entries}
 use Rattle.ec_codes.specs.Formats.{Format, number, Writes}
-use Rattle.ec_codes.specs.Fields.{mode_field}
+use Rattle.ec_codes.specs.Fields.{mode_field, id, flag, flag_number}
+use Rattle.ec_codes.specs.Updates.{is_put_length, put_fields}
 use Rattle.ec_codes.specs.Images.{content, entries_field, file_fields, dir_fields}
 
 pub chain : (s t : List ℕ) (old mid new : List ℕ) → mid ≡ old ++ s → new ≡ mid ++ t → new ≡ old ++ (s ++ t)
@@ -22,6 +23,23 @@ pub dir_written : (m s w : ℕ) (es : Entries) (b0 b1 b2 b3 b4 : List ℕ) → W
 unfolding dir_fields
 dir_written m s w es b0 b1 b2 b3 b4 w0 w1 w2 w3 =
     (chain _ _ b0 b1 b4 w0.0 (chain _ _ b1 b2 b4 w1.0 (chain _ _ b2 b3 b4 w2.0 w3.0)), and_from _ _ w0.1 (and_from _ _ w1.1 (and_from _ _ w2.1 w3.1)))
+
+flag_fits : (b : Bool) → flag.fits b ≡ true
+unfolding flag
+flag_fits false = refl
+flag_fits true = refl
+
+head_and_bytes : (obj at : ℕ) (inside : Bool) (bs b0 b1 b2 : List ℕ) → b1 ≡ b0 ++ (to_be_bytes w32 obj ++ to_be_bytes w32 at ++ flag_number inside ∷ to_be_bytes w16 (length bs)) → b2 ≡ b1 ++ bs → b2 ≡ b0 ++ put_fields.spell (obj, (at, (inside, bs)))
+unfolding put_fields id flag
+head_and_bytes obj at inside bs b0 b1 b2 h i = chain (to_be_bytes w32 obj ++ to_be_bytes w32 at ++ flag_number inside ∷ to_be_bytes w16 (length bs)) bs b0 b1 b2 h i
+
+put_fits : (obj at : ℕ) (inside : Bool) (bs : List ℕ) → id.fits obj ≡ true → (number w32).fits at ≡ true → (number w16).fits (length bs) ≡ true → is_put_length at (length bs) ≡ true → put_fields.fits (obj, (at, (inside, bs))) ≡ true
+unfolding put_fields
+put_fits obj at inside bs o a n l = and_from _ _ o (and_from _ _ a (and_from _ _ (flag_fits inside) (and_from _ _ n l)))
+
+pub put_written : (obj at : ℕ) (inside : Bool) (bs b0 b1 b2 : List ℕ) → b1 ≡ b0 ++ (to_be_bytes w32 obj ++ to_be_bytes w32 at ++ flag_number inside ∷ to_be_bytes w16 (length bs)) → b2 ≡ b1 ++ bs
+    → id.fits obj ≡ true → (number w32).fits at ≡ true → (number w16).fits (length bs) ≡ true → is_put_length at (length bs) ≡ true → Writes put_fields (obj, (at, (inside, bs))) b0 b2
+put_written obj at inside bs b0 b1 b2 h i o a n l = (head_and_bytes obj at inside bs b0 b1 b2 h i, put_fits obj at inside bs o a n l)
 
 -- One more of the rows.
 

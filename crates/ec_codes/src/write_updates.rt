@@ -1,10 +1,11 @@
 // The codes of updates are written.
 ghost use Rattle.std.specs.Prelude.{◌≡◌, ◌++◌, ◌&&◌, ◌∷◌, [], ℕ, true, false, List, OnOk, nat_le, length};
+ghost use Rattle.std.specs.Int.{w16, w32, to_be_bytes};
 ghost use Rattle.std.specs.List.{flat_map, list_all};
 ghost use Rattle.ec_volume.specs.Entries.{same_name};
 ghost use Rattle.ec_volume.specs.Update.{listed, distinct, ids_of, is_way, is_sound};
-ghost use Rattle.ec_codes.specs.Formats.{Writes, rows_fit};
-ghost use Rattle.ec_codes.specs.Fields.{id, id_but};
+ghost use Rattle.ec_codes.specs.Formats.{Writes, number, rows_fit};
+ghost use Rattle.ec_codes.specs.Fields.{id, id_but, flag_number};
 ghost use Rattle.ec_codes.specs.Updates.{entry_fields, move_fields, is_put_length, put_fields, len_fields, mode_fields, stamp_fields, owner_fields, order_fields, step_spell, way_fields, shift_fields, update_code};
 ghost use Rattle.ec_codes.specs.SoundLaws.{is_step, IsWay};
 
@@ -146,7 +147,6 @@ fn put_move(
     put_name(out, to)
 }
 
-#[tactic(auto, unfolding(crate::specs::Updates::put_fields))]
 fn put_written(
     out: &mut Vec<u8>,
     obj: ObjId,
@@ -157,12 +157,23 @@ fn put_written(
     requires { is_put_length at (length bytes.now) ≡ true }
     ensures { OnOk result (Writes put_fields (obj, (at, (inside, bytes.now))) out.old.items out.new.items) }
 {
-    put_id(out, obj)?;
-    put_u32(out, at)?;
-    put_flag(out, inside)?;
-    put_u16(out, bytes.len() as u16)?;
+    out.extend_from_slice(&put_head(obj, at, inside, bytes.len() as u16))?;
     out.extend_from_slice(bytes)?;
     Ok(())
+}
+
+// The fields in front of the bytes.
+#[tactic(auto, unfolding(crate::specs::Fields::id))]
+fn put_head(obj: ObjId, at: u32, inside: bool, len: u16) -> [u8; 11]
+    ensures spelled { result ≡ to_be_bytes w32 obj ++ to_be_bytes w32 at ++ flag_number inside ∷ to_be_bytes w16 len }
+    ensures obj { id.fits obj ≡ true }
+    ensures at { (number w32).fits at ≡ true }
+    ensures len { (number w16).fits len ≡ true }
+{
+    let [a, b, c, d] = obj.get().to_be_bytes();
+    let [e, f, g, h] = at.to_be_bytes();
+    let [i, j] = len.to_be_bytes();
+    [a, b, c, d, e, f, g, h, u8::from(inside), i, j]
 }
 
 #[tactic(auto, unfolding(crate::specs::Updates::len_fields))]
