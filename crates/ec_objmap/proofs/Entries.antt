@@ -1,67 +1,57 @@
--- A map's entries as a list of pairs.
+-- A map's pairs by rising objects.
+use Rattle.std.proofs.Common.{◌≡◌, ◌∙◌, refl, sym, ap, arith, ℕ, T, cond, List, [], ◌∷◌, Option, Some, None}
+use Rattle.std.specs.Prelude.{◌==◌, OnSome}
+use Rattle.std.specs.Ordering.{nat_cmp, is_eq}
+use Rattle.std.specs.Cmp.{nat_cmp_total, unsigned_ties}
+use Rattle.std.specs.FinMap.{is_sorted}
+use Rattle.std.specs.FinMap.Entries.{is_sorted-put, find-put, same_entries}
+use Rattle.std.specs.declared.cmp.Reverse.{Reverse}
+use Rattle.std.specs.declared.cmp.Ordering.TheVariants.{Equal}
+use Rattle.std.specs.BTreeMap.{is_at}
+use Rattle.std.specs.Map.{lookup}
 use Rattle.std.proofs.lemmas.Bool.Decides.{nat_tests}
-use Rattle.std.proofs.Common.{arith, ◌∙◌, sym, ◌==◌, ◌≡◌, refl, ap, ℕ, cond, List, [], ◌∷◌, Option, Some, None}
-use Rattle.std.specs.Ordering.{nat_cmp, is_eq, match_ordering}
-use Rattle.std.specs.declared.cmp.Ordering.{Ordering}
-use Rattle.std.specs.declared.cmp.Ordering.TheVariants.{Less, Equal, Greater}
-use Rattle.std.specs.BTreeMap.{BTreeMap, get_by, insert_entry, is_at}
-use Rattle.std.specs.FinMap.Entries.{by_order}
-use Rattle.std.specs.Prelude.{OnSome}
-use Rattle.std.specs.Map.{lookup, set_value, keys_of}
-use Rattle.std.specs.List.Sorted.{IsStrictlySortedBy}
-use Rattle.std.specs.List.{AllByRecursion}
 use Rattle.ec_base.specs.Tables.{Table, at, put}
+use Rattle.ec_objmap.specs.Objects.{by_object}
 
-pub put-is : {X : Type 0} (k : ℕ) (x : X) (es : Table X) → insert_entry nat_cmp es k x ≡ put k x es
-put-is k x [] = refl
-put-is k x (e ∷ es) = go (nat_cmp k e.0) (put-is k x es)
-  where
-    go : (o : Ordering) → insert_entry nat_cmp es k x ≡ put k x es → match_ordering o ((k, x) ∷ e ∷ es) ((e.0, x) ∷ es) (e ∷ insert_entry nat_cmp es k x) ≡ by_order o ((k, x) ∷ e ∷ es) ((e.0, x) ∷ es) (e ∷ put k x es)
-    go Less r = refl
-    go Equal r = refl
-    go Greater r = ap (λ l. e ∷ l) r
+-- the value of the object
+abbrev pub found : {X : Type 0} → ℕ → List (Reverse ℕ × X) → Option X
+found k es = lookup (is_at (λ r. nat_cmp r.0 k)) es
 
-pub get-is : {X : Type 0} (k : ℕ) (es : Table X) → lookup (is_at (nat_cmp k)) es ≡ at k es
-get-is k [] = refl
-get-is k (e ∷ es) = ap (cond (is_eq (nat_cmp k e.0)) (Some e.1)) (get-is k es)
+at-put : {X : Type 0} (j k : ℕ) (x : X) (es : Table X) → at j (put k x es) ≡ cond (j == k) (Some x) (at j es)
+at-put j k x es = find-put nat_cmp nat_cmp_total j k x es ∙ ap (λ b. cond b (Some x) (at j es)) (sym (unsigned_ties j k))
 
--- the object of a query is that of a pair
-pub is-key : (k n : ℕ) → is_at (nat_cmp k) n ≡ (n == k)
-is-key k n = grind (arith, nat_tests)
+turned : (j k : ℕ) → is_eq (nat_cmp k j) ≡ (j == k)
+turned j k = grind (arith, nat_tests)
 
-apart : {A : Type 0} {x : A} → ◌≡◌ {A = Option A} None (Some x) → ⊥
-apart e = cc
+pub at-is : {X : Type 0} (k : ℕ) (es : List (Reverse ℕ × X)) → found k es ≡ at k (by_object es)
+at-is k [] = refl
+at-is k (e ∷ es) = ap (λ b. cond b (Some e.1) (found k es)) (turned k (e.0).0) ∙ ap (cond (k == (e.0).0) (Some e.1)) (at-is k es) ∙ sym (at-put k (e.0).0 e.1 (by_object es))
 
-none-below : {X : Type 0} (k m : ℕ) (es : Table X) → nat_cmp k m ≡ Less → AllByRecursion (λ n. nat_cmp m n ≡ Less) (keys_of es) → (y : X) → lookup (is_at (nat_cmp k)) es ≡ Some y → ⊥
-none-below k m [] l a y s = apart s
-none-below k m (e ∷ es) l a y s = go (nat_cmp k e.0) refl (none-below k m es l a.1 y) s
-  where
-    less : nat_cmp k e.0 ≡ Less
-    less = grind (arith, nat_tests, l, a.0)
+rising : {X : Type 0} (es : List (Reverse ℕ × X)) → T (is_sorted nat_cmp (by_object es))
+rising [] = tt
+rising (e ∷ es) = is_sorted-put nat_cmp nat_cmp_total (e.0).0 e.1 (by_object es) (rising es)
 
-    go : (o : Ordering) → nat_cmp k e.0 ≡ o → (lookup (is_at (nat_cmp k)) es ≡ Some y → ⊥) → cond (is_eq o) (Some e.1) (lookup (is_at (nat_cmp k)) es) ≡ Some y → ⊥
-    go Less q r s = r s
-    go Equal q r s = equal (sym less ∙ q)
-      where
-        equal : Less ≡ Equal → ⊥
-        equal q = cc
-    go Greater q r s = r s
+-- one object has another value, or none
+abbrev pub IsWith : {X : Type 0} → ℕ → Option X → List (Reverse ℕ × X) → List (Reverse ℕ × X) → Type 0
+IsWith k w old new = (q : Reverse ℕ) → found q.0 new ≡ cond (is_at (λ r. nat_cmp r.0 k) q) w (found q.0 old)
 
--- a pair that is there takes the value
-pub set-is : {X : Type 0} (k : ℕ) (x y : X) (es : Table X) → IsStrictlySortedBy nat_cmp (keys_of es) → lookup (is_at (nat_cmp k)) es ≡ Some y → set_value (is_at (nat_cmp k)) es x ≡ put k x es
-unfolding IsStrictlySortedBy
-set-is k x y [] h s = absurd (apart s)
-set-is k x y (e ∷ es) h s = go (nat_cmp k e.0) refl (set-is k x y es h.1) s
-  where
-    go : (o : Ordering) → nat_cmp k e.0 ≡ o → (lookup (is_at (nat_cmp k)) es ≡ Some y → set_value (is_at (nat_cmp k)) es x ≡ put k x es) → cond (is_eq o) (Some e.1) (lookup (is_at (nat_cmp k)) es) ≡ Some y
-        → cond (is_eq o) ((e.0, x) ∷ es) (e ∷ set_value (is_at (nat_cmp k)) es x) ≡ by_order o ((k, x) ∷ e ∷ es) ((e.0, x) ∷ es) (e ∷ put k x es)
-    go Less q r s = absurd (none-below k e.0 es q h.0 y s)
-    go Equal q r s = refl
-    go Greater q r s = ap (λ l. e ∷ l) (r s)
+pub at-with : {X : Type 0} (k : ℕ) (w : Option X) (old new : List (Reverse ℕ × X)) → IsWith k w old new → (o : ℕ) → at o (by_object new) ≡ cond (o == k) w (at o (by_object old))
+at-with k w old new h o = sym (at-is o new) ∙ h (record { 0 = o }) ∙ ap (λ b. cond b w (found o old)) (sym (unsigned_ties o k)) ∙ ap (cond (o == k) w) (at-is o old)
+
+same : (j k : ℕ) → nat_cmp j k ≡ Equal → j ≡ k
+same j k e = grind (arith, nat_tests, e)
+
+pub put-with : {X : Type 0} (k : ℕ) (x : X) (old new : List (Reverse ℕ × X)) → IsWith k (Some x) old new → by_object new ≡ put k x (by_object old)
+put-with k x old new h =
+    same_entries nat_cmp nat_cmp_total same (by_object new) (put k x (by_object old)) (rising new) (is_sorted-put nat_cmp nat_cmp_total k x (by_object old) (rising old))
+    (λ o. at-with k (Some x) old new h o ∙ sym (at-put o k x (by_object old)))
 
 pub on-none : {A : Type 0} (P : Type 0) (r : Option A) → r ≡ None → OnSome r P
 on-none P None e = tt
-on-none P (Some a) e = absurd (apart (sym e))
+on-none P (Some a) e = absurd (apart e)
+  where
+    apart : {A : Type 0} {x : A} → ◌≡◌ {A = Option A} (Some x) None → ⊥
+    apart e = cc
 
 pub on-any : {A P : Type 0} (r : Option A) → P → OnSome r P
 on-any None p = tt

@@ -4,6 +4,7 @@ ghost use Rattle.ec_base.specs.Tables.{at, put};
 
 use ec_base::{NoMemory, ObjId};
 use std::alloc::Global;
+use std::cmp::Reverse;
 use std::collections::BTreeMap;
 use std::marker::Model;
 use std::mem;
@@ -11,18 +12,20 @@ use std::mem;
 /// A map from objects to values, as the list of its pairs with the objects rising.
 #[derive(Drop)]
 pub struct ObjMap<V> {
-    map: BTreeMap<ObjId, V>,
+    // a search goes through a node from its first key on, and late objects are asked for most
+    map: BTreeMap<Reverse<ObjId>, V>,
 }
 
 impl<V> Model for ObjMap<V> {
     ghost use Rattle.std.specs.Prelude.{ℕ, List};
     ghost use Rattle.std.specs.Coded.{coded_list, coded×, coded_ℕ};
+    ghost use Rattle.ec_objmap.specs.Objects.{by_object};
 
     ghost Value = { List (ℕ × V) };
 
     ghost coded = { coded_list (coded× coded_ℕ V.code) };
 
-    ghost view = { λ m. m.map.entries };
+    ghost view = { λ m. by_object m.map.entries };
 }
 
 impl<V> ObjMap<V> {
@@ -39,7 +42,7 @@ impl<V> ObjMap<V> {
     pub fn get(&self, obj: &ObjId) -> Option<&V>
         ensures { option_copied result ≡ at obj.now self.now }
     {
-        self.map.get(obj)
+        self.map.get(&Reverse(*obj))
     }
 
     /// Whether the object is there.
@@ -58,7 +61,7 @@ impl<V> ObjMap<V> {
         ensures some { OnSome result (self.new ≡ put obj.now value self.old) }
         ensures none { IfNone result (self.new ≡ self.old) }
     {
-        match self.map.get_mut(obj) {
+        match self.map.get_mut(&Reverse(*obj)) {
             Some(place) => Some(mem::replace(place, value)),
             None => None,
         }
@@ -69,7 +72,7 @@ impl<V> ObjMap<V> {
         ensures value { result ≡ at obj.now self.old }
         ensures others { (o : ℕ) → at o self.new ≡ (if o == obj.now then None else at o self.old) }
     {
-        self.map.remove(obj)
+        self.map.remove(&Reverse(*obj))
     }
 
     /// Gives the object this value. One that is there takes no memory.
@@ -80,7 +83,7 @@ impl<V> ObjMap<V> {
         ensures err { OnErr result (self.new ≡ self.old) }
         ensures absent { OnErr result (at obj self.old ≡ None) }
     {
-        match self.map.insert(obj, value) {
+        match self.map.insert(Reverse(obj), value) {
             Ok(_) => Ok(()),
             Err(_) => Err(NoMemory),
         }
