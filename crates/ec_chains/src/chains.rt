@@ -42,12 +42,7 @@ pub fn link(
     }
 }
 
-fn link_one(
-    alloc: Global,
-    chains: &mut ObjMap<Chain>,
-    op: OpNo,
-    obj: ObjId,
-) -> Result<(), NoMemory>
+fn link_one(alloc: Global, chains: &mut ObjMap<Chain>, op: OpNo, obj: ObjId) -> Result<(), NoMemory>
     ensures old { (o n : ℕ) → n < op → T (member n (at_or [] o chains.old)) → T (member n (at_or [] o chains.new)) }
     ensures new { OnOk result (T (member op (at_or [] obj chains.new))) }
     ensures kept { OnOk result ((o : ℕ) → T (member op (at_or [] o chains.old)) → T (member op (at_or [] o chains.new))) }
@@ -76,12 +71,7 @@ fn put_back(chains: &mut ObjMap<Chain>, obj: ObjId, chain: Chain)
 
 /// What has left goes from the fronts of the chains of the objects on which this one was. Chains that get
 /// empty go too. It takes no memory.
-pub fn unlink(
-    alloc: Global,
-    chains: &mut ObjMap<Chain>,
-    held: &Held,
-    left: Option<Update>,
-)
+pub fn unlink(alloc: Global, chains: &mut ObjMap<Chain>, held: &Held, left: Option<Update>)
     ensures { AreKept held.now chains.old chains.new }
 {
     if let Some(update) = &left {
@@ -90,12 +80,7 @@ pub fn unlink(
     drop(left);
 }
 
-fn unlink_operands(
-    alloc: Global,
-    chains: &mut ObjMap<Chain>,
-    held: &Held,
-    update: &Update,
-)
+fn unlink_operands(alloc: Global, chains: &mut ObjMap<Chain>, held: &Held, update: &Update)
     ensures { AreKept held.now chains.old chains.new }
 {
     match update {
@@ -150,12 +135,7 @@ fn unlink_one(alloc: Global, chains: &mut ObjMap<Chain>, obj: ObjId, held: &Held
     }
 }
 
-fn unlink_victim(
-    alloc: Global,
-    chains: &mut ObjMap<Chain>,
-    victim: Option<ObjId>,
-    held: &Held,
-)
+fn unlink_victim(alloc: Global, chains: &mut ObjMap<Chain>, victim: Option<ObjId>, held: &Held)
     ensures { AreKept held.now chains.old chains.new }
 {
     if let Some(obj) = victim {
@@ -171,12 +151,7 @@ fn unlink_all(alloc: Global, chains: &mut ObjMap<Chain>, objs: &[ObjId], held: &
     }
 }
 
-fn unlink_above(
-    alloc: Global,
-    chains: &mut ObjMap<Chain>,
-    up: &[(ObjId, Name)],
-    held: &Held,
-)
+fn unlink_above(alloc: Global, chains: &mut ObjMap<Chain>, up: &[(ObjId, Name)], held: &Held)
     ensures { AreKept held.now chains.old chains.new }
 {
     'each: for (obj, _) in up {

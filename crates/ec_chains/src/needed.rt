@@ -96,11 +96,7 @@ fn range_of(update: &Update) -> Option<Range>
 }
 
 // Whether an operation is chosen on one of the objects.
-fn is_on_one(
-    others: &ObjMap<()>,
-    ranges: &ObjMap<List<(u32, usize)>>,
-    objs: &[ObjId],
-) -> bool
+fn is_on_one(others: &ObjMap<()>, ranges: &ObjMap<List<(u32, usize)>>, objs: &[ObjId]) -> bool
     ensures { result ≡ list_any (λ o. is_on o others.now ranges.now) objs.now }
 {
     match objs {
@@ -109,11 +105,7 @@ fn is_on_one(
     }
 }
 
-fn is_on(
-    others: &ObjMap<()>,
-    ranges: &ObjMap<List<(u32, usize)>>,
-    obj: ObjId,
-) -> bool
+fn is_on(others: &ObjMap<()>, ranges: &ObjMap<List<(u32, usize)>>, obj: ObjId) -> bool
     ensures { result ≡ is_on obj others.now ranges.now }
 {
     others.contains(&obj) || ranges.contains(&obj)
