@@ -2,10 +2,12 @@
 
 server=
 
-# Makes the folder below this one, with what else stands beside the script, and goes there. It's removed at the end, and a server that still runs is ended.
+# Makes the folder below this one, with what else stands beside the script, and goes there. It's removed at the end, and a server that still runs is ended: where the
+# script is stopped too, for which some shells don't run what stands at their end.
 enter_folder() {
     folder=$(realpath "$(mktemp -d "$1/loopback.XXXXXX")")
     trap 'leave_folder' EXIT
+    trap 'exit 1' HUP INT TERM
     cd "$folder"
 }
 
@@ -15,10 +17,10 @@ leave_folder() {
     rm -rf "$folder"
 }
 
-# Starts a server of a new disk for so many mounts at this port, and waits until it listens.
+# Starts a server of a new disk for so many mounts at this port, and waits until it listens. It doesn't outlive the script, however that ends.
 begin_server() {
     rm -f echofs.disk server.log
-    "$program" serve "127.0.0.1:$1" "$2" 2> server.log &
+    setpriv --pdeathsig TERM "$program" serve "127.0.0.1:$1" "$2" 2> server.log &
     server=$!
     until grep -q "serves at" server.log 2> /dev/null; do
         kill -0 "$server"
