@@ -23,7 +23,7 @@ use Rattle.ec_clerknode.specs.Folded.{answer_to}
 use Rattle.ec_clerknode.specs.Run.{Reply, told_by, heard_by, said_by, nets, call_of, calls, marks, mark_of_deed, mark_of_end, Among, IsRun, leads, highest, old_boot}
 use Rattle.ec_clerknode.specs.Node.{Since, By, AnsweredAt, AnsweredFrom}
 use Rattle.ec_clerknode.specs.Closed.{More, Caused, Fails, Begun, Works, Flushes, ReadsFlushes, Started, Waited}
-use Rattle.ec_clerknode.specs.Turns.{number_of, calls_by, Replied, Failed, Worked, Stays, Turned, Pending, Starts, Waits, PickedLast, Asks, FlushTurned, Finished}
+use Rattle.ec_clerknode.specs.Turns.{number_of, calls_by, Replied, Failed, Called, Worked, Stays, Turned, Pending, Starts, Waits, PickedLast, Asks, FlushTurned, Finished}
 use Rattle.ec_clerknode.proofs.Lists.{prefix_trans, prefix_length, prefix_get, get_last, of-append}
 use Rattle.ec_clerknode.proofs.Each.{each-append}
 use Rattle.ec_clerknode.proofs.Told.{added-nil}
@@ -293,3 +293,35 @@ module _ (pass mine : ℕ) (call : Call) (before now after : List Step) (number 
               (subst (λ n. Caused (old_boot after) f (of number_of n m.0)) same m.2)),
         ),
       )
+
+-- a call behind a turn in which nothing was begun
+module _ (pass mine : ℕ) (call : Call) (before now after : List Step) (same : mine ≡ pass) (begins : IsPrefix before now) (none : calls_by pass now ≡ calls_by pass before) where
+  still : calls_by mine now ≡ calls_by pass before
+  still = ap (λ n. calls_by n now) same ∙ none
+
+  mine_after : calls_by pass after ≡ calls_by mine after
+  mine_after = ap (λ n. calls_by n after) (sym same)
+
+  pub called_later : (r : Result Reply NodeFault) → Called mine call now after r → Called pass call before after r
+  called_later (Ok reply) c =
+      let le = prefix_length before now begins in
+      let behind = c.1.3 in
+      let s = c.1.5 in (
+        mine_after ∙ (c.0 ∙ ap (λ l. l ++ call ∷ []) still),
+        (c.1.0, c.1.1, c.1.2, omega arith, c.1.4, (s.0, s.1, s.2, s.3, s.4, s.5 ∙ same), c.1.6),
+        c.2,
+      )
+  called_later (Err f) c =
+      let m = c.1 in (
+        ⊎_elim (λ (e : calls_by mine after ≡ calls_by mine now). inl (mine_after ∙ (e ∙ still))) (λ (e : calls_by mine after ≡ calls_by mine now ++ call ∷ []). inr (mine_after ∙ (e ∙ ap (λ l. l ++ call ∷ []) still))) c.0,
+        (
+          begins.0 ++ m.0,
+          sym (append_assoc before begins.0 m.0) ∙ (ap (λ l. l ++ m.0) begins.1 ∙ m.1),
+          subst (λ l. Caused (old_boot after) f l) (sym (of-append number_of pass begins.0 m.0)) (caused-right (old_boot after) f (of number_of pass begins.0) (of number_of pass m.0)
+              (subst (λ n. Caused (old_boot after) f (of number_of n m.0)) same m.2)),
+        ),
+      )
+
+pub failed_first : (pass : ℕ) (call : Call) (before after : List Step) (f : NodeFault) → Failed pass [] before after f → Failed pass (call ∷ []) before after f
+failed_first pass call before after f w =
+    (inl (⊎_elim (λ (e : calls_by pass after ≡ calls_by pass before). e) (λ (e : calls_by pass after ≡ calls_by pass before ++ []). e ∙ append-nil (calls_by pass before)) w.0), w.1)

@@ -117,9 +117,25 @@ impl<L: Link> SharedClerk<L> {
         result
     }
 
-    /// Begins the call and waits for its answer, with its operation's number. What is answered at once waits for nobody
-    /// and doesn't read the link.
-    pub fn call_op<R: Wait + Clock>(
+    // A turn that reads the link and begins nothing. It's true where the link gave something.
+    fn listen<R: Wait + Clock>(&self, rt: &R, pass: &mut Pass<Node<L>>) -> Result<bool, NodeFault>
+        requires pass { IsPassOf self.now.lock pass.old }
+        ensures turned { Turned self.now.lock pass.old pass.new }
+        ensures worked { Worked pass.old.number (front pass.old) (front pass.new) result }
+    {
+        let number = pass.number();
+        let mut turn = self.lock.enter(rt, pass);
+        let result = turn.value.read(rt, self.alloc, number);
+        let is_news = match &result {
+            Ok(heard) => *heard,
+            Err(_) => true,
+        };
+        self.end(turn, pass, is_news);
+        result
+    }
+
+    // Begins the call and waits for its answer.
+    fn make_call<R: Wait + Clock>(
         &self,
         rt: &R,
         pass: &mut Pass<Node<L>>,
@@ -131,7 +147,6 @@ impl<L: Link> SharedClerk<L> {
     {
         let (number, place, reply) = self.start(rt, pass, call)?;
         if let Some(reply) = reply {
-            self.bell.called();
             return Ok(reply);
         }
         for _ in rt.forever() {
@@ -145,6 +160,25 @@ impl<L: Link> SharedClerk<L> {
             }
         }
         unreachable!()
+    }
+
+    /// Begins the call and waits for its answer, with its operation's number. What is answered at once waits for nobody.
+    /// Where the bell asks for it, the link is read first, so that a clerk that answers from its cache all the time hears
+    /// of recalls.
+    pub fn call_op<R: Wait + Clock>(
+        &self,
+        rt: &R,
+        pass: &mut Pass<Node<L>>,
+        call: Call,
+    ) -> Result<(Answer, Option<OpNo>), NodeFault>
+        requires pass { IsPassOf self.now.lock pass.old }
+        ensures turned { Turned self.now.lock pass.old pass.new }
+        ensures called { Called pass.old.number call (front pass.old) (front pass.new) result }
+    {
+        if self.bell.called() {
+            self.listen(rt, pass)?;
+        }
+        self.make_call(rt, pass, call)
     }
 
     /// The same without the operation's number.

@@ -13,11 +13,12 @@ pub trait Bell {
     /// Waits until it has rung since it stood at `seen`. It may return earlier.
     fn wait<R: Wait>(&self, rt: &R, seen: u64);
 
-    /// Waits as `wait` does, but leaves the link to threads that wait, and then looks again a little later.
+    /// Waits as `wait` does, but leaves the link to threads that wait or make calls, and then looks again a little later.
     fn watch<R: Wait>(&self, rt: &R, seen: u64);
 
-    /// A thread made a call that needed no wait. Where more of them follow, one that gave way in `watch` looks at the link.
-    fn called(&self);
+    /// A thread makes a call that may need no wait. True where it is to read the link too, since one that gave way in
+    /// `watch` doesn't.
+    fn called(&self) -> bool;
 }
 
 /// The bell of a link in memory.
@@ -50,7 +51,9 @@ impl Bell for MemBell {
         self.wait(rt, seen);
     }
 
-    fn called(&self) {}
+    fn called(&self) -> bool {
+        false
+    }
 }
 
 /// The bell at the other end, which rings where this end sends and where it goes.

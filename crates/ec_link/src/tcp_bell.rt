@@ -23,8 +23,8 @@ const LONGEST_WAIT: u64 = 1;
 // Who leaves the link to others looks again after so many milliseconds.
 const REST: u64 = 1;
 
-// It's woken where so many calls needed no wait.
-const CALLS: u64 = 2;
+// One of so many calls that need no wait reads the link.
+const CALLS: u64 = 16;
 
 #[derive(Drop)]
 struct Waiting {
@@ -33,7 +33,8 @@ struct Waiting {
 }
 
 /// One thread at a time takes `waiting` out and waits for the socket, outside of the lock. The others wait until it's
-/// back. A thread that found the socket ready counts a ring. One that has time gives way to those that wait.
+/// back. A thread that found the socket ready counts a ring. One that has time gives way to those that wait or make
+/// calls.
 #[derive(Drop)]
 pub struct TcpBell {
     rings: AtomicU64,
@@ -45,11 +46,11 @@ pub struct TcpBell {
     is_idle: AtomicBool,
     waiting: Mutex<Option<Waiting>>,
     returned: Condvar,
-    // Whether one that has time sleeps, and on what.
-    is_resting: AtomicBool,
-    rests: AtomicU64,
-    // So many calls needed no wait since a thread waited.
+    // So many calls needed no wait, and so many when one that has time looked last.
     calls: AtomicU64,
+    watched: AtomicU64,
+    // What one that has time sleeps on for a little. Nobody wakes it.
+    rest: AtomicU64,
     waker: Waker,
 }
 
@@ -71,9 +72,9 @@ impl TcpBell {
             is_idle: AtomicBool::new(false),
             waiting: Mutex::new(Some(Waiting { poll, events })),
             returned: Condvar::new(),
-            is_resting: AtomicBool::new(false),
-            rests: AtomicU64::new(0),
             calls: AtomicU64::new(0),
+            watched: AtomicU64::new(0),
+            rest: AtomicU64::new(0),
             waker,
         })
     }
@@ -108,10 +109,12 @@ impl TcpBell {
         free.take()
     }
 
-    // Takes `waiting` out where nobody waits.
+    // Takes `waiting` out where nobody waits, and nobody made a call since one that has time looked last.
     fn take_idle<R: Wait>(&self, rt: &R) -> Option<Waiting> {
+        let calls = self.calls.load(Ordering::SeqCst);
+        let watched = self.watched.swap(calls, Ordering::SeqCst);
         let mut free = self.waiting.lock(rt);
-        if self.waits.load(Ordering::SeqCst) > 0 {
+        if watched != calls || self.waits.load(Ordering::SeqCst) > 0 {
             return None;
         }
         let waiting = free.take()?;
@@ -121,26 +124,13 @@ impl TcpBell {
 
     // Sleeps a little, and where it hasn't rung then, until those that wait look at the link.
     fn give_way<R: Wait>(&self, rt: &R, seen: u64) {
-        let rests = self.rests.load(Ordering::SeqCst);
-        self.is_resting.store(true, Ordering::SeqCst);
-        self.rests.park_timeout(rt, (rests % (1 << 32)) as u32, Duration::from_millis(REST));
-        self.is_resting.store(false, Ordering::SeqCst);
+        self.rest.park_timeout(rt, 0, Duration::from_millis(REST));
         let free = self.waiting.lock(rt);
         let _free = self.returned.wait_while(
             rt,
             free,
             |waiting| waiting.is_none() && self.rings() == seen,
         );
-    }
-
-    // Wakes one that sleeps a little, where nobody waits and this is one call too many.
-    fn wake_resting(&self) {
-        let calls = self.calls.fetch_add(1, Ordering::SeqCst);
-        if self.waits.load(Ordering::SeqCst) == 0 && calls.saturating_add(1) >= CALLS {
-            self.is_resting.store(false, Ordering::SeqCst);
-            self.rests.fetch_add(1, Ordering::SeqCst);
-            self.rests.wake_all();
-        }
     }
 }
 
@@ -158,13 +148,13 @@ impl Bell for TcpBell {
 
     fn ring(&self) {
         self.rings.fetch_add(1, Ordering::SeqCst);
-        if self.is_out.load(Ordering::SeqCst) {
+        // the first ring ends the wait
+        if self.is_out.swap(false, Ordering::SeqCst) {
             let _ = self.waker.wake();
         }
     }
 
     fn wait<R: Wait>(&self, rt: &R, seen: u64) {
-        self.calls.store(0, Ordering::SeqCst);
         self.waits.fetch_add(1, Ordering::SeqCst);
         if let Some(waiting) = self.take(rt, seen) {
             self.wait_out(rt, waiting, seen);
@@ -179,9 +169,8 @@ impl Bell for TcpBell {
         }
     }
 
-    fn called(&self) {
-        if self.is_resting.load(Ordering::SeqCst) {
-            self.wake_resting();
-        }
+    fn called(&self) -> bool {
+        let calls = self.calls.fetch_add(1, Ordering::SeqCst);
+        calls % CALLS == CALLS - 1
     }
 }

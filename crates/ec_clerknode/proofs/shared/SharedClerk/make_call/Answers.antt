@@ -2,7 +2,7 @@ use Rattle.std.proofs.Common.{◌+◌, Ok, subst, rules}
 use Rattle.ec_lock.specs.Passes.{front}
 use Rattle.ec_clerknode.specs.Turns.{Waits}
 use Rattle.ec_clerknode.proofs.Turns.{turned_both, pending_ok, replied, failed_later}
-use Rattle.ec_clerknode.proofs.shared.SharedClerk.call_op.Goals as goal
+use Rattle.ec_clerknode.proofs.shared.SharedClerk.make_call.Goals as goal
 
 pub returns-in_err-heard-clause-turned : goal.returns-in_err-heard-clause-turned
 returns-in_err-heard-clause-turned g c = turned_both (λ l. g.L.Link.faults l + g.L.Link.closes l) g.L.Link.given g.L.Link.got c.args.self.now.lock c.args.pass.now c.loop.pass c.wait.new.pass c.loop.invariant.2 c.wait.ensures.turned

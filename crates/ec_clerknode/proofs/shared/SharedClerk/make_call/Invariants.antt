@@ -1,6 +1,6 @@
 use Rattle.ec_lock.specs.Passes.{front}
 use Rattle.ec_clerknode.specs.Turns.{Turned, Pending}
-use Rattle.ec_clerknode.proofs.shared.SharedClerk.call_op.Given as goal
+use Rattle.ec_clerknode.proofs.shared.SharedClerk.make_call.Given as goal
 
 abbrev pub invariant-loop : goal.invariant-loop
 invariant-loop g l =
