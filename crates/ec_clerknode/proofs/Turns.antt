@@ -322,6 +322,10 @@ module _ (pass mine : ℕ) (call : Call) (before now after : List Step) (same : 
         ),
       )
 
+pub none_begun : {A : Type 0} (pass : ℕ) (before after : List Step) (r : Result A NodeFault) → Worked pass before after r → calls_by pass after ≡ calls_by pass before
+none_begun pass before after (Ok x) w = w.0
+none_begun pass before after (Err f) w = ⊎_elim (λ (e : calls_by pass after ≡ calls_by pass before). e) (λ (e : calls_by pass after ≡ calls_by pass before ++ []). e ∙ append-nil (calls_by pass before)) w.0
+
 pub failed_first : (pass : ℕ) (call : Call) (before after : List Step) (f : NodeFault) → Failed pass [] before after f → Failed pass (call ∷ []) before after f
 failed_first pass call before after f w =
     (inl (⊎_elim (λ (e : calls_by pass after ≡ calls_by pass before). e) (λ (e : calls_by pass after ≡ calls_by pass before ++ []). e ∙ append-nil (calls_by pass before)) w.0), w.1)

@@ -164,7 +164,7 @@ impl<L: Link> SharedClerk<L> {
 
     /// Begins the call and waits for its answer, with its operation's number. What is answered at once waits for nobody.
     /// Where the bell asks for it, the link is read first, so that a clerk that answers from its cache all the time hears
-    /// of recalls.
+    /// of recalls. A link that fails then is no fault of this call.
     pub fn call_op<R: Wait + Clock>(
         &self,
         rt: &R,
@@ -176,7 +176,9 @@ impl<L: Link> SharedClerk<L> {
         ensures called { Called pass.old.number call (front pass.old) (front pass.new) result }
     {
         if self.bell.called() {
-            self.listen(rt, pass)?;
+            if let Err(NodeFault::Spent(counter)) = self.listen(rt, pass) {
+                return Err(NodeFault::Spent(counter));
+            }
         }
         self.make_call(rt, pass, call)
     }
