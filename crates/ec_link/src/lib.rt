@@ -5,6 +5,8 @@ mod around;
 mod bell;
 mod happenings;
 mod link;
+mod looks;
+mod lull;
 mod memory;
 mod memory_net;
 mod net;

@@ -9,6 +9,7 @@ ghost use Rattle.ec_link.specs.Tcp.{IsNewOver};
 use crate::around::Around;
 use crate::happenings::Happenings;
 use crate::link::{Got, Link, Sent};
+use crate::lull::Lull;
 use crate::net::NetFault;
 use crate::tcp_bell::TcpBell;
 use ec_frame::{FrameFault, Frames, frame};
@@ -38,6 +39,7 @@ pub struct TcpLink {
     frames: Frames,
     // What was read when there was no memory for it.
     late: Vec<u8>,
+    lull: Lull,
     // What the socket hasn't taken yet, and since when it takes nothing.
     unsent: Vec<u8>,
     stuck: Option<Instant>,
@@ -58,6 +60,7 @@ impl TcpLink {
             stream,
             frames,
             late: Vec::new(alloc),
+            lull: Lull::new(alloc)?,
             unsent: Vec::new(alloc),
             stuck: None,
             happened: Happenings::new(),
@@ -132,7 +135,10 @@ impl TcpLink {
         ensures none { IfNone result ((self.new.happened ≡ self.old.happened) × ((more : List ℕ) × (self.new.frames.left ≡ self.old.frames.left ++ more))) }
     {
         if self.late.is_empty() {
-            match take_piece(&mut self.stream, &mut self.late) {
+            if self.lull.skips() {
+                return Some(Got::Nothing);
+            }
+            match take_piece(&mut self.stream, &mut self.late, &self.lull) {
                 Piece::Some => {}
                 Piece::Nothing => return Some(Got::Nothing),
                 Piece::End => {
@@ -202,25 +208,45 @@ enum Piece {
     NoMemory,
 }
 
-// Reads what is there, up to a piece. There is room for it before it's read.
-fn take_piece(stream: &mut TcpStream, into: &mut Vec<u8>) -> Piece {
+// Reads what is there, up to a piece. There is room for it before it's read. Less than a piece is all that is there.
+fn take_piece(stream: &mut TcpStream, into: &mut Vec<u8>, lull: &Lull) -> Piece {
     if into.reserve(PIECE).is_err() {
         return Piece::NoMemory;
     }
     let mut buffer = [0u8; PIECE];
+    lull.begin();
     match stream.read(&mut buffer) {
-        Ok(0) => Piece::End,
-        Ok(count) => match into.extend_from_slice(&buffer[..count]) {
-            Ok(()) => Piece::Some,
-            Err(_) => Piece::NoMemory,
-        },
+        Ok(count) if 0 < count && count < PIECE => keep_piece(into, &buffer[..count]),
         Err(fault) if fault.kind() == ErrorKind::WouldBlock => Piece::Nothing,
-        Err(_) => Piece::Failed,
+        Ok(0) => {
+            lull.end();
+            Piece::End
+        }
+        Ok(_) => {
+            lull.end();
+            keep_piece(into, &buffer)
+        }
+        Err(_) => {
+            lull.end();
+            Piece::Failed
+        }
     }
 }
 
-fn bell_of(alloc: Global, poll: io::Result<Poll>, stream: &TcpStream) -> io::Result<TcpBell> {
-    TcpBell::new(alloc, poll?, stream)
+fn keep_piece(into: &mut Vec<u8>, piece: &[u8]) -> Piece {
+    match into.extend_from_slice(piece) {
+        Ok(()) => Piece::Some,
+        Err(_) => Piece::NoMemory,
+    }
+}
+
+fn bell_of(
+    alloc: Global,
+    poll: io::Result<Poll>,
+    stream: &TcpStream,
+    lull: &Lull,
+) -> io::Result<TcpBell> {
+    TcpBell::new(alloc, poll?, stream, lull.share()?)
 }
 
 impl Link for TcpLink {
@@ -272,7 +298,7 @@ impl Link for TcpLink {
     }
 
     fn bell<R: Around>(&mut self, rt: &R) -> Result<TcpBell, NetFault> {
-        match bell_of(rt.alloc(), Poll::new(rt), &self.stream) {
+        match bell_of(rt.alloc(), Poll::new(rt), &self.stream, &self.lull) {
             Ok(bell) => Ok(bell),
             Err(_) => {
                 self.happened.fault();

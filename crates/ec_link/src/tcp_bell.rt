@@ -1,5 +1,7 @@
 // The bell of a link over TCP.
 use crate::bell::Bell;
+use crate::looks::Looks;
+use crate::lull::Lull;
 use mio::unix::SourceFd;
 use mio::{Events, Interest, Poll, Token, Waker};
 use std::alloc::Global;
@@ -23,9 +25,6 @@ const LONGEST_WAIT: u64 = 1;
 // Who leaves the link to others looks again after so many milliseconds.
 const REST: u64 = 1;
 
-// One of so many calls that need no wait reads the link.
-const CALLS: u64 = 16;
-
 #[derive(Drop)]
 struct Waiting {
     poll: Poll,
@@ -46,17 +45,16 @@ pub struct TcpBell {
     is_idle: AtomicBool,
     waiting: Mutex<Option<Waiting>>,
     returned: Condvar,
-    // So many calls needed no wait, and so many when one that has time looked last.
-    calls: AtomicU64,
-    watched: AtomicU64,
+    looks: Looks,
     // What one that has time sleeps on for a little. Nobody wakes it.
     rest: AtomicU64,
+    lull: Lull,
     waker: Waker,
 }
 
 impl TcpBell {
     // The bell of this socket.
-    pub fn new(alloc: Global, poll: Poll, stream: &TcpStream) -> io::Result<TcpBell> {
+    pub fn new(alloc: Global, poll: Poll, stream: &TcpStream, lull: Lull) -> io::Result<TcpBell> {
         let events = Events::with_capacity(alloc, EVENTS)?;
         let fd = stream.as_raw_fd();
         poll.registry().register(
@@ -72,9 +70,9 @@ impl TcpBell {
             is_idle: AtomicBool::new(false),
             waiting: Mutex::new(Some(Waiting { poll, events })),
             returned: Condvar::new(),
-            calls: AtomicU64::new(0),
-            watched: AtomicU64::new(0),
+            looks: Looks::new(),
             rest: AtomicU64::new(0),
+            lull,
             waker,
         })
     }
@@ -82,7 +80,7 @@ impl TcpBell {
     // Waits for the socket unless it has rung since it stood at `seen`, and puts `waiting` back.
     fn wait_out<R: Wait>(&self, rt: &R, mut waiting: Waiting, seen: u64) {
         self.is_out.store(true, Ordering::SeqCst);
-        if self.rings() == seen && is_ready(&mut waiting) {
+        if self.rings() == seen && self.is_ready(&mut waiting) {
             self.rings.fetch_add(1, Ordering::SeqCst);
         }
         self.is_out.store(false, Ordering::SeqCst);
@@ -90,6 +88,29 @@ impl TcpBell {
         self.is_idle.store(false, Ordering::SeqCst);
         *free = Some(waiting);
         self.returned.notify_all();
+    }
+
+    // Waits for the socket or a ring, and says whether it was the socket.
+    fn is_ready(&self, waiting: &mut Waiting) -> bool {
+        let longest = Some(Duration::from_secs(LONGEST_WAIT));
+        let _ = waiting.poll.poll(&mut waiting.events, longest);
+        let mut is_ready = false;
+        for event in waiting.events.iter() {
+            if event.token() == SOCKET {
+                is_ready = true;
+                self.note(event.is_read_closed());
+            }
+        }
+        is_ready
+    }
+
+    // The socket may have something to read.
+    fn note(&self, is_closed: bool) {
+        if is_closed {
+            self.lull.close();
+        } else {
+            self.lull.end();
+        }
     }
 
     // Takes `waiting` out once it's back, where it hasn't rung since.
@@ -111,10 +132,9 @@ impl TcpBell {
 
     // Takes `waiting` out where nobody waits, and nobody made a call since one that has time looked last.
     fn take_idle<R: Wait>(&self, rt: &R) -> Option<Waiting> {
-        let calls = self.calls.load(Ordering::SeqCst);
-        let watched = self.watched.swap(calls, Ordering::SeqCst);
+        let are_new = self.looks.are_new();
         let mut free = self.waiting.lock(rt);
-        if watched != calls || self.waits.load(Ordering::SeqCst) > 0 {
+        if are_new || self.waits.load(Ordering::SeqCst) > 0 {
             return None;
         }
         let waiting = free.take()?;
@@ -132,13 +152,6 @@ impl TcpBell {
             |waiting| waiting.is_none() && self.rings() == seen,
         );
     }
-}
-
-// Waits for the socket or a ring, and says whether it was the socket.
-fn is_ready(waiting: &mut Waiting) -> bool {
-    let longest = Some(Duration::from_secs(LONGEST_WAIT));
-    let _ = waiting.poll.poll(&mut waiting.events, longest);
-    waiting.events.iter().any(|event| event.token() == SOCKET)
 }
 
 impl Bell for TcpBell {
@@ -170,7 +183,10 @@ impl Bell for TcpBell {
     }
 
     fn called(&self) -> bool {
-        let calls = self.calls.fetch_add(1, Ordering::SeqCst);
-        calls % CALLS == CALLS - 1
+        let is_due = self.looks.called(self.rings());
+        if is_due {
+            self.lull.end();
+        }
+        is_due
     }
 }
