@@ -1,5 +1,5 @@
 // The clerk that several threads share.
-ghost use Rattle.std.specs.Prelude.{◌≡◌, ℕ, ◌+◌, ◌<◌, ◌≤◌, ◌⊎◌, max, List, [], ◌∷◌, ◌++◌, length, Some, None, if◌then◌else◌, IfOk, IfErr, IfSome, IfNone, Option};
+ghost use Rattle.std.specs.Prelude.{◌≡◌, ℕ, ◌+◌, ◌<◌, ◌≤◌, ◌⊎◌, max, List, [], ◌∷◌, ◌++◌, length, Some, None, Err, if◌then◌else◌, IfOk, IfErr, IfSome, IfNone, Option};
 ghost use mathlib.Core.List.{IsPrefix};
 ghost use Rattle.ec_base.specs.Limits.{last_counter};
 ghost use Rattle.ec_lock.specs.Passes.{first, front, numbers, next_number, raised, answered, note_view, HasTurn, IsPassOf, IsNoteOf, Same};
@@ -14,7 +14,7 @@ ghost use Rattle.ec_clerknode.specs.Turns.{number_of, Stays, Turned, Starts, Wai
 use crate::fault::NodeFault;
 use crate::state::{Closing, Node};
 use crate::step::Step;
-use ec_base::{Age, List, OpNo};
+use ec_base::{Age, Counter, List, OpNo};
 use ec_clerk::Clerk;
 use ec_history::Answer;
 use ec_link::{Bell, Link};
@@ -162,9 +162,27 @@ impl<L: Link> SharedClerk<L> {
         unreachable!()
     }
 
+    // The same behind a turn that reads the link. What that meets is no fault of the call, but a spent counter.
+    fn listen_and_call<R: Wait + Clock>(
+        &self,
+        rt: &R,
+        pass: &mut Pass<Node<L>>,
+        call: Call,
+    ) -> Result<(Answer, Option<OpNo>), NodeFault>
+        requires pass { IsPassOf self.now.lock pass.old }
+        ensures turned { Turned self.now.lock pass.old pass.new }
+        ensures called { Called pass.old.number call (front pass.old) (front pass.new) result }
+    {
+        let heard = self.listen(rt, pass);
+        if let Some(counter) = spent_in(&heard) {
+            return Err(NodeFault::Spent(counter));
+        }
+        self.make_call(rt, pass, call)
+    }
+
     /// Begins the call and waits for its answer, with its operation's number. What is answered at once waits for nobody.
     /// Where the bell asks for it, the link is read first, so that a clerk that answers from its cache all the time hears
-    /// of recalls. A link that fails then is no fault of this call.
+    /// of recalls.
     pub fn call_op<R: Wait + Clock>(
         &self,
         rt: &R,
@@ -176,9 +194,7 @@ impl<L: Link> SharedClerk<L> {
         ensures called { Called pass.old.number call (front pass.old) (front pass.new) result }
     {
         if self.bell.called() {
-            if let Err(NodeFault::Spent(counter)) = self.listen(rt, pass) {
-                return Err(NodeFault::Spent(counter));
-            }
+            return self.listen_and_call(rt, pass, call);
         }
         self.make_call(rt, pass, call)
     }
@@ -354,4 +370,14 @@ fn unless_broken(clerk: Clerk, broken: bool) -> Option<Clerk>
     ensures { result ≡ if broken then None else Some clerk }
 {
     if broken { None } else { Some(clerk) }
+}
+
+// The counter that was spent, where that was the fault.
+fn spent_in(heard: &Result<bool, NodeFault>) -> Option<Counter>
+    ensures { IfSome result (λ counter. heard.now ≡ Err (fault.Spent counter)) }
+{
+    match heard {
+        Err(NodeFault::Spent(counter)) => Some(*counter),
+        _ => None,
+    }
 }
