@@ -23,8 +23,10 @@ use Rattle.ec_machine_laws.proofs.Sent.{deliveries-count}
 use Rattle.ec_quiet.specs.Phases.{InPhase, Phase}
 use Rattle.ec_quiet.specs.Scenes.{IsScene, Mail, Scene, delivered}
 use Rattle.ec_quiet.specs.Works.{Work}
+use Rattle.ec_deliveries.specs.Coming.{HasNext}
 use Rattle.ec_deliveries.specs.Leading.{CanTake}
 use Rattle.ec_deliveries.proofs.Led.{deliveries-lead-on}
+use Rattle.ec_deliveries.proofs.Spending.{deliveries-have-next}
 use Rattle.ec_quiet.specs.SettlingScenes.{Reaches, here, on}
 use Rattle.ec_quiet.proofs.Delivering as delivering
 use Rattle.ec_quiet.proofs.Delivering.{due-is, none-due, scene-then}
@@ -100,7 +102,7 @@ pub record StaysAlong (P : List Shown → Shown → Type 0) (v : Images) (j : Wo
 
 -- Who takes a message has what it needs, and P holds of the lines of each delivery.
 abbrev pub Takes : Images → Work → ℕ → Moving → Type 0
-Takes v j most m = (r : Moving) (sc : Scene) (p : Phase) (x : ℕ × Msg) (rest : Mail) → Reaches m r → r.world.sent ≤ most → IsScene r.world sc → InPhase j sc p → sc.mail ≡ x ∷ rest → CanTake j sc p x × MaySee v j sc p
+Takes v j most m = (r : Moving) (sc : Scene) (p : Phase) (x : ℕ × Msg) (rest : Mail) → Reaches m r → r.world.sent ≤ most → IsScene r.world sc → InPhase j sc p → sc.mail ≡ x ∷ rest → HasNext x.1 sc.server → CanTake j sc p x × MaySee v j sc p
 
 abbrev pub Shows : (List Shown → Shown → Type 0) → Images → Work → ℕ → Moving → Type 0
 Shows P v j most m = (r : Moving) (sc : Scene) (p : Phase) (n : ℕ) → Reaches m r → r.world.sent ≤ most → IsScene r.world sc → InPhase j sc p → IsBehind v j sc → due r.world ≡ Some n → Each (P r.world.shown) (deliver runs n r.world).shown
@@ -139,7 +141,7 @@ module _ (P : List Shown → Shown → Type 0) (other : (past : List Shown) (l :
         none : ◌≡◌ {A = Option ℕ} None (Some n) → ⊥
         none e = cc
     goes (x ∷ rest) e =
-        let can = takes r q.scene q.phase x rest way bound q.stands q.comes e in
+        let can = takes r q.scene q.phase x rest way bound q.stands q.comes e (deliveries-have-next j r.world q.scene q.phase x rest n q.stands q.comes e next ok) in
         let led = deliveries-lead-on j q.scene q.phase x rest q.comes can.0 e in
         let n-is : delivering.n r.world q.scene q.stands x.0 x.1 rest e ≡ n = same-number (delivering.n r.world q.scene q.stands x.0 x.1 rest e) (sym (due-is r.world q.scene q.stands x.0 x.1 rest e) ∙ next) in
         joined (delivered x.0 x.1 rest q.scene) led.0
@@ -169,7 +171,7 @@ module _ (P : List Shown → Shown → Type 0) (other : (past : List Shown) (l :
 
 pub lines-settle : (base : Base) (v : Images) (j : Work) (most : ℕ) (m : Moving) (sc : Scene) (p : Phase) → IsKnown base v j most m → IsScene m.world sc → InPhase j sc p → IsBehind v j sc → (r : Moving) → Reaches m r → r.world.sent ≤ most → StaysWithin base v j m r
 lines-settle base v j most m sc p known stands ip fine r way bound =
-    let q = stays (IsWithin base v j) (other-within base v j) v j most m known.takes shows sc p stands ip fine r way bound in
+    let q = stays (IsWithin base v j) (other-within base v j) v j most m (λ r sc p x rest reached le i ip head next. known.takes r sc p x rest reached le i ip head) shows sc p stands ip fine r way bound in
     record {
       scene = q.scene;
       phase = q.phase;

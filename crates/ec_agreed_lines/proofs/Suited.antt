@@ -52,7 +52,7 @@ module _ (g : System) (sc : Scene) (inv : Invariant g) (seen : IsSeen g sc) (cou
   ids-fresh again got ask ip =
       let q : IsAsking [] j sc again ask = ip.facts.1 in
       let few : nat_le last_grants got ≡ false = ap (nat_le last_grants) (sym ip.facts.3) ∙ counters.grants j.clerk q.slot q.working.inside.there in
-      (ap (λ b. b || nat_le last_grants got) counters.first ∙ few, ids-own g sc.server inv seen.server seen.durable j.session)
+      (λ full. ap (λ b. b || nat_le last_grants got) counters.first ∙ few, ids-own g sc.server inv seen.server seen.durable j.session)
 
   -- The first message of a phase.
   module _ (m : ℕ × Msg) (others : Mail) where

@@ -17,6 +17,7 @@ use Rattle.ec_coherence.specs.System.{System, base_of}
 use Rattle.ec_quiet.specs.Phases.{InPhase, Phase}
 use Rattle.ec_quiet.specs.Scenes.{IsScene, Mail, Scene}
 use Rattle.ec_quiet.specs.Works.{HasTask, Work}
+use Rattle.ec_deliveries.specs.Coming.{HasNext}
 use Rattle.ec_deliveries.specs.Leading.{CanTake}
 use Rattle.ec_quiet.specs.SettlingScenes.{Reaches}
 use Rattle.ec_deliveries.specs.Behind.{IsBehind, MaySee, saved}
@@ -34,11 +35,11 @@ abbrev pub WorksOn : Line → Images → Work → System → Moving → Type 0
 WorksOn l v j g r = (k : Clerk) → at j.clerk r.world.clerks ≡ Some k → HasTask j.task k → (saved (after g.origin (updates g.ghost.kept)) j.task ≡ saved v j.task) × IsWorkOn g.origin g.ghost.kept l j
 
 -- What is known of each world that deliveries come to while no more than so many messages were sent: it stands in a system that began with this volume, where the invariant holds and each new object had an id of
--- its own; the work is that of the line; and who takes the next message has what that needs.
+-- its own; the work is that of the line; and who takes the next message has what that needs, where what it takes of the server's durable counters isn't at its end.
 pub record IsFollowed (l : Line) (origin v : Images) (j : Work) (most : ℕ) (m : Moving) : Type 0 where
   pub stands : (r : Moving) → Reaches m r → r.world.sent ≤ most
       → (g : System) × Invariant g × Stands r.world g × (g.origin ≡ origin) × Throughout (IsNewId g.origin (base_of g).fresh) [] (place r.world.shown) × WorksOn l v j g r
-  pub takes : (r : Moving) (sc : Scene) (p : Phase) (x : ℕ × Msg) (rest : Mail) → Reaches m r → r.world.sent ≤ most → IsScene r.world sc → InPhase j sc p → sc.mail ≡ x ∷ rest → CanTake j sc p x × MaySee v j sc p
+  pub takes : (r : Moving) (sc : Scene) (p : Phase) (x : ℕ × Msg) (rest : Mail) → Reaches m r → r.world.sent ≤ most → IsScene r.world sc → InPhase j sc p → sc.mail ≡ x ∷ rest → HasNext x.1 sc.server → CanTake j sc p x × MaySee v j sc p
 
 -- the lines that were shown between the two, of which each durable one names operations in closures that the line asks for
 pub record WritesBehind (base : Base) (l : Line) (m r : Moving) : Type 0 where

@@ -1,8 +1,11 @@
 -- A delivery meets no fault.
-use Rattle.std.proofs.Common.{◌≡◌, refl, sym, ap, ◌∙◌, subst, arith, ℕ, Bool, true, false, List, [], ◌∷◌, ◌++◌, length, length-append}
+use Rattle.std.proofs.Common.{◌≡◌, refl, sym, ap, ◌∙◌, subst, arith, ◌<◌, ℕ, Bool, true, false, List, [], ◌∷◌, ◌++◌, length, length-append}
 use Rattle.std.specs.Prelude.{Option, None, Some}
+use Rattle.std.proofs.lemmas.Bool.{true≢false}
+use Rattle.ec_base.specs.Limits.{last_counter}
 use Rattle.ec_base.specs.Tables.{at, put}
 use Rattle.ec_wire.specs.declared.msg.Msg.{Msg}
+use Rattle.ec_durable.specs.Durable.{is_full}
 use Rattle.ec_durable.specs.declared.record.Record.{Record}
 use Rattle.ec_protocol.specs.Clerk as clerk
 use Rattle.ec_protocol.specs.Clerk.{Doing}
@@ -31,6 +34,7 @@ use Rattle.ec_machine_laws.proofs.Serving as serving
 use Rattle.ec_machine_laws.proofs.Taking as taking
 use Rattle.ec_deliveries.specs.Runs.{IsFar}
 use Rattle.ec_deliveries.proofs.Getting.{first-gets, may-count}
+use Rattle.ec_deliveries.proofs.Spending.{is_room, refused-unspent}
 
 notes : (o : Option Noted) (m : Moving) → (show_noted o m).fault ≡ m.fault
 notes None m = refl
@@ -73,7 +77,13 @@ module _ (j : Work) (w : World) (sc : Scene) (p : Phase) (t : ℕ × Msg) (rest 
   server-spends : is_for_server t.1 ≡ true → (server.take t.0 t.1 sc.server).spent ≡ None
   server-spends e =
       let mail-is : (delivered t.0 t.1 rest sc).mail ≡ rest ++ (server.take t.0 t.1 sc.server).sent = ap (λ b. (elim b as (λ z. Scene) [ true ↦ scenes.served t.0 t.1 rest sc | false ↦ taken_by t.0 t.1 rest (at t.0 sc.clerks) sc ]).mail) e in
-      serving.takes t.0 t.1 sc.server (may-count t.0 t.1 sc.server (can.suits e)) (omega (arith, far.number, (counters-rise t.0 t.1 sc.server).0, ap length mail-is, length-append rest (server.take t.0 t.1 sc.server).sent))
+      let low : (server.take t.0 t.1 sc.server).server.number < last_counter = omega (arith, far.number, (counters-rise t.0 t.1 sc.server).0, ap length mail-is, length-append rest (server.take t.0 t.1 sc.server).sent) in
+      go (is_full sc.server.durable) refl (is_room t.1) refl (λ room. serving.takes t.0 t.1 sc.server (may-count t.0 t.1 sc.server (can.suits e) room) low)
+    where
+      go : (a : Bool) → is_full sc.server.durable ≡ a → (b : Bool) → is_room t.1 ≡ b → ((is_room t.1 ≡ true → is_full sc.server.durable ≡ false) → (server.take t.0 t.1 sc.server).spent ≡ None) → (server.take t.0 t.1 sc.server).spent ≡ None
+      go false full b room counted = counted (λ z. full)
+      go true full true room counted = refused-unspent j sc p t rest q head room full
+      go true full false room counted = counted (λ z. absurd (true≢false (sym z ∙ room)))
 
   -- the clerk's step
   clerk-spends : is_for_server t.1 ≡ false → (k : Clerk) → at t.0 sc.clerks ≡ Some k → (clerk.take t.1 k).spent ≡ None

@@ -7,31 +7,33 @@ use Rattle.ec_history.specs.History.{Each}
 use Rattle.ec_tokens.specs.Tokens.{Holder}
 use Rattle.ec_wire.specs.declared.msg.Msg.{Msg}
 use Rattle.ec_wire.specs.declared.msg.Msg.TheVariants.{Hello, Want, Back, Flush, Room, Claim, Bye, Opened, Grant, Recall, Kept, Ids, NoRoom, Ended, Restarted, OldBoot}
+use Rattle.ec_durable.specs.Durable.{is_full}
 use Rattle.ec_protocol.specs.declared.server.Server.{Server}
 use Rattle.ec_quiet.specs.Phases.{Phase, Greets, Opens, Claims, Wants, Recalls, Flushes, Keeps, Grants, Asks, Gives, Refuses, Saves, Saved, Ends, InPhase, back_of, is_back, is_back_message, main, messages, recall_of}
 use Rattle.ec_quiet.specs.Scenes.{Mail, Scene}
 use Rattle.ec_quiet.specs.Works.{Work}
 use Rattle.ec_deliveries.specs.Deliveries.{MayTake}
 use Rattle.ec_deliveries.specs.Coming.{Suits}
+use Rattle.ec_deliveries.proofs.Spending.{is_room}
 use Rattle.ec_machine_laws.specs.Unspent.{MayCount, MayGet}
 
-pub may-count : (c : ℕ) (m : Msg) (v : Server) → Suits c m v → MayCount m v
-may-count c (Hello from age) v s = s
-may-count c (Room ss e got ask) v s = s.0
-may-count c (Want ss e x h last) v s = tt
-may-count c (Back ss e x n h) v s = tt
-may-count c (Flush ss e b ops) v s = tt
-may-count c (Claim ss e list) v s = tt
-may-count c (Bye ss e) v s = tt
-may-count c (Opened age ss e) v s = tt
-may-count c (Grant ss e x n h i) v s = tt
-may-count c (Recall ss e x n h) v s = tt
-may-count c (Kept ss e b) v s = tt
-may-count c (Ids ss e got n f) v s = tt
-may-count c (NoRoom ss e ask l r) v s = tt
-may-count c (Ended ss low mask) v s = tt
-may-count c (Restarted ss e) v s = tt
-may-count c (OldBoot a b) v s = tt
+pub may-count : (c : ℕ) (m : Msg) (v : Server) → Suits c m v → (is_room m ≡ true → is_full v.durable ≡ false) → MayCount m v
+may-count c (Hello from age) v s room = s
+may-count c (Room ss e got ask) v s room = s.0 (room refl)
+may-count c (Want ss e x h last) v s room = tt
+may-count c (Back ss e x n h) v s room = tt
+may-count c (Flush ss e b ops) v s room = tt
+may-count c (Claim ss e list) v s room = tt
+may-count c (Bye ss e) v s room = tt
+may-count c (Opened age ss e) v s room = tt
+may-count c (Grant ss e x n h i) v s room = tt
+may-count c (Recall ss e x n h) v s room = tt
+may-count c (Kept ss e b) v s room = tt
+may-count c (Ids ss e got n f) v s room = tt
+may-count c (NoRoom ss e ask l r) v s room = tt
+may-count c (Ended ss low mask) v s room = tt
+may-count c (Restarted ss e) v s room = tt
+may-count c (OldBoot a b) v s room = tt
 
 backs-get : (m : Msg) → is_back_message m ≡ true → MayGet m
 backs-get (Back ss e x n h) q = tt

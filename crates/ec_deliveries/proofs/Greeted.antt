@@ -35,7 +35,7 @@ use Rattle.ec_deliveries.specs.Coming.{MayOpen, IsNext}
 use Rattle.ec_deliveries.proofs.Frames.{behind, no-back}
 
 -- The slot's session, if it had one, ended; so there is none to end.
-greeted-new : (o : Option Slot) (age : Age) → is_open o ≡ false → is_greater o age ≡ true → greeting o age ≡ Greater None
+pub greeted-new : (o : Option Slot) (age : Age) → is_open o ≡ false → is_greater o age ≡ true → greeting o age ≡ Greater None
 greeted-new None age closed newer = refl
 greeted-new (Some sl) age closed newer =
     ap (λ b. cond b (Greater (session_if_open sl)) (cond (is_older age sl.age) (OldBoot sl.age) (cond sl.is_open (Same sl.session) (Ended sl.session sl.window)))) newer

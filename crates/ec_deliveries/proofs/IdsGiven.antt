@@ -319,9 +319,9 @@ ids-answered j sc again got ask rest ip counts fresh mail = go (is_full sc.serve
     go false full =
         let p : Phase = Gives got (sc.server.number + 1) sc.server.durable.next_id in
         let ok : step (Ids j.clerk j.session got sc.server.durable.next_id) sc.server.durable ≡ Ok (given-state j.clerk sc.server.durable)
-        = ids-step j.clerk j.session got sc.server q.slot q.working.inside.there q.working.session q.working.inside.is_open (sym ip.facts.3) full fresh.0 in
+        = ids-step j.clerk j.session got sc.server q.slot q.working.inside.there q.working.session q.working.inside.is_open (sym ip.facts.3) full (fresh.0 full) in
         let t : take j.clerk request sc.server ≡ given j sc again got ask rest ip mail fresh.1 (given-state j.clerk sc.server.durable) ok
-        = room-granted j.clerk j.session sc.server.durable.epoch got ask q.slot sc.server (at-work j sc again got ask rest ip mail) ip.facts.0 (next-grant j sc again got ask rest ip mail) (given-state j.clerk sc.server.durable) full fresh.0 counts ok in (
+        = room-granted j.clerk j.session sc.server.durable.epoch got ask q.slot sc.server (at-work j sc again got ask rest ip mail) ip.facts.0 (next-grant j sc again got ask rest ip mail) (given-state j.clerk sc.server.durable) full (fresh.0 full) counts ok in (
           p,
           subst (λ u. InPhase j (behind sc rest u) p) (sym t) (gives-phase j sc again got ask rest ip mail fresh.1 (given-state j.clerk sc.server.durable) ok),
           subst (λ u. measure j (behind sc rest u) p + 32 ≤ measure j sc (Asks again got ask)) (sym t) (gives-less j sc again got ask rest ip mail fresh.1 (given-state j.clerk sc.server.durable) ok),

@@ -28,11 +28,13 @@ pub mod Keeping
 pub mod Pushing
 pub mod ClerkDelivered
 pub mod Led
+pub mod Spending
 pub mod Getting
 pub mod Fine
 pub mod Settled
 pub mod Running
 pub mod Lines
+pub mod Ended
 pub mod Picked
 mod Tried
 mod Stepped

@@ -81,7 +81,7 @@ back-orderly v clerks ss x n to o fits =
 -- Slots by their places.
 
 -- two slots of one session are one
-abbrev AreApart : Slots → Type 0
+abbrev pub AreApart : Slots → Type 0
 AreApart ss = (i j : ℕ) (sl sm : Slot) → slot_at ss i ≡ Some sl → slot_at ss j ≡ Some sm → sl.session ≡ sm.session → i ≡ j
 
 apart-from : (v : Server) → ((c : ℕ) (sl : Slot) → slot v.durable c ≡ Some sl → clerk_of v sl.session ≡ c) → AreApart v.durable.sessions
@@ -109,7 +109,7 @@ clerk-found (Some sm ∷ ss) k (suc j) sl a e = go (sm.session == sl.session) re
     go true q r = absurd (apart (a 0 (suc j) sm sl refl e (eqb-true sm.session sl.session q)))
     go false q r = r ∙ omega arith
 
-own-from : (v : Server) → AreApart v.durable.sessions → (c : ℕ) (sl : Slot) → slot v.durable c ≡ Some sl → clerk_of v sl.session ≡ c
+pub own-from : (v : Server) → AreApart v.durable.sessions → (c : ℕ) (sl : Slot) → slot v.durable c ≡ Some sl → clerk_of v sl.session ≡ c
 own-from v a c sl e = clerk-found v.durable.sessions 0 c sl a e ∙ omega arith
 
 -- each slot passes
@@ -118,7 +118,7 @@ all-at p [] none h j = none
 all-at p (o ∷ ss) none h zero = (and_parts (p o) (list_all p ss) h).0
 all-at p (o ∷ ss) none h (suc j) = all-at p ss none (and_parts (p o) (list_all p ss) h).1 j
 
-at-all : (p : Option Slot → Bool) (ss : Slots) → ((j : ℕ) → p (slot_at ss j) ≡ true) → list_all p ss ≡ true
+pub at-all : (p : Option Slot → Bool) (ss : Slots) → ((j : ℕ) → p (slot_at ss j) ≡ true) → list_all p ss ≡ true
 at-all p [] h = refl
 at-all p (o ∷ ss) h = ap (λ b. b && list_all p ss) (h 0) ∙ at-all p ss (λ j. h (suc j))
 

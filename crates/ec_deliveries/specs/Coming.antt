@@ -1,5 +1,5 @@
 -- What deliveries to the server come to.
-use Rattle.std.specs.Prelude.{◌≡◌, ◌≤◌, ◌+◌, ℕ, Bool, true, false, nat_le, List, [], ◌∷◌, Some, Ok, ⊤}
+use Rattle.std.specs.Prelude.{◌≡◌, ◌≤◌, ◌+◌, ℕ, Bool, true, false, nat_le, nat_lt, List, [], ◌∷◌, None, Some, Ok, ⊤}
 use Rattle.ec_base.specs.Limits.{last_counter}
 use Rattle.ec_base.specs.Tables.{at, keys}
 use Rattle.ec_base.specs.declared.ids.Age.{Age}
@@ -8,23 +8,23 @@ use Rattle.ec_history.specs.History.{Each}
 use Rattle.ec_history.specs.declared.shown.Shown.{Shown}
 use Rattle.ec_history.specs.declared.shown.Shown.TheVariants as show
 use Rattle.ec_order.specs.Order.{Issued}
-use Rattle.ec_sessions.specs.Limits.{ids_per_grant}
+use Rattle.ec_sessions.specs.Limits.{ids_per_grant, last_first_id}
 use Rattle.ec_sessions.specs.Slots.{run}
 use Rattle.ec_tokens.specs.Tokens.{Holder}
 use Rattle.ec_wire.specs.declared.msg.Msg.{Msg}
 use Rattle.ec_wire.specs.declared.msg.Msg.TheVariants.{Hello, Flush, Room}
-use Rattle.ec_durable.specs.Durable.{step}
+use Rattle.ec_durable.specs.Durable.{is_full, step}
 use Rattle.ec_durable.specs.declared.record.Record.TheVariants.{Batch}
 use Rattle.ec_durable.specs.declared.state.Durable.{Durable}
 use Rattle.ec_protocol.specs.Server.{serving, take, is_last_number, may_write, ids_are_spent}
-use Rattle.ec_protocol.specs.World.{deliver, runs}
+use Rattle.ec_protocol.specs.World.{deliver, due, runs}
 use Rattle.ec_protocol.specs.declared.server.Server.{Server}
 use Rattle.ec_protocol.specs.declared.world.Sent.{Sent}
 use Rattle.ec_protocol.specs.declared.world.World.{World}
 use Rattle.ec_quiet.specs.Facts.{clerk_of}
 use Rattle.ec_quiet.specs.Measure.{measure}
 use Rattle.ec_quiet.specs.Phases.{Phase, Greets, Opens, Recalls, Flushes, Keeps, Asks, Saves, Saved, InPhase, is_back, back_of}
-use Rattle.ec_quiet.specs.Scenes.{Mail, Scene, delivered, is_for_server}
+use Rattle.ec_quiet.specs.Scenes.{IsScene, Mail, Scene, delivered, is_for_server}
 use Rattle.ec_quiet.specs.Works.{Work}
 use Rattle.ec_machine_laws.specs.Holding.{AreOwn}
 
@@ -42,9 +42,9 @@ GoesOn j sc p after = (q : Phase) × InPhase j after q × (measure j after q + 3
 abbrev pub IsTaken : ℕ → ℕ → ℕ → Issued → Server → Type 0
 IsTaken c s b ops v = (may_write v.tokens s ops ≡ true) × (d : Durable) × (step (Batch c s b ops) v.durable ≡ Ok d)
 
--- the next ids are within their limits, and no other session has a token on them
+-- the next ids are within their limits, where there is room for them, and no other session has a token on them
 abbrev pub IsFreshFor : ℕ → ℕ → Server → Type 0
-IsFreshFor s got v = (ids_are_spent got (serving v) ≡ false) × AreOwn s (run v.durable.next_id ids_per_grant) v.tokens
+IsFreshFor s got v = (is_full v.durable ≡ false → ids_are_spent got (serving v) ≡ false) × AreOwn s (run v.durable.next_id ids_per_grant) v.tokens
 
 -- the next session is within its limit
 abbrev pub MayOpen : Server → Type 0
@@ -56,7 +56,17 @@ Suits c (Flush s e b ops) v = IsTaken c s b ops v
 Suits c (Room s e got ask) v = IsFreshFor s got v
 Suits c _ v = ⊤
 
+-- What a message takes of the server's durable counters isn't at its end: the next session, or the next ids where there is room for them.
+abbrev pub HasNext : Msg → Server → Type 0
+HasNext (Hello from age) v = MayOpen v
+HasNext (Room s e got ask) v = is_full v.durable ≡ false → nat_lt last_first_id v.durable.next_id ≡ false
+HasNext _ v = ⊤
+
 -- Statements.
+
+-- So it is with the next message where its delivery meets no fault.
+abbrev pub DeliveriesHaveNext : Type 0
+DeliveriesHaveNext = (j : Work) (w : World) (sc : Scene) (p : Phase) (t : ℕ × Msg) (rest : Mail) (n : ℕ) → IsScene w sc → InPhase j sc p → sc.mail ≡ t ∷ rest → due w ≡ Some n → (deliver runs n w).fault ≡ None → HasNext t.1 sc.server
 
 -- A holder's token that was recalled comes back: the others are still waited for, or the want is granted.
 abbrev pub BacksComeBack : Type 0

@@ -27,8 +27,10 @@ pub use clerk_deliveries::{
 pub use holders::{holders_are_at_work, recalled_holders_give_back};
 pub use idle::{changes_leave_other_sessions, idle_clerks_stay_idle};
 pub use leaving::old_tokens_leave;
-pub use line_deliveries::deliveries_lead_on;
-pub use line_runs::{deliveries_meet_no_limit, lines_settle, runs_settle_alike};
+pub use line_deliveries::{deliveries_have_next, deliveries_lead_on};
+pub use line_runs::{
+    deliveries_meet_no_limit, lines_settle, lines_settle_or_end, runs_settle_alike,
+};
 pub use orderly::{records_are_committed_in_order, tokens_change_in_order};
 pub use phases::deliveries_go_on;
 pub use sessions::{greetings_are_delivered, requests_for_ids_are_delivered};
