@@ -15,6 +15,7 @@ use Rattle.ec_protocol.specs.declared.script.Line.TheVariants as line
 use Rattle.ec_protocol.specs.declared.server.Server.{Server}
 use Rattle.ec_protocol.specs.declared.world.Event.TheVariants as event
 use Rattle.ec_protocol.specs.declared.world.World.{World}
+use Rattle.ec_protocol.specs.declared.world.WorldFault.{WorldFault}
 use Rattle.ec_coherence.specs.System.{System}
 use Rattle.ec_coherence.proofs.Tables.{none_some, same_some}
 use Rattle.ec_lawful.specs.Calls.{AreOf}
@@ -29,19 +30,20 @@ use Rattle.ec_quiet.specs.Scenes.{IsScene, Mail, Scene, delivered, is_for_server
 use Rattle.ec_quiet.specs.Works.{Work}
 use Rattle.ec_quiet.specs.Bounds.{IsFirst}
 use Rattle.ec_quiet.specs.SettlingScenes.{Reaches, here, on}
-use Rattle.ec_deliveries.specs.Runs.{HasSettled}
+use Rattle.ec_deliveries.specs.Runs.{HasEnded, HasSettled}
 use Rattle.ec_complete.specs.Begins.{bound_for, most_sent}
 use Rattle.ec_complete.specs.Complete.{IsFaultless}
 use Rattle.ec_complete.proofs.Numbers.{Below, later}
-use Rattle.ec_complete.specs.Worlds.{IsCounted, IsKnown}
-use Rattle.ec_complete.specs.Goes.{GoesOn, IsWorkOf}
+use Rattle.ec_complete.specs.Worlds.{IsCounted, IsEarly, IsKnown, Outset}
+use Rattle.ec_complete.specs.Goes.{GoesOn, GoesThrough, IsWorkOf}
 use Rattle.ec_complete.specs.Ready.{IsReady, calls_of, line_sends}
 use Rattle.ec_complete.proofs.Boots.{delivery-alike, first-rises}
 use Rattle.ec_complete.proofs.Counts.{calls-then, counted-more, own-made}
 use Rattle.ec_complete.proofs.First.{IsStepped, named-now}
 use Rattle.ec_complete.proofs.Idle as idle
 use Rattle.ec_complete.proofs.Laws.{calls-tell, deliveries-hold, deliveries-keep, deliveries-tell, ends-keep, events-hold, lines-stay-known, messages-count, nothing-due, pushes-tell, servers-count}
-use Rattle.ec_complete.proofs.Settles.{counts, sent-behind, settles, shows, stops}
+use Rattle.ec_complete.proofs.Settles as starts
+use Rattle.ec_complete.proofs.Settles.{counts, shows, stops}
 
 -- a step that meets no fault
 module _ (m : Moving) (n : ℕ) (fine : (deliver runs n m.world).fault ≡ None) where
@@ -61,7 +63,7 @@ more w n = go w.server refl
         (λ v f. (omega (arith, ap (λ (x : Server). x.number) (same_some (sym e ∙ f))), omega (arith, ap (λ (x : Server). x.durable.next_session) (same_some (sym e ∙ f)))))).1
 
 -- A delivery in a line whose work is known.
-module _ (names : List ℕ) (number : ℕ) (j : Work) (r : Moving) (known : IsKnown j number r) where
+module _ (outset : Outset) (names : List ℕ) (number : ℕ) (j : Work) (r : Moving) (known : IsKnown outset j number r) where
   abbrev z : Scene
   z = known.scene
 
@@ -98,8 +100,8 @@ module _ (names : List ℕ) (number : ℕ) (j : Work) (r : Moving) (known : IsKn
     pub tame-then : AreTame r.world.clerks → AreTame (deliver runs n r.world).world.clerks
     tame-then h = goes z.mail refl (subst AreTame known.stands.clerks h)
 
-module _ (v : Images) (most : ℕ) (names : List ℕ) (number : ℕ) (w : World) (q : IsReady v most names number w) (few : number ≤ 65536) (first : 1 ≤ number) (sixteen : length (once names) ≤ 16)
-    (l : Line) (column : ℕ) (faultless : IsFaultless l) (fit : IsFit (reads l column)) (step : IsStepped v most names number l w q (line_happens runs number l w)) where
+module _ (outset : Outset) (v : Images) (most : ℕ) (names : List ℕ) (number : ℕ) (w : World) (q : IsReady outset v most names number w) (few : number ≤ 65536) (first : 1 ≤ number) (sixteen : length (once names) ≤ 16)
+    (l : Line) (column : ℕ) (faultless : IsFaultless l) (fit : IsFit (reads l column)) (step : IsStepped outset v most names number l w q (line_happens runs number l w)) where
   abbrev m : Moving
   m = line_happens runs number l w
 
@@ -122,20 +124,20 @@ module _ (v : Images) (most : ℕ) (names : List ℕ) (number : ℕ) (w : World)
     boots : (a : ℕ) → boot a u ≤ boot a w + 1
 
   of-all : AreOf (Below (number + 1)) w
-  of-all = record { calls = λ c n k cl e. absurd (none_some (sym ((idle.its-quiet v most names number w q).1 c n) ∙ e)); shown = later number w.shown q.shown }
+  of-all = record { calls = λ c n k cl e. absurd (none_some (sym ((idle.its-quiet outset v most names number w q).1 c n) ∙ e)); shown = later number w.shown q.shown }
 
   begins : IsAlong m.world
   begins = go l step.fine faultless fit
     where
       go : (l : Line) → (line_happens runs number l w).fault ≡ None → IsFaultless l → IsFit (reads l column) → IsAlong (line_happens runs number l w).world
-      go line.Comment f a b = record { holds = idle.holds v most names number w q; of = of-all; boots = first-rises number w line.Comment a }
+      go line.Comment f a b = record { holds = idle.holds outset v most names number w q; of = of-all; boots = first-rises number w line.Comment a }
       go (line.Call c cl) f a b = record {
-        holds = events-hold v most (event.Call c number cl) w (idle.holds v most names number w q) (idle.is-new v most names number w q, b.0, b.1) f;
+        holds = events-hold v most (event.Call c number cl) w (idle.holds outset v most names number w q) (idle.is-new outset v most names number w q, b.0, b.1) f;
         of = calls-tell (Below (number + 1)) c number cl w of-all (omega arith) f;
         boots = first-rises number w (line.Call c cl) a;
       }
       go (line.Push c i) f a b = record {
-        holds = events-hold v most (event.Push c i) w (idle.holds v most names number w q) tt f;
+        holds = events-hold v most (event.Push c i) w (idle.holds outset v most names number w q) tt f;
         of = pushes-tell (Below (number + 1)) c i w of-all f;
         boots = first-rises number w (line.Push c i) a;
       }
@@ -164,24 +166,18 @@ module _ (v : Images) (most : ℕ) (names : List ℕ) (number : ℕ) (w : World)
   -- The world behind the line.
 
   from : m.world.sent ≤ line_sends * number + pending m.world
-  from = omega (arith, counts number w l faultless, q.sent, idle.none-pending v most names number w q)
+  from = omega (arith, counts number w l faultless, q.sent, idle.none-pending outset v most names number w q)
 
-  pub settled : HasSettled (bound_for k) m r
-  settled = settles k sixteen m (line_sends * number) step.fine (shows number w l faultless) from (omega (arith, few)) step.begun
-
-  sent-on : r.world.sent ≤ line_sends * (number + 1)
-  sent-on = omega (arith, sent-behind k sixteen m (line_sends * number) step.fine (shows number w l faultless) from (omega (arith, few)) step.begun r settled)
-
-  few-sent : r.world.sent ≤ most_sent
-  few-sent = omega (arith, sent-on, few)
+  ends : (r.fault ≡ None → HasSettled (bound_for k) m r) × ((f : WorldFault) → r.fault ≡ Some f → HasEnded most_sent m r)
+  ends = starts.settles-or-ends outset number k few sixteen m (line_sends * number) step.fine (shows number w l faultless) from (omega (arith, few)) step.started
 
   less : number ≡ (number + 1) - 1
   less = omega arith
 
   abbrev Next : World → Type 0
-  Next u = IsReady v most names (number + 1) (forget u)
+  Next u = IsReady outset v most names (number + 1) (forget u)
 
-  ready : (u : World) (z : Scene) → IsScene u z → IsIdle z → IsInOrder z.server.durable → IsCounted number u z → IsAlong u → Tame u → u.sent ≤ line_sends * (number + 1) → Next u
+  ready : (u : World) (z : Scene) → IsScene u z → IsIdle z → IsInOrder z.server.durable → IsCounted outset number u z → IsAlong u → Tame u → u.sent ≤ line_sends * (number + 1) → Next u
   ready u z i idle-z order counted a tame sent = record {
     scene = z;
     stands = (ends-keep u z i idle-z.mail).1;
@@ -190,7 +186,7 @@ module _ (v : Images) (most : ℕ) (names : List ℕ) (number : ℕ) (w : World)
     facts = a.holds.1;
     in_system = forgotten-stands u a.holds.0 a.holds.2;
     order = order;
-    counted = subst (λ n. IsCounted n (forget u) z) less (record { server = counted.server; clerks = counted.clerks; ids = counted.ids });
+    counted = subst (λ n. IsCounted outset n (forget u) z) less (record { server = counted.server; clerks = counted.clerks; ids = counted.ids });
     shown = a.of.shown;
     sent = sent;
     calls = omega (arith, subst (λ cs. sum calls_of cs ≤ number) i.clerks tame.0);
@@ -198,43 +194,62 @@ module _ (v : Images) (most : ℕ) (names : List ℕ) (number : ℕ) (w : World)
     boots = λ c. omega (arith, a.boots c, q.boots c);
   }
 
-  -- where the line's work is known
-  module _ (j : Work) (known : IsKnown j number m) where
-    walks : (u : Moving) → Reaches m u → u.world.sent ≤ most_sent → Tame u.world
-    walks u here le = (step.calls, step.named)
-    walks _ (on u i reached is-due fine) le =
-        let less : u.world.sent ≤ most_sent = at-most u i fine (more u.world i) le in
-        subst (λ (x : Moving). Tame x.world) (sym (onward-is u i fine)) (tame-then names number j u (lines-stay-known j number m u known few reached less) i is-due fine (walks u reached less))
+  -- The line settled.
+  module _ (settled : HasSettled (bound_for k) m r) where
+    sent-on : r.world.sent ≤ line_sends * (number + 1)
+    sent-on = omega (arith, starts.sent-behind outset number k few sixteen m (line_sends * number) step.fine (shows number w l faultless) from (omega (arith, few)) step.started r settled)
+
+    few-sent : r.world.sent ≤ most_sent
+    few-sent = omega (arith, sent-on, few)
+
+    -- where the line's work is known
+    module _ (j : Work) (known : IsKnown outset j number m) where
+      walks : (u : Moving) → Reaches m u → u.world.sent ≤ most_sent → Tame u.world
+      walks u here le = (step.calls, step.named)
+      walks _ (on u i reached is-due fine) le =
+          let less : u.world.sent ≤ most_sent = at-most u i fine (more u.world i) le in
+          subst (λ (x : Moving). Tame x.world) (sym (onward-is u i fine)) (tame-then outset names number j u (lines-stay-known outset j number m u known few reached less) i is-due fine (walks u reached less))
+        where
+          at-most : (u : Moving) (n : ℕ) → (deliver runs n u.world).fault ≡ None → u.world.sent ≤ (deliver runs n u.world).world.sent → (onward u (deliver runs n u.world)).world.sent ≤ most_sent → u.world.sent ≤ most_sent
+          at-most u n f more l = let same = ap (λ (x : Moving). x.world.sent) (onward-is u n f) in omega (arith, more, l, same)
+
+      end : IsKnown outset j number r
+      end = lines-stay-known outset j number m r known few settled.reached few-sent
+
+      servers : settled.scene.server ≡ end.scene.server
+      servers = same_some (sym settled.stands.server ∙ end.stands.server)
+
+      same : settled.scene ≡ end.scene
+      same = (λ y. record { server = servers y; clerks = (sym settled.stands.clerks ∙ end.stands.clerks) y; mail = (sym settled.stands.mail ∙ end.stands.mail) y })
+
+      next-known : Next r.world
+      next-known = ready r.world end.scene end.stands (subst IsIdle same settled.idle) end.facts.order end.counted (along r settled.reached) (walks r settled.reached few-sent) sent-on
+
+    -- where nothing was done
+    next-idle : IsScene m.world q.scene → Next r.world
+    next-idle i = subst (λ (x : Moving). Next x.world) (sym stopped) (ready m.world q.scene i q.idle q.order counted begins (step.calls, step.named) (subst (λ (x : Moving). x.world.sent ≤ line_sends * (number + 1)) stopped sent-on))
       where
-        at-most : (u : Moving) (n : ℕ) → (deliver runs n u.world).fault ≡ None → u.world.sent ≤ (deliver runs n u.world).world.sent → (onward u (deliver runs n u.world)).world.sent ≤ most_sent → u.world.sent ≤ most_sent
-        at-most u n f more l = let same = ap (λ (x : Moving). x.world.sent) (onward-is u n f) in omega (arith, more, l, same)
+        stopped : r ≡ m
+        stopped = stops (bound_for k) m (nothing-due m.world q.scene i q.idle.mail)
 
-    end : IsKnown j number r
-    end = lines-stay-known j number m r known few settled.reached few-sent
+        counted : IsCounted outset number m.world q.scene
+        counted = counted-more outset (number - 1) number w m.world q.scene (omega arith) (omega (arith, counts number w l faultless, idle.none-pending outset v most names number w q))
+            (i.server ∙ sym q.stands.server) (i.clerks ∙ sym q.stands.clerks) q.counted
 
-    servers : settled.scene.server ≡ end.scene.server
-    servers = same_some (sym settled.stands.server ∙ end.stands.server)
+    next : ((j : Work) × IsWorkOf l w q.scene q.system j × (k : IsKnown outset j number m) × IsFirst k.phase) ⊎ IsScene m.world q.scene → Next r.world
+    next (inl (j, of, known, first)) = next-known j known
+    next (inr i) = next-idle i
 
-    same : settled.scene ≡ end.scene
-    same = (λ y. record { server = servers y; clerks = (sym settled.stands.clerks ∙ end.stands.clerks) y; mail = (sym settled.stands.mail ∙ end.stands.mail) y })
+  pub goes-on : GoesOn outset v most names number l w q
+  goes-on = record { new = idle.is-new outset v most names number w q; fine = step.fine; known = step.known; started = step.started; ends = ends.0; ended = ends.1; next = λ settled. next settled step.known }
 
-    next-known : Next r.world
-    next-known = ready r.world end.scene end.stands (subst IsIdle same settled.idle) end.facts.order end.counted (along r settled.reached) (walks r settled.reached few-sent) sent-on
-
-  -- where nothing was done
-  next-idle : IsScene m.world q.scene → Next r.world
-  next-idle i = subst (λ (x : Moving). Next x.world) (sym stopped) (ready m.world q.scene i q.idle q.order counted begins (step.calls, step.named) (subst (λ (x : Moving). x.world.sent ≤ line_sends * (number + 1)) stopped sent-on))
-    where
-      stopped : r ≡ m
-      stopped = stops (bound_for k) m (nothing-due m.world q.scene i q.idle.mail)
-
-      counted : IsCounted number m.world q.scene
-      counted = counted-more (number - 1) number w m.world q.scene (omega arith) (omega (arith, counts number w l faultless, idle.none-pending v most names number w q))
-          (i.server ∙ sym q.stands.server) (i.clerks ∙ sym q.stands.clerks) q.counted
-
-  next : ((j : Work) × IsWorkOf l w q.scene q.system j × (k : IsKnown j number m) × IsFirst k.phase) ⊎ IsScene m.world q.scene → Next r.world
-  next (inl (j, of, known, first)) = next-known j known
-  next (inr i) = next-idle i
-
-  pub goes-on : GoesOn v most names number l w q
-  goes-on = record { new = idle.is-new v most names number w q; fine = step.fine; known = step.known; begun = step.begun; settled = settled; next = next step.known }
+  -- where counters were far below their limits
+  pub goes-through : IsEarly outset → GoesThrough outset v most names number l w q
+  goes-through early =
+      let settled : HasSettled (bound_for k) m r = starts.settles outset number k few sixteen m (line_sends * number) step.fine (shows number w l faultless) from (omega (arith, few)) early step.started in
+      record {
+        goes = goes-on;
+        begun = starts.begins outset number k few sixteen m (line_sends * number) step.fine (shows number w l faultless) from (omega (arith, few)) early step.started;
+        settled = settled;
+        next = next settled step.known;
+      }

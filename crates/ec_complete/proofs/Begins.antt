@@ -21,7 +21,7 @@ use Rattle.ec_complete.specs.WaitingCalls.{kept_volume}
 use Rattle.ec_complete.specs.Lines.{next_object}
 use Rattle.ec_complete.specs.LineCalls.{IsCalled, IsCalledFirst}
 use Rattle.ec_complete.specs.Complete.{IsFaultless}
-use Rattle.ec_complete.specs.Worlds.{IsKnown}
+use Rattle.ec_complete.specs.Worlds.{IsKnown, Outset}
 use Rattle.ec_complete.specs.Goes.{GoesOn, IsWorkOf}
 use Rattle.ec_complete.specs.Ready.{IsReady}
 use Rattle.ec_complete.specs.Following.{BeginsBehind, IsUncalled}
@@ -30,7 +30,7 @@ use Rattle.ec_complete.proofs.Greeting.{start-begins}
 use Rattle.ec_complete.proofs.PushesFollowed.{push-begins}
 use Rattle.ec_complete.proofs.Line.{IsAtWorkOrIdle}
 
-module _ (v : Images) (most : ℕ) (names : List ℕ) (number : ℕ) (w : World) (q : IsReady v most names number w) where
+module _ (outset : Outset) (v : Images) (most : ℕ) (names : List ℕ) (number : ℕ) (w : World) (q : IsReady outset v most names number w) where
   abbrev sc : Scene
   sc = q.scene
 
@@ -43,14 +43,14 @@ module _ (v : Images) (most : ℕ) (names : List ℕ) (number : ℕ) (w : World)
     Called = ((sl : Slot) × (k : Clerk) × IsCalled j cl w sc g sl k) ⊎ IsCalledFirst j cl w sc g
 
     abbrev Begins : ℕ → Type 0
-    Begins c = (call c number cl w).fault ≡ None → (k : IsKnown j number (call c number cl w)) → IsFirst k.phase → Called → BeginsBehind (line.Call c cl) v (kept_volume g) j number (call c number cl w)
+    Begins c = (call c number cl w).fault ≡ None → (k : IsKnown outset j number (call c number cl w)) → IsFirst k.phase → Called → BeginsBehind outset (line.Call c cl) v (kept_volume g) j number (call c number cl w)
 
     own : Begins j.clerk
-    own fine k first called = subst (λ o. BeginsBehind (line.Call j.clerk cl) o (kept_volume g) j number (call j.clerk number cl w)) q.facts.origin (by called)
+    own fine k first called = subst (λ o. BeginsBehind outset (line.Call j.clerk cl) o (kept_volume g) j number (call j.clerk number cl w)) q.facts.origin (by called)
       where
-        by : Called → BeginsBehind (line.Call j.clerk cl) g.origin (kept_volume g) j number (call j.clerk number cl w)
-        by (inl (sl, a, is)) = call-begins j number cl w sc g sl a number is new fine (k.scene, k.stands, k.counted)
-        by (inr is) = start-begins j number cl w sc g number is new fine k first
+        by : Called → BeginsBehind outset (line.Call j.clerk cl) g.origin (kept_volume g) j number (call j.clerk number cl w)
+        by (inl (sl, a, is)) = call-begins outset j number cl w sc g sl a number is new fine (k.scene, k.stands, k.counted)
+        by (inr is) = start-begins outset j number cl w sc g number is new fine k first
 
     call-goes : (c : ℕ) → j.clerk ≡ c → Begins c
     call-goes c e = subst Begins e own
@@ -58,25 +58,25 @@ module _ (v : Images) (most : ℕ) (names : List ℕ) (number : ℕ) (w : World)
   -- A push.
   module _ (n : ℕ) (j : Work) where
     abbrev Goes : ℕ → Type 0
-    Goes c = (push c n (at c w.clerks) w).fault ≡ None → IsWorkOf (line.Push c n) w sc g j → IsKnown j number (push c n (at c w.clerks) w) → IsAtWorkOrIdle (line.Push c n) v number (push c n (at c w.clerks) w)
+    Goes c = (push c n (at c w.clerks) w).fault ≡ None → IsWorkOf (line.Push c n) w sc g j → IsKnown outset j number (push c n (at c w.clerks) w) → IsAtWorkOrIdle outset (line.Push c n) v number (push c n (at c w.clerks) w)
 
     own-push : Goes j.clerk
-    own-push fine of k = by (push-begins j n w sc g of.2 of.3 (kept_volume g) number q.facts.whole q.in_system q.stands q.idle q.order of.4 of.1 fine k.scene k.stands k.counted uncalled)
+    own-push fine of k = by (push-begins outset j n w sc g of.2 of.3 (kept_volume g) number q.facts.whole q.in_system q.stands q.idle q.order of.4 of.1 fine k.scene k.stands k.counted uncalled)
       where
         uncalled : IsUncalled j.clerk k.scene
         uncalled a e = (λ f. subst (λ xs. T (member (next_object k.scene j.clerk a) xs)) of.1 (k.facts.id a e f), k.facts.answered n of.4.task a e)
 
-        by : BeginsBehind (line.Push j.clerk n) g.origin (kept_volume g) j number (push j.clerk n (at j.clerk w.clerks) w) ⊎ IsScene (push j.clerk n (at j.clerk w.clerks) w).world sc → IsAtWorkOrIdle (line.Push j.clerk n) v number (push j.clerk n (at j.clerk w.clerks) w)
-        by (inl b) = inl (kept_volume g, j, subst (λ o. BeginsBehind (line.Push j.clerk n) o (kept_volume g) j number (push j.clerk n (at j.clerk w.clerks) w)) q.facts.origin b)
+        by : BeginsBehind outset (line.Push j.clerk n) g.origin (kept_volume g) j number (push j.clerk n (at j.clerk w.clerks) w) ⊎ IsScene (push j.clerk n (at j.clerk w.clerks) w).world sc → IsAtWorkOrIdle outset (line.Push j.clerk n) v number (push j.clerk n (at j.clerk w.clerks) w)
+        by (inl b) = inl (kept_volume g, j, subst (λ o. BeginsBehind outset (line.Push j.clerk n) o (kept_volume g) j number (push j.clerk n (at j.clerk w.clerks) w)) q.facts.origin b)
         by (inr i) = inr (sc, i, q.idle)
 
     push-goes : (c : ℕ) → j.clerk ≡ c → Goes c
     push-goes c e = subst Goes e own-push
 
-  pub goes-behind : (l : Line) → IsFaultless l → GoesOn v most names number l w q → IsAtWorkOrIdle l v number (line_happens runs number l w)
+  pub goes-behind : (l : Line) → IsFaultless l → GoesOn outset v most names number l w q → IsAtWorkOrIdle outset l v number (line_happens runs number l w)
   goes-behind l a goes = by l a goes.fine goes.new goes.known
     where
-      by : (l : Line) → IsFaultless l → (line_happens runs number l w).fault ≡ None → IsNewIn w number → ((j : Work) × IsWorkOf l w sc g j × (k : IsKnown j number (line_happens runs number l w)) × IsFirst k.phase) ⊎ IsScene (line_happens runs number l w).world sc → IsAtWorkOrIdle l v number (line_happens runs number l w)
+      by : (l : Line) → IsFaultless l → (line_happens runs number l w).fault ≡ None → IsNewIn w number → ((j : Work) × IsWorkOf l w sc g j × (k : IsKnown outset j number (line_happens runs number l w)) × IsFirst k.phase) ⊎ IsScene (line_happens runs number l w).world sc → IsAtWorkOrIdle outset l v number (line_happens runs number l w)
       by l a fine new (inr i) = inr (sc, i, q.idle)
       by (line.Call c cl) a fine new (inl (j, of, k, first)) = inl (kept_volume g, j, call-goes cl j new c of.0 fine k first of.1)
       by (line.Push c n) a fine new (inl (j, of, k, first)) = push-goes n j c of.0 fine of k

@@ -9,6 +9,8 @@ use Rattle.ec_history.specs.History.{updates}
 use Rattle.ec_sessions.specs.Limits.{ids_per_grant, last_first_id, last_grants}
 use Rattle.ec_sessions.specs.Slots.{all_unspent, is_open, run}
 use Rattle.ec_sessions.specs.declared.slot.Slot.{Slot}
+use Rattle.ec_wire.specs.declared.msg.Msg.{Msg}
+use Rattle.ec_wire.specs.declared.msg.Msg.TheVariants as msg
 use Rattle.ec_durable.specs.Durable.{slot}
 use Rattle.ec_durable.specs.WellFormed.{IsInOrder}
 use Rattle.ec_log.specs.Log as log
@@ -32,7 +34,8 @@ use Rattle.ec_complete.proofs.Pinned.{in-store, once-each, stored-few, stored_id
 use Rattle.ec_agreed_lines.specs.Counting.{IsCounted}
 use Rattle.ec_complete.specs.Lines.{IsOnLine, IsSpare}
 use Rattle.ec_complete.proofs.Standing.{InSlot, in-slot, other}
-use Rattle.ec_complete.specs.Spare.{IsBelow, granted_below, max_calls, open_grants}
+use Rattle.ec_complete.specs.Spare.{IsBelow, IsFarBelow, NextIsSpare, granted_below, max_calls, max_given, open_grants}
+use Rattle.ec_deliveries.specs.Coming.{HasNext}
 
 not-at : (top a : ℕ) → a < top → nat_le top a ≡ false
 not-at top a l = grind (arith, nat_tests, l)
@@ -180,8 +183,8 @@ module _ (number session first calls : ℕ) (j : Work) (w : World) (sc : Scene) 
   all-few zero = omega arith
   all-few (suc n) = omega (arith, each-few n, all-few n)
 
-  ids-left : sc.server.durable.next_id ≤ last_first_id
-  ids-left = within sc.server.durable.next_id first (granted_below 16 sc.server.durable) last_first_id b.ids (all-few 16) b.firsts
+  ids-left : first + max_given ≤ last_first_id → sc.server.durable.next_id ≤ last_first_id
+  ids-left firsts = within sc.server.durable.next_id first (granted_below 16 sc.server.durable) last_first_id b.ids (all-few 16) firsts
     where
       within : (next first all last : ℕ) → next ≤ first + 16 * all → all ≤ 16 * 4161 → first + 1065216 ≤ last → next ≤ last
       within next first all last a b c = omega (arith, a, b, c)
@@ -189,8 +192,6 @@ module _ (number session first calls : ℕ) (j : Work) (w : World) (sc : Scene) 
   pub is-spare : IsSpare j sc
   is-spare = record {
     number = not-at last_counter sc.server.number (below sc.server.number (number + w.sent) last_counter (b.server sc.server scene.server).0 b.numbers);
-    session = not-at last_counter sc.server.durable.next_session (below sc.server.durable.next_session (session + w.sent) last_counter (b.server sc.server scene.server).1 b.sessions);
-    first = not-above last_first_id sc.server.durable.next_id ids-left;
     grants = λ k sl there here inside. not-at last_grants sl.grants (few sl.grants (few-grants j.clerk k sl there here inside));
     clerks = has-counters;
     small = not-full;
@@ -202,5 +203,30 @@ module _ (number session first calls : ℕ) (j : Work) (w : World) (sc : Scene) 
       below : (a m top : ℕ) → a ≤ m → m < top → a < top
       below a m top l n = omega (arith, l, n)
 
+  -- the durable counters
+  pub has-next : IsFarBelow session first w → (m : Msg) → HasNext m sc.server
+  has-next far (msg.Hello from age) = not-at last_counter sc.server.durable.next_session (below sc.server.durable.next_session (session + w.sent) last_counter (b.server sc.server scene.server).1 far.sessions)
+    where
+      below : (a m top : ℕ) → a ≤ m → m < top → a < top
+      below a m top l n = omega (arith, l, n)
+  has-next far (msg.Room ss e got ask) = λ room. not-above last_first_id sc.server.durable.next_id (ids-left far.firsts)
+  has-next far (msg.Want ss e x h n) = tt
+  has-next far (msg.Back ss e x n h) = tt
+  has-next far (msg.Flush ss e n ops) = tt
+  has-next far (msg.Claim ss e list) = tt
+  has-next far (msg.Bye ss e) = tt
+  has-next far (msg.Opened age ss e) = tt
+  has-next far (msg.Grant ss e x n h i) = tt
+  has-next far (msg.Recall ss e x n h) = tt
+  has-next far (msg.Kept ss e n) = tt
+  has-next far (msg.Ids ss e got n x) = tt
+  has-next far (msg.NoRoom ss e ask live reserved) = tt
+  has-next far (msg.Ended ss low mask) = tt
+  has-next far (msg.Restarted ss e) = tt
+  has-next far (msg.OldBoot a x) = tt
+
 pub counters-spare : (number session first calls : ℕ) (j : Work) (w : World) (sc : Scene) (g : System) (p : Phase) → IsBelow number session first calls w sc → IsOnLine j w sc g → IsScene w sc → InPhase j sc p → IsSpare j sc
 counters-spare number session first calls j w sc g p b on scene ip = is-spare number session first calls j w sc g p b on scene ip
+
+pub next-spare : NextIsSpare
+next-spare number session first calls j w sc g p b far on scene ip m = has-next number session first calls j w sc g p b on scene ip far m

@@ -30,8 +30,8 @@ use Rattle.ec_complete.specs.WaitingCalls.{kept_volume, touched_by}
 use Rattle.ec_complete.specs.Lines.{IsOnLine, next_object}
 use Rattle.ec_complete.specs.FirstSteps.{IsTold}
 use Rattle.ec_complete.specs.LineCalls.{IsCalled}
-use Rattle.ec_complete.specs.Begins.{IsBegun}
-use Rattle.ec_complete.specs.Worlds.{IsCounted, IsKnown}
+use Rattle.ec_complete.specs.Worlds.{IsCounted, IsKnown, Outset}
+use Rattle.ec_complete.specs.Goes.{IsStarted}
 use Rattle.ec_complete.specs.Ready.{IsReady, calls_of}
 use Rattle.ec_complete.proofs.Counts.{calls-then, counted-then, one-asked, own-made, parts, sends-out, unsent-less}
 use Rattle.ec_complete.proofs.First.{IsStepped, named-now}
@@ -78,7 +78,7 @@ none-left (m ∷ ms) e = absurd (omega (arith, e))
 one-waits : (cl : Call) (k : Clerk) → HasTask (Calls cl) k → 1 ≤ length k.waiting
 one-waits cl k t = omega (arith, ap length t.1)
 
-module _ (v : Images) (most : ℕ) (names : List ℕ) (number : ℕ) (w : World) (q : IsReady v most names number w) (few : number ≤ 65536) (first : 1 ≤ number) (c : ℕ) (cl : Call) (k : Clerk) (there : at c q.scene.clerks ≡ Some k)
+module _ (outset : Outset) (v : Images) (most : ℕ) (names : List ℕ) (number : ℕ) (w : World) (q : IsReady outset v most names number w) (few : number ≤ 65536) (first : 1 ≤ number) (c : ℕ) (cl : Call) (k : Clerk) (there : at c q.scene.clerks ≡ Some k)
     (small : c < 16) (bounded : T (is_bounded cl)) (name : T (member c names)) where
   abbrev sc : Scene
   sc = q.scene
@@ -87,16 +87,16 @@ module _ (v : Images) (most : ℕ) (names : List ℕ) (number : ℕ) (w : World)
   g = q.system
 
   abbrev sl : Slot
-  sl = idle.slot-of v most names number w q few first c k there
+  sl = idle.slot-of outset v most names number w q few first c k there
 
   i : IsIdleBut [] sc.server c sl k
-  i = idle.its-idle v most names number w q few first c k there
+  i = idle.its-idle outset v most names number w q few first c k there
 
   abbrev j : Work
   j = record { clerk = c; session = sl.session; task = Calls cl; touched = touched_by cl (kept_volume g) (next_object sc c k); number = sc.server.number }
 
   its : IsAt j sc sl k
-  its = record { clerk = small; there = there; slot = i.inside.there; session = refl; number = refl; once = idle.once-each v most names number w q few first c k there }
+  its = record { clerk = small; there = there; slot = i.inside.there; session = refl; number = refl; once = idle.once-each outset v most names number w q few first c k there }
 
   called : IsCalled j cl w sc g sl k
   called = record {
@@ -109,13 +109,13 @@ module _ (v : Images) (most : ℕ) (names : List ℕ) (number : ℕ) (w : World)
     task = refl;
     bounded = bounded;
     touched = refl;
-    calls = idle.calls-left v most names number w q few first c k there;
-    counters = idle.its-counters v most names number w q few first c k there;
-    small = idle.not-full v most names number w q few first c k there;
+    calls = idle.calls-left outset v most names number w q few first c k there;
+    counters = idle.its-counters outset v most names number w q few first c k there;
+    small = idle.not-full outset v most names number w q few first c k there;
   }
 
   may : MayGo j (add_call cl k)
-  may = calls-may-begin j number cl w sc g sl k called (idle.is-new v most names number w q)
+  may = calls-may-begin j number cl w sc g sl k called (idle.is-new outset v most names number w q)
 
   abbrev d : Doing
   d = begin cl k
@@ -130,7 +130,7 @@ module _ (v : Images) (most : ℕ) (names : List ℕ) (number : ℕ) (w : World)
   begun = calls-begin j sc sl k cl q.idle its called.calls may
 
   count : clerks.IsCounted (number - 1) w.sent k
-  count = idle.its-count v most names number w q few first c k there
+  count = idle.its-count outset v most names number w q few first c k there
 
   unspent-step : d.spent ≡ None
   unspent-step = spend-nothing cl k called.calls (record {
@@ -142,16 +142,16 @@ module _ (v : Images) (most : ℕ) (names : List ℕ) (number : ℕ) (w : World)
   carried = carried-out w sc c number cl k q.stands (ap (at c) q.stands.clerks ∙ there) unspent-step
 
   on : (h : System) × IsOnLine j m.world now h
-  on = calls-come-on j number cl w sc g sl k begun.phase called (idle.is-new v most names number w q) carried.0 carried.1 begun.comes (told begun.phase begun.asked)
+  on = calls-come-on j number cl w sc g sl k begun.phase called (idle.is-new outset v most names number w q) carried.0 carried.1 begun.comes (told begun.phase begun.asked)
 
   next-number : (number - 1) + 1 ≡ number
   next-number = omega (arith, first)
 
-  counted : IsCounted number m.world now
-  counted = counted-then w m.world sc q.stands q.idle.mail c d carried.1 (calls-send w c number cl) (number - 1) number (omega arith) q.counted
+  counted : IsCounted outset number m.world now
+  counted = counted-then w m.world sc q.stands q.idle.mail c d carried.1 (calls-send w c number cl) outset (number - 1) number (omega arith) q.counted
       (subst (λ n. clerks.IsCounted n (w.sent + sent_in d.outs) d.clerk) next-number (calls-count (number - 1) w.sent cl k count called.calls))
 
-  abbrev known : IsKnown j number m
+  abbrev known : IsKnown outset j number m
   known = record { scene = now; stands = carried.1; phase = begun.phase; comes = begun.comes; system = on.0; facts = on.1; counted = counted }
 
   one-more : d.clerk.calls ≤ k.calls + 1
@@ -166,11 +166,11 @@ module _ (v : Images) (most : ℕ) (names : List ℕ) (number : ℕ) (w : World)
   of-session : (t : Slot) → slot sc.server.durable c ≡ Some t → t.is_open ≡ true → t.session ≡ sl.session
   of-session t e f = ap (λ z. z.session) (same_some (sym e ∙ i.inside.there))
 
-  waits : (p : Phase) → IsFirst p → InPhase j now p → backs j now.mail ≡ [] → (x : Clerk) → at c now.clerks ≡ Some x → 1 ≤ length x.waiting → IsBegun (length (once names)) m
-  waits p f comes none x e one = work-begins names number few j m now carried.1 known on.1.few named p f comes none (subst (λ o. T (is_some o)) (sym e) tt) of-session
+  waits : (p : Phase) → IsFirst p → InPhase j now p → backs j now.mail ≡ [] → (x : Clerk) → at c now.clerks ≡ Some x → 1 ≤ length x.waiting → IsStarted outset (length (once names)) number m
+  waits p f comes none x e one = work-begins outset names number j m now carried.1 known on.1.few named p f comes none (subst (λ o. T (is_some o)) (sym e) tt) of-session
       (omega (arith, unsent-less j number m.world.sent c x now.clerks comes.orderly.rising e one (λ a y f. counted.clerks a y (ap (at a) carried.1.clerks ∙ f)), made, few))
 
-  starts : (p : Phase) → IsAsked p → InPhase j now p → backs j now.mail ≡ [] → IsBegun (length (once names)) m
+  starts : (p : Phase) → IsAsked p → InPhase j now p → backs j now.mail ≡ [] → IsStarted outset (length (once names)) number m
   starts (Wants x h n) a comes none = let f = comes.facts.1 in waits (Wants x h n) tt comes none f.clerk f.working.there (one-waits cl f.clerk f.task)
   starts (Asks again got ask) a comes none = let f = comes.facts.1 in waits (Asks again got ask) tt comes none f.clerk f.working.there (one-waits cl f.clerk f.task)
   starts (Saves b ops rest) a comes none = let f = comes.facts.1 in waits (Saves b ops rest) tt comes none f.clerk f.working.there (one-waits cl f.clerk f.task)
@@ -186,11 +186,11 @@ module _ (v : Images) (most : ℕ) (names : List ℕ) (number : ℕ) (w : World)
   starts (Refuses again ask live reserved) a comes none = absurd a
   starts (Saved b rest) a comes none = absurd a
 
-  pub steps : IsStepped v most names number (line.Call c cl) w q m
+  pub steps : IsStepped outset v most names number (line.Call c cl) w q m
   steps = record {
     fine = carried.0;
     known = inl (j, (refl, inl (sl, k, called)), known, early begun.phase begun.asked);
-    begun = starts begun.phase begun.asked begun.comes begun.none_back;
+    started = starts begun.phase begun.asked begun.comes begun.none_back;
     calls = subst (λ cs. sum calls_of cs ≤ number) (sym carried.1.clerks) made;
     named = λ a b e. named a b (ap (at a) (sym carried.1.clerks) ∙ e);
   }

@@ -27,7 +27,7 @@ use Rattle.ec_complete.specs.FirstSteps.{IsTold}
 use Rattle.ec_complete.specs.LineCalls.{IsCalled, LeavesVolume}
 use Rattle.ec_complete.proofs.May as may
 use Rattle.ec_complete.proofs.On.{calls-leave-kept}
-use Rattle.ec_complete.specs.Worlds.{IsCounted}
+use Rattle.ec_complete.specs.Worlds.{IsCounted, Outset}
 use Rattle.ec_deliveries.specs.Behind.{IsBehind, Sees}
 use Rattle.ec_deliveries.proofs.Begun.{calls-begin}
 use Rattle.ec_deliveries.proofs.Seen.{shown-seen}
@@ -52,7 +52,7 @@ told (Gives got n first) a = absurd a
 told (Refuses again ask live reserved) a = absurd a
 told (Saved b rest) a = absurd a
 
-module _ (j : Work) (number : ℕ) (cl : Call) (w : World) (sc : Scene) (g : System) (sl : Slot) (k : Clerk) (calls : ℕ) (is : IsCalled j cl w sc g sl k) (new : IsNewIn w number) (fine : (call j.clerk number cl w).fault ≡ None) (counted : IsCountedIn calls (call j.clerk number cl w).world) where
+module _ (outset : Outset) (j : Work) (number : ℕ) (cl : Call) (w : World) (sc : Scene) (g : System) (sl : Slot) (k : Clerk) (calls : ℕ) (is : IsCalled j cl w sc g sl k) (new : IsNewIn w number) (fine : (call j.clerk number cl w).fault ≡ None) (counted : IsCountedIn outset calls (call j.clerk number cl w).world) where
   abbrev now : Scene
   now = done_by j.clerk (begin cl k) sc.mail sc
 
@@ -81,10 +81,10 @@ module _ (j : Work) (number : ℕ) (cl : Call) (w : World) (sc : Scene) (g : Sys
   sees = shown-seen v j (add_call cl k)
       (shows (doing_in j.clerk (may.start j number cl w sc g sl k is).0 (may.d j number cl w sc g sl k is) g.ghost (may.S j number cl w sc g sl k is)) j.clerk (may.start j number cl w sc g sl k is).0 j.session (add_call cl k) (may.agreed j number cl w sc g sl k is new))
 
-  pub call-begins : BeginsBehind (line.Call j.clerk cl) g.origin v j calls m
+  pub call-begins : BeginsBehind outset (line.Call j.clerk cl) g.origin v j calls m
   call-begins = record {
     known = record {
-      known = record { scene = now; stands = stands; phase = begun.phase; comes = begun.comes; system = kept.0; facts = kept.1; counted = subst (IsCounted calls m.world) (same-scene m.world counted.0 now counted.1 stands) counted.2 };
+      known = record { scene = now; stands = stands; phase = begun.phase; comes = begun.comes; system = kept.0; facts = kept.1; counted = subst (IsCounted outset calls m.world) (same-scene m.world counted.0 now counted.1 stands) counted.2 };
       worked = record { origin_is = kept.2.origin; works = worked.works };
     };
     behind = calls-begin v j sc is.idle k is.its.there sc.mail cl goes sees;

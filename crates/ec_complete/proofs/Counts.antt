@@ -24,7 +24,7 @@ use Rattle.ec_agreed_lines.specs.Counting.{sent_in}
 use Rattle.ec_quiet.specs.Settling as settling
 use Rattle.ec_quiet.proofs.Mail.{pending-is}
 use Rattle.ec_machine_laws.specs.Unspent as unspent
-use Rattle.ec_complete.specs.Worlds.{IsCounted}
+use Rattle.ec_complete.specs.Worlds.{IsCounted, Outset}
 use Rattle.ec_complete.specs.Ready.{calls_of}
 use Rattle.ec_complete.proofs.Tables.{sum-less, sum-most}
 
@@ -79,8 +79,8 @@ pub own-made : (calls sent : ℕ) (k : Clerk) → clerks.IsCounted calls sent k 
 own-made calls sent k h = record { made = omega arith; ops = h.ops; undurable = h.undurable; ids = h.ids; batch = h.batch; sends = h.sends }
 
 -- more calls, in the same world or one in which more was sent and the server and the clerks are the same
-pub counted-more : (calls more : ℕ) (w u : World) (sc : Scene) → calls ≤ more → w.sent ≤ u.sent → u.server ≡ w.server → u.clerks ≡ w.clerks → IsCounted calls w sc → IsCounted more u sc
-counted-more calls more w u sc l s servers same h = record {
+pub counted-more : (outset : Outset) (calls more : ℕ) (w u : World) (sc : Scene) → calls ≤ more → w.sent ≤ u.sent → u.server ≡ w.server → u.clerks ≡ w.clerks → IsCounted outset calls w sc → IsCounted outset more u sc
+counted-more outset calls more w u sc l s servers same h = record {
   server = λ v e. (let b = h.server v (sym servers ∙ e) in (omega (arith, b.0, s), omega (arith, b.1, s)));
   clerks = λ c k e. more-made calls more w.sent u.sent k l s (h.clerks c k (ap (at c) (sym same) ∙ e));
   ids = h.ids;
@@ -91,10 +91,10 @@ module _ (w u : World) (sc : Scene) (i : IsScene w sc) (none : sc.mail ≡ []) (
   pub sent-then : u.sent ≡ w.sent + sent_in d.outs
   sent-then = omega (arith, steady, pending-is w sc i, ap length none, pending-is u (done_by c d sc.mail sc) then, length-append sc.mail (sends c d.outs), sends-in c d.outs)
 
-  pub counted-then : (calls more : ℕ) → calls ≤ more → IsCounted calls w sc → clerks.IsCounted more (w.sent + sent_in d.outs) d.clerk → IsCounted more u (done_by c d sc.mail sc)
-  counted-then calls more l h own = record { server = of-server; clerks = of-clerks; ids = h.ids }
+  pub counted-then : (outset : Outset) (calls more : ℕ) → calls ≤ more → IsCounted outset calls w sc → clerks.IsCounted more (w.sent + sent_in d.outs) d.clerk → IsCounted outset more u (done_by c d sc.mail sc)
+  counted-then outset calls more l h own = record { server = of-server; clerks = of-clerks; ids = h.ids }
     where
-      of-server : server.AreCounted 0 1 u
+      of-server : server.AreCounted 0 outset.session u
       of-server v e = let b = h.server v (i.server ∙ sym then.server ∙ e) in (omega (arith, b.0, sent-then), omega (arith, b.1, sent-then))
 
       each : (a : ℕ) (b : Clerk) (z : Bool) → (a == c) ≡ z → cond z (Some d.clerk) (at a sc.clerks) ≡ Some b → clerks.IsCounted more u.sent b

@@ -1,13 +1,14 @@
--- A drill on a new disk over a script without faults writes behind.
+-- A drill over a script without faults writes behind.
 use Rattle.std.proofs.Common.{◌≡◌, refl, sym, ap, ◌∙◌, subst, arith, ◌≤◌, ◌+◌, ℕ, T, Bool, true, false, not, ◌||◌, List, [], ◌∷◌, ◌++◌, length}
 use Rattle.std.specs.Prelude.{Option, None, Some, Ok, is_some}
 use Rattle.ec_base.specs.Tables.{once}
 use Rattle.ec_volume.specs.Image.{is_gone}
 use Rattle.ec_volume.specs.Update.{member}
 use Rattle.ec_volume.specs.Volume.{Images, images}
+use Rattle.ec_volume.specs.declared.image.Image.TheVariants.{Gone}
 use Rattle.ec_history.specs.History.{Each}
-use Rattle.ec_durable.specs.Durable.{formatted}
 use Rattle.ec_durable.specs.WellFormed as states
+use Rattle.ec_durable.specs.declared.state.Durable.{Durable}
 use Rattle.ec_protocol.specs.Drill.{Done, BadLine, TooMany, IsSpent, Ending, Fates, Ran, Read, bound, close, is_stopped, last_restart, named_in, run_from}
 use Rattle.ec_protocol.specs.World.{open_world}
 use Rattle.ec_protocol.specs.declared.server.Server.{Server}
@@ -19,9 +20,10 @@ use Rattle.ec_lawful.specs.Drills.{AreFit, lines_in}
 use Rattle.ec_deliveries.specs.Runs.{AllRun}
 use Rattle.ec_complete.specs.Complete.{IsFaultlessRead}
 use Rattle.ec_complete.specs.Goes.{LinesGoOn}
-use Rattle.ec_complete.specs.Ready.{IsReady, NewDisksAreReady}
+use Rattle.ec_complete.specs.Ready.{IsReady, OpeningsAreReady}
+use Rattle.ec_complete.specs.Worlds.{outset_of}
 use Rattle.ec_complete.proofs.Going.{lines-go-on}
-use Rattle.ec_complete.proofs.Opening.{new-ready}
+use Rattle.ec_complete.proofs.Opening.{openings-ready}
 use Rattle.ec_complete.specs.Pieces.{DrillsWriteBehind, WritesBehind}
 use Rattle.ec_complete.proofs.RunsBehind.{runs-behind}
 
@@ -51,24 +53,25 @@ closes r up = by r.ending
     by (BadLine number column) = ap (λ b. elim b as (λ z. Ran) [ true ↦ last_restart r | false ↦ r ]) runs-on
     by (TooMany n) = ap (λ b. elim b as (λ z. Ran) [ true ↦ last_restart r | false ↦ r ]) runs-on
 
-module _ (go-on : LinesGoOn) (new-ready : NewDisksAreReady) (most : ℕ) (formed : states.WellFormed (formatted most)) (w : World) (opened : open_world (formatted most) ≡ Ok w) (top : ℕ) (above : (x : ℕ) → T (not (is_gone (images (formatted most).volume x))) → x ≤ top) (ls : List Read) (fs : List Fates) where
+module _ (go-on : LinesGoOn) (are-ready : OpeningsAreReady) (d : Durable) (formed : states.WellFormed d) (sixteen : length d.sessions ≡ 16) (zero : images d.volume 0 ≡ Gone) (w : World) (opened : open_world d ≡ Ok w) (top : ℕ)
+    (above : (x : ℕ) → T (not (is_gone (images d.volume x))) → x ≤ top) (ls : List Read) (fs : List Fates) where
   abbrev v : Images
-  v = images (formatted most).volume
+  v = images d.volume
 
   abbrev ran : Ran
   ran = run_from (bound ls) 1 ls fs w
 
-  ready : IsReady v most (named_in ls) 1 w
-  ready = new-ready most formed (named_in ls) w opened
+  ready : IsReady (outset_of w) v d.max_objects (named_in ls) 1 w
+  ready = are-ready d formed sixteen zero (named_in ls) w opened
 
   no-lines : w.shown ≡ []
-  no-lines = Rattle.ec_lawful.proofs.Worlds.no-lines (formatted most) formed refl refl w opened
+  no-lines = Rattle.ec_lawful.proofs.Worlds.no-lines d formed sixteen zero w opened
 
   pub drill-behind : length ls ≤ 65536 → length (once (named_in ls)) ≤ 16 → AreFit ls → Each IsFaultlessRead ls → Each AllRun fs → WritesBehind (placed_on v top) (lines_in ls) [] ran × (close ran.ending ran ≡ ran)
-  drill-behind few sixteen fit a all =
-      let b = runs-behind go-on v most (named_in ls) top formed.volume above sixteen ls fs 1 w ready (omega arith) (omega (arith, few)) a fit (each-member [] (named_in ls)) all in
+  drill-behind few names fit a all =
+      let b = runs-behind go-on (outset_of w) v d.max_objects (named_in ls) top formed.volume above names ls fs 1 w ready (omega arith) (omega (arith, few)) a fit (each-member [] (named_in ls)) all in
       (subst (λ z. WritesBehind (placed_on v top) (lines_in ls) z ran) no-lines b, closes ran b.up)
 
 -- with what is proved of lines without faults
-pub new-disks-behind : DrillsWriteBehind
-new-disks-behind most formed w opened top above ls fs few sixteen fit a all = drill-behind lines-go-on new-ready most formed w opened top above ls fs few sixteen fit a all
+pub disks-behind : DrillsWriteBehind
+disks-behind d formed sixteen zero w opened top above ls fs few names fit a all = drill-behind lines-go-on openings-ready d formed sixteen zero w opened top above ls fs few names fit a all

@@ -32,10 +32,12 @@ use Rattle.ec_complete.proofs.Delivering.{lines-leave-kept}
 use Rattle.ec_complete.specs.Spare.{IsBelow, max_calls}
 use Rattle.ec_complete.proofs.Below.{counters-spare}
 use Rattle.ec_complete.proofs.Given.{ids-stay-given}
+use Rattle.ec_deliveries.specs.Coming.{HasNext}
 use Rattle.ec_deliveries.specs.Leading.{CanTake}
 use Rattle.ec_deliveries.proofs.Led.{deliveries-lead-on}
+use Rattle.ec_deliveries.proofs.Spending.{deliveries-have-next}
 use Rattle.ec_complete.specs.Begins.{most_sent}
-use Rattle.ec_complete.specs.Worlds.{IsCounted, IsKnown}
+use Rattle.ec_complete.specs.Worlds.{IsCounted, IsKnown, Outset}
 use Rattle.ec_deliveries.specs.Behind.{IsBehind, MaySee}
 use Rattle.ec_agreed_lines.specs.Placed.{IsFollowed, WorksOn, WritesBehind}
 use Rattle.ec_agreed_lines.proofs.Followed.{writes-behind}
@@ -54,19 +56,19 @@ same-scene w a b i k = (λ z. record { server = servers z; clerks = (sym i.clerk
     servers : a.server ≡ b.server
     servers = some a.server b.server (sym i.server ∙ k.server)
 
-module _ (l : Line) (origin v : Images) (j : Work) (calls : ℕ) (few-calls : calls ≤ max_calls) where
-  below : (w : World) (sc : Scene) → IsScene w sc → IsCounted calls w sc → w.sent ≤ most_sent → IsBelow 0 1 2 calls w sc
-  below w sc i counted sent = record { server = counted.server; clerks = counted.clerks; ids = counted.ids; few = few-calls; numbers = omega (arith, sent); sessions = omega (arith, sent); firsts = omega arith }
+module _ (outset : Outset) (l : Line) (origin v : Images) (j : Work) (calls : ℕ) (few-calls : calls ≤ max_calls) where
+  below : (w : World) (sc : Scene) → IsScene w sc → IsCounted outset calls w sc → w.sent ≤ most_sent → IsBelow 0 outset.session outset.first calls w sc
+  below w sc i counted sent = record { server = counted.server; clerks = counted.clerks; ids = counted.ids; few = few-calls; numbers = omega (arith, sent) }
 
-  spare : (r : Moving) (known : IsKnown j calls r) → r.world.sent ≤ most_sent → IsSpare j known.scene
-  spare r known le = counters-spare 0 1 2 calls j r.world known.scene known.system known.phase (below r.world known.scene known.stands known.counted le) known.facts known.stands known.comes
+  spare : (r : Moving) (known : IsKnown outset j calls r) → r.world.sent ≤ most_sent → IsSpare j known.scene
+  spare r known le = counters-spare 0 outset.session outset.first calls j r.world known.scene known.system known.phase (below r.world known.scene known.stands known.counted le) known.facts known.stands known.comes
 
-  takes : (r : Moving) (known : IsKnown j calls r) → r.world.sent ≤ most_sent → (p : Phase) (t : ℕ × Msg) (rest : Mail) → InPhase j known.scene p → known.scene.mail ≡ t ∷ rest → CanTake j known.scene p t
-  takes r known le p t rest q head = can-take-next j r.world known.scene known.system p t rest known.facts (spare r known le) known.stands q head
+  takes : (r : Moving) (known : IsKnown outset j calls r) → r.world.sent ≤ most_sent → (p : Phase) (t : ℕ × Msg) (rest : Mail) → InPhase j known.scene p → known.scene.mail ≡ t ∷ rest → HasNext t.1 known.scene.server → CanTake j known.scene p t
+  takes r known le p t rest q head next = can-take-next j r.world known.scene known.system p t rest known.facts (spare r known le) known.stands q head next
 
   -- one delivery
-  module _ (r : Moving) (q : IsKnownOf l origin v j calls r) (n : ℕ) (le : r.world.sent ≤ most_sent) (is-due : due r.world ≡ Some n) (fine : (deliver runs n r.world).fault ≡ None) where
-    abbrev known : IsKnown j calls r
+  module _ (r : Moving) (q : IsKnownOf outset l origin v j calls r) (n : ℕ) (le : r.world.sent ≤ most_sent) (is-due : due r.world ≡ Some n) (fine : (deliver runs n r.world).fault ≡ None) where
+    abbrev known : IsKnown outset j calls r
     known = q.known
 
     abbrev sc : Scene
@@ -82,9 +84,9 @@ module _ (l : Line) (origin v : Images) (j : Work) (calls : ℕ) (few-calls : ca
       stands : IsScene (deliver runs n r.world).world (delivered t.0 t.1 rest sc)
       stands = subst (λ z. IsScene (deliver runs z r.world).world (delivered t.0 t.1 rest sc)) same (delivering.scene-then r.world sc known.stands t.0 t.1 rest head (subst (λ z. (deliver runs z r.world).fault ≡ None) (sym same) fine))
 
-      then : IsKnownOf l origin v j calls (behind r n fine)
+      then : IsKnownOf outset l origin v j calls (behind r n fine)
       then =
-          let led = deliveries-lead-on j sc known.phase t rest known.comes (takes r known le known.phase t rest known.comes head) head in
+          let led = deliveries-lead-on j sc known.phase t rest known.comes (takes r known le known.phase t rest known.comes head (deliveries-have-next j r.world sc known.phase t rest n known.stands known.comes head is-due fine)) head in
           let s = spare r known le in
           let kept = lines-leave-kept j r.world sc known.system known.phase led.0 t rest n known.facts s known.stands known.comes head is-due fine led.1 in
           record {
@@ -96,29 +98,29 @@ module _ (l : Line) (origin v : Images) (j : Work) (calls : ℕ) (few-calls : ca
               system = kept.0;
               facts = kept.1;
               counted = record {
-                server = (deliveries-count 0 1 r.world n known.counted.server).0;
+                server = (deliveries-count 0 outset.session r.world n known.counted.server).0;
                 clerks = clerks.deliveries-count calls r.world n known.counted.clerks;
-                ids = ids-stay-given 2 j r.world sc known.system known.phase led.0 t rest n known.facts s known.stands known.comes head is-due fine led.1 known.counted.ids;
+                ids = ids-stay-given outset.first j r.world sc known.system known.phase led.0 t rest n known.facts s known.stands known.comes head is-due fine led.1 known.counted.ids;
               };
             };
             worked = still-worked l origin v j sc known.system kept.0 t.0 t.1 rest q.worked kept.2;
           }
 
-    goes-on : (ms : Mail) → sc.mail ≡ ms → IsKnownOf l origin v j calls (behind r n fine)
+    goes-on : (ms : Mail) → sc.mail ≡ ms → IsKnownOf outset l origin v j calls (behind r n fine)
     goes-on (t ∷ rest) head = then t rest head
     goes-on [] head = absurd (bad (sym (delivering.none-due r.world sc known.stands head) ∙ is-due))
       where
         bad : ◌≡◌ {A = Option ℕ} None (Some n) → ⊥
         bad e = grind (arith, e)
 
-    pub onward-known : IsKnownOf l origin v j calls (onward r (deliver runs n r.world))
-    onward-known = subst (IsKnownOf l origin v j calls) (sym (onward-is r n fine)) (goes-on sc.mail refl)
+    pub onward-known : IsKnownOf outset l origin v j calls (onward r (deliver runs n r.world))
+    onward-known = subst (IsKnownOf outset l origin v j calls) (sym (onward-is r n fine)) (goes-on sc.mail refl)
 
   -- messages aren't taken back
   at-most : (r : Moving) (n : ℕ) → (deliver runs n r.world).fault ≡ None → r.world.sent ≤ (deliver runs n r.world).world.sent → (onward r (deliver runs n r.world)).world.sent ≤ most_sent → r.world.sent ≤ most_sent
   at-most r n f more l = let same = ap (λ (x : Moving). x.world.sent) (onward-is r n f) in omega (arith, more, l, same)
 
-  pub stays : (m r : Moving) → IsKnownOf l origin v j calls m → Reaches m r → r.world.sent ≤ most_sent → IsKnownOf l origin v j calls r
+  pub stays : (m r : Moving) → IsKnownOf outset l origin v j calls m → Reaches m r → r.world.sent ≤ most_sent → IsKnownOf outset l origin v j calls r
   stays m r q here le = q
   stays m _ q (on r n reached is-due fine) le =
       let less : r.world.sent ≤ most_sent = at-most r n fine (sent-more r n) le in
@@ -138,8 +140,8 @@ module _ (l : Line) (origin v : Images) (j : Work) (calls : ℕ) (few-calls : ca
           go (Some x) e =
               (deliveries-count x.number x.durable.next_session r.world n (λ u f. (omega (arith, ap (λ (z : Server). z.number) (some x u (sym e ∙ f))), omega (arith, ap (λ (z : Server). z.durable.next_session) (some x u (sym e ∙ f)))))).1
 
-  module _ (m : Moving) (q : IsKnownOf l origin v j calls m) where
-    works : (r : Moving) (k : IsKnownOf l origin v j calls r) → WorksOn l v j k.known.system r
+  module _ (m : Moving) (q : IsKnownOf outset l origin v j calls m) where
+    works : (r : Moving) (k : IsKnownOf outset l origin v j calls r) → WorksOn l v j k.known.system r
     works r k c there task = k.worked.works c (ap (at j.clerk) (sym k.known.stands.clerks) ∙ there) (at-work j.task c task)
 
     pub followed : IsFollowed l origin v j most_sent m
@@ -154,11 +156,11 @@ module _ (l : Line) (origin v : Images) (j : Work) (calls : ℕ) (few-calls : ca
             subst (λ ss. Throughout (IsNewId g.origin (base_of g).fresh) [] (place ss)) (sym k.known.facts.stands.shown) (ids-new g k.known.facts.whole.shows.fresh g.ghost.shown [] (append-nil g.ghost.shown)),
             works r k,
           ));
-      takes = λ r sc p x rest reached le i ip head.
+      takes = λ r sc p x rest reached le i ip head next.
           (let k = stays m r q reached le in
           let same = same-scene r.world sc k.known.scene i k.known.stands in
           let here : InPhase j k.known.scene p = subst (λ z. InPhase j z p) same ip in (
-            subst (λ z. CanTake j z p x) (sym same) (takes r k.known le p x rest here (ap (λ (z : Scene). z.mail) (sym same) ∙ head)),
+            subst (λ z. CanTake j z p x) (sym same) (takes r k.known le p x rest here (ap (λ (z : Scene). z.mail) (sym same) ∙ head) (subst (λ (z : Scene). HasNext x.1 z.server) same next)),
             subst (λ z. MaySee v j z p) (sym same) (worked-lines-see l origin v j r.world k.known.scene k.known.system p k.known.facts k.worked k.known.stands here),
           ));
     }

@@ -29,7 +29,7 @@ use Rattle.ec_complete.specs.WaitingCalls.{kept_volume, touched_by}
 use Rattle.ec_complete.specs.Lines.{IsOnLine, next_object}
 use Rattle.ec_complete.specs.LineCalls.{IsCalledFirst, LeavesVolume}
 use Rattle.ec_complete.proofs.Starts.{starts-leave-kept}
-use Rattle.ec_complete.specs.Worlds.{IsCounted, IsKnown}
+use Rattle.ec_complete.specs.Worlds.{IsCounted, IsKnown, Outset}
 use Rattle.ec_deliveries.proofs.Begun.{starts-begin}
 use Rattle.ec_complete.specs.Following.{BeginsBehind, IsWorked}
 use Rattle.ec_complete.proofs.Following.{same-scene}
@@ -87,7 +87,7 @@ module _ (w : World) (c number : ℕ) (cl : Call) (none : at c w.clerks ≡ None
     pub starts-in : IsScene (call c number cl w).world (done_by c (start_calling c b cl) sc.mail sc)
     starts-in = subst (λ (m : Moving). IsScene m.world (done_by c (start_calling c b cl) sc.mail sc)) (sym calls-are) (carried u sc booted c number cl d.outs d.clerk unspent-call).1
 
-module _ (j : Work) (number : ℕ) (cl : Call) (w : World) (sc : Scene) (g : System) (calls : ℕ) (is : IsCalledFirst j cl w sc g) (new : IsNewIn w number) (fine : (call j.clerk number cl w).fault ≡ None) (known : IsKnown j calls (call j.clerk number cl w)) (first : IsFirst known.phase) where
+module _ (outset : Outset) (j : Work) (number : ℕ) (cl : Call) (w : World) (sc : Scene) (g : System) (calls : ℕ) (is : IsCalledFirst j cl w sc g) (new : IsNewIn w number) (fine : (call j.clerk number cl w).fault ≡ None) (known : IsKnown outset j calls (call j.clerk number cl w)) (first : IsFirst known.phase) where
   none-there : at j.clerk w.clerks ≡ None
   none-there = ap (at j.clerk) is.scene.clerks ∙ is.none
 
@@ -141,10 +141,10 @@ module _ (j : Work) (number : ℕ) (cl : Call) (w : World) (sc : Scene) (g : Sys
   worked : IsWorked (line.Call j.clerk cl) (kept.0).origin v j now kept.0
   worked = calls-worked cl v j m.world now kept.0 (Greets greets.0) kept.1 stands greets.1 is.task (λ a here waits. (kept.2.kept a here waits, kept.3 a here waits))
 
-  pub start-begins : BeginsBehind (line.Call j.clerk cl) g.origin v j calls m
+  pub start-begins : BeginsBehind outset (line.Call j.clerk cl) g.origin v j calls m
   start-begins = record {
     known = record {
-      known = record { scene = now; stands = stands; phase = Greets greets.0; comes = greets.1; system = kept.0; facts = kept.1; counted = subst (IsCounted calls m.world) same known.counted };
+      known = record { scene = now; stands = stands; phase = Greets greets.0; comes = greets.1; system = kept.0; facts = kept.1; counted = subst (IsCounted outset calls m.world) same known.counted };
       worked = record { origin_is = kept.2.origin; works = worked.works };
     };
     behind = starts-begin v j sc is.idle next cl sc.mail;

@@ -25,6 +25,7 @@ use Rattle.ec_quiet.specs.Tries.{HasCounters}
 use Rattle.ec_agreed_lines.specs.Counting as clerks
 use Rattle.ec_quiet.proofs.Mail.{pending-is}
 use Rattle.ec_complete.proofs.Numbers.{unshown}
+use Rattle.ec_complete.specs.Worlds.{Outset}
 use Rattle.ec_complete.specs.Ready.{IsReady}
 use Rattle.ec_complete.proofs.Laws.{quiet-again}
 
@@ -48,7 +49,7 @@ slot-below [] c sl e = absurd (none_some e)
 slot-below (o ∷ slots) zero sl e = omega arith
 slot-below (o ∷ slots) (suc c) sl e = omega (arith, slot-below slots c sl e)
 
-module _ (v : Images) (most : ℕ) (names : List ℕ) (number : ℕ) (w : World) (q : IsReady v most names number w) where
+module _ (outset : Outset) (v : Images) (most : ℕ) (names : List ℕ) (number : ℕ) (w : World) (q : IsReady outset v most names number w) where
   abbrev sc : Scene
   sc = q.scene
 

@@ -41,11 +41,11 @@ use Rattle.ec_agreed_lines.specs.Lines.{CallsBegin}
 use Rattle.ec_quiet.specs.First.{PushesBegin, StartsGreet}
 use Rattle.ec_complete.specs.LineCalls.{CallsComeOn, CallsMayBegin, StartsComeOn}
 use Rattle.ec_quiet.specs.Lines.{CallsAreCarriedOut, EndsKeepScenes}
-use Rattle.ec_deliveries.specs.Runs.{LinesSettle}
+use Rattle.ec_deliveries.specs.Runs.{LinesSettle, LinesSettleOrEnd}
 use Rattle.ec_complete.specs.Quiet.{IdleWorldsAreQuiet}
 use Rattle.ec_machine_laws.specs.Unspent.{CallsSpendNothing}
 use Rattle.ec_complete.specs.Complete.{RunsThatSettleArePlain}
-use Rattle.ec_complete.specs.Worlds.{LinesCanSettle, LinesStayKnown}
+use Rattle.ec_complete.specs.Worlds.{LinesCanGoOn, LinesCanSettle, LinesStayKnown}
 use Rattle.ec_machine_laws.proofs.Needing.{needed-touched}
 use Rattle.ec_lawful.proofs.Clerks.{clerks-keep-all}
 use Rattle.ec_lawful.proofs.CallsShown as tells
@@ -66,18 +66,19 @@ use Rattle.ec_quiet.proofs.Pushing as pushing
 use Rattle.ec_quiet.proofs.Starting as starting
 use Rattle.ec_complete.proofs.Taking.{can-take-next}
 use Rattle.ec_complete.proofs.Delivering.{lines-stay-on}
-use Rattle.ec_complete.proofs.Below.{counters-spare}
+use Rattle.ec_complete.proofs.Below.{counters-spare, next-spare}
 use Rattle.ec_complete.proofs.Given.{ids-stay-given}
 use Rattle.ec_complete.proofs.May as may
 use Rattle.ec_complete.proofs.On as coming
 use Rattle.ec_complete.proofs.Starts as first
 use Rattle.ec_quiet.proofs.Ending.{ends}
 use Rattle.ec_quiet.proofs.Stepping.{called-on}
+use Rattle.ec_deliveries.proofs.Ended as ended
 use Rattle.ec_deliveries.proofs.Lines as lines
 use Rattle.ec_complete.proofs.Quieting.{quiets}
 use Rattle.ec_machine_laws.proofs.Taking as unspent
 use Rattle.ec_complete.proofs.Runs.{completes}
-use Rattle.ec_complete.proofs.Settling.{all-settle, all-stay}
+use Rattle.ec_complete.proofs.Settling.{all-go-on, all-settle, all-stay}
 
 -- All facts hold behind each event and each delivery.
 
@@ -185,8 +186,14 @@ rows-few v clerks c s orderly there own = rows-fewer v clerks orderly c s own th
 pub lines-settle : LinesSettle
 lines-settle j k most m sc can f shown i has few rows unsent room = lines.line-settles j k most m sc can f shown i has few rows unsent room
 
+pub lines-settle-or-end : LinesSettleOrEnd
+lines-settle-or-end j k most m sc can f shown i has few rows unsent room = ended.line-settles-or-ends j k most m sc can f shown i has few rows unsent room
+
 pub lines-can-settle : LinesCanSettle
-lines-can-settle = all-settle can-take-next lines-stay-on counters-spare ids-stay-given sent.deliveries-count worlds.deliveries-count
+lines-can-settle = all-settle can-take-next lines-stay-on counters-spare next-spare ids-stay-given sent.deliveries-count worlds.deliveries-count
+
+pub lines-can-go-on : LinesCanGoOn
+lines-can-go-on = all-go-on can-take-next lines-stay-on counters-spare ids-stay-given sent.deliveries-count worlds.deliveries-count
 
 pub lines-stay-known : LinesStayKnown
 lines-stay-known = all-stay can-take-next lines-stay-on counters-spare ids-stay-given sent.deliveries-count worlds.deliveries-count

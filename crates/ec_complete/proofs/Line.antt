@@ -1,6 +1,6 @@
 -- One line of a script without faults, which settles: its lines are of write-behind.
 use Rattle.std.proofs.Common.{◌≡◌, refl, sym, ap, ◌∙◌, subst, arith, ◌≤◌, ◌+◌, ℕ, T, not, List, [], ◌∷◌, ◌++◌, append_assoc, inl, inr, ◌⊎◌, length}
-use Rattle.std.specs.Prelude.{None}
+use Rattle.std.specs.Prelude.{None, Some}
 use Rattle.ec_volume.specs.Image.{is_gone}
 use Rattle.ec_volume.specs.Volume.{Images, WellFormed}
 use Rattle.ec_history.specs.History.{Base}
@@ -9,14 +9,18 @@ use Rattle.ec_protocol.specs.Drill.{line_happens, settle}
 use Rattle.ec_protocol.specs.World.{Moving, due, runs}
 use Rattle.ec_protocol.specs.declared.script.Line.{Line}
 use Rattle.ec_protocol.specs.declared.world.World.{World}
+use Rattle.ec_protocol.specs.declared.world.WorldFault.{WorldFault}
+use Rattle.ec_coherence.proofs.Tables.{none_some}
 use Rattle.ec_lawful.specs.Headline.{placed_on}
 use Rattle.ec_quiet.specs.Quiet.{IsIdle}
 use Rattle.ec_quiet.specs.Scenes.{IsScene, Scene}
 use Rattle.ec_quiet.specs.Works.{Work}
 use Rattle.ec_quiet.specs.SettlingScenes.{Reaches}
 use Rattle.ec_quiet.proofs.Delivering as delivering
+use Rattle.ec_deliveries.specs.Runs.{HasEnded}
 use Rattle.ec_deliveries.proofs.Settled.{stops}
 use Rattle.ec_complete.specs.Spare.{max_calls}
+use Rattle.ec_complete.specs.Worlds.{Outset}
 use Rattle.ec_complete.specs.Begins.{most_sent}
 use Rattle.ec_complete.specs.Complete.{IsFaultless}
 use Rattle.ec_deliveries.specs.Scripts.{AreWriteBehind}
@@ -31,10 +35,10 @@ pub record IsBehindIn (base : Base) (l : Line) (w : World) (r : Moving) : Type 0
   pub behind : AreWriteBehind base l w.shown r.shown
 
 -- Behind its first step a line is at work, or all is idle.
-abbrev pub IsAtWorkOrIdle : Line → Images → ℕ → Moving → Type 0
-IsAtWorkOrIdle l origin number m = ((v : Images) × (j : Work) × BeginsBehind l origin v j number m) ⊎ ((sc : Scene) × IsScene m.world sc × IsIdle sc)
+abbrev pub IsAtWorkOrIdle : Outset → Line → Images → ℕ → Moving → Type 0
+IsAtWorkOrIdle outset l origin number m = ((v : Images) × (j : Work) × BeginsBehind outset l origin v j number m) ⊎ ((sc : Scene) × IsScene m.world sc × IsIdle sc)
 
-module _ (origin : Images) (top : ℕ) (formed : WellFormed origin) (bound : (x : ℕ) → T (not (is_gone (origin x))) → x ≤ top) (number : ℕ) (few : number ≤ max_calls) (l : Line) (faultless : IsFaultless l) (w : World) (fine : (line_happens runs number l w).fault ≡ None) where
+module _ (outset : Outset) (origin : Images) (top : ℕ) (formed : WellFormed origin) (bound : (x : ℕ) → T (not (is_gone (origin x))) → x ≤ top) (number : ℕ) (few : number ≤ max_calls) (l : Line) (faultless : IsFaultless l) (w : World) (fine : (line_happens runs number l w).fault ≡ None) where
   abbrev base : Base
   base = placed_on origin top
 
@@ -52,8 +56,8 @@ module _ (origin : Images) (top : ℕ) (formed : WellFormed origin) (bound : (x 
   idles k sc i idle = subst (IsBehindIn base l w) (sym (stops k m (delivering.none-due m.world sc i idle.mail))) (record { adds = adds; behind = first })
 
   -- it's at work
-  works : (v : Images) (j : Work) → BeginsBehind l origin v j number m → (r : Moving) → Reaches m r → r.world.sent ≤ most_sent → IsBehindIn base l w r
-  works v j b r reached sent = go (writes l origin v j number few m b.known top formed bound b.behind r reached sent)
+  works : (v : Images) (j : Work) → BeginsBehind outset l origin v j number m → (r : Moving) → Reaches m r → r.world.sent ≤ most_sent → IsBehindIn base l w r
+  works v j b r reached sent = go (writes outset l origin v j number few m b.known top formed bound b.behind r reached sent)
     where
       go : placed.WritesBehind base l m r → IsBehindIn base l w r
       go q = record {
@@ -61,6 +65,13 @@ module _ (origin : Images) (top : ℕ) (formed : WellFormed origin) (bound : (x 
         behind = subst (AreWriteBehind base l w.shown) (sym q.piece) (both-behind base origin l w.shown m.shown q.lines first (subst (λ z. AreWriteBehind base l z q.lines) adds q.behind));
       }
 
-  pub line-behind : IsAtWorkOrIdle l origin number m → (k : ℕ) → Reaches m (settle k [] m) → (settle k [] m).world.sent ≤ most_sent → IsBehindIn base l w (settle k [] m)
+  pub line-behind : IsAtWorkOrIdle outset l origin number m → (k : ℕ) → Reaches m (settle k [] m) → (settle k [] m).world.sent ≤ most_sent → IsBehindIn base l w (settle k [] m)
   line-behind (inl (v, j, b)) k reached sent = works v j b (settle k [] m) reached sent
   line-behind (inr (sc, i, idle)) k reached sent = idles k sc i idle
+
+  -- and where it ended in a delivery
+  pub line-ended : IsAtWorkOrIdle outset l origin number m → (k : ℕ) (f : WorldFault) → (settle k [] m).fault ≡ Some f → HasEnded most_sent m (settle k [] m) → IsBehindIn base l w (settle k [] m)
+  line-ended (inl (v, j, b)) k f e h =
+      let i = works v j b h.last h.reached h.few in
+      record { adds = ap (λ (u : World). u.shown) h.world ∙ i.adds ∙ ap (λ z. w.shown ++ z) (sym h.shown); behind = subst (AreWriteBehind base l w.shown) (sym h.shown) i.behind }
+  line-ended (inr (sc, i, idle)) k f e h = absurd (none_some (sym fine ∙ ap (λ (x : Moving). x.fault) (sym (stops k m (delivering.none-due m.world sc i idle.mail))) ∙ e))

@@ -36,7 +36,7 @@ use Rattle.ec_complete.specs.Spare.{max_calls}
 use Rattle.ec_complete.proofs.Below.{counters-spare}
 use Rattle.ec_complete.proofs.Given.{ids-stay-given}
 use Rattle.ec_complete.specs.Begins.{most_sent}
-use Rattle.ec_complete.specs.Worlds.{IsKnown, LinesStayKnown}
+use Rattle.ec_complete.specs.Worlds.{IsKnown, LinesStayKnown, new_outset}
 use Rattle.ec_complete.proofs.Settling.{all-stay}
 use Rattle.ec_complete.specs.Rooms.{ComesWell, GrantsRoom, HasRoomIn, IsWellAsked}
 use Rattle.ec_complete.specs.ScriptRooms.{HasStock, IsRoomFor, KeepsRoom, LinesKeepRoom}
@@ -92,7 +92,7 @@ module _ (v : Images) (most : ℕ) (names callers : List ℕ) (makes : ℕ → �
   G w = Holds (OfRun v most) w
 
   -- one delivery
-  module _ (r : Moving) (known : IsKnown j calls r) (holds : G r.world) (kept : KeepsRoom names callers makes r) (n : ℕ) (is-due : due r.world ≡ Some n) (fine : (deliver runs n r.world).fault ≡ None) where
+  module _ (r : Moving) (known : IsKnown new_outset j calls r) (holds : G r.world) (kept : KeepsRoom names callers makes r) (n : ℕ) (is-due : due r.world ≡ Some n) (fine : (deliver runs n r.world).fault ≡ None) where
     abbrev sc : Scene
     sc = known.scene
 
@@ -162,12 +162,12 @@ module _ (v : Images) (most : ℕ) (names callers : List ℕ) (makes : ℕ → �
   at-most : (r : Moving) (n : ℕ) → (deliver runs n r.world).fault ≡ None → (onward r (deliver runs n r.world)).world.sent ≤ most_sent → r.world.sent ≤ most_sent
   at-most r n f l = let same = ap (λ (x : Moving). x.world.sent) (onward-is r n f) in omega (arith, more-sent r.world n, l, same)
 
-  pub keeps : (m r : Moving) → IsKnown j calls m → G m.world → KeepsRoom names callers makes m → Reaches m r → r.world.sent ≤ most_sent → G r.world × KeepsRoom names callers makes r
+  pub keeps : (m r : Moving) → IsKnown new_outset j calls m → G m.world → KeepsRoom names callers makes m → Reaches m r → r.world.sent ≤ most_sent → G r.world × KeepsRoom names callers makes r
   keeps m r known holds kept here le = (holds, kept)
   keeps m _ known holds kept (on r n reached is-due fine) le =
       let less : r.world.sent ≤ most_sent = at-most r n fine le in
       let before = keeps m r known holds kept reached less in
-      let known-here = stay-known j calls m r known few reached less in
+      let known-here = stay-known new_outset j calls m r known few reached less in
       (onward-holds r known-here before.0 before.1 n is-due fine, onward-keeps r known-here before.0 before.1 n is-due fine)
 
 pub lines-keep-room : LinesKeepRoom

@@ -44,11 +44,11 @@ use Rattle.ec_complete.specs.Complete.{EachSettles, HasRoom, IsComplete, IsFault
 use Rattle.ec_complete.proofs.Lines as lines
 use Rattle.ec_complete.proofs.Plainness.{NoEnd}
 use Rattle.ec_complete.proofs.Runs.{completes}
-use Rattle.ec_complete.specs.Worlds.{IsKnown}
-use Rattle.ec_complete.specs.Goes.{GoesOn, IsWorkOf, PushGoes}
+use Rattle.ec_complete.specs.Worlds.{IsKnown, new_outset}
+use Rattle.ec_complete.specs.Goes.{GoesOn, GoesThrough, IsWorkOf, PushGoes}
 use Rattle.ec_complete.specs.Ready.{IsReady}
-use Rattle.ec_complete.proofs.Going.{lines-go-on, pushes-go}
-use Rattle.ec_complete.proofs.Opening.{new-ready}
+use Rattle.ec_complete.proofs.Going.{lines-go-through, pushes-go}
+use Rattle.ec_complete.proofs.Opening.{new-early, new-ready}
 use Rattle.ec_complete.specs.ScriptRooms.{HasStock, IsRoomFor, KeepsRoom, sum_below}
 use Rattle.ec_complete.proofs.Firsts.{calls-keep-room, pushes-keep-room}
 use Rattle.ec_complete.proofs.LinesHaveRoom.{lines-keep-room, same-scene}
@@ -111,7 +111,7 @@ module _ (most : ℕ) (formed : WellFormed (formatted most)) (w : World) (opened
     whole : past ++ lines_in rest ≡ lines_in ls
     count : number ≡ 1 + length past
     left : number + length rest ≤ 65537
-    ready : IsReady (v most) most names number u
+    ready : IsReady new_outset (v most) most names number u
     stock : HasStock names (callers past) (λ c. makes_by past c) ready.scene
     asked : asked_in u.shown ≡ asked_from 1 past
     settled : EachLine IsSettled u.shown
@@ -153,7 +153,7 @@ module _ (most : ℕ) (formed : WellFormed (formatted most)) (w : World) (opened
     run-is = refl;
   }
     where
-      ready : IsReady (v most) most names 1 w
+      ready : IsReady new_outset (v most) most names 1 w
       ready = new-ready most formed names w opened
 
       shown : w.shown ≡ []
@@ -195,7 +195,7 @@ module _ (most : ℕ) (formed : WellFormed (formatted most)) (w : World) (opened
         by None e t = absurd t
         by (Some a) e t =
             let there : at c u.clerks ≡ Some a = ap (at c) q.ready.stands.clerks ∙ e in
-            pushes-go (v most) most names number u q.ready (omega (arith, q.count)) (omega (arith, q.left)) c n a there (has-issued most u holds q.settled q.room no-end q.past q.asked formed.volume c n a there p.0 p.1)
+            pushes-go new_outset (v most) most names number u q.ready (omega (arith, q.count)) (omega (arith, q.left)) c n a there (has-issued most u holds q.settled q.room no-end q.past q.asked formed.volume c n a there p.0 p.1)
     goes (line.Cut c) p = tt
     goes (line.Uncut c) p = tt
     goes (line.Drop c i j) p = tt
@@ -208,12 +208,15 @@ module _ (most : ℕ) (formed : WellFormed (formatted most)) (w : World) (opened
     goes (line.Arm i j) p = tt
     goes line.Restart p = tt
 
-    go-on : GoesOn (v most) most names number l u q.ready
-    go-on = lines-go-on (v most) most names number l column u q.ready few-names (omega (arith, q.count)) (omega (arith, q.left)) q.no-faults.0 q.fits.0 (all-members (clerk_in l) names (λ c t. q.named c (in-front c (clerk_in l) (named_in rest) t)))
+    through : GoesThrough new_outset (v most) most names number l u q.ready
+    through = lines-go-through new_outset (v most) most names number l column u q.ready new-early few-names (omega (arith, q.count)) (omega (arith, q.left)) q.no-faults.0 q.fits.0 (all-members (clerk_in l) names (λ c t. q.named c (in-front c (clerk_in l) (named_in rest) t)))
         (goes l q.pushes.0)
 
+    abbrev go-on : GoesOn new_outset (v most) most names number l u q.ready
+    go-on = through.goes
+
     hs : HasSettled k m r
-    hs = go-on.settled
+    hs = through.settled
 
     before : lines.Before d formed refl refl number u
     before = record { holds = holds; shown = q.ready.shown; scene = q.ready.scene; stands = q.ready.stands; idle = q.ready.idle }
@@ -274,17 +277,17 @@ module _ (most : ℕ) (formed : WellFormed (formatted most)) (w : World) (opened
     first-keeps = first l q.no-faults.0 q.fits.0 (λ c t. q.named c (in-front c (clerk_in l) (named_in rest) t)) go-on.new go-on.fine
 
     few-sent : r.world.sent ≤ most_sent
-    few-sent = omega (arith, go-on.next.sent, q.left)
+    few-sent = omega (arith, through.next.sent, q.left)
 
     keeps : Keeps r
     keeps = go go-on.known
       where
-        go : ((j : Work) × IsWorkOf l u q.ready.scene q.ready.system j × (x : IsKnown j number m) × IsFirst x.phase) ⊎ IsScene m.world q.ready.scene → Keeps r
+        go : ((j : Work) × IsWorkOf l u q.ready.scene q.ready.system j × (x : IsKnown new_outset j number m) × IsFirst x.phase) ⊎ IsScene m.world q.ready.scene → Keeps r
         go (inl t) = lines-keep-room (v most) most names (callers past-then) (λ c. makes_by past-then c) t.0 number m r t.2 (omega (arith, q.left)) first-keeps.1 room-for first-keeps.0 hs.reached few-sent
         go (inr i) = subst Keeps (sym (stops k m (delivering.none-due m.world q.ready.scene i q.ready.idle.mail))) first-keeps.0
 
-    stock-then : HasStock names (callers past-then) (λ c. makes_by past-then c) go-on.next.scene
-    stock-then = subst (HasStock names (callers past-then) (λ c. makes_by past-then c)) (same-scene r.world keeps.scene hs.scene keeps.stands hs.stands ∙ same-scene (forget r.world) hs.scene go-on.next.scene over.1 go-on.next.stands) keeps.stock
+    stock-then : HasStock names (callers past-then) (λ c. makes_by past-then c) through.next.scene
+    stock-then = subst (HasStock names (callers past-then) (λ c. makes_by past-then c)) (same-scene r.world keeps.scene hs.scene keeps.stands hs.stands ∙ same-scene (forget r.world) hs.scene through.next.scene over.1 through.next.stands) keeps.stock
 
     -- Behind the line.
 
@@ -300,7 +303,7 @@ module _ (most : ℕ) (formed : WellFormed (formatted most)) (w : World) (opened
       whole = whole-then;
       count = next-number;
       left = omega (arith, q.left);
-      ready = go-on.next;
+      ready = through.next;
       stock = stock-then;
       asked = ap asked_in along.lines ∙ asked-both u.shown r.shown ∙ (λ z. q.asked z ++ lines.answered d formed refl refl number u before l go-on.fine k hs column q.no-faults.0 q.fits.0 z) ∙ ap (λ n. asked_from 1 q.past ++ asking_in n l) q.count
           ∙ sym (asked-more 1 q.past l);

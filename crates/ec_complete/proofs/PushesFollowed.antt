@@ -31,7 +31,7 @@ use Rattle.ec_quiet.proofs.Pushing.{begins}
 use Rattle.ec_quiet.proofs.Delivering.{comes-out, shown-alike, with-clerks}
 use Rattle.ec_complete.specs.WaitingCalls.{max_about}
 use Rattle.ec_complete.specs.Lines.{IsOnLine}
-use Rattle.ec_complete.specs.Worlds.{IsCounted}
+use Rattle.ec_complete.specs.Worlds.{IsCounted, Outset}
 use Rattle.ec_deliveries.proofs.Begun.{pushes-begin}
 use Rattle.ec_complete.specs.Following.{BeginsBehind, IsUncalled}
 use Rattle.ec_complete.proofs.Following.{same-scene}
@@ -82,8 +82,8 @@ module _ (w : World) (sc : Scene) (i : IsScene w sc) (c n : ℕ) (k : Clerk) (un
   pushed : has_issued n k ≡ true → Carries (push c n (Some k) w)
   pushed e = subst Carries (sym (ap (λ b. elim b as (λ z. Moving) [ false ↦ fails fault.NoSuchOp w | true ↦ elim (is_undurable c n w) as (λ z. Moving) [ true ↦ clerk_does c d (moving w) | false ↦ nothing w ] ]) e)) (by-lines (is_undurable c n w))
 
-module _ (j : Work) (n : ℕ) (w : World) (sc : Scene) (g : System) (sl : Slot) (k : Clerk) (v : Images) (calls : ℕ) (whole : Whole g) (in-system : Stands w g) (scene : IsScene w sc) (idle : IsIdle sc) (order : IsInOrder sc.server.durable) (is : IsPush j sc sl k n)
-    (none : j.touched ≡ []) (fine : (push j.clerk n (at j.clerk w.clerks) w).fault ≡ None) (s : Scene) (stands : IsScene (push j.clerk n (at j.clerk w.clerks) w).world s) (counted : IsCounted calls (push j.clerk n (at j.clerk w.clerks) w).world s) (uncalled : IsUncalled j.clerk s) where
+module _ (outset : Outset) (j : Work) (n : ℕ) (w : World) (sc : Scene) (g : System) (sl : Slot) (k : Clerk) (v : Images) (calls : ℕ) (whole : Whole g) (in-system : Stands w g) (scene : IsScene w sc) (idle : IsIdle sc) (order : IsInOrder sc.server.durable) (is : IsPush j sc sl k n)
+    (none : j.touched ≡ []) (fine : (push j.clerk n (at j.clerk w.clerks) w).fault ≡ None) (s : Scene) (stands : IsScene (push j.clerk n (at j.clerk w.clerks) w).world s) (counted : IsCounted outset calls (push j.clerk n (at j.clerk w.clerks) w).world s) (uncalled : IsUncalled j.clerk s) where
   abbrev m : Moving
   m = push j.clerk n (at j.clerk w.clerks) w
 
@@ -121,18 +121,18 @@ module _ (j : Work) (n : ℕ) (w : World) (sc : Scene) (g : System) (sl : Slot) 
       answered = λ o task a here. (rest a here).1;
     }
 
-    pub asked : BeginsBehind (line.Push j.clerk n) g.origin v j calls m
+    pub asked : BeginsBehind outset (line.Push j.clerk n) g.origin v j calls m
     asked = record {
       known = record {
-        known = (let first = (begins j sc sl k n idle is).0 in record { scene = now; stands = i; phase = first.phase; comes = first.comes; system = h; facts = on-line; counted = subst (IsCounted calls m.world) as-now counted });
+        known = (let first = (begins j sc sl k n idle is).0 in record { scene = now; stands = i; phase = first.phase; comes = first.comes; system = h; facts = on-line; counted = subst (IsCounted outset calls m.world) as-now counted });
         worked = record { origin_is = fh.origin; works = (pushes-worked n v j now h is.task none).works };
       };
       behind = pushes-begin v j sc idle k is.there sc.mail n is.task;
     }
 
-  pub push-begins : BeginsBehind (line.Push j.clerk n) g.origin v j calls m ⊎ IsScene m.world sc
+  pub push-begins : BeginsBehind outset (line.Push j.clerk n) g.origin v j calls m ⊎ IsScene m.world sc
   push-begins = go (pushed w sc scene j.clerk n k (begins j sc sl k n idle is).1 (issued-here j.clerk n k w (ap (λ (x : Moving). x.fault) same ∙ fine))) holds
     where
-      go : IsScene (push j.clerk n (Some k) w).world now ⊎ IsScene (push j.clerk n (Some k) w).world sc → Holds F m.world → BeginsBehind (line.Push j.clerk n) g.origin v j calls m ⊎ IsScene m.world sc
+      go : IsScene (push j.clerk n (Some k) w).world now ⊎ IsScene (push j.clerk n (Some k) w).world sc → Holds F m.world → BeginsBehind outset (line.Push j.clerk n) g.origin v j calls m ⊎ IsScene m.world sc
       go (inl i) (h, fh, sh) = inl (asked (subst (λ (x : Moving). IsScene x.world now) same i) h fh sh)
       go (inr i) h = inr (subst (λ (x : Moving). IsScene x.world sc) same i)

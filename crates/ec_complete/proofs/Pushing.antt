@@ -38,8 +38,8 @@ use Rattle.ec_complete.specs.Lines.{IsOnLine}
 use Rattle.ec_quiet.specs.First.{HasFirst, IsPush}
 use Rattle.ec_quiet.proofs.Stepping.{nothing-fails}
 use Rattle.ec_quiet.specs.Settling.{Counts}
-use Rattle.ec_complete.specs.Begins.{IsBegun}
-use Rattle.ec_complete.specs.Worlds.{IsCounted, IsKnown}
+use Rattle.ec_complete.specs.Worlds.{IsCounted, IsKnown, Outset}
+use Rattle.ec_complete.specs.Goes.{IsStarted}
 use Rattle.ec_complete.specs.Ready.{IsReady, calls_of}
 use Rattle.ec_complete.proofs.Counts.{calls-then, counted-then, more-made, own-made, unsent-most}
 use Rattle.ec_complete.proofs.First.{IsStepped, named-now}
@@ -91,7 +91,7 @@ module _ (k : Clerk) (n : ℕ) (inside : is_some k.session ≡ true) (waiting : 
       go true = subst (λ d. Alike k (settle d).clerk) (sym kept-is) (subst (λ d. Alike k d.clerk) (sym (push-alone pushing-it inside waiting n recalls refl ∙ stays)) tried)
       go false = subst (λ d. Alike k d.clerk) (sym (prepared (doing k) recalls pushes ∙ ap evict (tries-none (doing k) waiting) ∙ few-stay (doing k) few)) (record { waiting = refl; cache = refl; wanted = refl })
 
-module _ (v : Images) (most : ℕ) (names : List ℕ) (number : ℕ) (w : World) (q : IsReady v most names number w) (few : number ≤ 65536) (first : 1 ≤ number) where
+module _ (outset : Outset) (v : Images) (most : ℕ) (names : List ℕ) (number : ℕ) (w : World) (q : IsReady outset v most names number w) (few : number ≤ 65536) (first : 1 ≤ number) where
   abbrev sc : Scene
   sc = q.scene
 
@@ -102,11 +102,11 @@ module _ (v : Images) (most : ℕ) (names : List ℕ) (number : ℕ) (w : World)
   F = OfRun v most
 
   -- nothing was done
-  idles : (c n : ℕ) (m : Moving) → m.fault ≡ None → IsScene m.world sc → m.world.clerks ≡ w.clerks → IsStepped v most names number (line.Push c n) w q m
+  idles : (c n : ℕ) (m : Moving) → m.fault ≡ None → IsScene m.world sc → m.world.clerks ≡ w.clerks → IsStepped outset v most names number (line.Push c n) w q m
   idles c n m fine i same = record {
     fine = fine;
     known = inr i;
-    begun = inr (sc, i, q.idle);
+    started = inr (sc, i, q.idle);
     calls = subst (λ cs. sum calls_of cs ≤ number) (sym (same ∙ q.stands.clerks)) (omega (arith, q.calls));
     named = λ a b e. q.named a b (ap (at a) (sym (same ∙ q.stands.clerks)) ∙ e);
   }
@@ -114,24 +114,24 @@ module _ (v : Images) (most : ℕ) (names : List ℕ) (number : ℕ) (w : World)
   -- The clerk is asked for a batch.
   module _ (c n : ℕ) (k : Clerk) (there : at c sc.clerks ≡ Some k) where
     abbrev sl : Slot
-    sl = idle.slot-of v most names number w q few first c k there
+    sl = idle.slot-of outset v most names number w q few first c k there
 
     i : IsIdleBut [] sc.server c sl k
-    i = idle.its-idle v most names number w q few first c k there
+    i = idle.its-idle outset v most names number w q few first c k there
 
     abbrev j : Work
     j = record { clerk = c; session = sl.session; task = Pushes n; touched = []; number = sc.server.number }
 
     push-is : IsPush j sc sl k n
     push-is = record {
-      clerk = idle.its-number v most names number w q few first c k there;
+      clerk = idle.its-number outset v most names number w q few first c k there;
       there = there;
       slot = i.inside.there;
       session = refl;
       number = refl;
       task = refl;
-      once = idle.once-each v most names number w q few first c k there;
-      batches = (idle.its-counters v most names number w q few first c k there).batches;
+      once = idle.once-each outset v most names number w q few first c k there;
+      batches = (idle.its-counters outset v most names number w q few first c k there).batches;
     }
 
     abbrev d : Doing
@@ -195,13 +195,13 @@ module _ (v : Images) (most : ℕ) (names : List ℕ) (number : ℕ) (w : World)
       )
 
       count : clerks.IsCounted (number - 1) w.sent k
-      count = idle.its-count v most names number w q few first c k there
+      count = idle.its-count outset v most names number w q few first c k there
 
-      counted : IsCounted number m.world now
-      counted = counted-then w m.world sc q.stands q.idle.mail c d stands steady (number - 1) number (omega arith) q.counted
+      counted : IsCounted outset number m.world now
+      counted = counted-then w m.world sc q.stands q.idle.mail c d stands steady outset (number - 1) number (omega arith) q.counted
           (more-made (number - 1) number (w.sent + sent_in d.outs) (w.sent + sent_in d.outs) d.clerk (omega arith) (omega arith) (pushes-count (number - 1) w.sent n k count))
 
-      abbrev known : IsKnown j number m
+      abbrev known : IsKnown outset j number m
       known = record { scene = now; stands = stands; phase = begins.0.phase; comes = begins.0.comes; system = on.0; facts = on.1; counted = counted }
 
       made : sum calls_of now.clerks ≤ number - 1
@@ -213,15 +213,15 @@ module _ (v : Images) (most : ℕ) (names : List ℕ) (number : ℕ) (w : World)
       of-session : (t : Slot) → slot sc.server.durable c ≡ Some t → t.is_open ≡ true → t.session ≡ sl.session
       of-session t e f = ap (λ z. z.session) (same_some (sym e ∙ i.inside.there))
 
-      begun : IsBegun (length (once names)) m
-      begun = work-begins names number few j m now stands known on.1.few named begins.0.phase begins.0.first begins.0.comes begins.0.none_back (subst (λ o. T (is_some o)) (sym (own-at c d.clerk sc.clerks)) tt) of-session
+      begun : IsStarted outset (length (once names)) number m
+      begun = work-begins outset names number j m now stands known on.1.few named begins.0.phase begins.0.first begins.0.comes begins.0.none_back (subst (λ o. T (is_some o)) (sym (own-at c d.clerk sc.clerks)) tt) of-session
           (omega (arith, unsent-most j number m.world.sent now.clerks begins.0.comes.orderly.rising (λ a x e. counted.clerks a x (ap (at a) stands.clerks ∙ e)), made, few))
 
-      asks : IsStepped v most names number (line.Push c n) w q m
+      asks : IsStepped outset v most names number (line.Push c n) w q m
       asks = record {
         fine = fine;
         known = inl (j, (refl, refl, sl, k, push-is, issued), known, begins.0.first);
-        begun = begun;
+        started = begun;
         calls = subst (λ cs. sum calls_of cs ≤ number) (sym stands.clerks) (omega (arith, made));
         named = λ a b e. named a b (ap (at a) (sym stands.clerks) ∙ e);
       }
@@ -230,7 +230,7 @@ module _ (v : Images) (most : ℕ) (names : List ℕ) (number : ℕ) (w : World)
   no-fault f e = absurd (none_some (sym e))
 
   abbrev Steps : ℕ → ℕ → Moving → Type 0
-  Steps c n m = m.fault ≡ None → steps.Holds F m.world → Counts 0 w m.world → IsStepped v most names number (line.Push c n) w q m
+  Steps c n m = m.fault ≡ None → steps.Holds F m.world → Counts 0 w m.world → IsStepped outset v most names number (line.Push c n) w q m
 
   of-clerk : (c n : ℕ) (o : Option Clerk) → at c sc.clerks ≡ o → Steps c n (world.push c n o w)
   of-clerk c n None e = λ f h s. no-fault fault.NoSuchOp f
@@ -241,9 +241,9 @@ module _ (v : Images) (most : ℕ) (names : List ℕ) (number : ℕ) (w : World)
       go true true t = λ f h s. asks c n k e t (clerk_does c (push n k) (moving w)) refl h s
       go true false t = λ f h s. idles c n (nothing w) refl (shown-alike w sc _ q.stands) refl
 
-  pub steps-on : (c n : ℕ) → (world.push c n (at c w.clerks) w).fault ≡ None → IsStepped v most names number (line.Push c n) w q (world.push c n (at c w.clerks) w)
+  pub steps-on : (c n : ℕ) → (world.push c n (at c w.clerks) w).fault ≡ None → IsStepped outset v most names number (line.Push c n) w q (world.push c n (at c w.clerks) w)
   steps-on c n f = of-clerk c n (at c w.clerks) (ap (at c) (sym q.stands.clerks)) f
-      (events-hold v most (event.Push c n) w (idle.holds v most names number w q) tt f) (counts (at c w.clerks))
+      (events-hold v most (event.Push c n) w (idle.holds outset v most names number w q) tt f) (counts (at c w.clerks))
     where
       counts : (o : Option Clerk) → Counts 0 w (world.push c n o w).world
       counts None = omega arith

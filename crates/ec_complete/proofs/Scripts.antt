@@ -11,12 +11,13 @@ use Rattle.ec_protocol.specs.declared.world.World.{World}
 use Rattle.ec_lawful.specs.Drills.{AreFit}
 use Rattle.ec_complete.specs.Begins.{EachBegins, bound_for}
 use Rattle.ec_complete.specs.Complete.{EachSettles, IsFaultlessRead}
-use Rattle.ec_complete.specs.Goes.{GoesOn}
+use Rattle.ec_complete.specs.Goes.{GoesThrough}
 use Rattle.ec_complete.specs.Ready.{IsReady}
+use Rattle.ec_complete.specs.Worlds.{new_outset}
 use Rattle.ec_complete.specs.Scripts.{AreNamed, EachGoesOn, EachPushGoes, ScriptsArePlain, ScriptsGoOn, ScriptsSettle}
-use Rattle.ec_complete.proofs.Going.{lines-go-on}
+use Rattle.ec_complete.proofs.Going.{lines-go-through}
 use Rattle.ec_complete.proofs.Laws.{runs-plain}
-use Rattle.ec_complete.proofs.Opening.{new-ready}
+use Rattle.ec_complete.proofs.Opening.{new-early, new-ready}
 
 module _ (P : ℕ → Type 0) where
   front-each : (xs ys : List ℕ) → Each P (xs ++ ys) → Each P xs
@@ -31,12 +32,12 @@ module _ (v : Images) (most : ℕ) (names : List ℕ) where
   abbrev IsNamed : ℕ → Type 0
   IsNamed c = T (member c names)
 
-  go-on : (sixteen : length (once names) ≤ 16) (number : ℕ) (ls : List Read) (w : World) → IsReady v most names number w → 1 ≤ number → number + length ls ≤ 65537 → Each IsFaultlessRead ls → AreFit ls → AreNamed names ls
+  go-on : (sixteen : length (once names) ≤ 16) (number : ℕ) (ls : List Read) (w : World) → IsReady new_outset v most names number w → 1 ≤ number → number + length ls ≤ 65537 → Each IsFaultlessRead ls → AreFit ls → AreNamed names ls
       → EachPushGoes (bound_for (length (once names))) number ls w → EachGoesOn v most names number ls w
   go-on sixteen number [] w q first few a fit named push = q
   go-on sixteen number (unfit column ∷ ls) w q first few a fit named push = absurd a.0
   go-on sixteen number (reads l column ∷ ls) w q first few a fit named push =
-      let g : GoesOn v most names number l w q = lines-go-on v most names number l column w q sixteen first (omega (arith, few)) a.0 fit.0 (front-each IsNamed (clerk_in l) (named_in ls) named) push.0 in
+      let g : GoesThrough new_outset v most names number l w q = lines-go-through new_outset v most names number l column w q new-early sixteen first (omega (arith, few)) a.0 fit.0 (front-each IsNamed (clerk_in l) (named_in ls) named) push.0 in
       (q, g, go-on sixteen (number + 1) ls (forget (settle (bound_for (length (once names))) [] (line_happens runs number l w)).world) g.next (omega arith) (omega (arith, few)) a.1 fit.1 (back-each IsNamed (clerk_in l) (named_in ls) named) push.1)
 
   settle-all : (number : ℕ) (ls : List Read) (w : World) → EachGoesOn v most names number ls w → EachBegins (length (once names)) number ls w × EachSettles (bound_for (length (once names))) number ls w
@@ -44,7 +45,7 @@ module _ (v : Images) (most : ℕ) (names : List ℕ) where
   settle-all number (unfit column ∷ ls) w g = absurd g
   settle-all number (reads l column ∷ ls) w g =
       let r = settle-all (number + 1) ls (forget (settle (bound_for (length (once names))) [] (line_happens runs number l w)).world) g.2 in
-      ((g.1.fine, g.1.begun, r.0), (g.1.fine, g.1.settled, r.1))
+      ((g.1.goes.fine, g.1.begun, r.0), (g.1.goes.fine, g.1.settled, r.1))
 
 pub scripts-go-on : ScriptsGoOn
 scripts-go-on v most names number ls w q sixteen first few a fit named push = go-on v most names sixteen number ls w q first few a fit named push
@@ -63,7 +64,7 @@ each-in (x ∷ xs) ns h = (h x (subst (λ b. T (b || member x xs)) (sym (Rattle.
 
 pub scripts-plain : ScriptsArePlain
 scripts-plain most formed w opened ls fs few sixteen fit a all-run push room =
-    let q : IsReady (images (formatted most).volume) most (named_in ls) 1 w = new-ready most formed (named_in ls) w opened in
+    let q : IsReady new_outset (images (formatted most).volume) most (named_in ls) 1 w = new-ready most formed (named_in ls) w opened in
     runs-plain (formatted most) formed refl refl w q.scene opened q.stands q.idle ls fs fit a all-run
     (settle-all (images (formatted most).volume) most (named_in ls) 1 ls w
     (go-on (images (formatted most).volume) most (named_in ls) sixteen 1 ls w q (omega arith) (omega (arith, few)) a fit (each-in (named_in ls) (named_in ls) (λ x m. m)) push)).1

@@ -1,5 +1,5 @@
 -- A line whose work began settles, and sends few messages.
-use Rattle.std.proofs.Common.{◌≡◌, sym, ap, subst, arith, ◌≤◌, ◌+◌, ℕ, zero, suc, T, true, List, [], inl, inr, length}
+use Rattle.std.proofs.Common.{◌≡◌, sym, ap, ◌∙◌, subst, arith, ◌≤◌, ◌+◌, ◌*◌, ℕ, zero, suc, T, true, List, [], inl, inr, length}
 use Rattle.std.specs.Prelude.{Option, None, Some, is_some}
 use Rattle.ec_base.specs.Tables.{at, once}
 use Rattle.ec_volume.specs.Update.{member}
@@ -14,6 +14,8 @@ use Rattle.ec_protocol.specs.declared.clerk.Clerk.{Clerk}
 use Rattle.ec_protocol.specs.declared.script.Line.{Line}
 use Rattle.ec_protocol.specs.declared.script.Line.TheVariants as line
 use Rattle.ec_protocol.specs.declared.world.World.{World}
+use Rattle.ec_protocol.specs.declared.world.WorldFault.{WorldFault}
+use Rattle.ec_coherence.proofs.Tables.{none_some}
 use Rattle.ec_quiet.specs.Measure.{sum, unsent_by}
 use Rattle.ec_quiet.specs.Phases.{InPhase, Phase, backs}
 use Rattle.ec_quiet.specs.Quiet.{IsIdle}
@@ -23,11 +25,12 @@ use Rattle.ec_quiet.specs.Bounds.{IsFirst}
 use Rattle.ec_quiet.specs.SettlingScenes.{here}
 use Rattle.ec_quiet.specs.Settling.{Counts, IsSettled}
 use Rattle.ec_quiet.proofs.Mail.{few, pending-is}
-use Rattle.ec_deliveries.specs.Runs.{HasSettled}
-use Rattle.ec_complete.specs.Begins.{Begins, IsBegun, bound_for, most_sent}
+use Rattle.ec_deliveries.specs.Runs.{HasEnded, HasSettled}
+use Rattle.ec_complete.specs.Begins.{IsBegun, bound_for, most_sent}
 use Rattle.ec_complete.specs.Complete.{IsFaultless}
-use Rattle.ec_complete.specs.Worlds.{IsKnown}
-use Rattle.ec_complete.proofs.Laws.{calls-send, lines-can-settle, lines-settle, lines-settled, measure-most, nothing-due, pushes-send, rows-few}
+use Rattle.ec_complete.specs.Worlds.{IsEarly, IsKnown, Outset}
+use Rattle.ec_complete.specs.Goes.{HasStarted, IsStarted}
+use Rattle.ec_complete.proofs.Laws.{calls-send, lines-can-go-on, lines-can-settle, lines-settle, lines-settle-or-end, lines-settled, measure-most, nothing-due, pushes-send, rows-few}
 use Rattle.ec_complete.proofs.Tables.{few-named}
 
 -- where nothing is due
@@ -37,15 +40,15 @@ stops (suc k) m e =
     ap (λ o. elim o as (λ z. Moving) [ None ↦ m | Some n ↦ elim (onward m (deliver runs n m.world)).fault as (λ z. Moving) [ Some f ↦ onward m (deliver runs n m.world) | None ↦ settle k [] (onward m (deliver runs n m.world)) ] ]) e
 
 -- Work that is in a phase in which lines begin, where clerks have names and few operations are undurable.
-module _ (names : List ℕ) (number : ℕ) (few-lines : number ≤ 65536) (j : Work) (m : Moving) (now : Scene) (i : IsScene m.world now) (known : IsKnown j number m) (few-touched : length j.touched ≤ 137) (named : (a : ℕ) (b : Clerk) → at a now.clerks ≡ Some b → T (member a names)) where
+module _ (outset : Outset) (names : List ℕ) (number : ℕ) (j : Work) (m : Moving) (now : Scene) (i : IsScene m.world now) (known : IsKnown outset j number m) (few-touched : length j.touched ≤ 137) (named : (a : ℕ) (b : Clerk) → at a now.clerks ≡ Some b → T (member a names)) where
   pub work-begins : (p : Phase) → IsFirst p → InPhase j now p → backs j now.mail ≡ [] → T (is_some (at j.clerk now.clerks)) → ((sl : Slot) → slot now.server.durable j.clerk ≡ Some sl → sl.is_open ≡ true → sl.session ≡ j.session) → sum (unsent_by j) now.clerks ≤ 65535
-      → IsBegun (length (once names)) m
+      → IsStarted outset (length (once names)) number m
   work-begins p first comes none there own unsent = inl (record {
     work = j;
+    known = known;
     scene = now;
     stands = i;
     first = record { phase = p; first = first; comes = comes; none_back = none };
-    can = lines-can-settle j number m known few-lines;
     few = few-touched;
     rows = omega (arith, rows-few now.server now.clerks j.clerk j.session comes.orderly there own, few-named now.clerks names comes.orderly.rising named);
     unsent = unsent;
@@ -94,7 +97,7 @@ module _ (n : ℕ) (w : World) where
   counts line.Restart a = absurd a
 
 -- Behind it, where so many messages were sent before.
-module _ (k : ℕ) (sixteen : k ≤ 16) (m : Moving) (most : ℕ) (fine : m.fault ≡ None) (shown : EachLine IsSettled m.shown) (sent : m.world.sent ≤ most + pending m.world) (room : most + 208900 ≤ most_sent) where
+module _ (outset : Outset) (number k : ℕ) (few-lines : number ≤ 65536) (sixteen : k ≤ 16) (m : Moving) (most : ℕ) (fine : m.fault ≡ None) (shown : EachLine IsSettled m.shown) (sent : m.world.sent ≤ most + pending m.world) (room : most + 208900 ≤ most_sent) where
   abbrev b : ℕ
   b = bound_for k
 
@@ -106,20 +109,30 @@ module _ (k : ℕ) (sixteen : k ≤ 16) (m : Moving) (most : ℕ) (fine : m.faul
       let none : due m.world ≡ None = nothing-due m.world sc i idle.mail in
       subst (HasSettled b m) (sym (stops b m none)) (record { reached = here; none = none; fault = fine; sent = omega arith; shown = shown; scene = sc; stands = i; idle = idle })
 
-  few-first : (begun : Begins k m) → pending m.world ≤ b + 2
+  few-first : (begun : HasStarted outset k number m) → pending m.world ≤ b + 2
   few-first q = omega (arith, pending-is m.world q.scene q.stands, few q.work q.scene q.first.phase q.first.comes, measure-most q.work q.scene q.first.phase k q.first.first q.first.none_back q.few q.rows q.unsent)
 
-  begins : (q : Begins k m) → HasSettled b m (settle b [] m)
-  begins q = lines-settle q.work k most_sent m q.scene q.can fine shown q.stands q.first q.few q.rows q.unsent (omega (arith, sent, few-first q, room, few-deliveries))
+  few-then : (begun : HasStarted outset k number m) → m.world.sent + 4096 * (k + 1) + 2 ≤ most_sent
+  few-then q = omega (arith, sent, few-first q, room, few-deliveries)
 
-  pub settles : IsBegun k m → HasSettled b m (settle b [] m)
-  settles (inl q) = begins q
-  settles (inr (sc, i, idle)) = idles sc i idle
+  -- where the line ends without a fault, and where it ends in a delivery
+  pub settles-or-ends : IsStarted outset k number m → ((settle b [] m).fault ≡ None → HasSettled b m (settle b [] m)) × ((f : WorldFault) → (settle b [] m).fault ≡ Some f → HasEnded most_sent m (settle b [] m))
+  settles-or-ends (inl q) = lines-settle-or-end q.work k most_sent m q.scene (lines-can-go-on outset q.work number m q.known few-lines) fine shown q.stands q.first q.few q.rows q.unsent (few-then q)
+  settles-or-ends (inr (sc, i, idle)) = (λ e. idles sc i idle, λ f e. absurd (none_some (sym fine ∙ ap (λ (x : Moving). x.fault) (sym (stops b m (nothing-due m.world sc i idle.mail))) ∙ e)))
 
-  few-begun : IsBegun k m → pending m.world ≤ b + 2
+  -- where counters were far below their limits
+  pub begins : IsEarly outset → IsStarted outset k number m → IsBegun k m
+  begins early (inl q) = inl (record { work = q.work; scene = q.scene; stands = q.stands; first = q.first; can = lines-can-settle outset q.work number m q.known few-lines early; few = q.few; rows = q.rows; unsent = q.unsent })
+  begins early (inr q) = inr q
+
+  pub settles : IsEarly outset → IsStarted outset k number m → HasSettled b m (settle b [] m)
+  settles early (inl q) = lines-settle q.work k most_sent m q.scene (lines-can-settle outset q.work number m q.known few-lines early) fine shown q.stands q.first q.few q.rows q.unsent (few-then q)
+  settles early (inr (sc, i, idle)) = idles sc i idle
+
+  few-begun : IsStarted outset k number m → pending m.world ≤ b + 2
   few-begun (inl q) = few-first q
   few-begun (inr (sc, i, idle)) = omega (arith, pending-is m.world sc i, ap length idle.mail)
 
   -- so many messages were sent behind the line
-  pub sent-behind : IsBegun k m → (r : Moving) → HasSettled b m r → r.world.sent ≤ most + 139266
-  sent-behind begun r s = omega (arith, sent, few-begun begun, s.sent, few-deliveries)
+  pub sent-behind : IsStarted outset k number m → (r : Moving) → HasSettled b m r → r.world.sent ≤ most + 139266
+  sent-behind started r s = omega (arith, sent, few-begun started, s.sent, few-deliveries)

@@ -6,17 +6,20 @@ use Rattle.ec_protocol.specs.declared.clerk.Clerk.{Clerk}
 use Rattle.ec_protocol.specs.declared.world.World.{World}
 use Rattle.ec_quiet.specs.Scenes.{IsScene, Scene}
 use Rattle.ec_agreed_lines.specs.Counting as clerks
-use Rattle.ec_complete.specs.Spare.{IsBelow, max_calls}
+use Rattle.ec_complete.specs.Spare.{IsBelow, IsFarBelow, max_calls}
 use Rattle.ec_deliveries.specs.Runs.{IsFar}
 use Rattle.ec_complete.specs.Begins.{most_sent}
-use Rattle.ec_complete.specs.Worlds.{IsCounted}
+use Rattle.ec_complete.specs.Worlds.{IsCounted, IsEarly, Outset}
 
-module _ (calls : ℕ) (w : World) (sc : Scene) (i : IsScene w sc) (counted : IsCounted calls w sc) (few : calls ≤ max_calls) (sent : w.sent ≤ most_sent) where
+module _ (outset : Outset) (calls : ℕ) (w : World) (sc : Scene) (i : IsScene w sc) (counted : IsCounted outset calls w sc) (few : calls ≤ max_calls) (sent : w.sent ≤ most_sent) where
   of-clerk : (c : ℕ) (k : Clerk) → at c sc.clerks ≡ Some k → clerks.IsCounted calls w.sent k
   of-clerk c k e = counted.clerks c k (ap (at c) i.clerks ∙ e)
 
-  pub below : IsBelow 0 1 2 calls w sc
-  below = record { server = counted.server; clerks = counted.clerks; ids = counted.ids; few = few; numbers = omega (arith, sent); sessions = omega (arith, sent); firsts = omega arith }
+  pub below : IsBelow 0 outset.session outset.first calls w sc
+  below = record { server = counted.server; clerks = counted.clerks; ids = counted.ids; few = few; numbers = omega (arith, sent) }
+
+  pub far-below : IsEarly outset → IsFarBelow outset.session outset.first w
+  far-below early = record { sessions = omega (arith, sent, early.sessions); firsts = early.ids }
 
   pub far : IsFar most_sent sc
   far =

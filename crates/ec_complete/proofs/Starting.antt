@@ -42,14 +42,26 @@ use Rattle.ec_complete.specs.Lines.{IsOnLine}
 use Rattle.ec_complete.specs.LineCalls.{IsCalledFirst}
 use Rattle.ec_quiet.specs.First.{HasFirst, IsStart, start_calling}
 use Rattle.ec_quiet.proofs.Stepping.{carried}
-use Rattle.ec_complete.specs.Begins.{IsBegun}
-use Rattle.ec_complete.specs.Worlds.{IsCounted, IsKnown}
+use Rattle.ec_complete.specs.Worlds.{IsCounted, IsKnown, Outset}
+use Rattle.ec_complete.specs.Goes.{IsStarted}
 use Rattle.ec_complete.specs.Ready.{IsReady, calls_of}
 use Rattle.ec_complete.proofs.Counts.{calls-first, counted-then, more-made, unsent-first, unsent-most}
 use Rattle.ec_complete.proofs.First.{IsStepped, named-now}
 use Rattle.ec_complete.proofs.Idle as idle
 use Rattle.ec_complete.proofs.Laws.{calls-count, calls-send, needs-touched, starts-come-on, starts-greet}
 use Rattle.ec_complete.proofs.Settles.{work-begins}
+
+-- Where a clerk starts without a fault its next start may be counted.
+pub may-start : (c number : ℕ) (cl : Call) (w : World) → at c w.clerks ≡ None → (call c number cl w).fault ≡ None → nat_lt last_counter (boot c w + 1) ≡ false
+may-start c number cl w none fine = go (nat_lt last_counter (boot c w + 1)) refl
+  where
+    faulty : (start c (boot c w + 1)).spent ≡ Some counter.Boot → (call c number cl w).fault ≡ Some (fault.Spent counter.Boot)
+    faulty e = ap (λ o. (elim o as (λ z. Moving) [ Some k ↦ call_on c number cl [] k w | None ↦ start_and_call c number cl w ]).fault) none
+        ∙ ap (λ o. (elim o as (λ z. Moving) [ Some n ↦ fails (fault.Spent n) w | None ↦ call_on c number cl (start c (boot c w + 1)).outs (start c (boot c w + 1)).clerk (record w { boots = put c (boot c w + 1) w.boots }) ]).fault) e
+
+    go : (z : Bool) → nat_lt last_counter (boot c w + 1) ≡ z → nat_lt last_counter (boot c w + 1) ≡ false
+    go false e = e
+    go true e = absurd (none_some (sym fine ∙ faulty (ap (λ z. (elim z as (λ y. Doing) [ true ↦ spend counter.Boot (doing (new_clerk c (boot c w + 1))) | false ↦ hello (doing (new_clerk c (boot c w + 1))) ]).spent) e)))
 
 -- The clerk in the world.
 
@@ -105,8 +117,8 @@ empty-unsent j c x e = ap (λ l. elim ((c == j.clerk) && not (is_saving j.task))
     go true = refl
     go false = refl
 
-module _ (v : Images) (most : ℕ) (names : List ℕ) (number : ℕ) (w : World) (q : IsReady v most names number w) (few : number ≤ 65536) (first : 1 ≤ number) (c : ℕ) (cl : Call) (none : at c q.scene.clerks ≡ None)
-    (small : c < 16) (bounded : T (is_bounded cl)) (name : T (member c names)) where
+module _ (outset : Outset) (v : Images) (most : ℕ) (names : List ℕ) (number : ℕ) (w : World) (q : IsReady outset v most names number w) (few : number ≤ 65536) (first : 1 ≤ number) (c : ℕ) (cl : Call) (none : at c q.scene.clerks ≡ None)
+    (small : c < 16) (bounded : T (is_bounded cl)) (name : T (member c names)) (left : nat_lt last_counter (boot c w + 1) ≡ false) where
   abbrev sc : Scene
   sc = q.scene
 
@@ -120,7 +132,7 @@ module _ (v : Images) (most : ℕ) (names : List ℕ) (number : ℕ) (w : World)
   j = record { clerk = c; session = sc.server.durable.next_session; task = Calls cl; touched = touched_by cl (kept_volume g) sc.server.durable.next_id; number = sc.server.number }
 
   quiet : IsQuiet w
-  quiet = (idle.its-quiet v most names number w q).0
+  quiet = (idle.its-quiet outset v most names number w q).0
 
   later : (sl : Slot) → slot sc.server.durable c ≡ Some sl → (sl.age).boot < next
   later sl e = omega (arith, quiet.boots c sl (ap (λ s. slot s.durable c) (same-scene w quiet.scene sc quiet.stands q.stands) ∙ e))
@@ -129,7 +141,7 @@ module _ (v : Images) (most : ℕ) (names : List ℕ) (number : ℕ) (w : World)
   touches x h e = in-front x (plain (kept_volume g) cl 0).touched (sc.server.durable.next_id ∷ []) (needs-touched (empty max_tokens) [] cl None x h e (kept_volume g) (shows-none (kept_volume g)) 0 (λ y n. absurd (none_some n)))
 
   start-is : IsStart j sc next cl
-  start-is = record { clerk = small; none = none; boot_is = idle.not-above last_counter next (omega (arith, q.boots c, few)); later = later; session = refl; number = refl; task = refl; bounded = bounded; touches = touches }
+  start-is = record { clerk = small; none = none; boot_is = left; later = later; session = refl; number = refl; task = refl; bounded = bounded; touches = touches }
 
   abbrev e : Doing
   e = start_calling c next cl
@@ -176,16 +188,16 @@ module _ (v : Images) (most : ℕ) (names : List ℕ) (number : ℕ) (w : World)
   called = record { whole = q.facts.whole; stands = q.in_system; scene = q.stands; idle = q.idle; order = q.order; clerk = small; none = none; task = refl; bounded = bounded; touched = refl }
 
   on : (h : System) × IsOnLine j m.world now h
-  on = starts-come-on j number cl w sc now g phase.0 called (idle.is-new v most names number w q) come.0 come.1 refl (λ a p. other-at c e.clerk sc.clerks a p) phase.1
+  on = starts-come-on j number cl w sc now g phase.0 called (idle.is-new outset v most names number w q) come.0 come.1 refl (λ a p. other-at c e.clerk sc.clerks a p) phase.1
 
   own : clerks.IsCounted 1 (w.sent + sent_in (begin cl (start c next).clerk).outs) (begin cl (start c next).clerk).clerk
   own = calls-count 0 w.sent cl (start c next).clerk (subst (clerks.IsCounted 0 w.sent) (sym (start-new c next)) (new-counted c next w.sent)) (subst (λ (k : Clerk). nat_le last_counter k.calls ≡ false) (sym (start-new c next)) refl)
 
-  counted : IsCounted number m.world now
-  counted = counted-then w m.world sc q.stands q.idle.mail c e come.1 (calls-send w c number cl) (number - 1) number (omega arith) q.counted
+  counted : IsCounted outset number m.world now
+  counted = counted-then w m.world sc q.stands q.idle.mail c e come.1 (calls-send w c number cl) outset (number - 1) number (omega arith) q.counted
       (more-made 1 number (w.sent + sent_in (begin cl (start c next).clerk).outs) (w.sent + sent_in e.outs) e.clerk first (omega (arith, sent-both (start c next).outs (begin cl (start c next).clerk).outs)) own)
 
-  abbrev known : IsKnown j number m
+  abbrev known : IsKnown outset j number m
   known = record { scene = now; stands = come.1; phase = Greets phase.0; comes = phase.1; system = on.0; facts = on.1; counted = counted }
 
   made : sum calls_of now.clerks ≤ number
@@ -206,14 +218,14 @@ module _ (v : Images) (most : ℕ) (names : List ℕ) (number : ℕ) (w : World)
         few,
       )
 
-  begun : IsBegun (length (once names)) m
-  begun = work-begins names number few j m now come.1 known on.1.few named (Greets phase.0) tt phase.1 greets.0.none_back (subst (λ o. T (is_some o)) (sym (own-at c e.clerk sc.clerks)) tt) (λ sl p f. absurd (not-open sl p f)) few-unsent
+  begun : IsStarted outset (length (once names)) number m
+  begun = work-begins outset names number j m now come.1 known on.1.few named (Greets phase.0) tt phase.1 greets.0.none_back (subst (λ o. T (is_some o)) (sym (own-at c e.clerk sc.clerks)) tt) (λ sl p f. absurd (not-open sl p f)) few-unsent
 
-  pub steps : IsStepped v most names number (line.Call c cl) w q m
+  pub steps : IsStepped outset v most names number (line.Call c cl) w q m
   steps = record {
     fine = come.0;
     known = inl (j, (refl, inr called), known, tt);
-    begun = begun;
+    started = begun;
     calls = subst (λ cs. sum calls_of cs ≤ number) (sym come.1.clerks) made;
     named = λ a b p. named a b (ap (at a) (sym come.1.clerks) ∙ p);
   }

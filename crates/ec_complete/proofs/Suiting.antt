@@ -1,13 +1,14 @@
 -- What the server needs of the next message of a line is there.
 use Rattle.std.proofs.Common.{◌≡◌, refl, sym, ap, subst, ◌∙◌, ℕ, Bool, true, false, ◌||◌, [], ◌∷◌, Some}
-use Rattle.std.specs.Prelude.{nat_le, ◌&&◌, ◌==◌}
+use Rattle.std.specs.Prelude.{nat_le, nat_lt, ◌&&◌, ◌==◌}
 use Rattle.ec_base.specs.Tables.{at}
 use Rattle.ec_base.specs.declared.ids.Hold.{Hold}
 use Rattle.ec_order.specs.Order.{Issued}
-use Rattle.ec_sessions.specs.Limits.{last_grants}
+use Rattle.ec_sessions.specs.Limits.{last_first_id, last_grants}
 use Rattle.ec_tokens.specs.Tokens.{Holder}
 use Rattle.ec_wire.specs.declared.msg.Msg.{Msg}
 use Rattle.ec_wire.specs.declared.msg.Msg.TheVariants as msg
+use Rattle.ec_durable.specs.Durable.{is_full}
 use Rattle.ec_protocol.specs.Server.{has_claimed}
 use Rattle.ec_coherence.specs.Invariant.{Invariant}
 use Rattle.ec_coherence.specs.System.{System, clerk_in}
@@ -16,7 +17,7 @@ use Rattle.ec_quiet.specs.Phases.{Phase, Greets, Opens, Claims, Wants, Recalls, 
 use Rattle.ec_quiet.specs.Scenes.{Mail, Scene}
 use Rattle.ec_quiet.specs.Works.{Work}
 use Rattle.ec_deliveries.proofs.Working.{main-front}
-use Rattle.ec_deliveries.specs.Coming.{IsFreshFor, IsTaken, Suits}
+use Rattle.ec_deliveries.specs.Coming.{HasNext, IsFreshFor, IsTaken, Suits}
 use Rattle.ec_deliveries.proofs.Committed.{batch-new}
 use Rattle.ec_deliveries.proofs.ServerDelivered.{head-same, none-first}
 use Rattle.ec_agreed_lines.specs.Worlds.{IsSeen}
@@ -63,18 +64,22 @@ module _ (g : System) (sc : Scene) (inv : Invariant g) (seen : IsSeen g sc) (j :
       batch-taken g sc.server inv seen.server seen.durable j.clerk j.session b ops q.slot q.clerk q.sending.numbers a.inside.there a.session a.inside.is_open
       (sym (ap (λ s. has_claimed s sc.server) a.session) ∙ a.inside.claimed) there (ap (at b) q.sending.alone ∙ at-only b q.sending.numbers) (batch-new q.slot q.clerk.log b q.window q.sending) ip.facts.2
 
-  ids-fresh : (again : Bool) (got ask : ℕ) → InPhase j sc (Asks again got ask) → IsFreshFor j.session got sc.server
-  ids-fresh again got ask ip =
+  ids-fresh : (again : Bool) (got ask : ℕ) → InPhase j sc (Asks again got ask) → (is_full sc.server.durable ≡ false → nat_lt last_first_id sc.server.durable.next_id ≡ false) → IsFreshFor j.session got sc.server
+  ids-fresh again got ask ip next =
       let q : IsAsking [] j sc again ask = ip.facts.1 in
       let few : nat_le last_grants got ≡ false = ap (nat_le last_grants) (sym ip.facts.3) ∙ spare.grants q.clerk q.slot q.working.there q.working.inside.there q.working.inside.session in
-      (ap (λ b. b || nat_le last_grants got) spare.first ∙ few, ids-own g sc.server inv seen.server seen.durable j.session)
+      (λ room. ap (λ b. b || nat_le last_grants got) (next room) ∙ few, ids-own g sc.server inv seen.server seen.durable j.session)
 
-  module _ (m : ℕ × Msg) (others : Mail) where
+  module _ (m : ℕ × Msg) (others : Mail) (next : HasNext m.1 sc.server) where
+    -- the server's next counters are those that the phase's message takes
+    its-next : (a : ℕ × Msg) (more : Mail) → a ∷ more ≡ m ∷ others → HasNext a.1 sc.server
+    its-next a more e = subst (λ (z : ℕ × Msg). HasNext z.1 sc.server) (sym (head-same a m more others e)) next
+
     suited : (a : ℕ × Msg) (more : Mail) → a ∷ more ≡ m ∷ others → Suits a.0 a.1 sc.server → Suits m.0 m.1 sc.server
     suited a more e s = subst (λ z. Suits z.0 z.1 sc.server) (head-same a m more others e) s
 
     first-suits : (p : Phase) → InPhase j sc p → messages j sc p ≡ m ∷ others → Suits m.0 m.1 sc.server
-    first-suits (Greets age) ip e = suited _ _ e spare.session
+    first-suits (Greets age) ip e = suited _ _ e (its-next (j.clerk, msg.Hello j.clerk age) [] e)
     first-suits (Opens age) ip e = suited _ _ e tt
     first-suits (Claims o) ip e = suited _ _ e tt
     first-suits (Wants x h n) ip e = suited _ _ e tt
@@ -84,15 +89,15 @@ module _ (g : System) (sc : Scene) (inv : Invariant g) (seen : IsSeen g sc) (j :
     first-suits (Flushes x h r b ops more) ip e = suited _ _ e (holder-taken x h r b ops more ip)
     first-suits (Keeps x h r b more) ip e = suited _ _ e tt
     first-suits (Grants x h n) ip e = suited _ _ e tt
-    first-suits (Asks again got ask) ip e = suited _ _ e (ids-fresh again got ask ip)
+    first-suits (Asks again got ask) ip e = suited _ _ e (ids-fresh again got ask ip (its-next (j.clerk, msg.Room j.session sc.server.durable.epoch got ask) [] e))
     first-suits (Gives got n first) ip e = suited _ _ e tt
     first-suits (Refuses again ask live reserved) ip e = suited _ _ e tt
     first-suits (Saves b ops more) ip e = suited _ _ e (own-taken b ops more ip)
     first-suits (Saved b more) ip e = suited _ _ e tt
     first-suits Ends ip e = absurd (none-first m others e)
 
-  pub next-suits : (p : Phase) (m : ℕ × Msg) (rest : Mail) → InPhase j sc p → sc.mail ≡ m ∷ rest → Suits m.0 m.1 sc.server
-  next-suits p m rest ip mail = go (is_back j m) refl
+  pub next-suits : (p : Phase) (m : ℕ × Msg) (rest : Mail) → InPhase j sc p → sc.mail ≡ m ∷ rest → HasNext m.1 sc.server → Suits m.0 m.1 sc.server
+  next-suits p m rest ip mail next = go (is_back j m) refl
     where
       both : (a b : Bool) → (a && b) ≡ true → b ≡ true
       both true b e = e
@@ -100,4 +105,4 @@ module _ (g : System) (sc : Scene) (inv : Invariant g) (seen : IsSeen g sc) (j :
 
       go : (b : Bool) → is_back j m ≡ b → Suits m.0 m.1 sc.server
       go true own = back-suits j sc m (both (m.0 == j.clerk) (is_back_message m.1) own)
-      go false own = first-suits m (main j rest) p ip (sym ip.main_is ∙ ap (main j) mail ∙ main-front j m rest own)
+      go false own = first-suits m (main j rest) next p ip (sym ip.main_is ∙ ap (main j) mail ∙ main-front j m rest own)

@@ -56,6 +56,7 @@ use Rattle.ec_deliveries.proofs.Saving.{none-left}
 use Rattle.ec_agreed_lines.specs.Worlds.{IsSeen}
 use Rattle.ec_agreed_lines.proofs.Seen.{clerk-there, scenes-seen, tables}
 use Rattle.ec_agreed_lines.proofs.Suited.{numbers-given}
+use Rattle.ec_deliveries.specs.Coming.{HasNext}
 use Rattle.ec_deliveries.specs.Leading.{CanTake}
 use Rattle.ec_complete.specs.WaitingCalls.{IsAgreed}
 use Rattle.ec_complete.proofs.Shown.{agreed-may-go}
@@ -425,9 +426,9 @@ for-clerk j m e = off (m.0 == j.clerk) (is_back_message m.1) (go m.1 e)
     go (msg.Restarted s e) q = refl
     go (msg.OldBoot a x) q = refl
 
-pub can-take-next : (j : Work) (w : World) (sc : Scene) (g : System) (p : Phase) (m : ℕ × Msg) (rest : Mail) → IsOnLine j w sc g → IsSpare j sc → IsScene w sc → InPhase j sc p → sc.mail ≡ m ∷ rest → CanTake j sc p m
-can-take-next j w sc g p m rest on spare scene ip mail = record {
+pub can-take-next : (j : Work) (w : World) (sc : Scene) (g : System) (p : Phase) (m : ℕ × Msg) (rest : Mail) → IsOnLine j w sc g → IsSpare j sc → IsScene w sc → InPhase j sc p → sc.mail ≡ m ∷ rest → HasNext m.1 sc.server → CanTake j sc p m
+can-take-next j w sc g p m rest on spare scene ip mail next = record {
   number = λ s. spare.number;
-  suits = λ s. next-suits g sc (on.whole.all.0) (scenes-seen w g sc on.stands scene) j spare p m rest ip mail;
+  suits = λ s. next-suits g sc (on.whole.all.0) (scenes-seen w g sc on.stands scene) j spare p m rest ip mail next;
   may = λ s. may-take j w sc g on spare scene m (main j rest) (next-sent w g sc on.stands scene m rest mail) p ip (sym ip.main_is ∙ ap (main j) mail ∙ main-front j m rest (for-clerk j m s));
 }

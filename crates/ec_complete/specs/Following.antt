@@ -30,7 +30,7 @@ use Rattle.ec_complete.specs.Lines.{IsOnLine, next_object}
 use Rattle.ec_complete.specs.LineCalls.{IsCalled, IsCalledFirst}
 use Rattle.ec_complete.specs.Spare.{max_calls}
 use Rattle.ec_complete.specs.Begins.{most_sent}
-use Rattle.ec_complete.specs.Worlds.{IsCounted, IsKnown}
+use Rattle.ec_complete.specs.Worlds.{IsCounted, IsKnown, Outset}
 use Rattle.ec_lawful.specs.Headline.{placed_on}
 use Rattle.ec_deliveries.specs.Behind.{IsBehind, MaySee, saved}
 use Rattle.ec_deliveries.specs.Scripts.{IsWorkOn}
@@ -61,47 +61,47 @@ abbrev pub WorkedLinesSee : Type 0
 WorkedLinesSee = (l : Line) (origin v : Images) (j : Work) (w : World) (sc : Scene) (g : System) (p : Phase) → IsOnLine j w sc g → IsWorked l origin v j sc g → IsScene w sc → InPhase j sc p → MaySee v j sc p
 
 -- The line's work is in a phase, in a world of which all facts hold, and it's the line's.
-pub record IsKnownOf (l : Line) (origin v : Images) (j : Work) (calls : ℕ) (m : Moving) : Type 0 where
-  pub known : IsKnown j calls m
+pub record IsKnownOf (outset : Outset) (l : Line) (origin v : Images) (j : Work) (calls : ℕ) (m : Moving) : Type 0 where
+  pub known : IsKnown outset j calls m
   pub worked : IsWorked l origin v j known.scene known.system
 
 -- so it is in each world that deliveries reach, while not too many messages were sent
 abbrev pub LinesStayWorked : Type 0
-LinesStayWorked = (l : Line) (origin v : Images) (j : Work) (calls : ℕ) (m r : Moving) → IsKnownOf l origin v j calls m → calls ≤ max_calls → Reaches m r → r.world.sent ≤ most_sent → IsKnownOf l origin v j calls r
+LinesStayWorked = (outset : Outset) (l : Line) (origin v : Images) (j : Work) (calls : ℕ) (m r : Moving) → IsKnownOf outset l origin v j calls m → calls ≤ max_calls → Reaches m r → r.world.sent ≤ most_sent → IsKnownOf outset l origin v j calls r
 
 -- That's all that is asked for.
 abbrev pub KnownLinesAreFollowed : Type 0
-KnownLinesAreFollowed = (l : Line) (origin v : Images) (j : Work) (calls : ℕ) (m : Moving) → IsKnownOf l origin v j calls m → calls ≤ max_calls → IsFollowed l origin v j most_sent m
+KnownLinesAreFollowed = (outset : Outset) (l : Line) (origin v : Images) (j : Work) (calls : ℕ) (m : Moving) → IsKnownOf outset l origin v j calls m → calls ≤ max_calls → IsFollowed l origin v j most_sent m
 
 -- So each durable line names operations in closures that the line asks for, where at the beginning nothing else was under way to be durable.
 abbrev pub KnownLinesWriteBehind : Type 0
-KnownLinesWriteBehind = (l : Line) (origin : Images) (top : ℕ) (v : Images) (j : Work) (calls : ℕ) (m : Moving) (q : IsKnownOf l origin v j calls m) → WellFormed origin → ((x : ℕ) → T (not (is_gone (origin x))) → x ≤ top) → calls ≤ max_calls
+KnownLinesWriteBehind = (outset : Outset) (l : Line) (origin : Images) (top : ℕ) (v : Images) (j : Work) (calls : ℕ) (m : Moving) (q : IsKnownOf outset l origin v j calls m) → WellFormed origin → ((x : ℕ) → T (not (is_gone (origin x))) → x ≤ top) → calls ≤ max_calls
     → IsBehind v j q.known.scene → (r : Moving) → Reaches m r → r.world.sent ≤ most_sent → WritesBehind (placed_on origin top) l m r
 
 -- First steps.
 
 -- A line's first step: its work is in a phase, and it's the line's; and nothing is under way to be durable but what the line asks for.
-pub record BeginsBehind (l : Line) (origin v : Images) (j : Work) (calls : ℕ) (m : Moving) : Type 0 where
-  pub known : IsKnownOf l origin v j calls m
+pub record BeginsBehind (outset : Outset) (l : Line) (origin v : Images) (j : Work) (calls : ℕ) (m : Moving) : Type 0 where
+  pub known : IsKnownOf outset l origin v j calls m
   pub behind : IsBehind v j known.known.scene
 
 -- A world behind the step, with its scene, where counters are as high as so many calls make them.
-abbrev pub IsCountedIn : ℕ → World → Type 0
-IsCountedIn calls w = (s : Scene) × IsScene w s × IsCounted calls w s
+abbrev pub IsCountedIn : Outset → ℕ → World → Type 0
+IsCountedIn outset calls w = (s : Scene) × IsScene w s × IsCounted outset calls w s
 
 -- So is a call of a clerk that runs, where all facts hold before it; one of a clerk that starts; and a push.
 abbrev pub CallsBeginBehind : Type 0
-CallsBeginBehind = (j : Work) (number : ℕ) (cl : call.Call) (w : World) (sc : Scene) (g : System) (sl : Slot) (k : Clerk) (calls : ℕ) → IsCalled j cl w sc g sl k → IsNewIn w number → (world.call j.clerk number cl w).fault ≡ None
-    → IsCountedIn calls (world.call j.clerk number cl w).world → BeginsBehind (Call j.clerk cl) g.origin (kept_volume g) j calls (world.call j.clerk number cl w)
+CallsBeginBehind = (outset : Outset) (j : Work) (number : ℕ) (cl : call.Call) (w : World) (sc : Scene) (g : System) (sl : Slot) (k : Clerk) (calls : ℕ) → IsCalled j cl w sc g sl k → IsNewIn w number → (world.call j.clerk number cl w).fault ≡ None
+    → IsCountedIn outset calls (world.call j.clerk number cl w).world → BeginsBehind outset (Call j.clerk cl) g.origin (kept_volume g) j calls (world.call j.clerk number cl w)
 
 abbrev pub StartsBeginBehind : Type 0
-StartsBeginBehind = (j : Work) (number : ℕ) (cl : call.Call) (w : World) (sc : Scene) (g : System) (calls : ℕ) → IsCalledFirst j cl w sc g → IsNewIn w number → (world.call j.clerk number cl w).fault ≡ None
-    → (q : IsKnown j calls (world.call j.clerk number cl w)) → IsFirst q.phase → BeginsBehind (Call j.clerk cl) g.origin (kept_volume g) j calls (world.call j.clerk number cl w)
+StartsBeginBehind = (outset : Outset) (j : Work) (number : ℕ) (cl : call.Call) (w : World) (sc : Scene) (g : System) (calls : ℕ) → IsCalledFirst j cl w sc g → IsNewIn w number → (world.call j.clerk number cl w).fault ≡ None
+    → (q : IsKnown outset j calls (world.call j.clerk number cl w)) → IsFirst q.phase → BeginsBehind outset (Call j.clerk cl) g.origin (kept_volume g) j calls (world.call j.clerk number cl w)
 
 -- behind a push the clerk has no call, and nothing that it wanted is unanswered
 abbrev pub IsUncalled : ℕ → Scene → Type 0
 IsUncalled c s = (k : Clerk) → at c s.clerks ≡ Some k → ((k.waiting ≡ [] → ⊥) → ⊥) × Each (IsAnswered k.cache) k.wanted
 
 abbrev pub PushesBeginBehind : Type 0
-PushesBeginBehind = (j : Work) (n : ℕ) (w : World) (sc : Scene) (g : System) (sl : Slot) (k : Clerk) (v : Images) (calls : ℕ) → Whole g → Stands w g → IsScene w sc → IsIdle sc → IsInOrder sc.server.durable → IsPush j sc sl k n → j.touched ≡ []
-    → let m = world.push j.clerk n (at j.clerk w.clerks) w in m.fault ≡ None → (s : Scene) → IsScene m.world s → IsCounted calls m.world s → IsUncalled j.clerk s → BeginsBehind (Push j.clerk n) g.origin v j calls m ⊎ IsScene m.world sc
+PushesBeginBehind = (outset : Outset) (j : Work) (n : ℕ) (w : World) (sc : Scene) (g : System) (sl : Slot) (k : Clerk) (v : Images) (calls : ℕ) → Whole g → Stands w g → IsScene w sc → IsIdle sc → IsInOrder sc.server.durable → IsPush j sc sl k n → j.touched ≡ []
+    → let m = world.push j.clerk n (at j.clerk w.clerks) w in m.fault ≡ None → (s : Scene) → IsScene m.world s → IsCounted outset calls m.world s → IsUncalled j.clerk s → BeginsBehind outset (Push j.clerk n) g.origin v j calls m ⊎ IsScene m.world sc

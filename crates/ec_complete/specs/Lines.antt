@@ -1,10 +1,10 @@
 -- A world in which a line settles, of which all facts hold, as contracts name it.
-use Rattle.std.specs.Prelude.{◌≡◌, ◌≤◌, ◌==◌, ◌&&◌, ◌+◌, ℕ, T, true, false, nat_lt, nat_le, [], ◌∷◌, length, Option, None, Some, is_some}
+use Rattle.std.specs.Prelude.{◌≡◌, ◌≤◌, ◌==◌, ◌&&◌, ◌+◌, ℕ, T, true, false, nat_le, [], ◌∷◌, length, Option, None, Some, is_some}
 use Rattle.ec_base.specs.Limits.{last_counter}
 use Rattle.ec_base.specs.Tables.{at, or_else}
 use Rattle.ec_volume.specs.Update.{member}
 use Rattle.ec_history.specs.History.{Each}
-use Rattle.ec_sessions.specs.Limits.{last_first_id, last_grants}
+use Rattle.ec_sessions.specs.Limits.{last_grants}
 use Rattle.ec_sessions.specs.declared.slot.Slot.{Slot}
 use Rattle.ec_wire.specs.declared.msg.Msg.{Msg}
 use Rattle.ec_durable.specs.Durable.{slot}
@@ -22,6 +22,7 @@ use Rattle.ec_quiet.specs.Phases.{InPhase, Phase}
 use Rattle.ec_quiet.specs.Scenes.{IsScene, Mail, Scene}
 use Rattle.ec_quiet.specs.Works.{Pushes, Work}
 use Rattle.ec_quiet.specs.Tries.{HasCounters}
+use Rattle.ec_deliveries.specs.Coming.{HasNext}
 use Rattle.ec_deliveries.specs.Leading.{CanTake}
 use Rattle.ec_complete.specs.WaitingCalls.{IsAbout, kept_volume, max_about}
 
@@ -45,15 +46,13 @@ pub record IsOnLine (j : Work) (w : World) (sc : Scene) (g : System) : Type 0 wh
   pub id : (k : Clerk) → at j.clerk sc.clerks ≡ Some k → (k.waiting ≡ [] → ⊥) → T (member (next_object sc j.clerk k) j.touched)
   pub answered : (n : ℕ) → j.task ≡ Pushes n → (k : Clerk) → at j.clerk sc.clerks ≡ Some k → Each (IsAnswered k.cache) k.wanted
 
--- No counter of the server or of a clerk is at its end, and the line's clerk may issue an operation.
+-- No number of tokens or of grants of ids, and no counter of a clerk, is at its end, and the line's clerk may issue an operation.
 pub record IsSpare (j : Work) (sc : Scene) : Type 0 where
   pub number : is_last_number (serving sc.server) ≡ false
-  pub session : nat_le last_counter sc.server.durable.next_session ≡ false
-  pub first : nat_lt last_first_id sc.server.durable.next_id ≡ false
   pub grants : (k : Clerk) (sl : Slot) → at j.clerk sc.clerks ≡ Some k → slot sc.server.durable j.clerk ≡ Some sl → k.session ≡ Some sl.session → nat_le last_grants sl.grants ≡ false
   pub clerks : (c : ℕ) (k : Clerk) → at c sc.clerks ≡ Some k → HasCounters k
   pub small : (k : Clerk) → at j.clerk sc.clerks ≡ Some k → (k.waiting ≡ [] → ⊥) → log.is_full k.log ≡ false
 
--- Then what the next message of a phase needs is there.
+-- Then what the next message of a phase needs is there, where what it takes of the server's durable counters isn't at its end.
 abbrev pub CanTakeNext : Type 0
-CanTakeNext = (j : Work) (w : World) (sc : Scene) (g : System) (p : Phase) (m : ℕ × Msg) (rest : Mail) → IsOnLine j w sc g → IsSpare j sc → IsScene w sc → InPhase j sc p → sc.mail ≡ m ∷ rest → CanTake j sc p m
+CanTakeNext = (j : Work) (w : World) (sc : Scene) (g : System) (p : Phase) (m : ℕ × Msg) (rest : Mail) → IsOnLine j w sc g → IsSpare j sc → IsScene w sc → InPhase j sc p → sc.mail ≡ m ∷ rest → HasNext m.1 sc.server → CanTake j sc p m

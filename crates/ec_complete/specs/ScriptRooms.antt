@@ -24,7 +24,7 @@ use Rattle.ec_quiet.specs.SettlingScenes.{Reaches}
 use Rattle.ec_complete.specs.Spare.{AreGiven, max_calls}
 use Rattle.ec_complete.specs.Begins.{most_sent}
 use Rattle.ec_complete.specs.Complete.{HasRoom}
-use Rattle.ec_complete.specs.Worlds.{IsKnown}
+use Rattle.ec_complete.specs.Worlds.{IsKnown, new_outset}
 use Rattle.ec_complete.specs.Rooms.{GrantsRoom, IsStocked, one_if}
 
 -- the sum over the numbers below this one
@@ -55,9 +55,9 @@ pub record KeepsRoom (names callers : List ℕ) (makes : ℕ → ℕ) (m : Movin
   pub stock : HasStock names callers makes scene
   pub shown : EachLine HasRoom m.shown
 
--- behind deliveries
+-- behind deliveries, in a run on a new disk
 abbrev pub LinesKeepRoom : Type 0
-LinesKeepRoom = (v : Images) (most : ℕ) (names callers : List ℕ) (makes : ℕ → ℕ) (j : Work) (calls : ℕ) (m r : Moving) → IsKnown j calls m → calls ≤ max_calls → Holds (OfRun v most) m.world → IsRoomFor names makes most
+LinesKeepRoom = (v : Images) (most : ℕ) (names callers : List ℕ) (makes : ℕ → ℕ) (j : Work) (calls : ℕ) (m r : Moving) → IsKnown new_outset j calls m → calls ≤ max_calls → Holds (OfRun v most) m.world → IsRoomFor names makes most
     → KeepsRoom names callers makes m → Reaches m r → r.world.sent ≤ most_sent → KeepsRoom names callers makes r
 
 -- Behind the first step of a call, where all was idle: its clerk was asked for one more, if the call makes an object.

@@ -14,15 +14,16 @@ use Rattle.ec_lawful.specs.Drills.{AreFit, lines_in}
 use Rattle.ec_deliveries.specs.Runs.{AllRun}
 use Rattle.ec_complete.specs.Begins.{EachBegins, bound_for}
 use Rattle.ec_complete.specs.Complete.{EachSettles, HasRoom, IsComplete, IsFaultlessRead}
-use Rattle.ec_complete.specs.Goes.{GoesOn, PushGoes}
+use Rattle.ec_complete.specs.Goes.{GoesThrough, PushGoes}
 use Rattle.ec_complete.specs.Ready.{IsReady}
+use Rattle.ec_complete.specs.Worlds.{new_outset}
 
--- So does each line from this number on, in the world behind those before it.
+-- In a run on a new disk each line from this number on goes through, in the world behind those before it.
 abbrev pub EachGoesOn : Images → ℕ → List ℕ → ℕ → List Read → World → Type 0
-EachGoesOn v most names number [] w = IsReady v most names number w
+EachGoesOn v most names number [] w = IsReady new_outset v most names number w
 EachGoesOn v most names number (unfit column ∷ ls) w = ⊥
 EachGoesOn v most names number (reads l column ∷ ls) w =
-    (q : IsReady v most names number w) × GoesOn v most names number l w q × EachGoesOn v most names (number + 1) ls (forget (settle (bound_for (length (once names))) [] (line_happens runs number l w)).world)
+    (q : IsReady new_outset v most names number w) × GoesThrough new_outset v most names number l w q × EachGoesOn v most names (number + 1) ls (forget (settle (bound_for (length (once names))) [] (line_happens runs number l w)).world)
 
 -- no push of these lines meets a fault, with so many deliveries behind each line at most
 abbrev pub EachPushGoes : ℕ → ℕ → List Read → World → Type 0
@@ -35,7 +36,7 @@ abbrev pub AreNamed : List ℕ → List Read → Type 0
 AreNamed names ls = Each (λ c. T (member c names)) (named_in ls)
 
 abbrev pub ScriptsGoOn : Type 0
-ScriptsGoOn = (v : Images) (most : ℕ) (names : List ℕ) (number : ℕ) (ls : List Read) (w : World) → IsReady v most names number w → length (once names) ≤ 16 → 1 ≤ number → number + length ls ≤ 65537 → Each IsFaultlessRead ls → AreFit ls
+ScriptsGoOn = (v : Images) (most : ℕ) (names : List ℕ) (number : ℕ) (ls : List Read) (w : World) → IsReady new_outset v most names number w → length (once names) ≤ 16 → 1 ≤ number → number + length ls ≤ 65537 → Each IsFaultlessRead ls → AreFit ls
     → AreNamed names ls → EachPushGoes (bound_for (length (once names))) number ls w → EachGoesOn v most names number ls w
 
 -- then each begins, and settles

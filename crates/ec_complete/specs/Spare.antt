@@ -14,6 +14,7 @@ use Rattle.ec_quiet.specs.Scenes.{IsScene, Mail, Scene, delivered}
 use Rattle.ec_quiet.specs.Works.{Work}
 use Rattle.ec_machine_laws.specs.Counts as server
 use Rattle.ec_agreed_lines.specs.Counting as clerk
+use Rattle.ec_deliveries.specs.Coming.{HasNext}
 use Rattle.ec_complete.specs.Lines.{IsOnLine, IsSpare}
 
 -- Ids.
@@ -56,8 +57,15 @@ pub record IsBelow (number session first calls : ℕ) (w : World) (sc : Scene) :
   pub ids : AreGiven first sc.server.durable
   pub few : calls ≤ max_calls
   pub numbers : number + w.sent < last_counter
-  pub sessions : session + w.sent < last_counter
-  pub firsts : first + max_given ≤ last_first_id
 
 abbrev pub CountersAreSpare : Type 0
 CountersAreSpare = (number session first calls : ℕ) (j : Work) (w : World) (sc : Scene) (g : System) (p : Phase) → IsBelow number session first calls w sc → IsOnLine j w sc g → IsScene w sc → InPhase j sc p → IsSpare j sc
+
+-- The numbers of sessions, and the ids, began further below their limits than a script counts them up.
+pub record IsFarBelow (session first : ℕ) (w : World) : Type 0 where
+  pub sessions : session + w.sent < last_counter
+  pub firsts : first + max_given ≤ last_first_id
+
+-- Then what a message takes of the server's durable counters isn't at its end.
+abbrev pub NextIsSpare : Type 0
+NextIsSpare = (number session first calls : ℕ) (j : Work) (w : World) (sc : Scene) (g : System) (p : Phase) → IsBelow number session first calls w sc → IsFarBelow session first w → IsOnLine j w sc g → IsScene w sc → InPhase j sc p → (m : Msg) → HasNext m sc.server

@@ -24,7 +24,8 @@ pub use agreed_calls::{agreed_calls_may_go, lines_are_about_what_they_touch};
 pub use clerk_rooms::{clerks_keep_stock, servers_grant_room};
 pub use complete::{runs_settle, runs_that_settle_are_plain};
 pub use faultless_lines::{
-    issued_pushes_go, lines_go_on, openings_are_ready, scripts_are_plain, scripts_go_on,
+    issued_pushes_go, lines_go_on, lines_go_through, openings_are_ready, scripts_are_plain,
+    scripts_go_on,
 };
 pub use followed_lines::{
     first_steps_begin_behind, lines_stay_worked, worked_lines_see, works_are_of_lines,
