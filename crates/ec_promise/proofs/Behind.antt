@@ -1,14 +1,14 @@
--- What a run without faults on an empty disk made durable is what its lines asked for.
+-- What a run without faults made durable is what its lines asked for.
 use Rattle.std.proofs.Common.{◌≡◌, refl, sym, ap, ◌∙◌, subst, arith, ◌≤◌, ℕ, List, [], ◌∷◌, ◌++◌, length, Result, Ok, Err, inl, inr, ◌⊎◌, append-nil}
 use Rattle.std.proofs.Math.Logic.{∥∥₁_map}
 use Rattle.ec_base.specs.Outside.{Rose}
 use Rattle.ec_base.specs.Tables.{once}
 use Rattle.ec_base.specs.declared.counter.Counter.{Counter}
 use Rattle.ec_volume.specs.Volume.{images}
+use Rattle.ec_volume.specs.declared.image.Image.TheVariants.{Gone}
 use Rattle.ec_history.specs.History.{Each}
 use Rattle.ec_history.specs.declared.shown.Shown.{Shown}
 use Rattle.ec_history.specs.declared.shown.Shown.TheVariants as show
-use Rattle.ec_durable.specs.Durable.{formatted}
 use Rattle.ec_durable.specs.WellFormed.{WellFormed}
 use Rattle.ec_durable.specs.declared.state.Durable.{Durable}
 use Rattle.ec_script.specs.Lines.{lines_of}
@@ -26,7 +26,7 @@ use Rattle.ec_drill.specs.Fates as fates
 use Rattle.ec_deliveries.specs.Runs.{AllRun}
 use Rattle.ec_complete.specs.Complete.{IsFaultlessRead}
 use Rattle.ec_complete.specs.Pieces.{ArePiecesBehind, WritesBehind}
-use Rattle.ec_complete.proofs.Drills.{new-disks-behind}
+use Rattle.ec_complete.proofs.Drills.{disks-behind}
 use Rattle.ec_promise.specs.Behind.{AreBehindOn, BehindIsKept, DrillsAreBehind, PartIsKept}
 use Rattle.ec_promise.proofs.Cut.{cut-front, cut-pieces}
 use Rattle.ec_promise.proofs.Fit.{fit_script}
@@ -47,10 +47,7 @@ each-runs : (fs : List Fates) → fates.EachRuns fs → Each AllRun fs
 each-runs [] a = tt
 each-runs (f ∷ fs) a = (all-run f a.0, each-runs fs a.1)
 
-module _ (most : ℕ) (reads : List Read) (fs : List Fates) (formed : WellFormed (formatted most)) (few : length reads ≤ 65536) (sixteen : length (once (named_in reads)) ≤ 16) (fit : AreFit reads) (faultless : Each IsFaultlessRead reads) (all : Each AllRun fs) where
-  abbrev d : Durable
-  d = formatted most
-
+module _ (reads : List Read) (fs : List Fates) (d : Durable) (formed : WellFormed d) (slots : length d.sessions ≡ 16) (zero : images d.volume 0 ≡ Gone) (few : length reads ≤ 65536) (sixteen : length (once (named_in reads)) ≤ 16) (fit : AreFit reads) (faultless : Each IsFaultlessRead reads) (all : Each AllRun fs) where
   highest : (n : ℕ) × IsGreatest (images d.volume) n
   highest = greatest-id d formed
 
@@ -65,10 +62,10 @@ module _ (most : ℕ) (reads : List Read) (fs : List Fates) (formed : WellFormed
     closed = close ran.ending ran
 
     shows : RunShows (images d.volume) highest.0 d.max_objects reads closed
-    shows = runs-show d formed refl refl w o reads fs fit highest.0 highest.1
+    shows = runs-show d formed slots zero w o reads fs fit highest.0 highest.1
 
     writes : WritesBehind (headline.placed_on (images d.volume) highest.0) (lines_in reads) [] ran × (closed ≡ ran)
-    writes = new-disks-behind most formed w o highest.0 highest.1.least reads fs few sixteen fit faultless all
+    writes = disks-behind d formed slots zero w o highest.0 highest.1.least reads fs few sixteen fit faultless all
 
     opened : AreBehindOn reads d (joined closed.pieces ++ last_line closed.ending)
     opened = record {
@@ -93,7 +90,7 @@ module _ (most : ℕ) (reads : List Read) (fs : List Fates) (formed : WellFormed
       go (Ok w) e = opened w e
 
 pub machines-behind : DrillsAreBehind
-machines-behind most reads fs formed few sixteen fit faultless all = machine-behind most reads fs formed few sixteen fit faultless all
+machines-behind reads fs d formed slots zero few sixteen fit faultless all = machine-behind reads fs d formed slots zero few sixteen fit faultless all
 
 -- So is a front of its lines.
 behind-cut : (reads : List Read) (state : Durable) (all xs more : List Shown) → AreBehindOn reads state all → xs ++ more ≡ all → AreBehindOn reads state xs
@@ -112,22 +109,17 @@ module _ (most : ℕ) (w : Outside) (reads : List Read) (given : IsGiven w reads
   few : length reads ≤ 65536
   few = omega (arith, as-many (lines_of given.script) reads given.read, given.few_lines)
 
-  all-kept : w.tells → length w.disk.gives ≡ 0 → (Rose w.counts.stops w.counts_after.stops → ⊥) → Each IsFaultlessRead reads → WellFormed state → AreBehindOn reads state (drill reads fs state).0
-  all-kept tells empty stops faultless formed =
-      subst (λ d. AreBehindOn reads d (drill reads fs d).0) (sym is)
-      (machine-behind most reads fs (subst WellFormed is formed) few (few-named (lines_of given.script) reads given.read fit faultless) fit faultless (each-runs fs ran))
+  all-kept : (Rose w.counts.stops w.counts_after.stops → ⊥) → Each IsFaultlessRead reads → WellFormed state → AreBehindOn reads state (drill reads fs state).0
+  all-kept stops faultless formed = machine-behind reads fs state formed opens.whole.slots opens.whole.from_one few (few-named (lines_of given.script) reads given.read fit faultless) fit faultless (each-runs fs ran)
     where
-      is : state ≡ formatted most
-      is = opens.empty tells empty
-
       ran : fates.EachRuns fs
       ran = elim stopped [ inl e ↦ e | inr rose ↦ absurd (stops rose) ]
 
 pub behind-kept : (most number : ℕ) (w : Outside) (r : RanWhole most number w) → BehindIsKept most number w r
-behind-kept most number w r tells empty stops faultless =
-    ∥∥₁_map r.opens.whole.formed (λ formed. subst (AreBehindOn r.reads r.state) (r.lines (inl tells)) (all-kept most w r.reads r.given r.state r.opens r.fates r.stopped tells empty stops faultless formed))
+behind-kept most number w r tells stops faultless =
+    ∥∥₁_map r.opens.whole.formed (λ formed. subst (AreBehindOn r.reads r.state) (r.lines (inl tells)) (all-kept most w r.reads r.given r.state r.opens r.fates r.stopped stops faultless formed))
 
 pub part-kept : (most : ℕ) (w : Outside) (last : List ℕ) (r : RanInPart most w last) → PartIsKept most w last r
-part-kept most w last r tells empty stops faultless =
+part-kept most w last r tells stops faultless =
     let f = r.front (inl tells) in
-    ∥∥₁_map r.opens.whole.formed (λ formed. behind-cut r.reads r.state (drill r.reads r.fates r.state).0 r.shown (r.unwritten ++ f.0) (all-kept most w r.reads r.given r.state r.opens r.fates r.stopped tells empty stops faultless formed) (sym f.1))
+    ∥∥₁_map r.opens.whole.formed (λ formed. behind-cut r.reads r.state (drill r.reads r.fates r.state).0 r.shown (r.unwritten ++ f.0) (all-kept most w r.reads r.given r.state r.opens r.fates r.stopped stops faultless formed) (sym f.1))

@@ -1,12 +1,13 @@
 -- Write-behind: what a run made durable is what its lines asked for, where no fault was made. It's told by the lines, the script and the volume of the disk alone.
 use Rattle.std.specs.Prelude.{◌≡◌, ◌≤◌, ℕ, List, [], ◌++◌, length}
+use Rattle.ec_base.specs.Limits.{clerk_count}
 use Rattle.ec_base.specs.Outside.{Rose}
 use Rattle.ec_base.specs.Tables.{once}
 use Rattle.ec_volume.specs.Volume.{images}
+use Rattle.ec_volume.specs.declared.image.Image.TheVariants.{Gone}
 use Rattle.ec_history.specs.History.{Each}
 use Rattle.ec_history.specs.Placing.{EachLine}
 use Rattle.ec_history.specs.declared.shown.Shown.{Shown}
-use Rattle.ec_durable.specs.Durable.{formatted}
 use Rattle.ec_durable.specs.WellFormed.{WellFormed}
 use Rattle.ec_durable.specs.declared.state.Durable.{Durable}
 use Rattle.ec_protocol.specs.Drill.{Fates, Read, drill, named_in}
@@ -37,10 +38,10 @@ pub record AreBehindOn (reads : List Read) (state : Durable) (shown : List Shown
   pub greatest : IsGreatest (images state.volume) top
   pub behind : ArePiecesBehind (placed_on (images state.volume) top) (lines_in reads) [] pieces
 
--- So it is on an empty disk that tells its content and made no stop, with a script of comments, calls and pushes: of a run that ended by itself, and of one that was
--- cut off.
+-- So it is on a disk that tells its content and made no stop, with a script of comments, calls and pushes: of a run that ended by itself, and of one that was cut
+-- off.
 abbrev pub IsKeptBehind : Outside → List Read → Durable → List Shown → Type 0
-IsKeptBehind w reads state shown = w.tells → length w.disk.gives ≡ 0 → (Rose w.counts.stops w.counts_after.stops → ⊥) → Each IsFaultlessRead reads → ∥ AreBehindOn reads state shown ∥₁
+IsKeptBehind w reads state shown = w.tells → (Rose w.counts.stops w.counts_after.stops → ⊥) → Each IsFaultlessRead reads → ∥ AreBehindOn reads state shown ∥₁
 
 abbrev pub BehindIsKept : (most number : ℕ) (w : Outside) → RanWhole most number w → Type 0
 BehindIsKept most number w r = IsKeptBehind w r.reads r.state r.shown
@@ -48,7 +49,8 @@ BehindIsKept most number w r = IsKeptBehind w r.reads r.state r.shown
 abbrev pub PartIsKept : (most : ℕ) (w : Outside) (last : List ℕ) → RanInPart most w last → Type 0
 PartIsKept most w last r = IsKeptBehind w r.reads r.state r.shown
 
--- Of the machine: the lines of each drill over such a script on a new disk, of at most 65,536 lines and 16 clerks.
+-- Of the machine: the lines of each drill over such a script, of at most 65,536 lines and 16 clerks, on a disk that stands for a well-formed state with a slot for
+-- each clerk, whose objects have ids from 1.
 abbrev pub DrillsAreBehind : Type 0
-DrillsAreBehind = (most : ℕ) (reads : List Read) (fates : List Fates) → WellFormed (formatted most) → length reads ≤ 65536 → length (once (named_in reads)) ≤ 16 → AreFit reads → Each IsFaultlessRead reads → Each AllRun fates
-    → AreBehindOn reads (formatted most) (drill reads fates (formatted most)).0
+DrillsAreBehind = (reads : List Read) (fates : List Fates) (d : Durable) → WellFormed d → length d.sessions ≡ clerk_count → images d.volume 0 ≡ Gone → length reads ≤ 65536 → length (once (named_in reads)) ≤ 16 → AreFit reads → Each IsFaultlessRead reads → Each AllRun fates
+    → AreBehindOn reads d (drill reads fates d).0

@@ -16,7 +16,7 @@ pub fn moments_are_stored()
     ensures { MomentsAreStored }
 {}
 
-/// What a drill without faults on a new disk made durable is what its lines asked for.
+/// What a drill without faults made durable is what its lines asked for, whatever its disk stood for.
 pub fn drills_are_behind()
     ensures { DrillsAreBehind }
 {}
