@@ -5,11 +5,11 @@ use Rattle.ec_clerknode.specs.Turns.{Worked}
 use Rattle.ec_clerknode.proofs.Turns.{turned_both, called_later, none_begun, failed_first}
 use Rattle.ec_clerknode.proofs.shared.SharedClerk.listen_and_call.Goals as goal
 
-pub returns-in-Some-counter-clause-called : goal.returns-in-Some-counter-clause-called
-returns-in-Some-counter-clause-called g c =
-    failed_first c.args.pass.now.number c.args.call (front c.args.pass.now) (front c.listen-heard.new.pass) (fault.Spent c.in-Some-counter.counter)
+pub returns-in-Some-clause-called : goal.returns-in-Some-clause-called
+returns-in-Some-clause-called g c =
+    failed_first c.args.pass.now.number c.args.call (front c.args.pass.now) (front c.listen-heard.new.pass) (fault.Spent c.in-Some.counter)
     (subst (Worked c.args.pass.now.number (front c.args.pass.now) (front c.listen-heard.new.pass))
-    (subst (λ o. IfSome o (λ counter. c.listen-heard.result ≡ Err (fault.Spent counter))) c.in-Some-counter.is c.spent_in.ensures)
+    (subst (λ o. IfSome o (λ counter. c.listen-heard.result ≡ Err (fault.Spent counter))) c.in-Some.is c.spent_in.ensures)
     c.listen-heard.ensures.worked)
 
 pub returns-clause-turned : goal.returns-clause-turned
