@@ -7,7 +7,10 @@ ghost use Rattle.ec_journal.specs.declared.fault.JournalFault.TheVariants as fau
 
 use crate::fault::JournalFault;
 use ec_disk::{Disk, DiskAnswer};
-use std::alloc::Global;
+use std::alloc::{AllocError, Global};
+
+// A page of zeros: bytes that are read over are put down by whole pieces.
+static ZEROS: [u8; 4_096] = [0; 4_096];
 
 fn done(answer: DiskAnswer) -> Result<(), JournalFault>
     ensures ok { OnOk result (answer ≡ said.Done) }
@@ -55,8 +58,19 @@ pub fn read_part<D: Disk>(
     ensures no_room { (need free : ℕ) → IsErrOf result (fault.NoRoom need free) → ⊥ }
     ensures no_bad { (place : ℕ) → IsErrOf result (fault.Bad place) → ⊥ }
 {
-    let mut bytes = Vec::new(alloc);
-    bytes.resize(size as usize, 0)?;
+    let mut bytes = blank(alloc, size as usize)?;
     done(disk.read_at(at, bytes.as_mut_slice()))?;
+    Ok(bytes)
+}
+
+// So many bytes to read over.
+fn blank(alloc: Global, size: usize) -> Result<Vec<u8>, AllocError>
+    ensures { IfOk result (λ bytes. length bytes.items ≡ size) }
+{
+    let mut bytes = Vec::with_capacity(alloc, size)?;
+    'pieces: while bytes.len() < size {
+        let count = (size - bytes.len()).min(ZEROS.len());
+        bytes.extend_from_slice(&ZEROS[..count])?;
+    }
     Ok(bytes)
 }
