@@ -178,6 +178,23 @@ fn assemble(
     ensures places { IfOk result (λ it. IfSome it (λ c. ArePlaces c.state.max_objects (numbers_in c.places.items) c.places.items)) }
     ensures rising { IfOk result (λ it. IfSome it (λ c. T (is_sorted nat_cmp c.places.items))) }
 {
+    let Ok(is_formed) = is_well_formed(
+        alloc,
+        max_objects,
+        table.next_id,
+        table.next_session,
+        table.slots.as_slice(),
+        images.as_slice(),
+    ) else {
+        drop(table);
+        drop(images);
+        return Err(NoMemory);
+    };
+    if !is_formed {
+        drop(table);
+        drop(images);
+        return Ok(None);
+    }
     let Table {
         next_id,
         next_session,
@@ -185,17 +202,6 @@ fn assemble(
         slots,
         places,
     } = table;
-    let is_formed = is_well_formed(
-        alloc,
-        max_objects,
-        next_id,
-        next_session,
-        slots.as_slice(),
-        images.as_slice(),
-    )?;
-    if !is_formed {
-        return Ok(None);
-    }
     let volume = Volume::of(images)?;
     let sessions = Sessions::of(slots.into_vec())?;
     let state = Durable {
@@ -251,22 +257,29 @@ fn behind_records(
     ensures no_stop { IsErrOf result fault.DiskStopped → ⊥ }
     ensures no_refusal { (f : RecordFault) → IsErrOf result (fault.Refused f) → ⊥ }
 {
-    let Checkpoint {
-        version,
-        mut state,
-        places,
-    } = checkpoint;
+    let mut checkpoint = checkpoint;
     let at = side.journal_at();
-    let ids = replay(alloc, &mut state, at, found.bodies.as_slice())?;
-    if !found.is_whole {
-        return Err(StoreFault::BadDisk(at + found.end));
+    let (end, is_whole) = (found.end, found.is_whole);
+    let replayed = replay(alloc, &mut checkpoint.state, at, found.bodies.as_slice());
+    drop(found);
+    let ids = match replayed {
+        Ok(ids) => ids,
+        Err(fault) => {
+            drop(checkpoint);
+            return Err(fault);
+        }
+    };
+    if !is_whole {
+        drop(ids);
+        drop(checkpoint);
+        return Err(StoreFault::BadDisk(at + end));
     }
     Ok(Opened {
-        version,
+        version: checkpoint.version,
         side,
-        end: found.end,
-        state,
-        places,
+        end,
+        state: checkpoint.state,
+        places: checkpoint.places,
         ids,
     })
 }

@@ -51,14 +51,39 @@ pub(crate) fn lay_out(
 {
     let free = free_slots(alloc, 2 * state.max_objects, named)?;
     let placing = place_all(alloc, &state.volume, kept, free)?;
-    let table = put_table(alloc, state, placing.places.as_slice())?;
-    let named = numbers(alloc, placing.places.as_slice())?;
+    let Ok(table) = put_table(alloc, state, placing.places.as_slice()) else {
+        drop(placing);
+        return Err(NoMemory);
+    };
+    let Ok(named) = numbers(alloc, placing.places.as_slice()) else {
+        drop(placing);
+        return Err(NoMemory);
+    };
     Ok(Plan {
         pieces: placing.pieces,
         table,
         named,
         kept: SortedMap::of(placing.places),
     })
+}
+
+/// The checkpoint of the state, where these places are taken and no image is kept.
+pub(crate) fn lay_out_all(
+    alloc: Global,
+    state: &Durable,
+    places: &[(ObjId, u32)],
+) -> Result<Plan, NoMemory>
+    requires formed { ∥ WellFormed (images state.now.volume) ∥₁ }
+    requires order { IsInOrder state.now }
+    requires places { ArePlaces state.now.max_objects (numbers_in places.now) [] }
+    ensures plan { IfOk result (λ plan. IsPlan state.now.max_objects (numbers_in places.now) [] state.now.volume plan) }
+    ensures table { IfOk result (λ plan. plan.table.items ≡ (table_code state.now.max_objects).spell (version.Two, described state.now plan.kept)) }
+    ensures fits { IfOk result (λ plan. (table_code state.now.max_objects).fits (version.Two, described state.now plan.kept) ≡ true) }
+    ensures short { IfOk result (λ plan. length plan.table.items ≤ place.table_bytes) }
+{
+    let named = numbers(alloc, places)?;
+    let none = SortedMap::new(alloc);
+    lay_out(alloc, state, named.as_slice(), &none)
 }
 
 /// The numbers of these slots.
@@ -138,8 +163,8 @@ impl Placing {
             None => {
                 let slot = self.free[self.used];
                 let bytes = slot_bytes(alloc, object.0, object.1)?;
-                self.places.push((object.0, slot))?;
                 self.pieces.push((slot, bytes))?;
+                self.places.push((object.0, slot))?;
                 self.used += 1;
                 Ok(())
             }

@@ -72,8 +72,13 @@ fn replay_one(
         Ok(change) => change,
         Err(found) => return Err(undecoded(gate, found)),
     };
-    let operands = touched(alloc, &change)?;
-    if let Err(refused) = step(alloc, state, &change, operands.as_slice()) {
+    let Ok(operands) = touched(alloc, &change) else {
+        drop(change);
+        return Err(StoreFault::NoMemory);
+    };
+    let stepped = step(alloc, state, &change, operands.as_slice());
+    drop(change);
+    if let Err(refused) = stepped {
         return Err(unstepped(gate, refused));
     }
     ids.extend_from_slice(operands.as_slice())?;

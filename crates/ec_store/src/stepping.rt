@@ -87,19 +87,28 @@ fn step_over(
     let spare = Durable::formatted(alloc, state.max_objects)?;
     let mut volume = mem::replace(&mut state.volume, part);
     if let Err(fault) = state.step(trial) {
-        state.volume = volume;
+        put(&mut state.volume, volume);
+        drop(spare);
         return Err(fault);
     }
     match apply_all(&mut volume, ops) {
         Ok(()) => {
-            state.volume = volume;
+            put(&mut state.volume, volume);
+            drop(spare);
             Ok(())
         }
         Err(_) => {
-            *state = spare;
+            put(state, spare);
+            drop(volume);
             Err(RecordFault::NoMemory)
         }
     }
+}
+
+fn put<T: Drop>(place: &mut T, value: T)
+    ensures { place.new ≡ value }
+{
+    *place = value;
 }
 
 fn all_fit_ahead(volume: &Volume, ops: &[(OpNo, Update)]) -> bool

@@ -16,7 +16,7 @@ ghost use Rattle.ec_store.specs.declared.fault.StoreFault.TheVariants as fault;
 
 use crate::fault::{StoreFault, done, of_disk};
 use crate::opening::{Opened, read_back};
-use crate::plan::{Plan, lay_out, numbers, touched};
+use crate::plan::{Plan, lay_out, lay_out_all, numbers, touched};
 use crate::stepping::step;
 use ec_base::{Duplicate, NoMemory, ObjId, SortedMap};
 use ec_disk::Disk;
@@ -105,14 +105,24 @@ impl Store {
         ensures counts { Counted (D.counts disk.old) (D.counts disk.new) (IsErrOf result fault.DiskFailed) (IsErrOf result fault.DiskStopped) }
     {
         let state = Durable::formatted(alloc, max_objects)?;
-        let plan = lay_out(alloc, &state, &[], &SortedMap::new(alloc))?;
-        done(prepare(
+        let Ok(plan) = lay_out_all(alloc, &state, &[]) else {
+            drop(state);
+            return Err(StoreFault::NoMemory);
+        };
+        let prepared = prepare(
             disk,
             Side::Even,
             plan.pieces.as_slice(),
             plan.table.as_slice(),
-        ))?;
+        );
+        if let Err(fault) = done(prepared) {
+            drop(plan);
+            drop(state);
+            return Err(fault);
+        }
         if let Err(fault) = write_head(disk, max_objects) {
+            drop(plan);
+            drop(state);
             return Err(of_disk(fault));
         }
         Ok(Store {
@@ -184,19 +194,19 @@ impl Store {
         ensures no_refusal { (f : RecordFault) → IsErrOf result (fault.Refused f) → ⊥ }
         ensures counts { Counted (D.counts disk.old) (D.counts disk.new) (IsErrOf result fault.DiskFailed) (IsErrOf result fault.DiskStopped) }
     {
-        let Opened {
-            side,
-            end,
-            state,
-            places,
-            ..
-        } = opened;
-        let named = numbers(alloc, places.as_slice())?;
-        let plan = lay_out(alloc, &state, named.as_slice(), &SortedMap::new(alloc))?;
-        let mut selected = Selected::new(side, end);
-        done(selected.checkpoint(disk, plan.pieces.as_slice(), plan.table.as_slice()))?;
+        let Ok(plan) = lay_out_all(alloc, &opened.state, opened.places.as_slice()) else {
+            drop(opened);
+            return Err(StoreFault::NoMemory);
+        };
+        let mut selected = Selected::new(opened.side, opened.end);
+        let turned = selected.checkpoint(disk, plan.pieces.as_slice(), plan.table.as_slice());
+        if let Err(fault) = done(turned) {
+            drop(plan);
+            drop(opened);
+            return Err(fault);
+        }
         Ok(Store {
-            state,
+            state: opened.state,
             selected,
             named: plan.named,
             kept: plan.kept,
@@ -338,11 +348,17 @@ impl Store {
         ensures kept { OnOk result ((o slot : ℕ) → at o self.old.kept ≡ Some slot → is_gone (images (view_of self.old).volume o) ≡ false → member o (touched change.now) ≡ false → at o self.new.kept ≡ Some slot) }
     {
         let alloc = *self.kept.allocator();
-        step(alloc, &mut self.state, change, ids)?;
-        done(
-            self.selected
-                .checkpoint(disk, plan.pieces.as_slice(), plan.table.as_slice()),
-        )?;
+        if let Err(fault) = step(alloc, &mut self.state, change, ids) {
+            drop(plan);
+            return Err(StoreFault::from(fault));
+        }
+        let turned = self
+            .selected
+            .checkpoint(disk, plan.pieces.as_slice(), plan.table.as_slice());
+        if let Err(fault) = done(turned) {
+            drop(plan);
+            return Err(fault);
+        }
         self.named = plan.named;
         self.kept = plan.kept;
         append(&mut self.selected, alloc, disk, body)?;

@@ -14,16 +14,16 @@ is_well_formed-requires-clause-ids c =
 
 pub of-requires : goal.of-requires
 of-requires c =
-    (formed_state c.args.max_objects c.args.table c.args.images.items c.as_slice-2.result.now c.as_slice.result.now c.in_ok-is_formed.is_formed c.as_slice.ensures c.as_slice-2.ensures.value c.in_ok-is_formed.ensures (search rules)).order.images
+    (formed_state c.args.max_objects c.args.table c.args.images.items c.as_slice-2.result.now c.as_slice.result.now c.in-Ok.is_formed c.as_slice.ensures c.as_slice-2.ensures.value c.in-Ok.ensures (search rules)).order.images
 
 pub of-requires-2 : goal.of-requires-2
 of-requires-2 c =
-    let formed = formed_state c.args.max_objects c.args.table c.args.images.items c.as_slice-2.result.now c.as_slice.result.now c.in_ok-is_formed.is_formed c.as_slice.ensures c.as_slice-2.ensures.value c.in_ok-is_formed.ensures (search rules) in
+    let formed = formed_state c.args.max_objects c.args.table c.args.images.items c.as_slice-2.result.now c.as_slice.result.now c.in-Ok.is_formed c.as_slice.ensures c.as_slice-2.ensures.value c.in-Ok.ensures (search rules) in
     subst AreSlots (sym c.into_vec.ensures) (slots_are c.args.max_objects c.args.version c.args.table c.args.images.items c.requires.fits c.requires.ids formed)
 
 pub returns-clause-places : goal.returns-clause-places
 returns-clause-places c =
-    let formed = formed_state c.args.max_objects c.args.table c.args.images.items c.as_slice-2.result.now c.as_slice.result.now c.in_ok-is_formed.is_formed c.as_slice.ensures c.as_slice-2.ensures.value c.in_ok-is_formed.ensures (search rules) in
+    let formed = formed_state c.args.max_objects c.args.table c.args.images.items c.as_slice-2.result.now c.as_slice.result.now c.in-Ok.is_formed c.as_slice.ensures c.as_slice-2.ensures.value c.in-Ok.ensures (search rules) in
     subst (λ (ps : List (ℕ × ℕ)). ArePlaces c.args.max_objects (numbers_in ps) ps) (sym c.into_vec-places.ensures) (places_are c.args.max_objects c.args.version c.args.table c.args.images.items c.requires.fits c.requires.ids formed)
 
 pub returns-clause-rising : goal.returns-clause-rising

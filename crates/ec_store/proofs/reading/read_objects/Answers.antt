@@ -1,7 +1,9 @@
-use Rattle.std.proofs.Common.{rules, ℕ, List, subst}
+use Rattle.std.proofs.Common.{rules, arith, ◌∙◌, ℕ, List, ap, subst}
+use Rattle.std.proofs.lemmas.List.{take_all}
 use Rattle.std.specs.Prelude.{IsErrOf}
 use Rattle.ec_store.specs.declared.fault.StoreFault.TheVariants.{BadDisk}
-use Rattle.ec_stands.specs.Stands.{IsSpelled, IsBadImage}
+use Rattle.ec_table.specs.Codes.{ids_in}
+use Rattle.ec_stands.specs.Stands.{AreSpelled, IsSpelled, IsBadImage}
 use Rattle.ec_store.proofs.Resting.{rests_then}
 use Rattle.ec_store.proofs.Parts.{spelled_more, ids_more, sound_more, bad_at}
 use Rattle.ec_store.proofs.reading.read_objects.Goals as goal
@@ -27,3 +29,14 @@ returns-in_err-object-clause-bad g c p is told =
     let one : IsErrOf c.read_object.result (BadDisk p) = search rules in
     bad_at c.args.version old.gives c.args.places.now c.places.named-index c.named-item.result c.places.objects.items p c.places-test.true c.named-item.is (inv.spelled told)
     (subst (λ (image : List ℕ). IsBadImage c.args.version image c.named-item.result p) (inv.rests told).gives (c.read_object.ensures.bad p one told))
+
+pub returns-in_err-object-clause-rests : goal.returns-in_err-object-clause-rests
+returns-in_err-object-clause-rests g c told =
+    rests_then (g.D.Disk.view c.args.disk.now) (g.D.Disk.view c.places.disk) (g.D.Disk.view c.read_object.new.disk) (λ t image le left. g.met.D.Disk.counts_now told c.args.disk.now t image le left) (c.places.invariant.rests told) (c.read_object.ensures.rests told)
+
+pub returns-clause-spelled : goal.returns-clause-spelled
+returns-clause-spelled g c told =
+    subst (λ (ps : List (ℕ × ℕ)). AreSpelled c.args.version (g.D.Disk.view c.args.disk.now).gives ps c.places.objects.items) (take_all c.places.named-index c.args.places.now (omega (arith, c.places-test.false))) (c.places.invariant.spelled told)
+
+pub returns-clause-ids : goal.returns-clause-ids
+returns-clause-ids g c = c.places.invariant.ids ∙ ap (λ (ps : List (ℕ × ℕ)). ids_in ps) (take_all c.places.named-index c.args.places.now (omega (arith, c.places-test.false)))

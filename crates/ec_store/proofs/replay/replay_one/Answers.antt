@@ -14,18 +14,18 @@ returns-in-Err-clause-bad c p is =
     let u = c.undecoded.ensures.bad p (same_fault c.undecoded.result (BadDisk p) is) in
     (u.0, no_code c.args.body.now c.args.state.now c.in-Err.found u.1 c.in-Err.ensures.exact)
 
-pub step-requires-clause-below : goal.step-requires-clause-below
-step-requires-clause-below c = below_kept c.args.state.now c.requires.formed.order
+pub step-stepped-requires-clause-below : goal.step-stepped-requires-clause-below
+step-stepped-requires-clause-below c = below_kept c.args.state.now c.requires.formed.order
 
-pub returns-in-Err-step-clause-bad : goal.returns-in-Err-step-clause-bad
-returns-in-Err-step-clause-bad c p is =
+pub returns-in-Err-stepped-clause-bad : goal.returns-in-Err-stepped-clause-bad
+returns-in-Err-stepped-clause-bad c p is =
     let u = c.unstepped.ensures.bad p (same_fault c.unstepped.result (BadDisk p) is) in
-    (u.0, not_stepped c.args.body.now c.args.state.now c.in-Ok.change c.in-Err-step.refused c.in-Ok.ensures.exact u.1 c.in-Err-step.ensures.refused)
+    (u.0, not_stepped c.args.body.now c.args.state.now c.in-Ok.change c.in-Err-stepped.refused c.in-Ok.ensures.exact u.1 c.in-Err-stepped.ensures.refused)
 
 pub returns-clause-formed : goal.returns-clause-formed
-returns-clause-formed c = step_well c.in-Ok.change c.args.state.now c.step.new.state c.requires.formed c.in-Ok.ensures.sound.1 (search rules)
+returns-clause-formed c = step_well c.in-Ok.change c.args.state.now c.step-stepped.new.state c.requires.formed c.in-Ok.ensures.sound.1 (search rules)
 
 pub returns-clause-spares : goal.returns-clause-spares
 returns-clause-spares c o out =
-    let m = operands_more o c.args.ids.now.items c.in_ok-operands.operands.items c.extend_from_slice.new.self.items (search rules) out in
-    (m.0, step_images c.in-Ok.change c.args.state.now c.step.new.state o c.in-Ok.ensures.sound.1 (ap (λ (l : List ℕ). member o l) (sym c.in_ok-operands.ensures) ∙ m.1) (search rules))
+    let m = operands_more o c.args.ids.now.items c.in-Ok-touched.operands.items c.extend_from_slice.new.self.items (search rules) out in
+    (m.0, step_images c.in-Ok.change c.args.state.now c.step-stepped.new.state o c.in-Ok.ensures.sound.1 (ap (λ (l : List ℕ). member o l) (sym c.in-Ok-touched.ensures) ∙ m.1) (search rules))

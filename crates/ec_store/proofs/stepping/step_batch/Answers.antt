@@ -1,4 +1,4 @@
-use Rattle.std.proofs.Common.{◌≡◌, List, ℕ, ap, sym, ◌∙◌}
+use Rattle.std.proofs.Common.{List, ℕ, ap, sym, ◌∙◌}
 use Rattle.ec_store.specs.Stepping.{picked}
 use Rattle.ec_store.proofs.Trying.{ahead_is, picked_is, ok_tried, refused_tried, unchanged_tried}
 use Rattle.ec_store.proofs.stepping.step_batch.Goals as goal

@@ -14,7 +14,7 @@ returns-in-Ok-clause-ok c =
     let e = c.step.new.self in (
       e,
       subst (λ es. step c.args.trial.now (with_volume es d) ≡ Ok e) c.replace-volume.ensures.after c.in_default.ensures.ok,
-      ap (λ es. with_volume es e) (c.in-Ok.ensures ∙ ap (λ es. behind c.args.ops.now es) c.replace-volume.ensures.value),
+      ap (λ es. with_volume es e) (c.put-in-Ok.ensures ∙ c.in-Ok.ensures ∙ ap (λ es. behind c.args.ops.now es) c.replace-volume.ensures.value),
     )
 
 pub returns-in-Err-apply_all-clause-unchanged : goal.returns-in-Err-apply_all-clause-unchanged

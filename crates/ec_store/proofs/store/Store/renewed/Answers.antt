@@ -1,4 +1,4 @@
-use Rattle.std.proofs.Common.{ℕ, List, ap, sym, subst, ◌∙◌}
+use Rattle.std.proofs.Common.{ℕ, List, [], refl, sym, subst}
 use Rattle.ec_layout.specs.Places.{other}
 use Rattle.ec_layout.specs.Layout.{Follows}
 use Rattle.ec_layout.specs.Pieces.{AreApart, pieces_of}
@@ -9,68 +9,53 @@ use Rattle.ec_store.specs.Plan.{IsPlan}
 use Rattle.ec_store.proofs.Renewing.{none_kept, none_renewed, renewed_apart, renewed_places, renewed_leaves, renewed_holds}
 use Rattle.ec_store.proofs.store.Store.renewed.Goals as goal
 
-pub lay_out-requires-clause-formed : goal.lay_out-requires-clause-formed
-lay_out-requires-clause-formed g c =
+pub lay_out_all-requires-clause-formed : goal.lay_out_all-requires-clause-formed
+lay_out_all-requires-clause-formed g c =
     ∣ c.requires.formed.volume ∣₁
 
-pub lay_out-requires-clause-places : goal.lay_out-requires-clause-places
-lay_out-requires-clause-places g c =
+pub lay_out_all-requires-clause-places : goal.lay_out_all-requires-clause-places
+lay_out_all-requires-clause-places g c =
     let o = c.args.opened in
-    let named_is = c.as_slice-2.ensures.value ∙ c.in_ok-named.ensures ∙ ap (λ (ps : List (ℕ × ℕ)). numbers_in ps) c.as_slice.ensures.value in
-    subst (λ ns. ArePlaces o.state.max_objects ns c.new.result) (sym named_is) (subst (λ k. ArePlaces o.state.max_objects (numbers_in o.places.items) k) (sym c.new.ensures) (none_kept o.state.max_objects (numbers_in o.places.items) o.places.items c.requires.places))
+    subst (λ (ps : List (ℕ × ℕ)). ArePlaces o.state.max_objects (numbers_in ps) []) (sym c.as_slice.ensures.value) (none_kept o.state.max_objects (numbers_in o.places.items) o.places.items c.requires.places)
 
-pub checkpoint-requires-clause-apart : goal.checkpoint-requires-clause-apart
-checkpoint-requires-clause-apart g c =
+pub checkpoint-turned-requires-clause-apart : goal.checkpoint-turned-requires-clause-apart
+checkpoint-turned-requires-clause-apart g c =
     let o = c.args.opened in
-    let named = c.in_ok-named.named.items in
-    let named_is = c.in_ok-named.ensures ∙ ap (λ (ps : List (ℕ × ℕ)). numbers_in ps) c.as_slice.ensures.value in
-    let plan = c.in_ok-plan.plan in
-    let is = subst (λ k. IsPlan o.state.max_objects named k o.state.volume plan) c.new.ensures (subst (λ ns. IsPlan o.state.max_objects ns c.new.result o.state.volume plan) c.as_slice-2.ensures.value c.in_ok-plan.ensures.plan) in
-    subst (λ ps. AreApart (pieces_of ps)) (sym c.as_slice-3.ensures.value) (renewed_apart o named named_is c.requires.formed c.requires.places plan is)
+    let plan = c.in-Ok.plan in
+    let is = subst (λ (ps : List (ℕ × ℕ)). IsPlan o.state.max_objects (numbers_in ps) [] o.state.volume plan) c.as_slice.ensures.value c.in-Ok.ensures.plan in
+    subst (λ ps. AreApart (pieces_of ps)) (sym c.as_slice-2.ensures.value) (renewed_apart o (numbers_in o.places.items) refl c.requires.formed c.requires.places plan is)
 
 pub invariant_of-result : goal.invariant_of-result
 invariant_of-result g c =
     let o = c.args.opened in
-    let named = c.in_ok-named.named.items in
-    let named_is = c.in_ok-named.ensures ∙ ap (λ (ps : List (ℕ × ℕ)). numbers_in ps) c.as_slice.ensures.value in
-    let plan = c.in_ok-plan.plan in
-    let is = subst (λ k. IsPlan o.state.max_objects named k o.state.volume plan) c.new.ensures (subst (λ ns. IsPlan o.state.max_objects ns c.new.result o.state.volume plan) c.as_slice-2.ensures.value c.in_ok-plan.ensures.plan) in
-    record { formed = ∣ c.requires.formed.volume ∣₁; order = c.requires.formed.order; places = renewed_places o named named_is c.requires.formed c.requires.places plan is }
+    let plan = c.in-Ok.plan in
+    let is = subst (λ (ps : List (ℕ × ℕ)). IsPlan o.state.max_objects (numbers_in ps) [] o.state.volume plan) c.as_slice.ensures.value c.in-Ok.ensures.plan in
+    record { formed = ∣ c.requires.formed.volume ∣₁; order = c.requires.formed.order; places = renewed_places o (numbers_in o.places.items) refl c.requires.formed c.requires.places plan is }
 
-pub returns-in_err-named-clause-any_moment : goal.returns-in_err-named-clause-any_moment
-returns-in_err-named-clause-any_moment g c told =
+pub returns-in_default-clause-any_moment : goal.returns-in_default-clause-any_moment
+returns-in_default-clause-any_moment g c told =
     none_renewed (g.D.Disk.view c.args.disk.now) c.args.opened (c.requires.synced told) (c.requires.is told) (λ image left. g.met.D.Disk.only_now told c.args.disk.now image left)
 
-pub returns-in_err-plan-clause-any_moment : goal.returns-in_err-plan-clause-any_moment
-returns-in_err-plan-clause-any_moment g c told =
-    none_renewed (g.D.Disk.view c.args.disk.now) c.args.opened (c.requires.synced told) (c.requires.is told) (λ image left. g.met.D.Disk.only_now told c.args.disk.now image left)
-
-pub returns-in_err-done-clause-any_moment : goal.returns-in_err-done-clause-any_moment
-returns-in_err-done-clause-any_moment g c told =
+pub returns-in-Err-clause-any_moment : goal.returns-in-Err-clause-any_moment
+returns-in-Err-clause-any_moment g c told =
     let o = c.args.opened in
-    let named = c.in_ok-named.named.items in
-    let named_is = c.in_ok-named.ensures ∙ ap (λ (ps : List (ℕ × ℕ)). numbers_in ps) c.as_slice.ensures.value in
-    let plan = c.in_ok-plan.plan in
-    let is = subst (λ k. IsPlan o.state.max_objects named k o.state.volume plan) c.new.ensures (subst (λ ns. IsPlan o.state.max_objects ns c.new.result o.state.volume plan) c.as_slice-2.ensures.value c.in_ok-plan.ensures.plan) in
-    renewed_leaves o named named_is c.requires.formed c.requires.places plan is c.in_ok-plan.ensures.table c.in_ok-plan.ensures.fits (g.D.Disk.view c.args.disk.now) (c.requires.synced told) (c.requires.is told) c.new-selected.result c.new-selected.ensures
-    (g.D.Disk.view c.checkpoint.new.disk) (λ l m follows on. c.checkpoint.ensures.any_moment told l m (subst (λ t. Follows (other (side_now c.new-selected.result)) t (pieces_of c.as_slice-3.result.now) l m) (sym c.as_slice-4.ensures.value) (subst (λ ps. Follows (other (side_now c.new-selected.result)) plan.table.items (pieces_of ps) l m) (sym c.as_slice-3.ensures.value) follows)) on)
+    let plan = c.in-Ok.plan in
+    let is = subst (λ (ps : List (ℕ × ℕ)). IsPlan o.state.max_objects (numbers_in ps) [] o.state.volume plan) c.as_slice.ensures.value c.in-Ok.ensures.plan in
+    renewed_leaves o (numbers_in o.places.items) refl c.requires.formed c.requires.places plan is c.in-Ok.ensures.table c.in-Ok.ensures.fits (g.D.Disk.view c.args.disk.now) (c.requires.synced told) (c.requires.is told) c.new-selected.result c.new-selected.ensures
+    (g.D.Disk.view c.checkpoint-turned.new.disk) (λ l m follows on. c.checkpoint-turned.ensures.any_moment told l m (subst (λ t. Follows (other (side_now c.new-selected.result)) t (pieces_of c.as_slice-2.result.now) l m) (sym c.as_slice-3.ensures.value) (subst (λ ps. Follows (other (side_now c.new-selected.result)) plan.table.items (pieces_of ps) l m) (sym c.as_slice-2.ensures.value) follows)) on)
 
 pub returns-clause-any_moment : goal.returns-clause-any_moment
 returns-clause-any_moment g c told =
     let o = c.args.opened in
-    let named = c.in_ok-named.named.items in
-    let named_is = c.in_ok-named.ensures ∙ ap (λ (ps : List (ℕ × ℕ)). numbers_in ps) c.as_slice.ensures.value in
-    let plan = c.in_ok-plan.plan in
-    let is = subst (λ k. IsPlan o.state.max_objects named k o.state.volume plan) c.new.ensures (subst (λ ns. IsPlan o.state.max_objects ns c.new.result o.state.volume plan) c.as_slice-2.ensures.value c.in_ok-plan.ensures.plan) in
-    renewed_leaves o named named_is c.requires.formed c.requires.places plan is c.in_ok-plan.ensures.table c.in_ok-plan.ensures.fits (g.D.Disk.view c.args.disk.now) (c.requires.synced told) (c.requires.is told) c.new-selected.result c.new-selected.ensures
-    (g.D.Disk.view c.checkpoint.new.disk) (λ l m follows on. c.checkpoint.ensures.any_moment told l m (subst (λ t. Follows (other (side_now c.new-selected.result)) t (pieces_of c.as_slice-3.result.now) l m) (sym c.as_slice-4.ensures.value) (subst (λ ps. Follows (other (side_now c.new-selected.result)) plan.table.items (pieces_of ps) l m) (sym c.as_slice-3.ensures.value) follows)) on)
+    let plan = c.in-Ok.plan in
+    let is = subst (λ (ps : List (ℕ × ℕ)). IsPlan o.state.max_objects (numbers_in ps) [] o.state.volume plan) c.as_slice.ensures.value c.in-Ok.ensures.plan in
+    renewed_leaves o (numbers_in o.places.items) refl c.requires.formed c.requires.places plan is c.in-Ok.ensures.table c.in-Ok.ensures.fits (g.D.Disk.view c.args.disk.now) (c.requires.synced told) (c.requires.is told) c.new-selected.result c.new-selected.ensures
+    (g.D.Disk.view c.checkpoint-turned.new.disk) (λ l m follows on. c.checkpoint-turned.ensures.any_moment told l m (subst (λ t. Follows (other (side_now c.new-selected.result)) t (pieces_of c.as_slice-2.result.now) l m) (sym c.as_slice-3.ensures.value) (subst (λ ps. Follows (other (side_now c.new-selected.result)) plan.table.items (pieces_of ps) l m) (sym c.as_slice-2.ensures.value) follows)) on)
 
 pub returns-clause-ok : goal.returns-clause-ok
 returns-clause-ok g c told =
     let o = c.args.opened in
-    let named = c.in_ok-named.named.items in
-    let named_is = c.in_ok-named.ensures ∙ ap (λ (ps : List (ℕ × ℕ)). numbers_in ps) c.as_slice.ensures.value in
-    let plan = c.in_ok-plan.plan in
-    let is = subst (λ k. IsPlan o.state.max_objects named k o.state.volume plan) c.new.ensures (subst (λ ns. IsPlan o.state.max_objects ns c.new.result o.state.volume plan) c.as_slice-2.ensures.value c.in_ok-plan.ensures.plan) in
-    renewed_holds o named named_is c.requires.formed c.requires.places plan is c.in_ok-plan.ensures.table c.in_ok-plan.ensures.fits (g.D.Disk.view c.args.disk.now) (c.requires.synced told) (c.requires.is told) c.new-selected.result c.new-selected.ensures
-    (g.D.Disk.view c.checkpoint.new.disk) c.checkpoint.new.self (λ l m follows on. c.checkpoint.ensures.done told c.in_ok-done.ensures.ok l m (subst (λ t. Follows (other (side_now c.new-selected.result)) t (pieces_of c.as_slice-3.result.now) l m) (sym c.as_slice-4.ensures.value) (subst (λ ps. Follows (other (side_now c.new-selected.result)) plan.table.items (pieces_of ps) l m) (sym c.as_slice-3.ensures.value) follows)) on)
+    let plan = c.in-Ok.plan in
+    let is = subst (λ (ps : List (ℕ × ℕ)). IsPlan o.state.max_objects (numbers_in ps) [] o.state.volume plan) c.as_slice.ensures.value c.in-Ok.ensures.plan in
+    renewed_holds o (numbers_in o.places.items) refl c.requires.formed c.requires.places plan is c.in-Ok.ensures.table c.in-Ok.ensures.fits (g.D.Disk.view c.args.disk.now) (c.requires.synced told) (c.requires.is told) c.new-selected.result c.new-selected.ensures
+    (g.D.Disk.view c.checkpoint-turned.new.disk) c.checkpoint-turned.new.self (λ l m follows on. c.checkpoint-turned.ensures.done told c.in_default-done.ensures.ok l m (subst (λ t. Follows (other (side_now c.new-selected.result)) t (pieces_of c.as_slice-2.result.now) l m) (sym c.as_slice-3.ensures.value) (subst (λ ps. Follows (other (side_now c.new-selected.result)) plan.table.items (pieces_of ps) l m) (sym c.as_slice-2.ensures.value) follows)) on)
