@@ -99,13 +99,15 @@ impl<K: Keeper + Drop> Node<K> {
         ensures told { IsToldOf result served.sent }
     {
         let deed = Deed::Took(from, body, Snapshot::of(msg), Snapshot::of(&served));
-        let told = told_of(served.sent.as_slice());
+        let Served { sent, rec } = served;
+        drop(rec);
+        let told = told_of(sent.as_slice());
         own(&mut self.boxes, msg, pass);
-        let posted = post_all(&mut self.boxes, served.sent.into_vec());
+        let posted = post_all(&mut self.boxes, sent.into_vec());
         self.add(Step { pass, deed });
         match posted {
-            Some(()) => told,
-            None => {
+            Ok(()) => told,
+            Err(_) => {
                 self.broken = true;
                 told
             }

@@ -1,12 +1,12 @@
 // The outboxes of the clerks.
-ghost use Rattle.std.specs.Prelude.{◌≡◌, ◌==◌, ℕ, ◌<◌, ◌⊎◌, [], ◌∷◌, ◌++◌, Bool, true, false, cond, List, drop, length, IsTrue, IfSome, IfNone, Some, Option};
+ghost use Rattle.std.specs.Prelude.{◌≡◌, ◌==◌, ℕ, ◌<◌, ◌⊎◌, [], ◌∷◌, ◌++◌, Bool, true, false, cond, List, drop, length, IfOk, IfSome, IfNone, Some, Option};
 ghost use Rattle.ec_base.specs.Limits.{clerk_count};
 ghost use Rattle.ec_servernode.specs.Node.{queue_at, owner_at};
 ghost use Rattle.ec_servernode.specs.Run.{put, put_all, for_clerk, is_for, first_of, hello_in, owner_now};
 ghost use Rattle.ec_servernode.specs.Told.{IsToldOf};
 
 use crate::state::{Outbox, Told};
-use ec_base::{CLERK_COUNT, ClerkId};
+use ec_base::{CLERK_COUNT, ClerkId, NoMemory};
 use ec_wire::Msg;
 use std::alloc::Global;
 use std::collections::VecDeque;
@@ -25,44 +25,44 @@ impl Outbox {
         }
     }
 
-    /// Puts a message last, where there is room for it. False for want of memory.
-    fn put(&mut self, msg: Msg) -> bool
-        ensures put { IsTrue result → self.new.msgs.items ≡ put self.old.msgs.items msg }
+    /// Puts a message last, where there is room for it.
+    fn put(&mut self, msg: Msg) -> Result<(), NoMemory>
+        ensures put { IfOk result (λ _. self.new.msgs.items ≡ put self.old.msgs.items msg) }
         ensures owner { self.new.owner ≡ self.old.owner }
     {
         if self.msgs.len() >= MOST_MESSAGES {
-            return true;
+            drop(msg);
+            return Ok(());
         }
-        self.msgs.push_back(msg).is_ok()
+        self.msgs.push_back(msg)?;
+        Ok(())
     }
 }
 
-// An outbox for each clerk, with nothing in it. `None` for want of memory.
-fn new_boxes(alloc: Global) -> Option<Vec<Outbox>>
-    ensures sized { IfSome result (λ boxes. length boxes.items ≡ clerk_count) }
-    ensures empty { IfSome result (λ boxes. (c : ℕ) → (queue_at boxes.items c ≡ []) × (owner_at boxes.items c ≡ None)) }
+// An outbox for each clerk, with nothing in it.
+fn new_boxes(alloc: Global) -> Result<Vec<Outbox>, NoMemory>
+    ensures sized { IfOk result (λ boxes. length boxes.items ≡ clerk_count) }
+    ensures empty { IfOk result (λ boxes. (c : ℕ) → (queue_at boxes.items c ≡ []) × (owner_at boxes.items c ≡ None)) }
 {
-    let mut boxes = Vec::with_capacity(alloc, CLERK_COUNT as usize).ok()?;
+    let mut boxes = Vec::with_capacity(alloc, CLERK_COUNT as usize)?;
     for _ in 0..CLERK_COUNT {
-        if !add_box(&mut boxes, Outbox::new(alloc)) {
-            return None;
-        }
+        add_box(&mut boxes, Outbox::new(alloc))?;
     }
-    Some(boxes)
+    Ok(boxes)
 }
 
-// Adds an outbox. False for want of memory.
-fn add_box(boxes: &mut Vec<Outbox>, outbox: Outbox) -> bool
-    ensures { IsTrue result → boxes.new.items ≡ boxes.old.items ++ outbox ∷ [] }
+fn add_box(boxes: &mut Vec<Outbox>, outbox: Outbox) -> Result<(), NoMemory>
+    ensures { IfOk result (λ _. boxes.new.items ≡ boxes.old.items ++ outbox ∷ []) }
 {
-    boxes.push(outbox).is_ok()
+    boxes.push(outbox)?;
+    Ok(())
 }
 
-// Puts a message last in the clerk's outbox. False for want of memory.
-fn post(boxes: &mut Vec<Outbox>, clerk: ClerkId, msg: Msg) -> bool
+// Puts a message last in the clerk's outbox.
+fn post(boxes: &mut Vec<Outbox>, clerk: ClerkId, msg: Msg) -> Result<(), NoMemory>
     requires { length boxes.old.items ≡ clerk_count }
     ensures sized { length boxes.new.items ≡ clerk_count }
-    ensures put { IsTrue result → (c : ℕ) → queue_at boxes.new.items c ≡ put_all (queue_at boxes.old.items c) (for_clerk c ((clerk, msg) ∷ [])) }
+    ensures put { IfOk result (λ _. (c : ℕ) → queue_at boxes.new.items c ≡ put_all (queue_at boxes.old.items c) (for_clerk c ((clerk, msg) ∷ []))) }
     ensures owners { (c : ℕ) → owner_at boxes.new.items c ≡ owner_at boxes.old.items c }
 {
     boxes[clerk.get() as usize].put(msg)
@@ -79,11 +79,11 @@ pub fn told_of(sent: &[(ClerkId, Msg)]) -> Told
     told
 }
 
-/// Puts each message last in its clerk's outbox, where there is room for it. `None` for want of memory.
-pub fn post_all(boxes: &mut Vec<Outbox>, sent: Vec<(ClerkId, Msg)>) -> Option<()>
+/// Puts each message last in its clerk's outbox, where there is room for it.
+pub fn post_all(boxes: &mut Vec<Outbox>, sent: Vec<(ClerkId, Msg)>) -> Result<(), NoMemory>
     requires { length boxes.old.items ≡ clerk_count }
     ensures sized { length boxes.new.items ≡ clerk_count }
-    ensures put { IfSome result (λ _. (c : ℕ) → queue_at boxes.new.items c ≡ put_all (queue_at boxes.old.items c) (for_clerk c sent.items)) }
+    ensures put { IfOk result (λ _. (c : ℕ) → queue_at boxes.new.items c ≡ put_all (queue_at boxes.old.items c) (for_clerk c sent.items)) }
     ensures owners { (c : ℕ) → owner_at boxes.new.items c ≡ owner_at boxes.old.items c }
 {
     let mut sent = sent;
@@ -91,22 +91,20 @@ pub fn post_all(boxes: &mut Vec<Outbox>, sent: Vec<(ClerkId, Msg)>) -> Option<()
     sent.reverse();
     'sent: while let Some(one) = sent.pop() {
         let (clerk, msg) = one;
-        if !post(boxes, clerk, msg) {
-            return None;
-        }
+        post(boxes, clerk, msg)?;
     }
-    Some(())
+    Ok(())
 }
 
-/// An outbox for each clerk, with the first messages to it, for any pass. `None` for want of memory.
-pub fn filled_boxes(alloc: Global, sent: Vec<(ClerkId, Msg)>) -> Option<Vec<Outbox>>
-    ensures sized { IfSome result (λ boxes. length boxes.items ≡ clerk_count) }
-    ensures filled { IfSome result (λ boxes. (c : ℕ) → queue_at boxes.items c ≡ put_all [] (for_clerk c sent.items)) }
-    ensures owners { IfSome result (λ boxes. (c : ℕ) → owner_at boxes.items c ≡ None) }
+/// An outbox for each clerk, with the first messages to it, for any pass.
+pub fn filled_boxes(alloc: Global, sent: Vec<(ClerkId, Msg)>) -> Result<Vec<Outbox>, NoMemory>
+    ensures sized { IfOk result (λ boxes. length boxes.items ≡ clerk_count) }
+    ensures filled { IfOk result (λ boxes. (c : ℕ) → queue_at boxes.items c ≡ put_all [] (for_clerk c sent.items)) }
+    ensures owners { IfOk result (λ boxes. (c : ℕ) → owner_at boxes.items c ≡ None) }
 {
     let mut boxes = new_boxes(alloc)?;
     post_all(&mut boxes, sent)?;
-    Some(boxes)
+    Ok(boxes)
 }
 
 /// A Hello makes its clerk's outbox this pass's.
@@ -143,5 +141,5 @@ pub fn drop_first(boxes: &mut Vec<Outbox>, clerk: ClerkId)
     ensures dropped { (c : ℕ) → queue_at boxes.new.items c ≡ cond (clerk == c) (drop 1 (queue_at boxes.old.items c)) (queue_at boxes.old.items c) }
     ensures owners { (c : ℕ) → owner_at boxes.new.items c ≡ owner_at boxes.old.items c }
 {
-    boxes[clerk.get() as usize].msgs.pop_front();
+    drop(boxes[clerk.get() as usize].msgs.pop_front());
 }

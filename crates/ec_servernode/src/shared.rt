@@ -111,6 +111,21 @@ fn clerk_behind(told: &Result<Told, ServeFault>, from: ClerkId, clerk: ClerkId) 
     }
 }
 
+// The keeper alone.
+fn keeper_of<K: Keeper + Drop>(node: Node<K>) -> K
+    ensures { result ≡ node.keeper }
+{
+    let Node {
+        server,
+        keeper,
+        boxes,
+        ..
+    } = node;
+    drop(server);
+    drop(boxes);
+    keeper
+}
+
 impl<K: Keeper + Drop> SharedServer<K> {
     /// As `over`. Where memory is wanting the keeper is dropped.
     pub fn new(
@@ -146,7 +161,10 @@ impl<K: Keeper + Drop> SharedServer<K> {
         ensures boxes { IfOk result (λ made. (c : ℕ) → queue_at (first made.0.lock).boxes.items c ≡ put_all [] (for_clerk c begun.sent)) }
         ensures err { IfErr result (λ back. back ≡ keeper) }
     {
-        let Some(boxes) = filled_boxes(alloc, begun.sent.into_vec()) else {
+        let Served { sent, rec } = begun;
+        drop(rec);
+        let Ok(boxes) = filled_boxes(alloc, sent.into_vec()) else {
+            drop(server);
             return Err(keeper);
         };
         let node = Node {
@@ -163,7 +181,7 @@ impl<K: Keeper + Drop> SharedServer<K> {
                 let clerk = first_clerk();
                 Ok((SharedServer { lock, alloc }, ServerPass { pass, clerk }))
             }
-            Err(node) => Err(node.keeper),
+            Err(node) => Err(keeper_of(node)),
         }
     }
 
@@ -229,7 +247,9 @@ impl<K: Keeper + Drop> SharedServer<K> {
     {
         match decode(self.alloc, &body) {
             Ok(msg) => {
-                let told = self.take(rt, pass, Snapshot::of(&body), &msg)?;
+                let taken = self.take(rt, pass, Snapshot::of(&body), &msg);
+                drop(msg);
+                let told = taken?;
                 Ok(Turned::Took(told))
             }
             Err(fault) => self.unless_down(rt, pass, Err(refused(fault))),
@@ -303,10 +323,20 @@ impl<K: Keeper + Drop> SharedServer<K> {
     {
         let turn = self.lock.enter(rt, &mut pass.pass);
         let node = turn.into_value();
-        if node.broken {
-            return (None, node.keeper, node.halt);
+        let Node {
+            server,
+            keeper,
+            boxes,
+            halt,
+            broken,
+            ..
+        } = node;
+        drop(boxes);
+        if broken {
+            drop(server);
+            return (None, keeper, halt);
         }
-        (Some(node.server), node.keeper, node.halt)
+        (Some(server), keeper, halt)
     }
 
     /// As `end`, without the reason.

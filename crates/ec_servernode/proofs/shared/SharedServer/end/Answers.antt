@@ -8,17 +8,17 @@ use Rattle.ec_servernode.specs.Turns.{RunsFrom}
 use Rattle.ec_servernode.proofs.Fronts.{finished_none, finished_some}
 use Rattle.ec_servernode.proofs.shared.SharedServer.end.Goals as goal
 
-pub returns-then-node-clause-later : goal.returns-then-node-clause-later
-returns-then-node-clause-later g c = subst (IsPrefix (front c.args.pass.now.pass)) (sym c.enter-turn.ensures.front) c.enter-turn.ensures.later
+pub returns-then-broken-clause-later : goal.returns-then-broken-clause-later
+returns-then-broken-clause-later g c = subst (IsPrefix (front c.args.pass.now.pass)) (sym c.enter-turn.ensures.front) c.enter-turn.ensures.later
 
-pub returns-then-node-clause-own : goal.returns-then-node-clause-own
-returns-then-node-clause-own g c n m = c.enter-turn.ensures.own n m ∙ ap (of number_of n) (sym c.enter-turn.ensures.front)
+pub returns-then-broken-clause-own : goal.returns-then-broken-clause-own
+returns-then-broken-clause-own g c n m = c.enter-turn.ensures.own n m ∙ ap (of number_of n) (sym c.enter-turn.ensures.front)
 
-pub returns-then-node-clause-run : goal.returns-then-node-clause-run
-returns-then-node-clause-run g c = let since = c.enter-turn.ensures.since in subst (RunsFrom g.K.Keeper.kept (first c.args.self.lock)) (sym c.enter-turn.ensures.front) since.run
+pub returns-then-broken-clause-run : goal.returns-then-broken-clause-run
+returns-then-broken-clause-run g c = let since = c.enter-turn.ensures.since in subst (RunsFrom g.K.Keeper.kept (first c.args.self.lock)) (sym c.enter-turn.ensures.front) since.run
 
-pub returns-then-node-clause-finished : goal.returns-then-node-clause-finished
-returns-then-node-clause-finished g c =
+pub returns-then-broken-clause-finished : goal.returns-then-broken-clause-finished
+returns-then-broken-clause-finished g c =
     let same = c.into_value-node.ensures in
     let start = first c.args.self.lock in
     let since = subst (Since g.K.Keeper.kept g.K.Keeper.counts g.K.Keeper.did g.K.Keeper.broke start) (sym same) c.enter-turn.ensures.since in

@@ -7,17 +7,17 @@ use Rattle.ec_servernode.specs.Turns.{HearFails, TakesMessage, Looked}
 use Rattle.ec_servernode.proofs.Served.{refused}
 use Rattle.ec_servernode.proofs.shared.SharedServer.hear.Goals as goal
 
-pub take-requires-clause-said : goal.take-requires-clause-said
-take-requires-clause-said g c = ap (λ b. said b.items) c.of.ensures ∙ (ap said (sym c.deref.ensures.value) ∙ c.in-Ok.ensures.exact)
+pub take-taken-requires-clause-said : goal.take-taken-requires-clause-said
+take-taken-requires-clause-said g c = ap (λ b. said b.items) c.of.ensures ∙ (ap said (sym c.deref.ensures.value) ∙ c.in-Ok.ensures.exact)
 
 pub returns-in_err-told-in-Ok-clause-hears : goal.returns-in_err-told-in-Ok-clause-hears
 returns-in_err-told-in-Ok-clause-hears g c =
-    let b = subst (λ b. HearFails c.args.pass.now.pass.number b.items (front c.args.pass.now.pass) (front c.take.new.pass.pass) c.in_err-told-in-Ok.field-0.0) c.of.ensures c.in_err-told-in-Ok.ensures.takes in
+    let b = subst (λ b. HearFails c.args.pass.now.pass.number b.items (front c.args.pass.now.pass) (front c.take-taken.new.pass.pass) c.in_err-told-in-Ok.field-0.0) c.of.ensures c.in_err-told-in-Ok.ensures.takes in
     search (rules, b)
 
 pub returns-in-Ok-clause-hears : goal.returns-in-Ok-clause-hears
 returns-in-Ok-clause-hears g c =
-    subst (λ b. TakesMessage c.args.pass.now.pass.number b.items (front c.args.pass.now.pass) (front c.take.new.pass.pass) (Ok c.in_ok-told-in-Ok.told)) c.of.ensures c.in_ok-told-in-Ok.ensures.takes
+    subst (λ b. TakesMessage c.args.pass.now.pass.number b.items (front c.args.pass.now.pass) (front c.take-taken.new.pass.pass) (Ok c.in_ok-told-in-Ok.told)) c.of.ensures c.in_ok-told-in-Ok.ensures.takes
 
 pub returns-clause-hears : goal.returns-clause-hears
 returns-clause-hears g c =

@@ -10,9 +10,9 @@ pub new-requires-2-clause-empty : goal.new-requires-2-clause-empty
 new-requires-2-clause-empty g c = c.new.ensures
 
 pub new-requires-2-clause-begins : goal.new-requires-2-clause-begins
-new-requires-2-clause-begins g c = begins g.K.Keeper.kept g.K.Keeper.counts g.K.Keeper.did g.K.Keeper.broke _ c.new.ensures refl refl c.requires c.in-Some.ensures.sized c.in-Some.ensures.owners
+new-requires-2-clause-begins g c = begins g.K.Keeper.kept g.K.Keeper.counts g.K.Keeper.did g.K.Keeper.broke _ c.new.ensures refl refl c.requires c.in-Ok.ensures.sized c.in-Ok.ensures.owners
 
-pub returns-in-Ok-clause-pass : goal.returns-in-Ok-clause-pass
-returns-in-Ok-clause-pass g c =
-    let start = first c.in-Ok.lock in
-    begins_as g.K.Keeper.kept c.in-Ok.lock c.in-Ok.pass c.first_clerk-clerk.result [] c.in-Ok.ensures.pass (ap (λ v. v.front) c.in-Ok.ensures.view.0) (no_run (state_of g.K.Keeper.kept start) (queue_at start.boxes.items)) refl c.first_clerk-clerk.ensures
+pub returns-in-Ok-new-clause-pass : goal.returns-in-Ok-new-clause-pass
+returns-in-Ok-new-clause-pass g c =
+    let start = first c.in-Ok-new.lock in
+    begins_as g.K.Keeper.kept c.in-Ok-new.lock c.in-Ok-new.pass c.first_clerk-clerk.result [] c.in-Ok-new.ensures.pass (ap (λ v. v.front) c.in-Ok-new.ensures.view.0) (no_run (state_of g.K.Keeper.kept start) (queue_at start.boxes.items)) refl c.first_clerk-clerk.ensures

@@ -3,8 +3,8 @@ use Rattle.ec_servernode.specs.Node.{queue_at, owner_at}
 use Rattle.ec_servernode.specs.Run.{put_all, for_clerk}
 use Rattle.ec_servernode.proofs.state.Node.took.Goals as goal
 
-pub returns-in-Some-clause-grew : goal.returns-in-Some-clause-grew
-returns-in-Some-clause-grew g c =
+pub returns-in-Ok-clause-grew : goal.returns-in-Ok-clause-grew
+returns-in-Ok-clause-grew g c =
     let old = c.args.self.now.boxes.items in
     let others = c.add.ensures.others in
     record {
@@ -18,13 +18,13 @@ returns-in-Some-clause-grew g c =
       keeper = ap (λ n. n.keeper) others;
       halt_is = ap (λ n. n.halt) others;
       sized = ap (λ n. length n.boxes.items) others ∙ c.post_all-posted.ensures.sized;
-      posted = λ up k. ap (λ n. queue_at n.boxes.items k) others ∙ (c.in-Some.ensures.put k ∙ (ap (λ q. put_all q (for_clerk k c.into_vec.result.items)) (c.own.ensures.same k)
+      posted = λ up k. ap (λ n. queue_at n.boxes.items k) others ∙ (c.in-Ok.ensures.put k ∙ (ap (λ q. put_all q (for_clerk k c.into_vec.result.items)) (c.own.ensures.same k)
           ∙ ap (λ l. put_all (queue_at old k) (for_clerk k l)) c.into_vec.ensures));
       owners = λ k le. ap (λ n. owner_at n.boxes.items k) others ∙ (c.post_all-posted.ensures.owners k ∙ c.own.ensures.owners k le);
     }
 
-pub returns-clause-grew : goal.returns-clause-grew
-returns-clause-grew g c =
+pub returns-in-Err-clause-grew : goal.returns-in-Err-clause-grew
+returns-in-Err-clause-grew g c =
     let others = c.add.ensures.others in
     record {
       shot = c.of.result;
