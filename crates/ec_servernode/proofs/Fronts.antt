@@ -1,5 +1,5 @@
 -- Passes of the lock, the value that it's made with, and what is handed back.
-use Rattle.std.proofs.Common.{◌≡◌, ℕ, ◌<◌, ◌⊎◌, false, List, [], length, Some, None, sym, refl, ap, ◌∙◌, subst, ⊎_elim, inl, arith}
+use Rattle.std.proofs.Common.{◌≡◌, ℕ, ◌<◌, ◌⊎◌, Bool, true, false, cond, List, [], length, Some, None, sym, refl, ap, ◌∙◌, subst, ⊎_elim, inl, arith}
 use mathlib.Core.List.{IsPrefix}
 use Rattle.ec_base.specs.Limits.{clerk_count}
 use Rattle.ec_disk.specs.Disk.{Counts}
@@ -72,8 +72,12 @@ module _ {K : Type 0} (kept : K → Durable) (counts : K → Counts) (did breaks
     counted : CountsUp (halted steps) (counts start.keeper) (counts v.keeper)
     counted = subst (λ l. CountsUp (halted l) (counts start.keeper) (counts v.keeper)) (sym is) s.counted_up
 
-    pub finished_none : Finished kept counts did breaks start steps None v.keeper
+    finished_none : Finished kept counts did breaks start steps None v.keeper
     finished_none = (subst (λ l. ChainInDoubt did breaks (records l) start.keeper v.keeper) (sym is) s.doubt, counted)
 
-    pub finished_some : v.broken ≡ false → Finished kept counts did breaks start steps (Some v.server) v.keeper
+    finished_some : v.broken ≡ false → Finished kept counts did breaks start steps (Some v.server) v.keeper
     finished_some up = (ap (leads (state_of kept start)) is ∙ s.leads_to up, subst (λ l. Chain did (records l) start.keeper v.keeper) (sym is) (s.chain up), counted)
+
+    pub finished : (broken : Bool) → v.broken ≡ broken → Finished kept counts did breaks start steps (cond broken None (Some v.server)) v.keeper
+    finished true e = finished_none
+    finished false up = finished_some up

@@ -8,7 +8,7 @@ use ec_wire::WireFault;
 use thiserror::Error;
 
 /// Why a turn with a link gives nothing.
-#[derive(Clone, Copy, Debug, Drop, PartialEq, Eq, Error)]
+#[derive(Clone, Copy, Debug, Drop, Error)]
 pub enum ServeFault {
     /// The link failed.
     #[error("the link failed")]

@@ -80,6 +80,7 @@ impl<K: Keeper + Drop> Node<K> {
         ensures others { self.new ≡ record self.old { trace = self.new.trace; steps = self.old.steps + 1 } }
     {
         self.trace = self.trace.and(&step);
+        drop(step);
         self.steps += 1;
     }
 

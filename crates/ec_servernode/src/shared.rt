@@ -1,5 +1,5 @@
 // The server that several threads share.
-ghost use Rattle.std.specs.Prelude.{◌≡◌, ℕ, ◌+◌, ◌<◌, ◌≤◌, List, [], ◌∷◌, Some, None, Ok, Err, IfOk, IfErr, IsTrue, MatchResult, Option};
+ghost use Rattle.std.specs.Prelude.{◌≡◌, ℕ, ◌+◌, ◌<◌, ◌≤◌, cond, List, [], ◌∷◌, Some, None, Ok, Err, IfOk, IfErr, IsTrue, MatchResult, Option};
 ghost use mathlib.Core.List.{IsPrefix};
 ghost use Rattle.ec_base.specs.Limits.{clerk_count};
 ghost use Rattle.ec_wire.specs.Codes.{said};
@@ -55,7 +55,7 @@ pub struct SharedServer<K: Keeper + Drop> {
 }
 
 /// What a turn with a link did.
-#[derive(Clone, Copy, Debug, Drop, PartialEq, Eq)]
+#[derive(Clone, Copy, Drop)]
 pub enum Turned {
     /// A message was taken. These are the clerks to which something was sent, whose outboxes have something.
     Took(Told),
@@ -108,6 +108,18 @@ fn clerk_behind(told: &Result<Told, ServeFault>, from: ClerkId, clerk: ClerkId) 
     match told {
         Ok(_) => from,
         Err(_) => clerk,
+    }
+}
+
+// The server, unless it's broken.
+fn unless(broken: bool, server: Server) -> Option<Server>
+    ensures { result ≡ cond broken None (Some server) }
+{
+    if broken {
+        drop(server);
+        None
+    } else {
+        Some(server)
     }
 }
 
@@ -237,17 +249,17 @@ impl<K: Keeper + Drop> SharedServer<K> {
         &self,
         rt: &R,
         pass: &mut ServerPass<K>,
-        body: Vec<u8>,
+        body: &Vec<u8>,
     ) -> Result<Turned, ServeFault>
         requires pass { IsServerPass K.kept self.now.lock pass.old.pass pass.old.clerk }
         ensures pass { IsServerPass K.kept self.now.lock pass.new.pass pass.new.clerk }
         ensures same { Same pass.old.pass pass.new.pass }
         ensures later { IsPrefix (front pass.old.pass) (front pass.new.pass) }
-        ensures hears { Hears pass.old.pass.number body.items (front pass.old.pass) (front pass.new.pass) result }
+        ensures hears { Hears pass.old.pass.number body.now.items (front pass.old.pass) (front pass.new.pass) result }
     {
-        match decode(self.alloc, &body) {
+        match decode(self.alloc, body) {
             Ok(msg) => {
-                let taken = self.take(rt, pass, Snapshot::of(&body), &msg);
+                let taken = self.take(rt, pass, Snapshot::of(body), &msg);
                 drop(msg);
                 let told = taken?;
                 Ok(Turned::Took(told))
@@ -295,7 +307,7 @@ impl<K: Keeper + Drop> SharedServer<K> {
         ensures serves { Serves L.faults L.closes L.given L.got L.held L.clear (queue_at (first self.now.lock).boxes.items) pass.old.pass.number pass.old.clerk (front pass.old.pass) (front pass.new.pass) link.old link.new result }
     {
         match link.recv(rt) {
-            Got::Body(body) => self.hear(rt, pass, body),
+            Got::Body(body) => self.hear(rt, pass, &body),
             Got::Nothing => {
                 if link.is_clear() {
                     self.give(rt, pass, link)
@@ -332,11 +344,7 @@ impl<K: Keeper + Drop> SharedServer<K> {
             ..
         } = node;
         drop(boxes);
-        if broken {
-            drop(server);
-            return (None, keeper, halt);
-        }
-        (Some(server), keeper, halt)
+        (unless(broken, server), keeper, halt)
     }
 
     /// As `end`, without the reason.

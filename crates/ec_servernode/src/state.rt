@@ -32,7 +32,7 @@ pub struct Node<K: Keeper + Drop> {
 }
 
 /// The clerks to which a step sent something.
-#[derive(Clone, Copy, Debug, Drop, PartialEq, Eq)]
+#[derive(Clone, Copy, Drop)]
 pub struct Told {
     clerks: u16,
 }

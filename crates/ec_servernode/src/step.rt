@@ -6,7 +6,7 @@ use ec_wire::Msg;
 use std::snapshot::Snapshot;
 
 /// Why a server took no message, and takes none any more.
-#[derive(Clone, Copy, Debug, Drop, PartialEq, Eq)]
+#[derive(Clone, Copy, Drop)]
 pub enum Halt {
     DiskFailed,
     DiskStopped,

@@ -15,14 +15,14 @@ returns-in_err-told-in-Ok-clause-hears g c =
     let b = subst (λ b. HearFails c.args.pass.now.pass.number b.items (front c.args.pass.now.pass) (front c.take-taken.new.pass.pass) c.in_err-told-in-Ok.field-0.0) c.of.ensures c.in_err-told-in-Ok.ensures.takes in
     search (rules, b)
 
-pub returns-in-Ok-clause-hears : goal.returns-in-Ok-clause-hears
-returns-in-Ok-clause-hears g c =
+pub returns-in_ok-told-in-Ok-clause-hears : goal.returns-in_ok-told-in-Ok-clause-hears
+returns-in_ok-told-in-Ok-clause-hears g c =
     subst (λ b. TakesMessage c.args.pass.now.pass.number b.items (front c.args.pass.now.pass) (front c.take-taken.new.pass.pass) (Ok c.in_ok-told-in-Ok.told)) c.of.ensures c.in_ok-told-in-Ok.ensures.takes
 
-pub returns-clause-hears : goal.returns-clause-hears
-returns-clause-hears g c =
+pub returns-in-Err-clause-hears : goal.returns-in-Err-clause-hears
+returns-in-Err-clause-hears g c =
     let pass = c.args.pass.now.pass in
     let old = front pass in
     let new = front c.unless_down.new.pass.pass in
-    refused pass.number c.args.body.items c.in-Err.fault old new c.unless_down.result (subst (Answers (Err c.in-Err.fault)) (ap said c.deref.ensures.value) c.in-Err.ensures.exact)
+    refused pass.number c.args.body.now.items c.in-Err.fault old new c.unless_down.result (subst (Answers (Err c.in-Err.fault)) (ap said c.deref.ensures.value) c.in-Err.ensures.exact)
     (subst (λ (f : ServeFault). Looked {A = Turned} pass.number old new (Err f) c.unless_down.result) c.refused.ensures c.unless_down.ensures.looked)
