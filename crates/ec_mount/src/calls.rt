@@ -267,8 +267,13 @@ fn end<L: Link, R: Wait + Clock>(
     ensures { Ended clerk.now.lock pass.old pass.new result }
 {
     let last = clerk.call_op(rt, pass, Call::Sync)?;
-    clerk.bye(rt, pass)?;
-    Ok(last)
+    match clerk.bye(rt, pass) {
+        Ok(()) => Ok(last),
+        Err(fault) => {
+            drop(last);
+            Err(fault)
+        }
+    }
 }
 
 /// Makes all calls, by a pass that has begun none.

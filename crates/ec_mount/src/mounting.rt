@@ -7,7 +7,7 @@ ghost use Rattle.ec_mount.specs.Writes.{ended_by, WroteAs, Refuses, TellsWork};
 
 use crate::limits::MOST_BYTES;
 use crate::script::{Row, Unread, lanes_of, rows_of};
-use crate::shown::{old_boot_line, peer_line, write_answers, write_line};
+use crate::shown::{old_boot_line, peer_line, shown_line, write_answers, write_line};
 use crate::status::Status;
 use crate::telling::{tell_call, tell_end};
 use crate::work::{Answers, work};
@@ -16,7 +16,6 @@ use ec_clerknode::NodeFault;
 use ec_history::{LimitName, Shown};
 use ec_link::{Around, Net};
 use ec_streams::WriteFault;
-use ec_text::print;
 use ec_wire::WireFault;
 use std::alloc::Global;
 use std::io::Eprint;
@@ -70,15 +69,15 @@ fn refuse<K: Sink>(alloc: Global, sink: &mut K, why: Unread) -> Status
     match why {
         Unread::Bytes => {
             let line = Shown::Limit(LimitName::Bytes, MOST_BYTES as u64 + 1);
-            write_last(sink, print(alloc, &line), Status::Limit)
+            write_last(sink, shown_line(alloc, line), Status::Limit)
         }
         Unread::Lines(count) => {
             let line = Shown::Limit(LimitName::Lines, count);
-            write_last(sink, print(alloc, &line), Status::Limit)
+            write_last(sink, shown_line(alloc, line), Status::Limit)
         }
         Unread::Bad(line, column) => {
             let line = Shown::Bad(line, column);
-            write_last(sink, print(alloc, &line), Status::BadLine)
+            write_last(sink, shown_line(alloc, line), Status::BadLine)
         }
         Unread::Source => Status::SourceFault,
         Unread::NoMemory => Status::NoMemory,
@@ -96,7 +95,11 @@ fn tell<K: Sink>(
     ensures told { TellsWork rows.now (given_items worked) result (K.held sink.old) (K.held sink.new) (K.faults sink.old) (K.faults sink.new) }
 {
     match worked {
-        Ok(answers) => ended_by(Status::Done, write_answers(alloc, sink, rows, &answers)),
+        Ok(answers) => {
+            let written = write_answers(alloc, sink, rows, &answers);
+            drop(answers);
+            ended_by(Status::Done, written)
+        }
         Err(NodeFault::Net) => Status::NetFault,
         Err(NodeFault::Peer(why)) => {
             write_last(sink, peer_line(alloc, place_in(why)), Status::PeerFault)
@@ -106,7 +109,11 @@ fn tell<K: Sink>(
             write_last(sink, old_boot_line(alloc, age), Status::OldBoot)
         }
         Err(NodeFault::Spent(counter)) => {
-            write_last(sink, print(alloc, &Shown::Spent(counter)), Status::Spent)
+            write_last(
+                sink,
+                shown_line(alloc, Shown::Spent(counter)),
+                Status::Spent,
+            )
         }
         Err(NodeFault::NoMemory) => Status::NoMemory,
     }

@@ -1,6 +1,9 @@
 // What a mount writes.
-ghost use Rattle.std.specs.Prelude.{◌≡◌, ◌≤◌, ◌<◌, ℕ, length, map, IfOk, List as Listed};
+ghost use Rattle.std.specs.Prelude.{◌≡◌, ◌≤◌, ◌<◌, ℕ, [], ◌∷◌, ◌++◌, length, map, codes, IfOk, OnOk, List as Listed};
+ghost use Rattle.std.specs.Fmt.{decimal};
 ghost use Rattle.std.specs.List.{flat_map};
+ghost use Rattle.ec_text.specs.Answers.{answered_text};
+ghost use Rattle.ec_text.specs.Lines.{shown_text};
 ghost use Rattle.ec_mount.specs.Shown.{row_text, answers_text, lanes_text, told_text, end_text, mount_text, old_boot_text, peer_text};
 ghost use Rattle.ec_mount.specs.Script.{rows_of};
 ghost use Rattle.ec_mount.specs.Writes.{Wrote};
@@ -9,24 +12,39 @@ use crate::script::Row;
 use crate::work::Answers;
 use ec_base::{Age, Duplicate, List, NoMemory, OpNo, Sink};
 use ec_clerknode::Reply;
-use ec_history::Answer;
+use ec_history::{Answer, Shown};
 use ec_streams::{WriteFault, write_whole};
-use ec_text::{print_answer, print_call};
+use ec_text::{print, print_answer, print_call};
 use std::alloc::Global;
+
+// Puts a number and a space behind a text.
+fn put_number(alloc: Global, text: &mut Vec<u8>, number: u64) -> Result<(), NoMemory>
+    ensures { OnOk result (text.new.items ≡ text.old.items ++ decimal number ++ codes " ") }
+{
+    text.extend_from_slice(number.to_string(alloc)?.as_bytes())?;
+    text.extend_from_slice(b" ")?;
+    Ok(())
+}
+
+// Puts an answer behind a text, and the end of the line.
+fn put_answer(alloc: Global, text: &mut Vec<u8>, reply: &Reply) -> Result<(), NoMemory>
+    ensures { OnOk result (text.new.items ≡ text.old.items ++ answered_text reply.now.0 reply.now.1 ++ 10 ∷ []) }
+{
+    text.extend_from_slice(&print_answer(alloc, &reply.0, reply.1)?)?;
+    text.extend_from_slice(b"\n")?;
+    Ok(())
+}
 
 // The line of a row with its answer.
 fn row_line(alloc: Global, row: &Row, reply: &Reply) -> Result<Vec<u8>, NoMemory>
     ensures { IfOk result (λ text. text.items ≡ row_text row.now reply.now) }
 {
     let mut text = Vec::new(alloc);
-    text.extend_from_slice(row.line.to_string(alloc)?.as_bytes())?;
-    text.extend_from_slice(b" ")?;
-    text.extend_from_slice(row.lane.to_string(alloc)?.as_bytes())?;
-    text.extend_from_slice(b" ")?;
+    put_number(alloc, &mut text, u64::from(row.line))?;
+    put_number(alloc, &mut text, u64::from(row.lane))?;
     text.extend_from_slice(&print_call(alloc, &row.call)?)?;
     text.extend_from_slice(b" -> ")?;
-    text.extend_from_slice(&print_answer(alloc, &reply.0, reply.1)?)?;
-    text.extend_from_slice(b"\n")?;
+    put_answer(alloc, &mut text, reply)?;
     Ok(text)
 }
 
@@ -34,8 +52,12 @@ fn row_line(alloc: Global, row: &Row, reply: &Reply) -> Result<Vec<u8>, NoMemory
 fn told_line(alloc: Global, ops: &List<OpNo>) -> Result<Vec<u8>, NoMemory>
     ensures { IfOk result (λ text. text.items ≡ told_text ops.now) }
 {
+    let lost = Answer::Lost(ops.duplicate()?);
+    let made = print_answer(alloc, &lost, None);
+    drop(lost);
+    let made = made?;
     let mut text = Vec::from_slice(alloc, b"told ")?;
-    text.extend_from_slice(&print_answer(alloc, &Answer::Lost(ops.duplicate()?), None)?)?;
+    text.extend_from_slice(&made)?;
     text.extend_from_slice(b"\n")?;
     Ok(text)
 }
@@ -45,7 +67,16 @@ fn end_line(alloc: Global, reply: &Reply) -> Result<Vec<u8>, NoMemory>
     ensures { IfOk result (λ text. text.items ≡ end_text reply.now) }
 {
     let mut text = Vec::from_slice(alloc, b"end sync -> ")?;
-    text.extend_from_slice(&print_answer(alloc, &reply.0, reply.1)?)?;
+    put_answer(alloc, &mut text, reply)?;
+    Ok(text)
+}
+
+// A line of a word and a number.
+fn word_line(alloc: Global, word: &[u8], number: u64) -> Result<Vec<u8>, NoMemory>
+    ensures { IfOk result (λ text. text.items ≡ word.now ++ decimal number ++ 10 ∷ []) }
+{
+    let mut text = Vec::from_slice(alloc, word)?;
+    text.extend_from_slice(number.to_string(alloc)?.as_bytes())?;
     text.extend_from_slice(b"\n")?;
     Ok(text)
 }
@@ -54,20 +85,23 @@ fn end_line(alloc: Global, reply: &Reply) -> Result<Vec<u8>, NoMemory>
 pub fn old_boot_line(alloc: Global, age: Age) -> Result<Vec<u8>, NoMemory>
     ensures { IfOk result (λ text. text.items ≡ old_boot_text age) }
 {
-    let mut text = Vec::from_slice(alloc, b"oldboot ")?;
-    text.extend_from_slice(age.boot.to_string(alloc)?.as_bytes())?;
-    text.extend_from_slice(b"\n")?;
-    Ok(text)
+    word_line(alloc, b"oldboot ", age.boot)
 }
 
 /// The last line where the server sent what is no message.
 pub fn peer_line(alloc: Global, place: u64) -> Result<Vec<u8>, NoMemory>
     ensures { IfOk result (λ text. text.items ≡ peer_text place) }
 {
-    let mut text = Vec::from_slice(alloc, b"peer ")?;
-    text.extend_from_slice(place.to_string(alloc)?.as_bytes())?;
-    text.extend_from_slice(b"\n")?;
-    Ok(text)
+    word_line(alloc, b"peer ", place)
+}
+
+/// The last line where a line of a transcript says why.
+pub fn shown_line(alloc: Global, line: Shown) -> Result<Vec<u8>, NoMemory>
+    ensures { IfOk result (λ text. text.items ≡ shown_text line) }
+{
+    let text = print(alloc, &line);
+    drop(line);
+    text
 }
 
 /// Writes a line as one piece, where there was memory for it.

@@ -38,10 +38,14 @@ fn conclude<L: Link + Drop>(
         told,
         boot,
     } = closing;
-    if clerk.is_none() {
+    let is_lost = clerk.is_none();
+    drop(clerk);
+    if is_lost {
+        drop(made);
         return (link, Err(NodeFault::NoMemory));
     }
     if let Some(age) = boot {
+        drop(made);
         return (link, Err(NodeFault::OldBoot(age)));
     }
     match made {
@@ -88,14 +92,26 @@ fn work_over<L: Link + Send + Drop, R: Around>(
     let mut link = link;
     let bell = match link.bell(rt) {
         Ok(bell) => bell,
-        Err(NetFault::Failed) => return Some((link, Err(NodeFault::Net))),
-        Err(NetFault::NoMemory) => return Some((link, Err(NodeFault::NoMemory))),
+        Err(NetFault::Failed) => {
+            drop(clerk);
+            return Some((link, Err(NodeFault::Net)));
+        }
+        Err(NetFault::NoMemory) => {
+            drop(clerk);
+            return Some((link, Err(NodeFault::NoMemory)));
+        }
     };
     let (_, end) = send_all(rt, alloc, &mut link, &outs);
     match end {
         Sent::Done => run_over(rt, alloc, link, bell, clerk, lanes),
-        Sent::Failed => Some((link, Err(NodeFault::Net))),
-        Sent::NoMemory => Some((link, Err(NodeFault::NoMemory))),
+        Sent::Failed => {
+            drop(clerk);
+            Some((link, Err(NodeFault::Net)))
+        }
+        Sent::NoMemory => {
+            drop(clerk);
+            Some((link, Err(NodeFault::NoMemory)))
+        }
     }
 }
 
@@ -122,8 +138,14 @@ pub fn work<N: Net, R: Around + Eprint>(
     };
     let link = match net.call(rt, addr) {
         Ok(link) => link,
-        Err(NetFault::Failed) => return Err(NodeFault::Net),
-        Err(NetFault::NoMemory) => return Err(NodeFault::NoMemory),
+        Err(NetFault::Failed) => {
+            drop(clerk);
+            return Err(NodeFault::Net);
+        }
+        Err(NetFault::NoMemory) => {
+            drop(clerk);
+            return Err(NodeFault::NoMemory);
+        }
     };
     tell_start(rt, boot);
     let Some((link, result)) = work_over(rt, alloc, link, clerk, outs, lanes) else {
@@ -131,6 +153,9 @@ pub fn work<N: Net, R: Around + Eprint>(
     };
     match net.back(link) {
         Ok(()) => result,
-        Err(_) => Err(NodeFault::NoMemory),
+        Err(_) => {
+            drop(result);
+            Err(NodeFault::NoMemory)
+        }
     }
 }
