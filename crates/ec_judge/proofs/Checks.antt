@@ -1,5 +1,5 @@
 -- Histories, entry by entry.
-use Rattle.std.proofs.Common.{◌≡◌, refl, sym, ap, subst, ◌∙◌, arith, ◌<◌, ◌≤◌, ◌+◌, ℕ, suc, zero, T, Bool, true, false, not, map, List, [], ◌∷◌, ◌++◌, length, take, drop, get_or, Some, None, append_assoc, add-one, drop-cons}
+use Rattle.std.proofs.Common.{◌≡◌, refl, sym, ap, subst, ◌∙◌, arith, ◌<◌, ◌≤◌, ◌+◌, ℕ, suc, zero, T, Bool, true, false, not, map, List, [], ◌∷◌, ◌++◌, length, take, drop, get_or, Some, None, append_assoc, add-one, drop-cons, length-append}
 use Rattle.std.specs.Prelude.{nat_lt, ◌==◌, ◌||◌}
 use Rattle.std.proofs.lemmas.Bool.Decides.{nat_tests}
 use Rattle.ec_plain.specs.declared.call.Outcome.{Outcome}
@@ -81,38 +81,40 @@ ready most past e j lines h legal =
       rising = λ c b. subst (λ ks. T (is_sorted nat_cmp (of_issue c b ks))) (sym h.kept) (kept-sorted from_formatted most c b past legal);
     }
 
--- The entries up to a place.
-module _ (h : History) (i : ℕ) (e : ℕ × Entry) (within : i < length h) (is : e ≡ get_or h i e) where
-  front-more : take (i + 1) h ≡ take i h ++ e ∷ []
-  front-more = take_more h i e within ∙ ap (λ x. take i h ++ x ∷ []) (sym is)
+-- The entries up to a place, behind a past.
+module _ (past es : History) (i : ℕ) (e : ℕ × Entry) (within : i < length es) (is : e ≡ get_or es i e) where
+  pub front-more : past ++ take (i + 1) es ≡ (past ++ take i es) ++ e ∷ []
+  front-more = ap (λ l. past ++ l) (take_more es i e within ∙ ap (λ x. take i es ++ x ∷ []) (sym is)) ∙ sym (append_assoc past (take i es) (e ∷ []))
 
-  cut-at : take i h ++ e ∷ drop (i + 1) h ≡ h
-  cut-at = ap (λ l. take i h ++ l) (sym (drop-cons h i e within ∙ ap (λ x. x ∷ drop (suc i) h) (sym is) ∙ ap (λ n. e ∷ drop n h) (sym (add-one i)))) ∙ take-append-drop i h
+  cut-at : (past ++ take i es) ++ e ∷ drop (i + 1) es ≡ past ++ es
+  cut-at = append_assoc past (take i es) (e ∷ drop (i + 1) es) ∙ ap (λ l. past ++ l) (ap (λ l. take i es ++ l) (sym (drop-cons es i e within ∙ ap (λ x. x ∷ drop (suc i) es) (sym is) ∙ ap (λ n. e ∷ drop n es) (sym (add-one i)))) ∙ take-append-drop i es)
 
-  lines-at : AreAtLines h → AreAtLines (take i h ++ e ∷ [])
-  lines-at a = lines-front (take i h ++ e ∷ []) (drop (i + 1) h) (subst AreAtLines (sym (append_assoc (take i h) (e ∷ []) (drop (i + 1) h) ∙ cut-at)) a)
+  lines-at : AreAtLines (past ++ es) → AreAtLines ((past ++ take i es) ++ e ∷ [])
+  lines-at a = lines-front ((past ++ take i es) ++ e ∷ []) (drop (i + 1) es) (subst AreAtLines (sym (append_assoc (past ++ take i es) (e ∷ []) (drop (i + 1) es) ∙ cut-at)) a)
 
-  turn : i ≡ length (take i h)
-  turn = sym (length-take-le i h (omega (arith, within)))
+  turn-at : (n : ℕ) → n ≡ length past → n + i ≡ length (past ++ take i es)
+  turn-at n k = ap (λ m. m + i) k ∙ ap (λ m. length past + m) (sym (length-take-le i es (omega (arith, within)))) ∙ sym (length-append past (take i es))
 
-  pub ready-at : (most : ℕ) (j : Judge) → AreAtLines h → Carries from_formatted (take i h) j → IsLegal from_formatted most (take i h) → IsReady j e
-  ready-at most j a c l = ready most (take i h) e j (lines-at a) c l
+  pub ready-at : (most : ℕ) (j : Judge) → AreAtLines (past ++ es) → Carries from_formatted (past ++ take i es) j → IsLegal from_formatted most (past ++ take i es) → IsReady j e
+  ready-at most j a c l = ready most (past ++ take i es) e j (lines-at a) c l
 
-  pub few-at : Each (λ x. x.0 < 2147483648) h → e.0 < 2147483648
-  few-at f = subst (λ x. x.0 < 2147483648) (sym is) (at h i within f)
+  pub few-at : Each (λ x. x.0 < 2147483648) es → e.0 < 2147483648
+  few-at f = subst (λ x. x.0 < 2147483648) (sym is) (at es i within f)
     where
       at : (g : History) (n : ℕ) → n < length g → Each (λ x. x.0 < 2147483648) g → (get_or g n e).0 < 2147483648
       at [] n l f = absurd (omega (arith, l))
       at (x ∷ g) zero l f = f.0
       at (x ∷ g) (suc n) l f = at g n (omega (arith, l)) f.1
 
-  pub judged-next : (most : ℕ) (j j' : Judge) → Carries from_formatted (take i h) j → IsLegal from_formatted most (take i h) → Judges most i j j' e None → Carries from_formatted (take (i + 1) h) j' × IsLegal from_formatted most (take (i + 1) h)
-  judged-next most j j' c l f =
-      let both = f (take i h) turn c l in
-      (subst (λ g. Carries from_formatted g j') (sym front-more) both.1, subst (IsLegal from_formatted most) (sym front-more) (legal-step from_formatted most (take i h) e l both.0))
+  pub judged-next : (most n : ℕ) (j j' : Judge) → n ≡ length past → Carries from_formatted (past ++ take i es) j → IsLegal from_formatted most (past ++ take i es) → Judges most (n + i) j j' e None
+      → Carries from_formatted (past ++ take (i + 1) es) j' × IsLegal from_formatted most (past ++ take (i + 1) es)
+  judged-next most n j j' k c l f =
+      let both = f (past ++ take i es) (turn-at n k) c l in
+      (subst (λ g. Carries from_formatted g j') (sym front-more) both.1, subst (IsLegal from_formatted most) (sym front-more) (legal-step from_formatted most (past ++ take i es) e l both.0))
 
-  pub judged-fault : (most : ℕ) (j j' : Judge) (r : Rule) → Carries from_formatted (take i h) j → IsLegal from_formatted most (take i h) → Judges most i j j' e (Some r) → IsFirstEntry from_formatted most h e.0 r
-  judged-fault most j j' r c l f = record { before = take i h; its = e.1; after = drop (i + 1) h; parts = cut-at; legal = l; broken = f (take i h) turn c l }
+  pub judged-fault : (most n : ℕ) (j j' : Judge) (r : Rule) → n ≡ length past → Carries from_formatted (past ++ take i es) j → IsLegal from_formatted most (past ++ take i es) → Judges most (n + i) j j' e (Some r)
+      → IsFirstEntry from_formatted most (past ++ es) e.0 r
+  judged-fault most n j j' r k c l f = record { before = past ++ take i es; its = e.1; after = drop (i + 1) es; parts = cut-at; legal = l; broken = f (past ++ take i es) (turn-at n k) c l }
 
 -- Legal for some greatest number of objects: legal for none.
 full-less : (most : ℕ) (out : Outcome) (a : Answer) → IsFull most out a → IsFull 0 out a

@@ -139,6 +139,11 @@ pub record Carries (base : Base) (past : History) (j : Judge) : Type 0 where
   pub touches : (o : ℕ) → AreBelow (length past) (at o j.touches)
   pub firm : IsFirm j.kept.items j.firm.count (images j.firm.volume.under)
 
+-- behind a history of so many entries
+pub record HasJudged (past : History) (n : ℕ) (j : Judge) : Type 0 where
+  pub carries : Carries from_formatted past j
+  pub turn : n ≡ length past
+
 -- What an entry adds.
 
 abbrev pub count_next : ℕ → Option ℕ → ℕ

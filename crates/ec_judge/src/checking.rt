@@ -8,8 +8,10 @@ ghost use Rattle.ec_judge.specs.Fault.{IsEntryFault};
 
 use crate::carried::{Judge, Kept};
 use crate::fault::HistoryFault;
+use crate::judging::{Judging, judge_all};
 use ec_base::{ClerkId, Duplicate, NoMemory, ObjId, OpNo};
 use ec_history::Entry;
+use ec_trace::Trace;
 use ec_volume::Update;
 use std::alloc::Global;
 
@@ -22,8 +24,8 @@ pub fn check(alloc: Global, entries: &[(u32, Entry)], most: u32) -> Result<(), H
     ensures legal { OnOk result (IsLegal from_formatted most entries.now) }
     ensures fault { IfErr result (λ fault. IsEntryFault most entries.now fault) }
 {
-    judged(alloc, entries, most)?;
-    Ok(())
+    let mut judging = Judging::new(alloc)?;
+    judging.judge_on(most, entries)
 }
 
 /// The updates that a legal history keeps, in the order of issue.
@@ -71,17 +73,11 @@ fn carried(alloc: Global, entries: &[(u32, Entry)]) -> Result<Judge, NoMemory>
 fn judged(alloc: Global, entries: &[(u32, Entry)], most: u32) -> Result<Judge, HistoryFault>
     requires lines { AreAtLines entries.now }
     requires few { Each (λ e. e.0 < 2 ^ 31) entries.now }
-    ensures legal { OnOk result (IsLegal from_formatted most entries.now) }
     ensures carried { IfOk result (λ judge. Carries from_formatted entries.now judge) }
     ensures fault { IfErr result (λ fault. IsEntryFault most entries.now fault) }
 {
     let mut judge = Judge::new(alloc)?;
-    for at in 0..entries.len() {
-        let entry = &entries[at];
-        if let Some(rule) = judge.judge(most, at, entry.0, &entry.1)? {
-            return Err(HistoryFault::At(entry.0, rule));
-        }
-    }
+    judge_all(&mut judge, &mut 0, &mut Trace::new(), most, entries)?;
     Ok(judge)
 }
 
