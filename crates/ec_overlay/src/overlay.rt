@@ -1,5 +1,5 @@
 // A volume with changed images laid over it.
-ghost use Rattle.std.specs.Prelude.{◌≡◌, ◌==◌, ◌∷◌, [], true, false, if◌then◌else◌, ℕ, T, None, Some, IfOk, MatchBool};
+ghost use Rattle.std.specs.Prelude.{◌≡◌, ◌==◌, ◌∷◌, [], true, false, if◌then◌else◌, ℕ, T, None, Some, IfOk, IfSome, MatchBool};
 ghost use Rattle.ec_volume.specs.Update.{is_sound, member, operands, distinct, first_unfit, fits, effect};
 ghost use Rattle.ec_volume.specs.Volume.{images, formatted, after};
 ghost use Rattle.ec_overlay.specs.Fine.{is_fine};
@@ -57,6 +57,9 @@ impl Overlay {
             × ((o : ℕ) → shown self.new o ≡ after (shown self.old) (update.now ∷ []) o)) ((o : ℕ) × (first_unfit update.now (shown self.old) (operands update.now) ≡ Some o))) }
         ensures under { self.new.under ≡ self.old.under }
     {
+        if let Some(obj) = only_operand(update) {
+            return self.change_all(alloc, update, &[obj]);
+        }
         let objs = operands(alloc, update)?;
         self.change_all(alloc, update, &objs)
     }
@@ -114,5 +117,19 @@ impl Overlay {
             Some(image) => image.duplicate(),
             None => Ok(Image::Gone),
         }
+    }
+}
+
+// The operand of an update of an object's own parts.
+fn only_operand(update: &Update) -> Option<ObjId>
+    ensures { IfSome result (λ obj. operands update.now ≡ obj ∷ []) }
+{
+    match update {
+        Update::Put { obj, .. }
+        | Update::Len { obj, .. }
+        | Update::Mode { obj, .. }
+        | Update::Stamp { obj, .. }
+        | Update::Owner { obj, .. } => Some(*obj),
+        _ => None,
     }
 }

@@ -1,0 +1,11 @@
+use Rattle.std.proofs.Common.{sym, subst}
+use Rattle.std.specs.Prelude.{IfOk, MatchBool}
+use Rattle.ec_overlay.specs.Shown.{shown}
+use Rattle.ec_overlay.proofs.Shown.{Changes, Unfit}
+use Rattle.ec_overlay.proofs.overlay.Overlay.carry_out.Goals as goal
+
+pub returns-in-Some-clause-images : goal.returns-in-Some-clause-images
+returns-in-Some-clause-images c =
+    let u = c.args.update.now in
+    let v = shown c.args.self.now in
+    subst (λ os. IfOk c.change_all.result (λ done. MatchBool done (Changes u v os (shown c.change_all.new.self)) (Unfit u v os))) (sym c.in-Some.ensures) c.change_all.ensures.images
