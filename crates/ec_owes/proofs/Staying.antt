@@ -181,3 +181,8 @@ module _ (objs : List ℕ) (end : ℕ) (old new : Spans) (is : AreEnded objs end
 
     pub take-view : staying new 0 qs ≡ on_none objs (staying old 0 qs)
     take-view = staying-changed old new (λ o. not (member o objs)) end changed-out 0 qs (omega (arith, at-end)) h
+
+-- none stays of none
+pub none-stays : (spans : Spans) (qs now : Pairs) → (length qs == 0) ≡ true → staying spans 0 qs ≡ now → now ≡ []
+none-stays spans [] now e is = sym is
+none-stays spans (q ∷ qs) now e is = absurd (omega (arith, eqb-true (length (q ∷ qs)) 0 e))

@@ -108,6 +108,9 @@ impl Owes {
     fn on(&self, objs: &[ObjId]) -> Result<Vec<(OpNo, ObjId)>, NoMemory>
         ensures { IfOk result (λ pairs. pairs.items ≡ on_one objs.now self.now) }
     {
+        if self.pairs.is_empty() {
+            return Ok(Vec::new(self.alloc));
+        }
         found(self.alloc, &self.pairs, &self.spans, objs)
     }
 
@@ -115,6 +118,9 @@ impl Owes {
     fn take(&mut self, objs: &[ObjId])
         ensures { self.new ≡ on_none objs.now self.old }
     {
+        if self.pairs.is_empty() {
+            return;
+        }
         let end = self.pairs.len();
         take_out(&mut self.spans, objs, end);
     }

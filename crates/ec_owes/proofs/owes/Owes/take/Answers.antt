@@ -1,6 +1,7 @@
-use Rattle.std.proofs.Common.{◌∙◌, ap}
+use Rattle.std.proofs.Common.{◌∙◌, sym, ap}
+use Rattle.std.specs.Prelude.{◌==◌}
 use Rattle.ec_owes.specs.Owes.{on_none}
-use Rattle.ec_owes.proofs.Staying.{take-in, take-view}
+use Rattle.ec_owes.proofs.Staying.{none-stays, take-in, take-view}
 use Rattle.ec_owes.proofs.owes.Owes.take.Goals as goal
 
 pub invariant_of-self : goal.invariant_of-self
@@ -8,3 +9,8 @@ invariant_of-self c = take-in c.args.objs.now c.len-end.result c.self.inside.spa
 
 pub returns : goal.returns
 returns c = take-view c.args.objs.now c.len-end.result c.self.inside.spans c.take_out.new.spans c.take_out.ensures c.self.inside.pairs.items (c.len-end.ensures ∙ c.self.inside.pairs.ok.0) c.self.invariant ∙ ap (on_none c.args.objs.now) c.self.view_is
+
+pub returns-then-is_empty : goal.returns-then-is_empty
+returns-then-is_empty c =
+    let none = none-stays c.self.inside.spans c.self.inside.pairs.items c.args.self.now (ap (λ n. n == 0) (sym c.self.inside.pairs.ok.0) ∙ sym c.is_empty.ensures ∙ c.if-is_empty.true) c.self.view_is in
+    none ∙ sym (ap (on_none c.args.objs.now) none)
