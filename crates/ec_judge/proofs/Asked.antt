@@ -26,7 +26,7 @@ use Rattle.ec_pending.specs.declared.issue.Issue.{Issue}
 use Rattle.ec_pending.specs.declared.asked.Asked.TheVariants as asked
 use Rattle.ec_judge.specs.Carried.{issue_of, issues_in}
 use Rattle.ec_pending.specs.Pending.{numbers_in, numbered, is_asked}
-use Rattle.ec_judge.specs.Rules.{asked_on, asked_by_call}
+use Rattle.ec_judge.specs.Asks.{asked_on, asked_by_call}
 
 regroup : (p q r : Op → Bool) (ks : List Op) → filter (λ k. (p k && q k) && r k) ks ≡ filter (λ k. p k && (q k && r k)) ks
 regroup p q r [] = refl

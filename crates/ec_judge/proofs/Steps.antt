@@ -40,7 +40,8 @@ use Rattle.ec_judge.proofs.Touched.{any-since, below-next, none-since}
 use Rattle.ec_judge.specs.Faults.{BreaksCall, BreaksLoss, AreKept, AreClosed, LeaveFitting}
 use Rattle.ec_pending.specs.declared.issue.Issue.{Issue}
 use Rattle.ec_pending.specs.declared.asked.Asked.{Asked}
-use Rattle.ec_judge.specs.Rules.{IsNumbered, KeepsRules, BreaksRule, due_of, asked_on, asked_by_call}
+use Rattle.ec_owes.specs.Rules.{IsNumbered, KeepsRules, BreaksRule, due_of}
+use Rattle.ec_judge.specs.Asks.{asked_on, asked_by_call}
 use Rattle.ec_judge.specs.Carried as Carried
 use Rattle.ec_judge.specs.Carried.{op_of, ops_of, issue_of, issues_in, is_among, is_start, count_of, owed_of, pending_of, is_covered, IsUpward, IsStart, IsFlagged, IsUncovered, IsUntouched, IsFirm, Carries, touched_next, is_touched, AreBelow, count_next, keeps_of, IsFitting, are_kept, are_uncovered, are_closed, BreaksMarks, KeepsMarks}
 use Rattle.ec_pending.specs.Pending.{numbers_in, is_in, is_asked, taken, rest, numbered, issues_of}

@@ -1,6 +1,6 @@
 pub mod Faults
 pub mod Fault
-pub mod Rules
+pub mod Asks
 pub mod Index
 pub mod Outside
 pub mod Carried

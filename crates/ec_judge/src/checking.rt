@@ -62,23 +62,12 @@ fn carried(alloc: Global, entries: &[(u32, Entry)]) -> Result<Judge, NoMemory>
     requires legal { (most : ℕ) × IsLegal from_formatted most entries.now }
     ensures { IfOk result (λ judge. Carries from_formatted entries.now judge) }
 {
-    match judged(alloc, entries, 0) {
-        Ok(judge) => Ok(judge),
+    let mut judge = Judge::new(alloc)?;
+    match judge_all(&mut judge, &mut 0, &mut Trace::new(), 0, entries) {
+        Ok(()) => Ok(judge),
         Err(HistoryFault::NoMemory) => Err(NoMemory),
         Err(HistoryFault::At(_, _)) => unreachable!(),
     }
-}
-
-// What the entries come to, if they make a legal history.
-fn judged(alloc: Global, entries: &[(u32, Entry)], most: u32) -> Result<Judge, HistoryFault>
-    requires lines { AreAtLines entries.now }
-    requires few { Each (λ e. e.0 < 2 ^ 31) entries.now }
-    ensures carried { IfOk result (λ judge. Carries from_formatted entries.now judge) }
-    ensures fault { IfErr result (λ fault. IsEntryFault most entries.now fault) }
-{
-    let mut judge = Judge::new(alloc)?;
-    judge_all(&mut judge, &mut 0, &mut Trace::new(), most, entries)?;
-    Ok(judge)
 }
 
 fn updates_of(alloc: Global, kept: &[Kept]) -> Result<Vec<Update>, NoMemory>

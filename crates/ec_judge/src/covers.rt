@@ -3,7 +3,7 @@ ghost use Rattle.std.specs.Prelude.{◌≡◌, []};
 ghost use Rattle.ec_plain.specs.declared.call.Call.TheVariants as call;
 ghost use Rattle.ec_plain.specs.declared.call.Reply.TheVariants as reply;
 ghost use Rattle.ec_history.specs.declared.entry.Answer.TheVariants as answer;
-ghost use Rattle.ec_judge.specs.Rules.{asked_by_call};
+ghost use Rattle.ec_judge.specs.Asks.{asked_by_call};
 
 use ec_base::ObjId;
 use ec_history::Answer;

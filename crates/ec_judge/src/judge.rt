@@ -12,10 +12,11 @@ ghost use Rattle.ec_judge.specs.Carried.{Carries, IsFirm, IsReady, Judges, ops_o
 
 use crate::carried::{Issuer, Judge};
 use crate::starts::Starts;
-use crate::{calls, covers, losses, rebuilt, starts, tail, touches};
+use crate::{covers, losses, rebuilt, starts, tail, touches};
 use ec_base::{ClerkId, NoMemory, ObjId, OpNo, SortedMap};
 use ec_history::{Answer, Entry, Rule};
 use ec_numbers::Numbers;
+use ec_owes::broken_rule;
 use ec_plain::{Call, Outcome, plain};
 use std::alloc::Global;
 
@@ -86,7 +87,8 @@ impl Judge {
         let outcome = plain(self.alloc, &self.firm.volume, call, fresh)?;
         let at = self.starts.index_of(issuer.clerk, issuer.boot)?;
         let start = self.starts.at(at);
-        if let Some(rule) = calls::broken(most, start, call, &outcome, answer, op)? {
+        let count = start.pending.count();
+        if let Some(rule) = broken_rule(most, count, &start.owed, call, &outcome, answer, op)? {
             return Ok(Some(rule));
         }
         let touched = outcome.touched.as_slice();

@@ -1,7 +1,6 @@
 //! Judges histories, entry by entry.
 #![tactic(auto)]
 
-mod calls;
 mod carried;
 mod checking;
 mod covers;
@@ -13,7 +12,6 @@ mod laws;
 mod losses;
 mod outside;
 mod rebuilt;
-mod replies;
 mod starts;
 mod tail;
 mod touches;

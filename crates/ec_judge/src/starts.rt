@@ -7,7 +7,7 @@ ghost use Rattle.ec_history.specs.History.{is_one_of, meets, pairs_of, updates};
 ghost use Rattle.ec_judge.specs.Carried.{is_start, count_of, owed_of, pending_of, count_next, keeps_of, ops_of, is_among, IsFitting, IsNoted, IsOwing};
 ghost use Rattle.ec_judge.specs.Index.{SamePlaces};
 ghost use Rattle.ec_pending.specs.Pending.{is_asked, rest, issues_of};
-ghost use Rattle.ec_judge.specs.Rules.{IsNumbered};
+ghost use Rattle.ec_owes.specs.Rules.{IsNumbered};
 ghost use Rattle.ec_judge.specs.declared.carried.Start.{Start as StartOf};
 
 use crate::carried::{Issuer, Kept, Start};

@@ -1,7 +1,10 @@
-//! What a start of a clerk owes: its lost operations that are to be reported.
+//! What a start of a clerk owes, its lost operations that are to be reported, and the rules of a call.
 #![tactic(auto)]
 
+mod calls;
 mod owes;
+mod replies;
 mod spans;
 
+pub use calls::broken_rule;
 pub use owes::Owes;

@@ -4,7 +4,8 @@ use Rattle.ec_volume.specs.Update.{member}
 use Rattle.ec_overlay.specs.Shown.{shown}
 use Rattle.std.specs.List.{filter}
 use Rattle.ec_history.specs.History.{meets}
-use Rattle.ec_judge.specs.Rules.{asked_by_call, IsNumbered}
+use Rattle.ec_owes.specs.Rules.{IsNumbered, KeepsRules, BreaksRule, due_of}
+use Rattle.ec_judge.specs.Asks.{asked_by_call}
 use Rattle.ec_judge.specs.declared.carried.Start.{Start}
 use Rattle.ec_judge.specs.Carried.{is_start, touched_next, count_next}
 use Rattle.ec_pending.specs.Pending.{issues_of, is_asked, rest}
@@ -22,13 +23,15 @@ returns-in-Some-2 c = λ l past turn h legal.
     let s = c.at-start.result.now in
     let same = out-same past by.place c.args.call.now (shown j.firm.volume) c.in-Some.fresh o h.volume c.in-Some.ensures.some c.in_ok-outcome.ensures in
     let own = own-at past j h ss at.count at.owed at.pending by.clerk by.boot c.in_ok-at.at s at.found at.within c.at-start.ensures in
-    call-broken c.args.most past by.place by.clerk by.boot c.args.call.now c.args.answer.now c.args.op.now s.pending.0 s.owed o own.count own.owed same c.in-Some-2.rule (rw c.in-Some-2.is at c.in_ok-rule.ensures)
+    call-broken c.args.most past by.place by.clerk by.boot c.args.call.now c.args.answer.now c.args.op.now s.pending.0 s.owed o own.count own.owed same c.in-Some-2.rule
+    (subst (λ n. BreaksRule n (due_of s.owed o c.args.call.now) c.args.most o c.args.answer.now c.args.op.now c.in-Some-2.rule) c.count-count.ensures (rw c.in-Some-2.is at c.in_ok-rule.ensures))
 
 pub note_at-requires-clause-next : goal.note_at-requires-clause-next
 note_at-requires-clause-next c = λ t.
     let ss = c.index_of.new.self in
     let s = c.at-start.result.now in
-    let rules = rw c.in_default-2.is at c.in_ok-rule.ensures in
+    let o = c.in_ok-outcome.outcome in
+    let rules = subst (λ n. KeepsRules n (due_of s.owed o c.args.call.now) c.args.most o c.args.answer.now c.args.op.now) c.count-count.ensures (rw c.in_default-2.is at c.in_ok-rule.ensures) in
     subst (λ (x : Start). IsNumbered x.pending.0 c.args.op.now) (sym (same-at ss c.in_ok-at.at t s c.in_ok-at.ensures.within ∙ sym c.at-start.ensures)) rules.number
 
 pub keep-requires : goal.keep-requires
@@ -49,7 +52,7 @@ returns c = λ l past turn h legal.
     let s = c.at-start.result.now in
     let same = out-same past by.place cl (shown j.firm.volume) c.in-Some.fresh o h.volume c.in-Some.ensures.some c.in_ok-outcome.ensures in
     let own = own-at past j h ss at.count at.owed at.pending by.clerk by.boot c.in_ok-at.at s at.found at.within c.at-start.ensures in
-    let fine = call-legal c.args.most past by.place by.clerk by.boot cl a op s.pending.0 s.owed o own.count own.owed same (rw c.in_default-2.is at c.in_ok-rule.ensures) in
+    let fine = call-legal c.args.most past by.place by.clerk by.boot cl a op s.pending.0 s.owed o own.count own.owed same (subst (λ n. KeepsRules n (due_of s.owed o cl) c.args.most o a op) c.count-count.ensures (rw c.in_default-2.is at c.in_ok-rule.ensures)) in
     let noted = c.in_ok-note_at.ensures in
     let old = same-at ss c.in_ok-at.at noted.0 s at.within ∙ sym c.at-start.ensures in
     let mine = is-own by.clerk by.boot ss c.in_ok-at.at s at.found at.within c.at-start.ensures in (

@@ -1,9 +1,9 @@
 // The rules of a call.
 ghost use Rattle.std.specs.Prelude.{◌≡◌, Decides, IfOk, MatchOption};
 ghost use Rattle.ec_history.specs.Legal.{IsReported, IsFull, IsReply, is_making};
-ghost use Rattle.ec_judge.specs.Rules.{IsNumbered, due_of, KeepsRules, BreaksRule};
+ghost use Rattle.ec_owes.specs.Rules.{IsNumbered, due_of, KeepsRules, BreaksRule};
 
-use crate::carried::Start;
+use crate::owes::Owes;
 use crate::replies;
 use ec_base::{NoMemory, OpNo};
 use ec_history::{Answer, Rule};
@@ -13,22 +13,24 @@ use ec_volume::Update;
 // A grant of ids has so many.
 const ID_GRANT: u64 = 16;
 
-/// The first rule that the call breaks, by its outcome and its start.
-pub fn broken(
+/// The first rule that the call breaks, by its outcome. Its start issued so many operations and
+/// owes these pairs.
+pub fn broken_rule(
     most: u32,
-    start: &Start,
+    count: u64,
+    owed: &Owes,
     call: &Call,
     outcome: &Outcome,
     answer: &Answer,
     op: &Option<OpNo>,
 ) -> Result<Option<Rule>, NoMemory>
-    ensures { IfOk result (λ found. MatchOption found (KeepsRules start.now.pending.0 (due_of start.now.owed outcome.now call.now) most outcome.now answer.now op.now)
-        (λ rule. BreaksRule start.now.pending.0 (due_of start.now.owed outcome.now call.now) most outcome.now answer.now op.now rule)) }
+    ensures { IfOk result (λ found. MatchOption found (KeepsRules count (due_of owed.now outcome.now call.now) most outcome.now answer.now op.now)
+        (λ rule. BreaksRule count (due_of owed.now outcome.now call.now) most outcome.now answer.now op.now rule)) }
 {
-    if !is_next(start.pending.count(), op) {
+    if !is_next(count, op) {
         return Ok(Some(Rule::Number));
     }
-    let due = start.owed.due(call, outcome)?;
+    let due = owed.due(call, outcome)?;
     if !is_reported(&due, answer) {
         return Ok(Some(Rule::Report));
     }
