@@ -1,113 +1,91 @@
-//! Updates and images by their bytes.
-ghost use Rattle.std.specs.Prelude.{◌≡◌, true};
-ghost use Rattle.ec_volume.specs.Update.{is_sound};
-ghost use Rattle.ec_codes.specs.Images.{is_sound_image};
+//! Updates and images by their bytes, and bytes that are neither.
 
-use ec_base::{List, Name, ObjId};
 use ec_codes::{CodeFault, get_image, get_image_v1, get_update, put_image, put_update};
 use ec_volume::{Image, Kind, Update};
 use std::alloc::Global;
 
-fn code_of(alloc: Global, update: &Update) -> Option<Vec<u8>>
-    requires { is_sound update.now ≡ true }
-{
-    let mut bytes = Vec::new(alloc);
-    put_update(update, &mut bytes).ok()?;
-    Some(bytes)
-}
-
-fn writes(alloc: Global, update: &Update, code: &[u8]) -> Option<bool> {
-    if !update.sound() {
-        return None;
+fn is_new_file(update: &Update) -> bool {
+    match update {
+        Update::Make {
+            dir,
+            name,
+            obj,
+            kind: Kind::File,
+        } => dir.get() == 1 && name.bytes() == b"f".as_slice() && obj.get() == 2,
+        _ => false,
     }
-    let bytes = code_of(alloc, update)?;
-    Some(bytes.as_slice() == code)
 }
 
-// Whether the code is read up to its end, and is written so again.
-fn reads(alloc: Global, code: &[u8]) -> Option<bool> {
-    let (read, place) = get_update(alloc, code, 0).ok()?;
-    Some(place == code.len() && writes(alloc, &read, code)?)
+// Whether the code is that of file 2 with the name `f` in the root, up to its end, and is written so again.
+fn makes(alloc: Global, code: &[u8]) -> bool {
+    match get_update(alloc, code, 0) {
+        Ok((update, place)) => {
+            let mut bytes = Vec::new(alloc);
+            let is_put = put_update(&update, &mut bytes).is_ok();
+            let is_same = bytes.as_slice() == code;
+            drop(bytes);
+            let is_made = is_new_file(&update);
+            drop(update);
+            is_put && is_same && is_made && place == code.len()
+        }
+        Err(_) => false,
+    }
 }
 
-fn make(alloc: Global) -> Option<Update> {
-    Some(Update::Make {
-        dir: ObjId::root(),
-        name: Name::read(alloc, b"f").ok()?,
-        obj: ObjId::new(2)?,
-        kind: Kind::File,
-    })
-}
-
-fn makes(alloc: Global, code: &[u8]) -> Option<bool> {
-    writes(alloc, &make(alloc)?, code)
-}
-
-// The code of a new file in the root.
-#[test]
-fn a_make(rt: HostRuntime) {
-    let code = [1, 0, 0, 0, 1, 0, 0, 0, 2, 1, 1, 102];
-    assert!(rt; makes(rt.alloc(), &code) == Some(true));
-    assert!(rt; reads(rt.alloc(), &code) == Some(true));
-}
-
-fn writes_image(alloc: Global, image: &Image, code: &[u8]) -> Option<bool>
-    requires { is_sound_image image.now ≡ true }
-{
-    let mut bytes = Vec::new(alloc);
-    put_image(image, &mut bytes).ok()?;
-    Some(bytes.as_slice() == code)
-}
-
-// An image, without what it holds: no object, a file's owner or a directory's.
-#[derive(Clone, Copy, Debug, PartialEq)]
-enum Kept {
-    Gone,
-    File(u32),
-    Dir(u32),
-}
-
-fn without_bytes(image: &Image) -> Kept {
+fn is_file(image: &Image) -> bool {
     match image {
-        Image::Gone => Kept::Gone,
-        Image::File { owner, .. } => Kept::File(*owner),
-        Image::Dir { owner, .. } => Kept::Dir(*owner),
+        Image::File {
+            mode: 0o644,
+            stamp: 0,
+            owner: 7,
+            bytes,
+        } => bytes.as_slice() == b"hi".as_slice(),
+        _ => false,
     }
 }
 
-fn short(read: Result<(Image, usize), CodeFault>) -> Result<(Kept, usize), CodeFault> {
-    let (image, place) = read?;
-    Ok((without_bytes(&image), place))
+// Whether the code is that of a file with these, up to its end, and is written so again.
+fn holds_file(alloc: Global, code: &[u8]) -> bool {
+    match get_image(alloc, code, 0) {
+        Ok((image, place)) => {
+            let mut bytes = Vec::new(alloc);
+            let is_put = put_image(&image, &mut bytes).is_ok();
+            let is_same = bytes.as_slice() == code;
+            drop(bytes);
+            let is_file = is_file(&image);
+            drop(image);
+            is_put && is_same && is_file && place == code.len()
+        }
+        Err(_) => false,
+    }
 }
 
-const FILE: [u8; 21] = [
-    1, 1, 164, 0, 0, 0, 0, 0, 0, 0, 0, 0, 0, 0, 7, 0, 0, 0, 2, 104, 105,
-];
-
-fn writes_file(alloc: Global) -> Option<bool> {
-    let file = Image::File {
-        mode: 0o644,
-        stamp: 0,
-        owner: 7,
-        bytes: List::of(Vec::from_slice(alloc, b"hi").ok()?),
-    };
-    writes_image(alloc, &file, &FILE)
+// Whether the code is that of an empty directory in version 1, which had no owners.
+fn holds_old_directory(alloc: Global, code: &[u8]) -> bool {
+    match get_image_v1(alloc, code, 0) {
+        Ok((image, place)) => {
+            let is_so = matches!(
+                &image,
+                Image::Dir {
+                    mode: 0o755,
+                    owner: 0,
+                    ..
+                }
+            );
+            drop(image);
+            is_so && place == code.len()
+        }
+        Err(_) => false,
+    }
 }
 
-// The codes of no object and of a file with an owner; an image of version 1 has owner 0.
 #[test]
-fn images(rt: HostRuntime) {
-    assert!(rt; writes_image(rt.alloc(), &Image::Gone, &[0]) == Some(true));
-    assert!(rt; writes_file(rt.alloc()) == Some(true));
-    assert!(rt; short(get_image(rt.alloc(), &[0], 0)) == Ok((Kept::Gone, 1)));
-    assert!(rt; short(get_image(rt.alloc(), &[3], 0)) == Err(CodeFault::Field(0)));
-    assert!(rt; short(get_image(rt.alloc(), &FILE, 0)) == Ok((Kept::File(7), 21)));
-    let old = [2, 1, 237, 0, 0, 0, 0, 0, 0, 0, 0, 0];
-    assert!(rt; short(get_image_v1(rt.alloc(), &old, 0)) == Ok((Kept::Dir(0), 12)));
-}
-
-fn refusal(alloc: Global, bytes: &[u8]) -> Option<CodeFault> {
-    get_update(alloc, bytes, 0).err()
+fn codes_that_are_read(rt: HostRuntime) {
+    let made = makes(rt.alloc(), &[1, 0, 0, 0, 1, 0, 0, 0, 2, 1, 1, 102]);
+    let file = b"\x01\x01\xa4\0\0\0\0\0\0\0\0\0\0\0\x07\0\0\0\x02hi";
+    let held = holds_file(rt.alloc(), file);
+    let old = holds_old_directory(rt.alloc(), b"\x02\x01\xed\0\0\0\0\0\0\0\0\0");
+    assert!(rt; made && held && old);
 }
 
 // Each refusal of an update once.
@@ -137,6 +115,61 @@ fn refused_updates(rt: HostRuntime) {
         (&[8, 2, 0, 0, 0, 2, 0, 0, 0, 2], CodeFault::Field(6)),
     ];
     for (bytes, fault) in rows {
-        assert!(rt; refusal(rt.alloc(), bytes) == Some(fault));
+        assert!(rt; get_update(rt.alloc(), bytes, 0).err() == Some(fault));
+    }
+}
+
+// Of a file: too many bytes, and too few. Of a directory: too many entries, a name without bytes, no id, names that don't rise, and an id that
+// stands twice.
+#[test]
+fn refused_images(rt: HostRuntime) {
+    let rows: [(&[u8], CodeFault); 12] = [
+        (b"", CodeFault::Short(0)),
+        (b"\x03", CodeFault::Field(0)),
+        (b"\x01\x01", CodeFault::Short(2)),
+        (b"\x01\x10\0", CodeFault::Field(1)),
+        (
+            b"\x02\x01\xed\0\0\0\0\0\0\0\0\0\0\0\0",
+            CodeFault::Short(15),
+        ),
+        (
+            b"\x01\x01\xa4\0\0\0\0\0\0\0\0\0\0\0\0\0\x01\0\x01",
+            CodeFault::Field(15),
+        ),
+        (
+            b"\x01\x01\xa4\0\0\0\0\0\0\0\0\0\0\0\0\0\0\0\x02h",
+            CodeFault::Short(20),
+        ),
+        (
+            b"\x02\x01\xed\0\0\0\0\0\0\0\0\0\0\0\0\x81",
+            CodeFault::Field(15),
+        ),
+        (
+            b"\x02\x01\xed\0\0\0\0\0\0\0\0\0\0\0\0\x01\0",
+            CodeFault::Field(16),
+        ),
+        (
+            b"\x02\x01\xed\0\0\0\0\0\0\0\0\0\0\0\0\x01\x01f\0\0\0\0",
+            CodeFault::Field(18),
+        ),
+        (
+            b"\x02\x01\xed\0\0\0\0\0\0\0\0\0\0\0\0\x02\x01b\0\0\0\x02\x01a",
+            CodeFault::Field(22),
+        ),
+        (
+            b"\x02\x01\xed\0\0\0\0\0\0\0\0\0\0\0\0\x02\x01a\0\0\0\x02\x01b\0\0\0\x02",
+            CodeFault::Field(24),
+        ),
+    ];
+    for (bytes, fault) in rows {
+        assert!(rt; get_image(rt.alloc(), bytes, 0).err() == Some(fault));
+    }
+    let old: [(&[u8], CodeFault); 3] = [
+        (b"\x03", CodeFault::Field(0)),
+        (b"\x02\x01\xed\0\0\0\0\0\0\0\0", CodeFault::Short(11)),
+        (b"\x02\x01\xed\0\0\0\0\0\0\0\0\x81", CodeFault::Field(11)),
+    ];
+    for (bytes, fault) in old {
+        assert!(rt; get_image_v1(rt.alloc(), bytes, 0).err() == Some(fault));
     }
 }

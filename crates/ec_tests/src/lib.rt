@@ -1,21 +1,35 @@
-//! The tests of the crates that say what things mean and how they are written, in one crate, so that each of them is proved once.
+//! The tests of the crates below the clerk, in one crate, so that each of them is proved once: bytes and texts from outside, files, threads and links, and disks that stop.
 #![tactic(auto)]
 
 #[cfg(test)]
-mod base;
+mod cache;
+#[cfg(test)]
+mod checkpoints;
 #[cfg(test)]
 mod codes;
 #[cfg(test)]
+mod disk;
+#[cfg(test)]
 mod durable;
+#[cfg(test)]
+mod frame;
 #[cfg(test)]
 mod generator;
 #[cfg(test)]
-mod plain;
+mod link;
+#[cfg(test)]
+mod lock;
 #[cfg(test)]
 mod script;
 #[cfg(test)]
-mod volume;
+mod shown;
+#[cfg(test)]
+mod stops;
+#[cfg(test)]
+mod stores;
+#[cfg(test)]
+mod table;
+#[cfg(test)]
+mod volumes;
 #[cfg(test)]
 mod wire;
-#[cfg(test)]
-mod words;

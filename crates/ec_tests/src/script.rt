@@ -2,38 +2,47 @@
 
 use ec_base::OpNo;
 use ec_plain::Call;
-use ec_script::{Line, LineFault, count_lines, read_lane, read_line, split_line};
+use ec_script::{Line, LineFault, read_lane, read_line};
 use std::alloc::Global;
 
-fn column(alloc: Global, line: &[u8]) -> u32 {
-    match read_line(alloc, line) {
-        Err(LineFault::At(column)) => column,
+// The operation that is pushed, or the new owner.
+fn number(line: &Line) -> u64 {
+    match line {
+        Line::Push(_, OpNo(number)) => *number,
+        Line::Call(_, Call::Chown(_, owner)) => u64::from(*owner),
         _ => 0,
     }
 }
 
-fn pushes_the_first(alloc: Global, line: &[u8]) -> bool {
-    matches!(read_line(alloc, line), Ok(Line::Push(_, OpNo(1))))
-}
-
-fn owner(alloc: Global, line: &[u8]) -> Option<u32> {
+// The number of a line, or the column at which it's bad.
+fn read(alloc: Global, line: &[u8]) -> Result<u64, u32> {
     match read_line(alloc, line) {
-        Ok(Line::Call(_, Call::Chown(_, owner))) => Some(owner),
-        _ => None,
+        Ok(line) => {
+            let number = number(&line);
+            drop(line);
+            Ok(number)
+        }
+        Err(LineFault::At(column)) => Err(column),
+        Err(LineFault::NoMemory) => Err(0),
     }
 }
 
-fn lane(alloc: Global, line: &[u8]) -> Result<u8, LineFault> {
-    let (lane, _) = read_lane(alloc, line)?;
-    Ok(lane)
+fn is_lane(alloc: Global, line: &[u8], wanted: u8) -> bool {
+    match read_lane(alloc, line) {
+        Ok((lane, call)) => {
+            drop(call);
+            lane == wanted
+        }
+        Err(_) => false,
+    }
 }
 
 #[test]
 fn lines_of_each_form(rt: HostRuntime) {
-    assert!(rt; pushes_the_first(rt.alloc(), b"push A 1"));
-    assert!(rt; owner(rt.alloc(), b"P chown /a%2Fb 7") == Some(7));
-    assert!(rt; lane(rt.alloc(), b"8 sync") == Ok(8));
-    assert!(rt; lane(rt.alloc(), b"9 sync") == Err(LineFault::At(1)));
+    let is_pushed = read(rt.alloc(), b"push A 1") == Ok(1);
+    let is_owned = read(rt.alloc(), b"P chown /a%2Fb 7") == Ok(7);
+    let is_lane = is_lane(rt.alloc(), b"8 sync", 8) && !is_lane(rt.alloc(), b"9 sync", 9);
+    assert!(rt; is_pushed && is_owned && is_lane);
 }
 
 #[test]
@@ -47,7 +56,10 @@ fn columns_of_bad_lines(rt: HostRuntime) {
         (b"A  sync".as_slice(), 3),
         (b"A statt /".as_slice(), 3),
         (b"A sync ".as_slice(), 8),
+        (b"A stat".as_slice(), 7),
         (b"A stat f".as_slice(), 8),
+        (b"A stat /a/".as_slice(), 8),
+        (b"A stat /../x".as_slice(), 8),
         (b"A stat /%2".as_slice(), 8),
         (b"A stat /a/a/a/a/a/a/a/a/a/a/a/a/a/a/a/a/a".as_slice(), 8),
         (b"A write /g 00 x".as_slice(), 12),
@@ -64,16 +76,6 @@ fn columns_of_bad_lines(rt: HostRuntime) {
         (b"stop A".as_slice(), 6),
     ];
     for (line, want) in cases {
-        assert!(rt; column(rt.alloc(), line) == want);
+        assert!(rt; read(rt.alloc(), line) == Err(want));
     }
-}
-
-#[test]
-fn lines_of_a_script(rt: HostRuntime) {
-    assert!(rt; count_lines(b"") == 0);
-    assert!(rt; count_lines(b"a\n") == 1);
-    assert!(rt; count_lines(b"a\n\n") == 2);
-    let (line, rest) = split_line(b"a b\n\nc");
-    assert!(rt; line == b"a b".as_slice());
-    assert!(rt; rest == b"\nc".as_slice());
 }

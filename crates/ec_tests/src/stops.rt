@@ -8,7 +8,7 @@ use std::alloc::Global;
 
 const CHOICES: [Choice; 3] = [Choice::Old, Choice::New, Choice::Torn];
 
-#[derive(Clone, Copy, Debug, Drop, PartialEq, Eq)]
+#[derive(Clone, Copy)]
 enum Step {
     Format,
     // Of batch `number`, behind the ones before it.
@@ -21,7 +21,7 @@ enum Step {
 type Shown = Result<u8, StoreFault>;
 
 // A step that stops in each of its `calls` calls.
-#[derive(Clone, Copy, Debug, Drop)]
+#[derive(Clone, Copy)]
 struct Row {
     step: Step,
     calls: u64,
@@ -127,11 +127,19 @@ fn batch_in(store: &Store) -> u8 {
 
 fn shown(alloc: Global, step: Step, calls: u64, choice: Choice) -> Shown {
     let mut disk = stop(alloc, step, calls)?;
+    let shown = cut_and_open(alloc, &mut disk, choice);
+    drop(disk);
+    shown
+}
+
+fn cut_and_open(alloc: Global, disk: &mut MemDisk, choice: Choice) -> Shown {
     if disk.power_cut(choice) != DiskAnswer::Done {
         return Err(StoreFault::DiskFailed);
     }
-    let store = Store::open(alloc, &mut disk)?;
-    Ok(batch_in(&store))
+    let store = Store::open(alloc, disk)?;
+    let batch = batch_in(&store);
+    drop(store);
+    Ok(batch)
 }
 
 // The first call and choice that leave something else; call 0 where there are more calls.

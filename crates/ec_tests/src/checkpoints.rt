@@ -11,11 +11,15 @@ fn is_formatted(state: &Durable) -> bool {
     state.epoch == 0 && state.next_id == 2 && state.max_objects == 32 && state.volume.live() == 1
 }
 
-// An end of a session in a formatted store: its answer, where the state stays the formatted one, and the steps of the disk, of which a format has eight.
+// An end of a session in a formatted store: its answer, where the state stays the formatted one, whose table was written, and the steps of the
+// disk, of which a format has eight.
 fn end(alloc: Global) -> Result<(Result<(), StoreFault>, bool, usize), StoreFault> {
     let mut on = formatted(alloc)?;
     let answer = commit(alloc, &mut on, b"\x03\0\0\0\0\0\0\0\0\x01");
-    Ok((answer, is_formatted(on.store.view()), on.disk.steps().len()))
+    let is_formatted = is_formatted(on.store.view()) && ends_so(&on.disk, Side::Even, TABLE);
+    let steps = on.disk.steps().len();
+    drop(on);
+    Ok((answer, is_formatted, steps))
 }
 
 #[test]
@@ -37,6 +41,10 @@ fn ends_so(disk: &MemDisk, side: Side, pairs: &[u8]) -> bool {
     }
     ends_so
 }
+
+// Of a formatted volume, in version 2: the root in slot 0.
+const TABLE: &[u8] = b"\x02\0\0\0\x30\0\0\0\x02\0\0\0\0\0\0\0\x01\0\0\0\0\0\0\0\0\
+\0\0\0\0\0\0\0\0\0\0\0\0\0\0\0\0\0\0\0\x01\0\0\0\x01\0\0\0\0";
 
 const FIRST: &[u8] = b"\0\0\0\x03\0\0\0\x01\0\0\0\x01\0\0\0\x02\0\0\0\x02\0\0\0\x03\0\0\0\x03";
 
@@ -74,11 +82,20 @@ fn select_byte(disk: &mut MemDisk) -> Option<u8> {
     }
 }
 
+fn opens_formatted(alloc: Global, disk: &mut MemDisk) -> Result<bool, StoreFault> {
+    let store = Store::open(alloc, disk)?;
+    let is_formatted = is_formatted(store.view());
+    drop(store);
+    Ok(is_formatted)
+}
+
 // What an opening shows of a disk of version 1, and the select byte behind it.
 fn upgraded(alloc: Global) -> Result<(bool, Option<u8>), StoreFault> {
     let mut disk = old(alloc)?;
-    let store = Store::open(alloc, &mut disk)?;
-    Ok((is_formatted(store.view()), select_byte(&mut disk)))
+    let is_formatted = opens_formatted(alloc, &mut disk);
+    let byte = select_byte(&mut disk);
+    drop(disk);
+    Ok((is_formatted?, byte))
 }
 
 #[test]

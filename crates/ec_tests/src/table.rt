@@ -1,7 +1,7 @@
-use ec_base::{NoMemory, ObjId};
+//! Tables by their bytes.
+
 use ec_codes::CodeFault;
-use ec_durable::Durable;
-use ec_table::{Version, get_table, put_table};
+use ec_table::{Version, get_table};
 use std::alloc::Global;
 
 // The table of a formatted volume in version 1: the root in slot 0.
@@ -49,29 +49,4 @@ fn refused_tables(rt: HostRuntime) {
     for (bytes, most, fault) in rows {
         assert!(rt; get_table(rt.alloc(), bytes, 0, most).err() == Some(fault));
     }
-}
-
-// The table of a formatted volume, the root in slot 0.
-fn written(alloc: Global) -> Result<Vec<u8>, NoMemory> {
-    let state = Durable::formatted(alloc, 32)?;
-    match ObjId::new(1) {
-        Some(root) => put_table(alloc, &state, &[(root, 0)]),
-        None => Ok(Vec::new(alloc)),
-    }
-}
-
-fn is_written(bytes: &[u8]) -> bool {
-    match bytes {
-        [2, rest @ ..] => rest == FORMATTED.as_slice(),
-        _ => false,
-    }
-}
-
-// Behind a byte 2 it's the table of version 1.
-#[test]
-fn table_is_written(rt: HostRuntime) {
-    let bytes = written(rt.alloc()).expect(&rt, "memory");
-    assert!(rt; is_written(bytes.as_slice()));
-    let want = (Version::Two, 53, 2, 1, 16, Some((1, 0)));
-    assert!(rt; contents(rt.alloc(), bytes.as_slice()) == Some(want));
 }

@@ -111,13 +111,19 @@ const OLD: [(u64, &[u8]); 3] = [
 
 pub(crate) fn old(alloc: Global) -> Result<MemDisk, StoreFault> {
     let mut disk = empty(alloc)?;
+    if is_laid(&mut disk) {
+        Ok(disk)
+    } else {
+        drop(disk);
+        Err(StoreFault::DiskFailed)
+    }
+}
+
+fn is_laid(disk: &mut MemDisk) -> bool {
     for (at, bytes) in OLD {
         if disk.write_at(at, bytes) != DiskAnswer::Done {
-            return Err(StoreFault::DiskFailed);
+            return false;
         }
     }
-    if disk.sync() != DiskAnswer::Done {
-        return Err(StoreFault::DiskFailed);
-    }
-    Ok(disk)
+    disk.sync() == DiskAnswer::Done
 }
