@@ -78,5 +78,29 @@ mkdir "$folder/run/echofs.disk"
 ended "a disk that can't be opened" $? 6 && [ ! -s "$folder/none" ]
 count $?
 
+# A script has at most 65,536 lines, a script that is made has 2,000, and where the last id is given out no file is made. The number of the next object
+# stands in the table of a new disk.
+rm -rf "$folder/run"
+mkdir "$folder/run"
+head -c 65537 /dev/zero | tr '\0' '\n' > "$folder/lines"
+(cd "$folder/run" && "$program" drill) < "$folder/lines" > "$folder/told" 2> "$folder/error"
+ended "a script with too many lines" $? 11 && [ "$(cat "$folder/told")" = "limit lines 65537" ]
+count $?
+(cd "$folder/run" && "$program" make 1) < /dev/null > "$folder/made" 2> "$folder/error"
+ended "a script that is made" $? 0 && [ "$(wc -l < "$folder/made")" -eq 2000 ] && [ "$(head -c 10 "$folder/made")" = "C mkdir /d" ]
+count $?
+(cd "$folder/run" && "$program" drill) < "$folder/made" > "$folder/told" 2> "$folder/error"
+ended "what was made, as a script" $? 0
+count $?
+rm -rf "$folder/run"
+mkdir "$folder/run"
+(cd "$folder/run" && "$program" drill) < /dev/null > /dev/null 2>&1
+printf '\377\377\377\377' | dd of="$folder/run/echofs.disk" bs=1 seek=2101253 conv=notrunc 2> /dev/null
+echo "A create /f" > "$folder/script"
+(cd "$folder/run" && "$program" drill) < "$folder/script" > "$folder/told" 2> "$folder/error"
+ended "a disk without further ids" $? 15 && [ "$(cat "$folder/told")" = "1 A create /f -> waits
+spent Id" ]
+count $?
+
 echo "examples: $passed passed, $failed failed"
 [ "$failed" = 0 ]

@@ -172,6 +172,42 @@ def wrong(peer, mounts):
         return None if tells(told.splitlines(), count) else f"the server says {told!r}"
 
 
+# A server that knows a later start of the clerk than the one that greets.
+def knows(body):
+    boot = struct.unpack_from(">Q", body, 2)[0] + 1
+    return frame(b"\x49" + body[2:14] + struct.pack(">QI", boot, 0)), 13, f"oldboot {boot}\n"
+
+
+# One that answers with what is no message.
+def garbles(body):
+    return frame(b"\0") * 2, 14, "peer 0\n"
+
+
+def refused(answer):
+    """A mount beside a peer that gives its greeting this answer."""
+    with socket.create_server(("127.0.0.1", port)) as door:
+        door.settimeout(WAIT)
+        mount = subprocess.Popen([program, "mount", address, "A"], stdin=subprocess.PIPE, stdout=subprocess.PIPE, stderr=subprocess.PIPE)
+        try:
+            mount.stdin.write(b"1 stat /\n")
+            mount.stdin.close()
+            link, _ = door.accept()
+            with link:
+                greeting = Bodies(link)
+                bodies = []
+                while not bodies:
+                    bodies = greeting.more()
+                sent, status, text = answer(bodies[0])
+                link.sendall(sent)
+                out = mount.stdout.read()
+                mount.wait(WAIT)
+        finally:
+            mount.kill()
+    if (mount.returncode, out) != (status, text.encode()):
+        return f"the mount ended with status {mount.returncode}, {out!r}"
+    return None
+
+
 def main():
     failed = 0
     first, again = (mounted, "A", LANES, ANSWERS), (mounted, "B", AGAIN, ANSWERS_AGAIN)
@@ -180,12 +216,14 @@ def main():
     cases |= {f"a link that sends {name}": (peer, [first]) for name, peer in PEERS.items()}
     cases["an older start of the clerk"] = (OLDER, [first])
     cases["two lanes at the same time"] = (None, [files, reads])
-    for name, case in cases.items():
-        fault = wrong(*case)
+    runs = {name: (wrong, *case) for name, case in cases.items()}
+    runs |= {"a peer that knows a later start": (refused, knows), "a peer that sends what is no message": (refused, garbles)}
+    for name, (run, *case) in runs.items():
+        fault = run(*case)
         if fault:
             failed += 1
             print(f"{name}: {fault}")
-    print(f"loopback: {len(cases) - failed} passed, {failed} failed")
+    print(f"loopback: {len(runs) - failed} passed, {failed} failed")
     return failed != 0
 
 
