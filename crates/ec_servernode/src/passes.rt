@@ -15,11 +15,18 @@ use ec_server::Keeper;
 use std::sync::Wait;
 
 /// A pass of the lock, for one link.
-#[derive(Drop)]
 pub struct ServerPass<K: Keeper + Drop> {
     pub(crate) pass: Pass<Node<K>>,
     /// The clerk of the last Hello that the link gave, and `A` before the first one.
     pub(crate) clerk: ClerkId,
+}
+
+// Who drops a pass calls this, and needn't take it apart.
+impl<K: Keeper + Drop> Drop for ServerPass<K> {
+    fn drop(self) {
+        let ServerPass { pass, clerk: _ } = self;
+        drop(pass);
+    }
 }
 
 /// A note of the lock.
@@ -34,6 +41,13 @@ impl<K: Keeper + Drop> ServerPass<K> {
         ensures { result ≡ self.now.clerk }
     {
         self.clerk
+    }
+
+    fn into_pass(self) -> Pass<Node<K>>
+        ensures { result ≡ self.pass }
+    {
+        let ServerPass { pass, clerk: _ } = self;
+        pass
     }
 }
 
@@ -85,7 +99,7 @@ impl<K: Keeper + Drop> SharedServer<K> {
         ensures same { (numbers pass.new.pass ≡ numbers pass.old.pass ++ numbers other.pass) × (raised pass.new.pass ≡ max (raised pass.old.pass) (raised other.pass)) × (answered pass.new.pass ≡ max (answered pass.old.pass) (answered other.pass)) }
         ensures next { next_number pass.new.pass ≡ next_number pass.old.pass }
     {
-        self.lock.join(&mut pass.pass, other.pass);
+        self.lock.join(&mut pass.pass, other.into_pass());
     }
 
     /// A note of the pass's front. It waits for nobody.

@@ -48,10 +48,17 @@ impl<K: Keeper + Drop> Traced for Node<K> {
 }
 
 /// A server and what keeps its state, behind a lock. Nobody waits in a turn.
-#[derive(Drop)]
 pub struct SharedServer<K: Keeper + Drop> {
     pub(crate) lock: TracedLock<Node<K>>,
     alloc: Global,
+}
+
+// Who drops a server calls this, and needn't take it apart.
+impl<K: Keeper + Drop> Drop for SharedServer<K> {
+    fn drop(self) {
+        let SharedServer { lock, alloc: _ } = self;
+        drop(lock);
+    }
 }
 
 /// What a turn with a link did.
