@@ -6,7 +6,7 @@ ghost use Rattle.ec_clerknode.specs.Closed.{Acts, Closed, EndsAs, IsMark, Begun,
 ghost use Rattle.ec_clerknode.specs.Node.{AnsweredFrom, Since, Keeps};
 ghost use Rattle.ec_clerknode.specs.Run.{told_by};
 ghost use Rattle.ec_clerknode.specs.declared.fault.NodeFault.TheVariants as fault;
-ghost use Rattle.ec_clerknode.specs.declared.state.Node.{Node};
+ghost use Rattle.ec_clerknode.specs.declared.state.State.{State};
 ghost use Rattle.ec_clerknode.specs.declared.step.Step.{Step};
 
 use crate::act::Act;
@@ -14,7 +14,7 @@ use crate::clerk::{self, Refused};
 use crate::fault::NodeFault;
 use crate::hear::hear;
 use crate::kept::{keep_all, known_old, send_all, take_kept};
-use crate::state::Node;
+use crate::state::State;
 use crate::step::{Deed, Step};
 use ec_base::{Duplicate, LAST_COUNTER, List, NoMemory, OpNo};
 use ec_history::Answer;
@@ -37,7 +37,7 @@ fn copies(alloc: Global, lists: &[List<OpNo>]) -> Result<Vec<List<OpNo>>, NoMemo
     Ok(copies)
 }
 
-impl<L: Link> Node<L> {
+impl<L: Link> State<L> {
     /// Whether a turn may do anything.
     pub fn check(&self) -> Result<(), NodeFault>
         ensures ok { IfOk result (λ _. (self.now.broken ≡ false) × (self.now.steps < last_counter) × (self.now.boot ≡ None)) }
@@ -132,7 +132,7 @@ impl<L: Link> Node<L> {
     fn take_answer(&mut self, number: u64, place: u64) -> Option<(Answer, Option<OpNo>)>
         ensures keeps { Keeps (λ l. L.faults l + L.closes l) L.given L.got self.old self.new }
         ensures same { (self.new.trace.items ≡ self.old.trace.items) × (self.new.boot ≡ self.old.boot) }
-        ensures answer { (first : Node L) → Since (λ l. L.faults l + L.closes l) L.given L.got first self.old → IfSome result (λ reply. AnsweredFrom self.old.trace.items place number reply) }
+        ensures answer { (first : State L) → Since (λ l. L.faults l + L.closes l) L.given L.got first self.old → IfSome result (λ reply. AnsweredFrom self.old.trace.items place number reply) }
     {
         take_kept(&mut self.kept, number, place)
     }
@@ -307,7 +307,7 @@ impl<L: Link> Node<L> {
 
     /// The lists that were told lost.
     pub fn losses(&self, alloc: Global) -> Result<Vec<List<OpNo>>, NodeFault>
-        ensures ok { IfOk result (λ lists. (first : Node L) → Since (λ l. L.faults l + L.closes l) L.given L.got first self.now → lists.items ≡ told_by self.now.trace.items) }
+        ensures ok { IfOk result (λ lists. (first : State L) → Since (λ l. L.faults l + L.closes l) L.given L.got first self.now → lists.items ≡ told_by self.now.trace.items) }
         ensures err { IfErr result (λ f. f ≡ fault.NoMemory) }
     {
         if self.broken {

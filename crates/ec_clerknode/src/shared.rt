@@ -12,7 +12,7 @@ ghost use Rattle.ec_clerknode.specs.Run.{highest, old_boot, told_by};
 ghost use Rattle.ec_clerknode.specs.Turns.{number_of, Stays, Turned, Starts, Waits, Called, CalledPlain, Worked, Asks, FlushTurned, Finished};
 
 use crate::fault::NodeFault;
-use crate::state::{Closing, Node};
+use crate::state::{Closing, Node, State};
 use crate::step::Step;
 use ec_base::{Age, Counter, List, OpNo};
 use ec_clerk::Clerk;
@@ -27,6 +27,13 @@ use std::alloc::Global;
 use std::sync::Wait;
 use std::time::Clock;
 
+impl<L> Node<L> {
+    // So many answers are kept.
+    fn kept(&self) -> usize {
+        self.state.kept.len()
+    }
+}
+
 impl<L: Link> Traced for Node<L> {
     type Step = Step;
 
@@ -39,7 +46,7 @@ impl<L: Link> Traced for Node<L> {
     ghost since = { Since (λ l. L.faults l + L.closes l) L.given L.got };
 
     fn steps(&self) -> u64 {
-        self.steps
+        self.state.steps
     }
 
     ghost grows = { highest_grows };
@@ -66,7 +73,8 @@ impl<L: Link> SharedClerk<L> {
         ensures stays { Stays pass.old pass.new }
         ensures raises { highest (front pass.new) ≤ raised pass.new }
     {
-        let top = turn.value.top;
+        let node = &turn.value;
+        let top = node.state.top;
         self.lock.leave(turn, pass);
         self.lock.raise(pass, top);
         if is_news {
@@ -87,9 +95,11 @@ impl<L: Link> SharedClerk<L> {
     {
         let number = pass.number();
         let mut turn = self.lock.enter(rt, pass);
-        let kept = turn.value.kept.len();
-        let result = turn.value.start_call(rt, self.alloc, number, call);
-        let is_news = result.is_err() || turn.value.kept.len() > kept;
+        let kept = turn.value.kept();
+        let node = &mut turn.value;
+        let state = &mut node.state;
+        let result = state.start_call(rt, self.alloc, number, call);
+        let is_news = result.is_err() || turn.value.kept() > kept;
         self.end(turn, pass, is_news);
         result
     }
@@ -108,7 +118,9 @@ impl<L: Link> SharedClerk<L> {
     {
         let mine = pass.number();
         let mut turn = self.lock.enter(rt, pass);
-        let result = turn.value.wait_call(rt, self.alloc, mine, number, place);
+        let node = &mut turn.value;
+        let state = &mut node.state;
+        let result = state.wait_call(rt, self.alloc, mine, number, place);
         let is_news = match &result {
             Ok((heard, _)) => *heard,
             Err(_) => true,
@@ -125,7 +137,9 @@ impl<L: Link> SharedClerk<L> {
     {
         let number = pass.number();
         let mut turn = self.lock.enter(rt, pass);
-        let result = turn.value.read(rt, self.alloc, number);
+        let node = &mut turn.value;
+        let state = &mut node.state;
+        let result = state.read(rt, self.alloc, number);
         let is_news = match &result {
             Ok(heard) => *heard,
             Err(_) => true,
@@ -227,7 +241,9 @@ impl<L: Link> SharedClerk<L> {
     {
         let number = pass.number();
         let mut turn = self.lock.enter(rt, pass);
-        let result = turn.value.read_and_flush(rt, self.alloc, number, asked);
+        let node = &mut turn.value;
+        let state = &mut node.state;
+        let result = state.read_and_flush(rt, self.alloc, number, asked);
         let is_news = match &result {
             Ok((heard, _)) => *heard,
             Err(_) => true,
@@ -259,7 +275,9 @@ impl<L: Link> SharedClerk<L> {
     {
         let number = pass.number();
         let mut turn = self.lock.enter(rt, pass);
-        let result = turn.value.bye(rt, self.alloc, number);
+        let node = &mut turn.value;
+        let state = &mut node.state;
+        let result = state.bye(rt, self.alloc, number);
         self.end(turn, pass, result.is_err());
         result
     }
@@ -277,7 +295,8 @@ impl<L: Link> SharedClerk<L> {
         ensures err { IfErr result (λ f. f ≡ fault.NoMemory) }
     {
         let turn = self.lock.enter(rt, pass);
-        let lists = turn.value.losses(self.alloc);
+        let node = &turn.value;
+        let lists = node.state.losses(self.alloc);
         self.end(turn, pass, false);
         lists
     }
@@ -290,7 +309,8 @@ impl<L: Link> SharedClerk<L> {
         ensures old_boot { result ≡ old_boot (front pass.new) }
     {
         let turn = self.lock.enter(rt, pass);
-        let boot = turn.value.boot;
+        let node = &turn.value;
+        let boot = node.state.boot;
         self.end(turn, pass, false);
         boot
     }
@@ -316,7 +336,7 @@ impl<L: Link + Drop> SharedClerk<L> {
         ensures link { IfOk result (λ made. (first made.0.lock).link ≡ link) }
         ensures err { IfErr result (λ f. f ≡ fault.NoMemory) }
     {
-        let node = Node {
+        let state = State {
             clerk,
             link,
             kept: Vec::new(alloc),
@@ -327,7 +347,8 @@ impl<L: Link + Drop> SharedClerk<L> {
             top: 0,
             trace: Trace::new(),
         };
-        match TracedLock::new(alloc, node) {
+        let state = Box::new(alloc, state)?;
+        match TracedLock::new(alloc, Node { state }) {
             Ok((lock, pass)) => Ok((SharedClerk { lock, bell, alloc }, pass)),
             Err(_) => Err(NodeFault::NoMemory),
         }
@@ -357,11 +378,12 @@ impl<L: Link + Drop> SharedClerk<L> {
     {
         let turn = self.lock.enter(rt, pass);
         let node = turn.into_value();
+        let state = Box::into_inner(node.state);
         Closing {
-            clerk: unless_broken(node.clerk, node.broken),
-            link: node.link,
-            told: node.told,
-            boot: node.boot,
+            clerk: unless_broken(state.clerk, state.broken),
+            link: state.link,
+            told: state.told,
+            boot: state.boot,
         }
     }
 }

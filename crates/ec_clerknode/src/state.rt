@@ -1,9 +1,10 @@
-// The value behind the lock: the clerk, the link, the answers that other lanes have yet to take, and the list of steps.
+// The value behind the lock.
 use crate::step::Step;
 use ec_base::{Age, List, OpNo};
 use ec_clerk::Clerk;
 use ec_history::Answer;
 use ec_trace::Trace;
+use std::marker::Model;
 
 /// An answer that no lane has taken yet.
 #[derive(Drop)]
@@ -15,8 +16,9 @@ pub struct Kept {
     pub reply: (Answer, Option<OpNo>),
 }
 
+/// The clerk, the link, the answers that other lanes have yet to take, and the list of steps.
 #[derive(Drop)]
-pub struct Node<L> {
+pub struct State<L> {
     pub clerk: Clerk,
     pub link: L,
     pub kept: Vec<Kept>,
@@ -29,6 +31,20 @@ pub struct Node<L> {
     /// The highest floor that a step left.
     pub top: u64,
     pub trace: Trace<Step>,
+}
+
+/// The state behind the lock, as one pointer: each turn takes it out and puts it back.
+#[derive(Drop)]
+pub struct Node<L> {
+    pub state: Box<State<L>>,
+}
+
+impl<L> Model for Node<L> {
+    ghost use Rattle.ec_clerknode.specs.declared.state.State.{State};
+
+    ghost Value = { State L };
+
+    ghost view = { λ n. n.state.value };
 }
 
 /// What a shared clerk hands back.

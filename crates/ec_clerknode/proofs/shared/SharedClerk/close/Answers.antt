@@ -16,20 +16,20 @@ returns-clause-own g c n m = c.enter-turn.ensures.own n m ∙ ap (of number_of n
 
 pub returns-clause-finished : goal.returns-clause-finished
 returns-clause-finished g c =
-    let same = c.into_value-node.ensures in
+    let same = c.into_inner-state.ensures ∙ (c.node.view_is ∙ c.into_value-node.ensures) in
     let start = first c.args.self.lock in
     let since = subst (Since (λ l. g.L.Link.faults l + g.L.Link.closes l) g.L.Link.given g.L.Link.got start) (sym same) c.enter-turn.ensures.since in
-    finished (λ l. g.L.Link.faults l + g.L.Link.closes l) g.L.Link.given g.L.Link.got start c.into_value-node.result (front c.enter-turn.new.pass) (c.enter-turn.ensures.front ∙ ap (λ n. n.trace.items) (sym same)) since c.unless_broken.result c.unless_broken.ensures
+    finished (λ l. g.L.Link.faults l + g.L.Link.closes l) g.L.Link.given g.L.Link.got start c.into_inner-state.result (front c.enter-turn.new.pass) (c.enter-turn.ensures.front ∙ ap (λ n. n.trace.items) (sym same)) since c.unless_broken.result c.unless_broken.ensures
 
 pub returns-clause-told : goal.returns-clause-told
 returns-clause-told g c =
-    let same = c.into_value-node.ensures in
+    let same = c.into_inner-state.ensures ∙ (c.node.view_is ∙ c.into_value-node.ensures) in
     let start = first c.args.self.lock in
     let since = subst (Since (λ l. g.L.Link.faults l + g.L.Link.closes l) g.L.Link.given g.L.Link.got start) (sym same) c.enter-turn.ensures.since in
-    told_then (λ l. g.L.Link.faults l + g.L.Link.closes l) g.L.Link.given g.L.Link.got start c.into_value-node.result (front c.enter-turn.new.pass) (c.enter-turn.ensures.front ∙ ap (λ n. n.trace.items) (sym same)) since c.unless_broken.result c.unless_broken.ensures
+    told_then (λ l. g.L.Link.faults l + g.L.Link.closes l) g.L.Link.given g.L.Link.got start c.into_inner-state.result (front c.enter-turn.new.pass) (c.enter-turn.ensures.front ∙ ap (λ n. n.trace.items) (sym same)) since c.unless_broken.result c.unless_broken.ensures
 
 pub returns-clause-boot : goal.returns-clause-boot
 returns-clause-boot g c =
-    let same = c.into_value-node.ensures in
+    let same = c.into_inner-state.ensures ∙ (c.node.view_is ∙ c.into_value-node.ensures) in
     let since = c.enter-turn.ensures.since in
     ap (λ n. n.boot) same ∙ (since.old ∙ ap old_boot (sym c.enter-turn.ensures.front))

@@ -24,4 +24,4 @@ pub returns-clause-own : goal.returns-clause-own
 returns-clause-own g c n m = c.enter-turn.ensures.own n m ∙ ap (of number_of n) (sym c.end.ensures.front)
 
 pub returns-clause-old_boot : goal.returns-clause-old_boot
-returns-clause-old_boot g c = let since = c.enter-turn.ensures.since in since.old ∙ ap old_boot (sym c.end.ensures.front)
+returns-clause-old_boot g c = let since = c.enter-turn.ensures.since in ap (λ n. n.boot) (c.deref.ensures ∙ c.node.view_is) ∙ (since.old ∙ ap old_boot (sym c.end.ensures.front))

@@ -24,4 +24,4 @@ pub returns-clause-same : goal.returns-clause-same
 returns-clause-same g c = let n = c.args.pass.now.number in ap (of number_of n) c.end.ensures.front ∙ sym (c.enter-turn.ensures.own n c.requires.pass.1)
 
 pub returns-clause-ok : goal.returns-clause-ok
-returns-clause-ok g c = losses_told (λ l. g.L.Link.faults l + g.L.Link.closes l) g.L.Link.given g.L.Link.got (first c.args.self.now.lock) c.enter-turn.result.value (front c.end.new.pass) c.end.ensures.front c.enter-turn.ensures.since (λ v. v.items) c.losses-lists.result c.losses-lists.ensures.ok
+returns-clause-ok g c = losses_told (λ l. g.L.Link.faults l + g.L.Link.closes l) g.L.Link.given g.L.Link.got (first c.args.self.now.lock) c.enter-turn.result.value (front c.end.new.pass) c.end.ensures.front c.enter-turn.ensures.since (λ v. v.items) c.losses-lists.result (rw (c.deref.ensures ∙ c.node.view_is) at c.losses-lists.ensures.ok)

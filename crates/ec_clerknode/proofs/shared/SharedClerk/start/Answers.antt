@@ -9,31 +9,31 @@ end-requires-clause-own g c κs within =
     let v = c.enter-turn.result.value in
     let w = c.start_call-result.new.self in
     own_only c.number-number.result c.enter-turn.new.pass.number (front c.enter-turn.new.pass) v w c.enter-turn.ensures.front (c.enter-turn.ensures.same.0 ∙ sym c.number-number.ensures)
-    (started_more (λ l. g.L.Link.faults l + g.L.Link.closes l) g.L.Link.given g.L.Link.got c.number-number.result c.args.call v w c.start_call-result.result c.start_call-result.ensures.started)
+    (started_more (λ l. g.L.Link.faults l + g.L.Link.closes l) g.L.Link.given g.L.Link.got c.number-number.result c.args.call v w c.start_call-result.result (rw (c.deref_mut.ensures.value ∙ c.node.view_is) at c.start_call-result.ensures.started))
 
 pub returns-clause-turned : goal.returns-clause-turned
 returns-clause-turned g c =
     let v = c.enter-turn.result.value in
     let w = c.start_call-result.new.self in
-    turned (λ l. g.L.Link.faults l + g.L.Link.closes l) g.L.Link.given g.L.Link.got c.args.self.now.lock c.args.pass.now c.enter-turn.new.pass c.end.new.pass v w (c.start_call-result.ensures.keeps (first c.args.self.now.lock) c.enter-turn.ensures.since) c.enter-turn.ensures.later
-    (grown c.number-number.result v w (started_more (λ l. g.L.Link.faults l + g.L.Link.closes l) g.L.Link.given g.L.Link.got c.number-number.result c.args.call v w c.start_call-result.result c.start_call-result.ensures.started))
+    turned (λ l. g.L.Link.faults l + g.L.Link.closes l) g.L.Link.given g.L.Link.got c.args.self.now.lock c.args.pass.now c.enter-turn.new.pass c.end.new.pass v w ((rw (c.deref_mut.ensures.value ∙ c.node.view_is) at c.start_call-result.ensures.keeps) (first c.args.self.now.lock) c.enter-turn.ensures.since) c.enter-turn.ensures.later
+    (grown c.number-number.result v w (started_more (λ l. g.L.Link.faults l + g.L.Link.closes l) g.L.Link.given g.L.Link.got c.number-number.result c.args.call v w c.start_call-result.result (rw (c.deref_mut.ensures.value ∙ c.node.view_is) at c.start_call-result.ensures.started)))
     c.enter-turn.ensures.same c.enter-turn.ensures.mark c.end.ensures.pass c.end.ensures.front c.end.ensures.stays c.end.ensures.raises c.enter-turn.ensures.front c.enter-turn.ensures.own
-    (own_only c.number-number.result c.enter-turn.new.pass.number (front c.enter-turn.new.pass) v w c.enter-turn.ensures.front (c.enter-turn.ensures.same.0 ∙ sym c.number-number.ensures) (started_more (λ l. g.L.Link.faults l + g.L.Link.closes l) g.L.Link.given g.L.Link.got c.number-number.result c.args.call v w c.start_call-result.result c.start_call-result.ensures.started))
+    (own_only c.number-number.result c.enter-turn.new.pass.number (front c.enter-turn.new.pass) v w c.enter-turn.ensures.front (c.enter-turn.ensures.same.0 ∙ sym c.number-number.ensures) (started_more (λ l. g.L.Link.faults l + g.L.Link.closes l) g.L.Link.given g.L.Link.got c.number-number.result c.args.call v w c.start_call-result.result (rw (c.deref_mut.ensures.value ∙ c.node.view_is) at c.start_call-result.ensures.started)))
 
 pub returns-clause-starts : goal.returns-clause-starts
 returns-clause-starts g c =
     let v = c.enter-turn.result.value in
     let w = c.start_call-result.new.self in
     let since = c.enter-turn.ensures.since in
-    starts (λ l. g.L.Link.faults l + g.L.Link.closes l) g.L.Link.given g.L.Link.got (first c.args.self.now.lock) c.args.pass.now.number (front c.args.pass.now) (front c.end.new.pass) v w since (c.start_call-result.ensures.keeps (first c.args.self.now.lock) since) c.enter-turn.ensures.later
+    starts (λ l. g.L.Link.faults l + g.L.Link.closes l) g.L.Link.given g.L.Link.got (first c.args.self.now.lock) c.args.pass.now.number (front c.args.pass.now) (front c.end.new.pass) v w since ((rw (c.deref_mut.ensures.value ∙ c.node.view_is) at c.start_call-result.ensures.keeps) (first c.args.self.now.lock) since) c.enter-turn.ensures.later
     (c.enter-turn.ensures.own c.args.pass.now.number c.requires.pass.1) (sym c.end.ensures.front) c.args.call c.start_call-result.result
-    (subst (λ n. Started (λ l. g.L.Link.faults l + g.L.Link.closes l) g.L.Link.given g.L.Link.got n c.args.call v w c.start_call-result.result) c.number-number.ensures c.start_call-result.ensures.started)
+    (subst (λ n. Started (λ l. g.L.Link.faults l + g.L.Link.closes l) g.L.Link.given g.L.Link.got n c.args.call v w c.start_call-result.result) c.number-number.ensures (rw (c.deref_mut.ensures.value ∙ c.node.view_is) at c.start_call-result.ensures.started))
 
 pub end-requires-clause-later : goal.end-requires-clause-later
 end-requires-clause-later g c κs within =
     let v = c.enter-turn.result.value in
     let w = c.start_call-result.new.self in
-    later_front c.number-number.result (front c.enter-turn.new.pass) v w c.enter-turn.ensures.front (started_more (λ l. g.L.Link.faults l + g.L.Link.closes l) g.L.Link.given g.L.Link.got c.number-number.result c.args.call v w c.start_call-result.result c.start_call-result.ensures.started)
+    later_front c.number-number.result (front c.enter-turn.new.pass) v w c.enter-turn.ensures.front (started_more (λ l. g.L.Link.faults l + g.L.Link.closes l) g.L.Link.given g.L.Link.got c.number-number.result c.args.call v w c.start_call-result.result (rw (c.deref_mut.ensures.value ∙ c.node.view_is) at c.start_call-result.ensures.started))
 
 pub end-requires-clause-since : goal.end-requires-clause-since
-end-requires-clause-since g c κs within = c.start_call-result.ensures.keeps (first c.args.self.now.lock) c.enter-turn.ensures.since
+end-requires-clause-since g c κs within = (rw (c.deref_mut.ensures.value ∙ c.node.view_is) at c.start_call-result.ensures.keeps) (first c.args.self.now.lock) c.enter-turn.ensures.since

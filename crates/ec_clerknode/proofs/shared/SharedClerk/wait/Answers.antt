@@ -9,31 +9,31 @@ end-requires-clause-own g c κs within =
     let v = c.enter-turn.result.value in
     let w = c.wait_call-result.new.self in
     own_only c.number-mine.result c.enter-turn.new.pass.number (front c.enter-turn.new.pass) v w c.enter-turn.ensures.front (c.enter-turn.ensures.same.0 ∙ sym c.number-mine.ensures)
-    (works_more c.number-mine.result v w c.wait_call-result.result c.wait_call-result.ensures.works)
+    (works_more c.number-mine.result v w c.wait_call-result.result (rw (c.deref_mut.ensures.value ∙ c.node.view_is) at c.wait_call-result.ensures.works))
 
 pub returns-clause-turned : goal.returns-clause-turned
 returns-clause-turned g c =
     let v = c.enter-turn.result.value in
     let w = c.wait_call-result.new.self in
-    turned (λ l. g.L.Link.faults l + g.L.Link.closes l) g.L.Link.given g.L.Link.got c.args.self.now.lock c.args.pass.now c.enter-turn.new.pass c.end.new.pass v w (c.wait_call-result.ensures.keeps (first c.args.self.now.lock) c.enter-turn.ensures.since) c.enter-turn.ensures.later
-    (grown c.number-mine.result v w (works_more c.number-mine.result v w c.wait_call-result.result c.wait_call-result.ensures.works))
+    turned (λ l. g.L.Link.faults l + g.L.Link.closes l) g.L.Link.given g.L.Link.got c.args.self.now.lock c.args.pass.now c.enter-turn.new.pass c.end.new.pass v w ((rw (c.deref_mut.ensures.value ∙ c.node.view_is) at c.wait_call-result.ensures.keeps) (first c.args.self.now.lock) c.enter-turn.ensures.since) c.enter-turn.ensures.later
+    (grown c.number-mine.result v w (works_more c.number-mine.result v w c.wait_call-result.result (rw (c.deref_mut.ensures.value ∙ c.node.view_is) at c.wait_call-result.ensures.works)))
     c.enter-turn.ensures.same c.enter-turn.ensures.mark c.end.ensures.pass c.end.ensures.front c.end.ensures.stays c.end.ensures.raises c.enter-turn.ensures.front c.enter-turn.ensures.own
-    (own_only c.number-mine.result c.enter-turn.new.pass.number (front c.enter-turn.new.pass) v w c.enter-turn.ensures.front (c.enter-turn.ensures.same.0 ∙ sym c.number-mine.ensures) (works_more c.number-mine.result v w c.wait_call-result.result c.wait_call-result.ensures.works))
+    (own_only c.number-mine.result c.enter-turn.new.pass.number (front c.enter-turn.new.pass) v w c.enter-turn.ensures.front (c.enter-turn.ensures.same.0 ∙ sym c.number-mine.ensures) (works_more c.number-mine.result v w c.wait_call-result.result (rw (c.deref_mut.ensures.value ∙ c.node.view_is) at c.wait_call-result.ensures.works)))
 
 pub returns-clause-waits : goal.returns-clause-waits
 returns-clause-waits g c =
     let v = c.enter-turn.result.value in
     let w = c.wait_call-result.new.self in
     let since = c.enter-turn.ensures.since in
-    waits (λ l. g.L.Link.faults l + g.L.Link.closes l) g.L.Link.given g.L.Link.got (first c.args.self.now.lock) c.args.pass.now.number (front c.args.pass.now) (front c.end.new.pass) v w since (c.wait_call-result.ensures.keeps (first c.args.self.now.lock) since) c.enter-turn.ensures.later
+    waits (λ l. g.L.Link.faults l + g.L.Link.closes l) g.L.Link.given g.L.Link.got (first c.args.self.now.lock) c.args.pass.now.number (front c.args.pass.now) (front c.end.new.pass) v w since ((rw (c.deref_mut.ensures.value ∙ c.node.view_is) at c.wait_call-result.ensures.keeps) (first c.args.self.now.lock) since) c.enter-turn.ensures.later
     (c.enter-turn.ensures.own c.args.pass.now.number c.requires.pass.1) (sym c.end.ensures.front) c.args.number c.args.place c.wait_call-result.result
-    (subst (λ n. Works n v w c.wait_call-result.result) c.number-mine.ensures c.wait_call-result.ensures.works) c.wait_call-result.ensures.answered
+    (subst (λ n. Works n v w c.wait_call-result.result) c.number-mine.ensures (rw (c.deref_mut.ensures.value ∙ c.node.view_is) at c.wait_call-result.ensures.works)) (rw (c.deref_mut.ensures.value ∙ c.node.view_is) at c.wait_call-result.ensures.answered)
 
 pub end-requires-clause-later : goal.end-requires-clause-later
 end-requires-clause-later g c κs within =
     let v = c.enter-turn.result.value in
     let w = c.wait_call-result.new.self in
-    later_front c.number-mine.result (front c.enter-turn.new.pass) v w c.enter-turn.ensures.front (works_more c.number-mine.result v w c.wait_call-result.result c.wait_call-result.ensures.works)
+    later_front c.number-mine.result (front c.enter-turn.new.pass) v w c.enter-turn.ensures.front (works_more c.number-mine.result v w c.wait_call-result.result (rw (c.deref_mut.ensures.value ∙ c.node.view_is) at c.wait_call-result.ensures.works))
 
 pub end-requires-clause-since : goal.end-requires-clause-since
-end-requires-clause-since g c κs within = c.wait_call-result.ensures.keeps (first c.args.self.now.lock) c.enter-turn.ensures.since
+end-requires-clause-since g c κs within = (rw (c.deref_mut.ensures.value ∙ c.node.view_is) at c.wait_call-result.ensures.keeps) (first c.args.self.now.lock) c.enter-turn.ensures.since

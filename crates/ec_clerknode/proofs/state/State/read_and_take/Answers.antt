@@ -1,6 +1,6 @@
 use Rattle.std.proofs.Common.{ℕ, ◌+◌}
 use Rattle.ec_clerknode.proofs.Nodes.{works_then, answer_then}
-use Rattle.ec_clerknode.proofs.state.Node.read_and_take.Goals as goal
+use Rattle.ec_clerknode.proofs.state.State.read_and_take.Goals as goal
 
 pub returns-clause-keeps : goal.returns-clause-keeps
 returns-clause-keeps g c = (λ first s. c.take_answer-answer.ensures.keeps first (c.read.ensures.keeps first s))

@@ -1,6 +1,6 @@
 use Rattle.std.proofs.Common.{ℕ, ◌+◌, Some, ◌∙◌}
 use Rattle.ec_clerknode.proofs.Nodes.{works_none, works_behind, answer_then, waited_behind}
-use Rattle.ec_clerknode.proofs.state.Node.wait_call.Goals as goal
+use Rattle.ec_clerknode.proofs.state.State.wait_call.Goals as goal
 
 pub returns-in-Some-clause-keeps : goal.returns-in-Some-clause-keeps
 returns-in-Some-clause-keeps g c = c.take_answer.ensures.keeps

@@ -1,7 +1,7 @@
 use Rattle.std.proofs.Common.{◌+◌}
 use Rattle.ec_clerknode.specs.Node.{AnsweredAt}
 use Rattle.ec_clerknode.proofs.Nodes.{kept_of, answer_kept}
-use Rattle.ec_clerknode.proofs.state.Node.take_answer.Goals as goal
+use Rattle.ec_clerknode.proofs.state.State.take_answer.Goals as goal
 
 pub returns-clause-keeps : goal.returns-clause-keeps
 returns-clause-keeps g c first s = record {

@@ -1,6 +1,6 @@
 use Rattle.std.proofs.Common.{◌+◌, refl}
 use Rattle.ec_clerknode.proofs.Nodes.{begun_same, answer_then}
-use Rattle.ec_clerknode.proofs.state.Node.start_call.Goals as goal
+use Rattle.ec_clerknode.proofs.state.State.start_call.Goals as goal
 
 pub returns-clause-keeps : goal.returns-clause-keeps
 returns-clause-keeps g c = (λ first s. c.take_answer-answer.ensures.keeps first (c.begin.ensures.keeps first s))

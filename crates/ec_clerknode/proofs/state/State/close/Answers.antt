@@ -1,6 +1,6 @@
 use Rattle.std.proofs.Common.{sym, subst}
 use Rattle.ec_clerknode.specs.Closed.{EndsAs}
-use Rattle.ec_clerknode.proofs.state.Node.close.Goals as goal
+use Rattle.ec_clerknode.proofs.state.State.close.Goals as goal
 
 pub returns : goal.returns
 returns g c =

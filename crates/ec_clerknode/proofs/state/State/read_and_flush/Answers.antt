@@ -1,6 +1,6 @@
 use Rattle.std.proofs.Common.{rules}
 use Rattle.ec_clerknode.proofs.Turns.{fails_both}
-use Rattle.ec_clerknode.proofs.state.Node.read_and_flush.Goals as goal
+use Rattle.ec_clerknode.proofs.state.State.read_and_flush.Goals as goal
 
 pub returns-in_err-flushed-clause-keeps : goal.returns-in_err-flushed-clause-keeps
 returns-in_err-flushed-clause-keeps g c = (λ first s. c.flush.ensures.keeps first (c.read.ensures.keeps first s))

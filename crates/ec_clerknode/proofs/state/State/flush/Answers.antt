@@ -3,7 +3,7 @@ use Rattle.ec_clerknode.specs.declared.clerk.Refused.TheVariants as refused
 use Rattle.ec_clerknode.specs.Folded.{picked, Refuses}
 use Rattle.ec_clerknode.proofs.Acts.{flushed, not_flushed}
 use Rattle.ec_clerknode.proofs.Nodes.{follows_alone, down}
-use Rattle.ec_clerknode.proofs.state.Node.flush.Goals as goal
+use Rattle.ec_clerknode.proofs.state.State.flush.Goals as goal
 
 pub returns-in_err-close-in-Ok-clause-keeps : goal.returns-in_err-close-in-Ok-clause-keeps
 returns-in_err-close-in-Ok-clause-keeps g c =

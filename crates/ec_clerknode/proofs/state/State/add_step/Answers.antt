@@ -1,6 +1,6 @@
 use Rattle.std.proofs.Common.{refl, rules}
 use Rattle.ec_clerknode.specs.declared.step.Step.{Step}
-use Rattle.ec_clerknode.proofs.state.Node.add_step.Goals as goal
+use Rattle.ec_clerknode.proofs.state.State.add_step.Goals as goal
 
 pub returns : goal.returns
 returns g c =

@@ -2,7 +2,7 @@ use Rattle.std.proofs.Common.{◌+◌, None, Some, ◌∙◌, ap, subst}
 use Rattle.ec_link.specs.Links.{added}
 use Rattle.ec_clerknode.specs.Closed.{Hears}
 use Rattle.ec_clerknode.proofs.Nodes.{follows, read_none, down, counts_more, counts_up}
-use Rattle.ec_clerknode.proofs.state.Node.read.Goals as goal
+use Rattle.ec_clerknode.proofs.state.State.read.Goals as goal
 
 pub returns-in_err-close-in-Ok-Some-clause-keeps : goal.returns-in_err-close-in-Ok-Some-clause-keeps
 returns-in_err-close-in-Ok-Some-clause-keeps g c =

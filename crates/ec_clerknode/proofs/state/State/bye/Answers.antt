@@ -1,7 +1,7 @@
 use Rattle.std.proofs.Common.{◌+◌, refl, arith}
 use Rattle.ec_clerknode.proofs.Acts.{left}
 use Rattle.ec_clerknode.proofs.Nodes.{follows_alone, down}
-use Rattle.ec_clerknode.proofs.state.Node.bye.Goals as goal
+use Rattle.ec_clerknode.proofs.state.State.bye.Goals as goal
 
 pub returns-in-Ok-clause-keeps : goal.returns-in-Ok-clause-keeps
 returns-in-Ok-clause-keeps g c =
