@@ -1,6 +1,9 @@
 -- One more line: of the last entries, of where calls began, and of what may follow.
-use Rattle.std.proofs.Common.{◌≡◌, refl, sym, ap, subst, ◌∙◌, arith, inl, inr, ◌≤◌, ◌<◌, ◌+◌, ℕ, zero, suc, Bool, List, [], ◌∷◌, ◌++◌, length, take, drop, set, get_or, Some, None, append-nil, append_assoc, add-one, length-set, get_or-set_same, get_or-set_other}
-use Rattle.std.specs.Prelude.{slice_get}
+use Rattle.std.proofs.Common.{◌≡◌, refl, sym, ap, subst, ◌∙◌, arith, inl, inr, ◌≤◌, ◌<◌, ◌+◌, ℕ, T, zero, suc, Bool, List, [], ◌∷◌, ◌++◌, length, take, drop, set, get_or, Some, None, append-nil, append_assoc, add-one, length-set, get_or-set_same, get_or-set_other}
+use Rattle.std.specs.Prelude.{slice_get, is_none}
+use Rattle.std.specs.List.{list_all}
+use Rattle.ec_laws.proofs.Removed.{left, right}
+use Rattle.ec_history.specs.declared.watch.Watch.{Watch}
 use Rattle.std.proofs.lemmas.Bool.{cases_eq, ne_eqb}
 use Rattle.std.proofs.lemmas.List.{take_more, take-append-drop}
 use Rattle.std.proofs.lemmas.Option.{get_or_from_slice_get, slice_get-get_or, slice_get_within}
@@ -10,7 +13,7 @@ use Rattle.ec_history.specs.Placing.{watch, gives_entry, MayFollow, ArePlaceable
 use Rattle.ec_history.specs.declared.rule.Rule.{Rule}
 use Rattle.ec_history.specs.declared.shown.Shown.{Shown}
 use Rattle.ec_history.specs.declared.shown.Shown.TheVariants.{Waits, Answered}
-use Rattle.ec_watch.specs.Watches.{clerk_of}
+use Rattle.ec_watch.specs.Watches.{clerk_of, AreWatched}
 use Rattle.ec_lines.specs.Faults.{HasShape, BreaksLine, IsFirstLine}
 use Rattle.ec_lines.specs.Index.{AreLast, AreBegins, begins, last_entry, last_after, start_of}
 use Rattle.ec_lines.proofs.Starts.{last-step, last-other, last-nobody}
@@ -117,3 +120,16 @@ first-fault ss i s r g h b =
       placeable = h;
       broken = b;
     }
+
+-- Where each loss is told.
+
+all-get : (f : Watch → Bool) (ws : List Watch) (c : ℕ) (d : Watch) → T (list_all f ws) → c < length ws → T (f (get_or ws c d))
+all-get f [] c d t l = absurd (omega (arith, l))
+all-get f (w ∷ ws) zero d t l = left (f w) _ t
+all-get f (w ∷ ws) (suc c) d t l = all-get f ws c d (right (f w) _ t) (omega (arith, l))
+
+pub told-each : (ws : List Watch) (past : List Shown) → AreWatched ws past → T (list_all (λ w. is_none w.untold) ws) → (c : ℕ) → c < clerk_count → T (is_none (watch c past).untold)
+told-each ws past h t c l =
+    let w = watch c past in
+    let within = slice_get_within ws c w (h.each c l) in
+    subst (λ v. T (is_none v.untold)) (get_or_from_slice_get ws c w w (h.each c l)) (all-get (λ v. is_none v.untold) ws c w t within)

@@ -3,3 +3,4 @@ pub mod Named
 pub mod Index
 pub mod Seen
 pub mod Fault
+pub mod Following

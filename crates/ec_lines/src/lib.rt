@@ -10,5 +10,6 @@ mod lines;
 mod seen;
 
 pub use fault::PlaceFault;
-pub use following::begins;
+pub use following::{Following, are_told, begins, follow, none_followed};
 pub use laws::lines_at_fault_have_no_history;
+pub use seen::Seen;
