@@ -1,3 +1,5 @@
 pub mod Late
 pub mod Entries
 mod Bounded
+mod Told
+mod Judged

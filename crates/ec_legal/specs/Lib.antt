@@ -1,3 +1,4 @@
 pub mod Watches
 pub mod Placed
 pub mod Bounded
+pub mod Ahead

@@ -1,9 +1,10 @@
 // Histories, and the transcripts that they come from.
-ghost use Rattle.std.specs.Prelude.{◌≡◌, ◌<◌, ◌^◌, ◌++◌, [], ℕ, T, length, IfOk, OnOk, IfErr};
+ghost use Rattle.std.specs.Prelude.{◌≡◌, ◌≤◌, ◌<◌, ◌^◌, ◌++◌, [], ℕ, T, take, length, IfOk, OnOk, IfErr};
 ghost use Rattle.std.specs.List.{list_all};
 ghost use Rattle.ec_history.specs.History.{updates, kept, owed};
 ghost use Rattle.ec_history.specs.Legal.{IsLegal, from_formatted};
 ghost use Rattle.ec_judge.specs.Fault.{IsEntryFault};
+ghost use Rattle.ec_legal.specs.Ahead.{IsSettled, placed_from};
 ghost use Rattle.ec_legal.specs.Bounded.{is_bounded_line};
 ghost use Rattle.ec_history.specs.Placing.{place, ArePlaceable};
 ghost use Rattle.ec_lines.specs.Index.{AreBegins};
@@ -113,9 +114,37 @@ fn place_all(
     requires begins { AreBegins [] shown.now begins.now }
     ensures { OnOk result (entries.new.items ≡ entries.old.items ++ place shown.now) }
 {
-    for at in 0..shown.len() {
+    let end = shown.len();
+    place_lines(alloc, watches, shown, begins, end, 0, end, entries)?;
+    Ok(())
+}
+
+/// Adds the entries of the lines between these places, where the calls of the lines that are followed
+/// began at these places.
+pub fn place_lines(
+    alloc: Global,
+    watches: &mut [Watching],
+    shown: &[Shown],
+    begins: &[u32],
+    followed: usize,
+    from: usize,
+    to: usize,
+    entries: &mut Vec<(u32, Entry)>,
+) -> Result<(), NoMemory>
+    requires few { length shown.now < 2 ^ 31 }
+    requires onward { from ≤ to }
+    requires known { to ≤ followed }
+    requires within { followed ≤ length shown.now }
+    requires begins { AreBegins [] (take followed shown.now) begins.now }
+    requires settled { IsSettled shown.now followed }
+    requires watched { AreWatched watches.old (take from shown.now) }
+    ensures watched { OnOk result (AreWatched watches.new (take to shown.now)) }
+    ensures entries { OnOk result (entries.old.items ++ placed_from shown.now from ≡ entries.new.items ++ placed_from shown.now to) }
+{
+    let known = &shown[..followed];
+    for at in from..to {
         let line = &shown[at];
-        placing::push(alloc, watches, shown, begins, at, line, entries)?;
+        placing::push(alloc, watches, known, begins, at, line, entries)?;
         ec_watching::note(alloc, watches, line)?;
     }
     Ok(())

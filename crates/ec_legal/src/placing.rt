@@ -1,6 +1,8 @@
 // The entries of a transcript's lines.
 ghost use Rattle.std.specs.Prelude.{◌≡◌, ◌<◌, ◌≤◌, ◌+◌, ◌^◌, ◌++◌, ◌∷◌, [], ℕ, List as Listed, Some, None, true, length, take, drop, slice_get, is_some, IfOk, OnOk};
 ghost use Rattle.ec_volume.specs.Update.{listed};
+ghost use Rattle.ec_base.specs.Limits.{clerk_count};
+ghost use Rattle.ec_history.specs.declared.shown.Shown.TheVariants.{Ended};
 ghost use Rattle.ec_history.specs.Placing.{watch as watched, begun as start_behind, is_end_of, is_call_of, late, line_entries, ops_in, is_running, owner};
 ghost use Rattle.ec_watch.specs.Watches.{AreWatched};
 ghost use Rattle.ec_lines.specs.Index.{AreBegins, begins as begun_at, begun_in};
@@ -231,7 +233,8 @@ pub fn push(
     requires line { slice_get shown.now at ≡ Some line.now }
     requires begins { AreBegins [] shown.now begins.now }
     requires watched { AreWatched watches.now (take at shown.now) }
-    ensures { OnOk result (entries.new.items ≡ entries.old.items ++ line_entries (take at shown.now) line.now (drop (at + 1) shown.now)) }
+    ensures below { (c : ℕ) (ns : Listed ℕ) → line.now ≡ Ended c ns → c < clerk_count }
+    ensures entries { OnOk result (entries.new.items ≡ entries.old.items ++ line_entries (take at shown.now) line.now (drop (at + 1) shown.now)) }
 {
     match line {
         Shown::Answered(_, clerk, _, _, _) => {

@@ -3,6 +3,8 @@ use Rattle.std.proofs.lemmas.Option.{slice_get_within}
 use Rattle.ec_watch.proofs.Watched.{named-at}
 use Rattle.ec_legal.proofs.Entries.{starts-few, loss-held, line-loss}
 use Rattle.ec_legal.proofs.Late.{begun-answer}
+use Rattle.ec_base.specs.Limits.{clerk_count}
+use Rattle.ec_legal.proofs.Told.{ended-clerk}
 use Rattle.ec_legal.proofs.placing.push.Goals as goal
 
 pub push_answer-requires-clause-begun : goal.push_answer-requires-clause-begun
@@ -28,10 +30,13 @@ push_loss-requires-clause-held c r =
     let own = named-at c.args.watches.now _ c.in-Ended.clerk w c.requires.watched c.watch_of-watch-in-Ended.ensures.below c.watch_of-watch-in-Ended.ensures.value in
     loss-held c.in-Ended.clerk w _ c.args.shown.now c.args.at c.args.line.now c.requires.line c.in-Ended.is own r
 
-pub returns-in-Ended : goal.returns-in-Ended
-returns-in-Ended c =
+pub returns-in-Ended-clause-entries : goal.returns-in-Ended-clause-entries
+returns-in-Ended-clause-entries c =
     let w = c.watch_of-watch-in-Ended.result.now in
     let own = named-at c.args.watches.now _ c.in-Ended.clerk w c.requires.watched c.watch_of-watch-in-Ended.ensures.below c.watch_of-watch-in-Ended.ensures.value in
     subst (λ h. OnOk c.push_loss.result (c.push_loss.new.entries.items ≡ c.args.entries.now.items ++ h))
     (line-loss c.in-Ended.clerk w _ c.args.shown.now c.args.at c.args.line.now c.requires.line c.in-Ended.is own)
     c.push_loss.ensures
+
+pub returns-in-Ended-clause-below : goal.returns-in-Ended-clause-below
+returns-in-Ended-clause-below c k ns e = subst (λ j. j < clerk_count) (ended-clerk c.args.line.now c.in-Ended.clerk k _ ns c.in-Ended.is e) c.watch_of-watch-in-Ended.ensures.below

@@ -1,0 +1,119 @@
+-- Entries that are judged block by block.
+use Rattle.std.proofs.Common.{◌≡◌, refl, sym, ap, subst, ◌∙◌, arith, inl, inr, ◌≤◌, ◌<◌, ℕ, T, Bool, true, false, not, ◌||◌, ◌==◌, map, List, [], ◌∷◌, ◌++◌, length, take, drop, append_assoc, append-nil}
+use Rattle.std.specs.Prelude.{Result, Ok, Err, OnOk, IfErr}
+use Rattle.std.specs.List.{list_all}
+use Rattle.std.proofs.lemmas.List.{take_all, drop_all}
+use Rattle.ec_volume.specs.Update.{member, distinct}
+use Rattle.ec_laws.proofs.Numbers.{each-front, each-back}
+use Rattle.ec_laws.proofs.Removed.{both, left, right}
+use Rattle.ec_laws.specs.Bases.{AreAtLines, is_bounded_entry}
+use Rattle.ec_history.specs.History.{Base, History, Each}
+use Rattle.ec_history.specs.Legal.{IsLegal, from_formatted}
+use Rattle.ec_history.specs.Placing.{place, place_from, ArePlaceable}
+use Rattle.ec_history.specs.declared.rule.Rule.{Rule}
+use Rattle.ec_history.specs.declared.shown.Shown.{Shown}
+use Rattle.ec_judge.specs.Fault.{IsEntryFault}
+use Rattle.ec_judge.specs.Faults.{IsFirstEntry}
+use Rattle.ec_judge.specs.declared.fault.HistoryFault.{HistoryFault}
+use Rattle.ec_judge.specs.declared.fault.HistoryFault.TheVariants as fault
+use Rattle.ec_legal.specs.Ahead.{placed_from}
+use Rattle.ec_legal.specs.Bounded.{is_bounded_line, AreEntries}
+use Rattle.ec_legal.specs.Placed.{IsPlaceFault, IsJudgeFault}
+use Rattle.ec_legal.proofs.Bounded.{placed-entries}
+
+-- The first entries of some that stand at lines.
+
+abbrev places : History → List ℕ
+places h = map (λ e. e.0) h
+
+places-append : (h g : History) → places (h ++ g) ≡ places h ++ places g
+places-append [] g = refl
+places-append (e ∷ h) g = ap (λ l. e.0 ∷ l) (places-append h g)
+
+member-more : (n : ℕ) (xs ys : List ℕ) → T (not (member n (xs ++ ys))) → T (not (member n xs))
+member-more n [] ys t = tt
+member-more n (x ∷ xs) ys t = go (n == x) t (member-more n xs ys)
+  where
+    go : (b : Bool) → T (not (b || member n (xs ++ ys))) → (T (not (member n (xs ++ ys))) → T (not (member n xs))) → T (not (b || member n xs))
+    go true t f = absurd t
+    go false t f = f t
+
+distinct-front : (xs ys : List ℕ) → T (distinct (xs ++ ys)) → T (distinct xs)
+distinct-front [] ys t = tt
+distinct-front (x ∷ xs) ys t = both (not (member x xs)) _ (member-more x xs ys (left (not (member x (xs ++ ys))) _ t)) (distinct-front xs ys (right (not (member x (xs ++ ys))) _ t))
+
+all-front : (h g : History) → T (list_all (λ e. is_bounded_entry e.1) (h ++ g)) → T (list_all (λ e. is_bounded_entry e.1) h)
+all-front [] g t = tt
+all-front (e ∷ h) g t = both (is_bounded_entry e.1) _ (left (is_bounded_entry e.1) _ t) (all-front h g (right (is_bounded_entry e.1) _ t))
+
+lines-front : (h g : History) → AreAtLines (h ++ g) → AreAtLines h
+lines-front h g a = record {
+  from_one = each-front (λ p. 1 ≤ p) (places h) (places g) (subst (Each (λ p. 1 ≤ p)) (places-append h g) a.from_one);
+  apart = distinct-front (places h) (places g) (subst (λ l. T (distinct l)) (places-append h g) a.apart);
+  bounded = all-front h g a.bounded;
+}
+
+-- What was judged, the entries that are next, and those of the lines from a place on.
+pub record Judges (ss : List Shown) (past next : History) (n : ℕ) : Type 0 where
+  pub whole : place ss ≡ past ++ (next ++ placed_from ss n)
+
+pub first-block : (ss : List Shown) → Judges ss [] [] 0
+first-block ss = record { whole = refl }
+
+regroup : (ss : List Shown) (past next : History) (n : ℕ) → Judges ss past next n → place ss ≡ (past ++ next) ++ placed_from ss n
+regroup ss past next n j = j.whole ∙ sym (append_assoc past next (placed_from ss n))
+
+pub next-block : (ss : List Shown) (past next more : History) (n m : ℕ) → Judges ss past next n → placed_from ss n ≡ more ++ placed_from ss m → Judges ss (past ++ next) more m
+next-block ss past next more n m j e = record { whole = regroup ss past next n j ∙ ap (λ h. (past ++ next) ++ h) e }
+
+pub block-lines : (ss : List Shown) (past next : History) (n : ℕ) → T (list_all is_bounded_line ss) → length ss < 2147483648 → Judges ss past next n → AreAtLines (past ++ next)
+block-lines ss past next n t l j = lines-front (past ++ next) (placed_from ss n) (subst AreAtLines (regroup ss past next n j) (placed-entries ss t l).lines)
+
+pub block-few : (ss : List Shown) (past next : History) (n : ℕ) → T (list_all is_bounded_line ss) → length ss < 2147483648 → Judges ss past next n → Each (λ e. e.0 < 2147483648) next
+block-few ss past next n t l j =
+    let all = subst (Each (λ e. e.0 < 2147483648)) j.whole (placed-entries ss t l).few in
+    each-front (λ e. e.0 < 2147483648) next (placed_from ss n) (each-back (λ e. e.0 < 2147483648) past (next ++ placed_from ss n) all)
+
+pub placed-end : (ss : List Shown) (n : ℕ) → length ss ≤ n → placed_from ss n ≡ []
+placed-end ss n l = ap (place_from (take n ss)) (drop_all n ss l)
+
+pub last-block : (ss : List Shown) (past next : History) (n : ℕ) → length ss ≤ n → Judges ss past next n → past ++ next ≡ place ss
+last-block ss past next n l j =
+    sym (append-nil (past ++ next)) ∙ ap (λ h. (past ++ next) ++ h) (sym (placed-end ss n l)) ∙ sym (regroup ss past next n j)
+
+pub all-placeable : (ss : List Shown) (n : ℕ) → length ss ≤ n → ArePlaceable [] (take n ss) → ArePlaceable [] ss
+all-placeable ss n l p = subst (ArePlaceable []) (take_all n ss l) p
+
+-- Faults.
+
+first-longer : (base : Base) (most : ℕ) (h g : History) (p : ℕ) (r : Rule) → IsFirstEntry base most h p r → IsFirstEntry base most (h ++ g) p r
+first-longer base most h g p r f = record {
+  before = f.before;
+  its = f.its;
+  after = f.after ++ g;
+  parts = sym (append_assoc f.before ((p, f.its) ∷ f.after) g) ∙ ap (λ l. l ++ g) f.parts;
+  legal = f.legal;
+  broken = f.broken;
+}
+
+pub line-fault : (most : ℕ) (ss : List Shown) (f : HistoryFault) → IsPlaceFault ss f → IsJudgeFault most ss f
+line-fault most ss (fault.At p r) k = inl k
+line-fault most ss fault.NoMemory k = tt
+
+pub block-fault : (most : ℕ) (ss : List Shown) (past next : History) (n : ℕ) (f : HistoryFault) → Judges ss past next n → ArePlaceable [] ss → IsEntryFault most (past ++ next) f → IsJudgeFault most ss f
+block-fault most ss past next n (fault.At p r) j a k =
+    inr (a, subst (λ h. IsFirstEntry from_formatted most h p r) (sym (regroup ss past next n j)) (first-longer from_formatted most (past ++ next) (placed_from ss n) p r k))
+block-fault most ss past next n fault.NoMemory j a k = tt
+
+-- Answers, by what is known of a result.
+
+pub on-ok : {A B X : Type 0} (r : Result A B) (x : A) → r ≡ Ok x → OnOk r X → X
+on-ok {X = X} r x e h = subst (λ q. OnOk q X) e h
+
+pub on-not : {A B X : Type 0} (r : Result A B) → ((f : B) → r ≡ Err f → ⊥) → OnOk r X → X
+on-not (Ok x) n h = h
+on-not (Err f) n h = absurd (n f refl)
+
+pub if-err : {A B : Type 0} (P Q : B → Type 0) (r : Result A B) → ((f : B) → P f → Q f) → IfErr r P → IfErr r Q
+if-err P Q (Ok x) k h = h
+if-err P Q (Err f) k h = k f h

@@ -1,0 +1,42 @@
+use Rattle.std.proofs.Common.{◌≡◌, ◌<◌, ◌≤◌, ◌+◌, ◌++◌, sym, ap, subst, refl, ◌∙◌, arith, length, take, drop}
+use Rattle.std.proofs.lemmas.Option.{slice_get_read}
+use Rattle.ec_history.specs.Placing.{line_entries}
+use Rattle.ec_watch.specs.Watches.{AreWatched}
+use Rattle.ec_legal.proofs.Entries.{starts-few, front-at, place-step}
+use Rattle.ec_legal.proofs.Told.{front-of, line-of, settled-line}
+use Rattle.ec_legal.proofs.history.place_lines.Goals as goal
+
+pub push-requires-clause-line : goal.push-requires-clause-line
+push-requires-clause-line c =
+    let ss = c.args.shown.now in
+    let i = c.loop-at.at in
+    let near : i < c.args.followed = omega (arith, c.loop-at-test.true, c.requires.known) in
+    let within : i < length ss = omega (arith, near, c.requires.within) in
+    line-of ss i c.args.followed c.index-shown-at.result near (slice_get_read ss (length ss) i c.index-shown-at.result refl within c.index-shown-at.is)
+
+pub push-requires-clause-watched : goal.push-requires-clause-watched
+push-requires-clause-watched c =
+    let near : c.loop-at.at ≤ c.args.followed = omega (arith, c.loop-at-test.true, c.requires.known) in
+    subst (AreWatched c.loop-at.watches) (sym (front-of c.args.shown.now c.loop-at.at c.args.followed near)) c.loop-at.invariant.0
+
+pub note-requires-clause-starts : goal.note-requires-clause-starts
+note-requires-clause-starts c w k g =
+    let ss = c.args.shown.now in
+    let within : c.loop-at.at ≤ length ss = omega (arith, c.loop-at-test.true, c.requires.known, c.requires.within) in
+    let below : length ss < 4294967296 = omega (arith, c.requires.few) in
+    let few = starts-few c.loop-at.watches ss c.loop-at.at 4294967296 c.loop-at.invariant.0 within below w k g in
+    omega (arith, few)
+
+pub loop-at-preserved : goal.loop-at-preserved
+loop-at-preserved c =
+    let ss = c.args.shown.now in
+    let i = c.loop-at.at in
+    let n = c.args.followed in
+    let s = c.index-shown-at.result in
+    let near : i < n = omega (arith, c.loop-at-test.true, c.requires.known) in
+    let within : i < length ss = omega (arith, near, c.requires.within) in
+    let g = slice_get_read ss (length ss) i s refl within c.index-shown-at.is in
+    let gives = settled-line ss i n s c.requires.settled near g c.push.ensures.below (front-at ss i s g) in (
+      subst (AreWatched c.note.new.watches) (sym (front-at ss i s g)) (c.in_ok-note.ensures (take i ss) c.loop-at.invariant.0),
+      place-step ss i s _ c.loop-at.entries.items c.push.new.entries.items g c.loop-at.invariant.1 (c.in_ok-push.ensures.entries ∙ ap (λ h. c.loop-at.entries.items ++ h) gives),
+    )
