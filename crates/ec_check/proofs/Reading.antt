@@ -20,7 +20,7 @@ use Rattle.ec_shown.specs.Lines.{IsShown, IsUnfit}
 use Rattle.ec_shown.specs.Showable.{IsShowable, ShowableCall, ArePaths, IsPathOf}
 use Rattle.ec_shown.proofs.Ranges.{in_ranges}
 use Rattle.ec_laws.proofs.Removed.{both, left, right}
-use Rattle.ec_check.specs.Lines.{AreShown, IsBadLine}
+use Rattle.ec_check.specs.Lines.{AreShown, IsRead, IsBadLine}
 
 at_most : (m n : ℕ) → m ≤ n → T (nat_le m n)
 at_most m n l = T_from_true (nat_le m n) (le-leb m n l)
@@ -110,8 +110,12 @@ none-left [] e = refl
 none-left (b ∷ bytes) e = absurd (grind arith)
 
 -- nothing is left
-pub all-read-in : (bytes rest : List ℕ) (ss : List Shown) → true ≡ (length rest == 0) → Read (lines_of bytes) (lines_of rest) ss → AreShown (lines_of bytes) ss
+all-read-in : (bytes rest : List ℕ) (ss : List Shown) → true ≡ (length rest == 0) → Read (lines_of bytes) (lines_of rest) ss → AreShown (lines_of bytes) ss
 all-read-in bytes rest ss e r = all-read (lines_of bytes) ss (subst (λ x. Read (lines_of bytes) (lines_of x) ss) (none-left rest e) r)
+
+-- the same, with each call within its bounds
+pub read-whole : (bytes rest : List ℕ) (ss : List Shown) → true ≡ (length rest == 0) → Read (lines_of bytes) (lines_of rest) ss → length ss + length rest ≤ length bytes → IsRead bytes ss
+read-whole bytes rest ss e r l = record { lines = all-read-in bytes rest ss e r; bounded = r.bounded; few = omega (arith, l) }
 
 -- the line behind those that are read is outside the grammar
 pub bad-line : (bytes : List ℕ) (ahead next : List (List ℕ)) (ss : List Shown) (l : List ℕ) (n column : ℕ) → Read (lines_of bytes) ahead ss → ahead ≡ l ∷ next → n ≡ length ss + 1 → IsUnfit l (unread.At column) → IsBadLine bytes n column

@@ -1,5 +1,7 @@
 -- The lines of a transcript, and the first one outside the grammar.
-use Rattle.std.specs.Prelude.{◌≡◌, ◌+◌, ℕ, List, [], ◌∷◌, ◌++◌, length, ⊤}
+use Rattle.std.specs.Prelude.{◌≡◌, ◌≤◌, ◌+◌, ℕ, T, List, [], ◌∷◌, ◌++◌, length, ⊤}
+use Rattle.std.specs.List.{list_all}
+use Rattle.ec_legal.specs.Bounded.{is_bounded_line}
 use Rattle.ec_history.specs.declared.shown.Shown.{Shown}
 use Rattle.ec_script.specs.Lines.{lines_of}
 use Rattle.ec_script.specs.declared.line.LineFault.TheVariants as unread
@@ -13,6 +15,12 @@ AreShown [] [] = ⊤
 AreShown [] (s ∷ ss) = ⊥
 AreShown (l ∷ ls) [] = ⊥
 AreShown (l ∷ ls) (s ∷ ss) = IsShown l s × AreShown ls ss
+
+-- All lines are read so, each call within its bounds.
+pub record IsRead (bytes : List ℕ) (ss : List Shown) : Type 0 where
+  pub lines : AreShown (lines_of bytes) ss
+  pub bounded : T (list_all is_bounded_line ss)
+  pub few : length ss ≤ length bytes
 
 -- The line of this number, from 1, is the first outside the grammar, and this is its column.
 pub record IsBadLine (bytes : List ℕ) (number column : ℕ) : Type 0 where

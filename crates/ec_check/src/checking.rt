@@ -5,13 +5,18 @@ ghost use Rattle.ec_legal.specs.Bounded.{is_bounded_line};
 ghost use Rattle.ec_check.specs.Verdicts.{IsVerdict};
 ghost use Rattle.ec_check.specs.Checked.{IsChecked, IsRefused};
 
-use crate::lines::{self, MAX_TRANSCRIPT_BYTES, read_lines};
+use crate::lines::{self, MAX_TRANSCRIPT_BYTES};
+use crate::parts::read_parts;
 use ec_base::{NoMemory, Source};
 use ec_history::{Rule, Shown};
-use ec_legal::{HistoryFault, place};
+use ec_legal::{HistoryFault, judge};
 use ec_streams::{ReadFault, read_whole};
 use std::alloc::Global;
+use std::thread::Threads;
 use thiserror::Error;
+
+/// The lines of a transcript are read in so many parts at once.
+const PARTS: u32 = 4;
 
 /// What a transcript is.
 #[derive(Clone, Copy, Debug, Drop, PartialEq, Eq)]
@@ -40,7 +45,8 @@ pub enum CheckFault {
 /// Reads a transcript that began on a formatted volume, with at most so many objects, to its end,
 /// and judges it. First the bytes are counted, then all lines are read, then each is placed, and
 /// then the entries are judged in their order.
-pub fn check_transcript<S: Source>(
+pub fn check_transcript<R: Threads + Sync, S: Source>(
+    rt: &R,
     alloc: Global,
     source: &mut S,
     max_objects: u32,
@@ -57,31 +63,31 @@ pub fn check_transcript<S: Source>(
         Err(ReadFault::Failed) => return Err(CheckFault::SourceFailed),
         Err(ReadFault::NoMemory) => return Err(CheckFault::NoMemory),
     };
-    let shown = match read_lines(alloc, &bytes) {
+    let shown = match read_parts(rt, alloc, &bytes, PARTS) {
         Ok(shown) => shown,
         Err(lines::ReadFault::BadLine(line, column)) => {
             return Err(CheckFault::BadLine(line, column));
         }
         Err(lines::ReadFault::NoMemory) => return Err(CheckFault::NoMemory),
     };
-    match verdict(alloc, &shown, max_objects) {
+    match verdict(rt, alloc, &shown, max_objects) {
         Ok(checked) => Ok(checked),
         Err(NoMemory) => Err(CheckFault::NoMemory),
     }
 }
 
 // What these lines are.
-fn verdict(alloc: Global, shown: &[Shown], most: u32) -> Result<Checked, NoMemory>
+fn verdict<R: Threads + Sync>(
+    rt: &R,
+    alloc: Global,
+    shown: &[Shown],
+    most: u32,
+) -> Result<Checked, NoMemory>
     requires few { length shown.now < 2 ^ 31 }
     requires bounded { T (list_all is_bounded_line shown.now) }
     ensures { IfOk result (IsVerdict most shown.now) }
 {
-    let history = match place(alloc, shown) {
-        Ok(history) => history,
-        Err(HistoryFault::At(line, rule)) => return Ok(Checked::Illegal(line, rule)),
-        Err(HistoryFault::NoMemory) => return Err(NoMemory),
-    };
-    match history.check(most) {
+    match judge(rt, alloc, shown, most) {
         Ok(()) => Ok(Checked::Legal),
         Err(HistoryFault::At(line, rule)) => Ok(Checked::Illegal(line, rule)),
         Err(HistoryFault::NoMemory) => Err(NoMemory),

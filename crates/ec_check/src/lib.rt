@@ -3,6 +3,7 @@
 
 mod checking;
 mod lines;
+mod parts;
 
 pub use checking::{CheckFault, Checked, check_transcript};
 pub use lines::MAX_TRANSCRIPT_BYTES;

@@ -1,11 +1,9 @@
 // The lines of a transcript.
 ghost use Rattle.std.specs.Prelude.{◌≡◌, ◌≤◌, ◌++◌, ◌∷◌, if◌then◌else◌, [], T, length, is_ok, IfOk, IfErr, MatchResult};
-ghost use Rattle.std.specs.List.{list_all};
-ghost use Rattle.ec_script.specs.Lines.{lines_of};
 ghost use Rattle.ec_legal.specs.Bounded.{is_bounded_line};
 ghost use Rattle.ec_shown.specs.Lines.{IsShown, IsUnfit};
 ghost use Rattle.ec_check.specs.Limits.{max_transcript_bytes};
-ghost use Rattle.ec_check.specs.Lines.{AreShown, HasBadLine};
+ghost use Rattle.ec_check.specs.Lines.{IsRead, HasBadLine};
 
 use ec_base::NoMemory;
 use ec_history::Shown;
@@ -26,9 +24,7 @@ pub(crate) enum ReadFault {
 /// Reads each line.
 pub(crate) fn read_lines(alloc: Global, bytes: &[u8]) -> Result<Vec<Shown>, ReadFault>
     requires { length bytes.now ≤ max_transcript_bytes }
-    ensures shown { IfOk result (λ shown. AreShown (lines_of bytes.now) shown.items) }
-    ensures bounded { IfOk result (λ shown. T (list_all is_bounded_line shown.items)) }
-    ensures few { IfOk result (λ shown. length shown.items ≤ length bytes.now) }
+    ensures read { IfOk result (λ shown. IsRead bytes.now shown.items) }
     ensures fault { IfErr result (λ fault. HasBadLine bytes.now fault) }
 {
     let mut lines = Vec::new(alloc);

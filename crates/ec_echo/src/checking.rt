@@ -9,10 +9,12 @@ use ec_check::{CheckFault, Checked, check_transcript};
 use ec_history::{LimitName, Rule, Shown};
 use itoa::Buffer;
 use std::alloc::Global;
+use std::thread::Threads;
 
 /// Judges the transcript that the source gives, of a volume formatted for so many objects, and writes the
 /// line that tells what it is.
-pub(crate) fn check<S: Source, K: Sink>(
+pub(crate) fn check<R: Threads + Sync, S: Source, K: Sink>(
+    rt: &R,
     alloc: Global,
     source: &mut S,
     sink: &mut K,
@@ -30,7 +32,7 @@ pub(crate) fn check<S: Source, K: Sink>(
       writes_after = K.faults sink.new;
     }) }
 {
-    match check_transcript(alloc, source, max_objects) {
+    match check_transcript(rt, alloc, source, max_objects) {
         Ok(Checked::Legal) => write_text(sink, b"legal\n", Status::Done),
         Ok(Checked::Illegal(line, rule)) => {
             write_made(sink, illegal_text(alloc, line, rule), Status::Illegal)

@@ -78,7 +78,7 @@ pub fn echo_main<R: Around + Eprint, S: Source, K: Sink, D: CrashDisk + Send, N:
         Command::Drill(max_objects) => {
             Status::of_drill(drill(rt.alloc(), source, sink, disk, max_objects)).code()
         }
-        Command::Check(max_objects) => check(rt.alloc(), source, sink, max_objects).code(),
+        Command::Check(max_objects) => check(rt, rt.alloc(), source, sink, max_objects).code(),
         Command::Make(number) => make(rt.alloc(), number, sink).code(),
         Command::Soak(number) => soak(rt.alloc(), number, sink, disk).code(),
         Command::Serve(count) => {
