@@ -24,7 +24,7 @@ pub enum Ending {
 }
 
 /// How the links of a server ended.
-#[derive(Clone, Copy, Debug, Drop, PartialEq, Eq)]
+#[derive(Clone, Copy, Drop)]
 pub enum Tended {
     /// All have come and gone.
     Done,

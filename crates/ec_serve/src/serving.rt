@@ -171,5 +171,7 @@ fn serve_shared<K: Keeper + Send + Drop, N: Net, R: Around + Eprint>(
 {
     let tended = tend(rt, &server, &mut pass, net, spawner, addr, count);
     let (back, keeper, halt) = server.end(rt, &mut pass);
-    (keeper, ending_of(halt, back.is_some(), tended))
+    let is_back = back.is_some();
+    drop(back);
+    (keeper, ending_of(halt, is_back, tended))
 }
