@@ -62,8 +62,10 @@ fn each_call_of_the_disk_fails_once(rt: HostRuntime) {
     assert!(rt; calls_that_fail(&rt).is_some_and(|calls| calls > 10));
 }
 
-// The first calls of the source, the sink, the disk and the net fail.
+// The first calls of the source, the sink, the disk and the net fail, or the source's second one, behind all bytes.
 const SOURCE: Fails = Fails { source: 1, ..NONE };
+
+const LATE_SOURCE: Fails = Fails { source: 2, ..NONE };
 
 const SINK: Fails = Fails { sink: 1, ..NONE };
 
@@ -88,8 +90,9 @@ type Row<'a> = (&'a str, &'a [u8], Fails, u8, &'a [u8]);
 #[test]
 fn tells_faults(rt: HostRuntime) {
     drop::<NetTypes>((None, None));
-    let rows: [Row; 14] = [
+    let rows: [Row; 16] = [
         ("drill", CALLS, SOURCE, 4, b""),
+        ("drill", CALLS, LATE_SOURCE, 4, b""),
         ("drill", CALLS, SINK, 5, b""),
         ("drill", CALLS, DISK, 6, b""),
         ("check", LEGAL, SOURCE, 4, b""),
@@ -101,6 +104,7 @@ fn tells_faults(rt: HostRuntime) {
         ("serve here 1", b"", BOTH, 6, b""),
         ("mount here A", LANES, NONE, 8, b""),
         ("mount here A", LANES, SOURCE, 4, b""),
+        ("mount here A", LANES, LATE_SOURCE, 4, b""),
         ("mount here A", NO_LANE, NONE, 3, b"bad 2 col 1\n"),
         ("mount here A", NO_LANE, SINK, 5, b""),
     ];
