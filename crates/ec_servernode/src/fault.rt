@@ -5,43 +5,32 @@ ghost use Rattle.ec_servernode.specs.Turns.{fault_of};
 use crate::step::Halt;
 use ec_base::Counter;
 use ec_wire::WireFault;
-use std::error::Error;
-use std::fmt;
+use thiserror::Error;
 
 /// Why a turn with a link gives nothing.
-#[derive(Clone, Copy, Debug, Drop)]
+#[derive(Clone, Copy, Debug, Drop, Error)]
 pub enum ServeFault {
     /// The link failed.
+    #[error("the link failed")]
     Net,
     /// The link gave a body that is no message.
+    #[error("no message: {0:?}")]
     Peer(WireFault),
     /// The link gave a length above the limit.
+    #[error("a body of {0} bytes")]
     Long(u32),
+    #[error("the disk failed")]
     DiskFailed,
+    #[error("the disk stopped")]
     DiskStopped,
-    /// This counter is spent.
+    #[error("{0:?} is spent")]
     Spent(Counter),
     /// An earlier turn met a fault of the disk or a spent counter.
+    #[error("the server is down")]
     Down,
+    #[error("out of memory")]
     NoMemory,
 }
-
-impl fmt::Display for ServeFault {
-    fn fmt<W: fmt::Write>(&self, f: &mut fmt::Formatter<W>) -> fmt::Result {
-        match self {
-            ServeFault::Net => f.write_str("the link failed"),
-            ServeFault::Peer(fault) => write!(f, "no message: {fault:?}"),
-            ServeFault::Long(length) => write!(f, "a body of {length} bytes"),
-            ServeFault::DiskFailed => f.write_str("the disk failed"),
-            ServeFault::DiskStopped => f.write_str("the disk stopped"),
-            ServeFault::Spent(counter) => write!(f, "{counter:?} is spent"),
-            ServeFault::Down => f.write_str("the server is down"),
-            ServeFault::NoMemory => f.write_str("out of memory"),
-        }
-    }
-}
-
-impl Error for ServeFault {}
 
 /// The fault of the turn in which the server halts.
 pub fn halted(halt: Halt) -> ServeFault
