@@ -15,7 +15,6 @@ use std::marker::Model;
 use std::num::NonZeroUsize;
 
 /// What a clerk holds: tokens on objects, each with the object's image, in the order of use.
-#[derive(Drop)]
 pub struct Cache {
     capacity: usize,
     // by object, the most recently used one first
@@ -23,6 +22,21 @@ pub struct Cache {
     lasts: SortedMap<ObjId, u64>,
     // for each held object the mode down to which its token counts, if it's under recall
     slots: SortedMap<ObjId, Option<Hold>>,
+}
+
+// Who drops one calls this, and needn't take it apart.
+impl Drop for Cache {
+    fn drop(self) {
+        let Cache {
+            capacity: _,
+            tokens,
+            lasts,
+            slots,
+        } = self;
+        drop(tokens);
+        drop(lasts);
+        drop(slots);
+    }
 }
 
 impl Model for Cache {

@@ -25,7 +25,6 @@ use std::marker::Model;
 use thiserror::Error;
 
 /// The operations that a clerk holds, by rising number.
-#[derive(Drop)]
 pub struct Order {
     alloc: Global,
     held: Held,
@@ -33,6 +32,21 @@ pub struct Order {
     shared: ObjMap<OpNo>,
     // for objects the operations on them
     chains: ObjMap<Chain>,
+}
+
+// Who drops one calls this, and needn't take it apart.
+impl Drop for Order {
+    fn drop(self) {
+        let Order {
+            alloc: _,
+            held,
+            shared,
+            chains,
+        } = self;
+        drop(held);
+        drop(shared);
+        drop(chains);
+    }
 }
 
 impl Model for Order {

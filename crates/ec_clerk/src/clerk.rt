@@ -27,11 +27,23 @@ pub const MAX_TOKENS: usize = 4_096;
 ///
 /// A step that wants memory, or meets a spent counter behind its first change, leaves a clerk that
 /// answers want of memory from then on.
-#[derive(Drop)]
 pub struct Clerk {
     doing: Doing,
     waiting: Vec<Waiting>,
     is_broken: bool,
+}
+
+// Who drops one calls this, and needn't take it apart.
+impl Drop for Clerk {
+    fn drop(self) {
+        let Clerk {
+            doing,
+            waiting,
+            is_broken: _,
+        } = self;
+        drop(doing);
+        drop(waiting);
+    }
 }
 
 impl Model for Clerk {

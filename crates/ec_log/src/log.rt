@@ -20,7 +20,6 @@ use std::alloc::Global;
 use std::marker::Model;
 
 /// The operations that aren't known to be durable, and the batches under way.
-#[derive(Drop)]
 pub struct Log {
     alloc: Global,
     next: u64,
@@ -28,6 +27,22 @@ pub struct Log {
     undurable: Order,
     batches: SortedMap<u64, List<OpNo>>,
     next_batch: u64,
+}
+
+// Who drops one calls this, and needn't take it apart.
+impl Drop for Log {
+    fn drop(self) {
+        let Log {
+            alloc: _,
+            next: _,
+            first: _,
+            undurable,
+            batches,
+            next_batch: _,
+        } = self;
+        drop(undurable);
+        drop(batches);
+    }
 }
 
 impl Model for Log {

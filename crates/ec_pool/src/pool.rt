@@ -21,7 +21,6 @@ use std::collections::BTreeMap;
 use std::marker::Model;
 
 /// The messages between the clerks and the server.
-#[derive(Drop)]
 pub struct Pool {
     sent: u64,
     counts: Vec<Count>,
@@ -33,6 +32,26 @@ pub struct Pool {
     settled: Vec<u64>,
     // what `sent` was at the last call of `forget`
     forgotten_at: u64,
+}
+
+// Who drops one calls this, and needn't take it apart.
+impl Drop for Pool {
+    fn drop(self) {
+        let Pool {
+            sent: _,
+            counts,
+            kept,
+            pending,
+            cut,
+            settled,
+            forgotten_at: _,
+        } = self;
+        drop(counts);
+        drop(kept);
+        drop(pending);
+        drop(cut);
+        drop(settled);
+    }
 }
 
 impl Model for Pool {

@@ -16,10 +16,17 @@ use std::alloc::Global;
 use std::marker::Model;
 
 /// The wants that wait for their tokens, in the order of arrival.
-#[derive(Drop)]
 pub struct Recalls {
     alloc: Global,
     wants: IndexMap<(u64, u32), Want>,
+}
+
+// Who drops one calls this, and needn't take it apart.
+impl Drop for Recalls {
+    fn drop(self) {
+        let Recalls { alloc: _, wants } = self;
+        drop(wants);
+    }
 }
 
 impl Model for Recalls {

@@ -11,11 +11,23 @@ use std::marker::Model;
 ///
 /// They are kept by operation, and for each object the operations that are owed on it. So what is due on some objects is
 /// found, and cleared, without a look at any other mention.
-#[derive(Drop)]
 pub struct Report {
     alloc: Global,
     rows: Rows,
     places: Places,
+}
+
+// Who drops one calls this, and needn't take it apart.
+impl Drop for Report {
+    fn drop(self) {
+        let Report {
+            alloc: _,
+            rows,
+            places,
+        } = self;
+        drop(rows);
+        drop(places);
+    }
 }
 
 impl Model for Report {

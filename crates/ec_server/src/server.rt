@@ -22,11 +22,18 @@ use ec_wire::Msg;
 use std::alloc::Global;
 
 /// A server. What keeps its durable state is lent to each call.
-#[derive(Drop)]
 pub struct Server {
     core: Core,
     // a step was left in the middle
     is_down: bool,
+}
+
+// Who drops one calls this, and needn't take it apart.
+impl Drop for Server {
+    fn drop(self) {
+        let Server { core, is_down: _ } = self;
+        drop(core);
+    }
 }
 
 impl Server {

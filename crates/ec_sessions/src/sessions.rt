@@ -10,9 +10,16 @@ use std::alloc::Global;
 use std::marker::Model;
 
 /// The last session of each of the sixteen clerks.
-#[derive(Drop)]
 pub struct Sessions {
     slots: Vec<Option<Slot>>,
+}
+
+// Who drops one calls this, and needn't take it apart.
+impl Drop for Sessions {
+    fn drop(self) {
+        let Sessions { slots } = self;
+        drop(slots);
+    }
 }
 
 impl Model for Sessions {
@@ -123,7 +130,8 @@ impl Sessions {
         ensures slots { result.items ≡ self }
         ensures table { AreSlots self }
     {
-        self.slots
+        let Sessions { slots } = self;
+        slots
     }
 
     /// The sessions with these slots, of the clerks in order.

@@ -26,7 +26,6 @@ use ec_table::Version;
 use std::alloc::Global;
 
 /// The durable state that a disk stands for, and where its images stand there.
-#[derive(Drop)]
 pub struct Store {
     state: Durable,
     selected: Selected,
@@ -37,6 +36,22 @@ pub struct Store {
     ghost formed: { ∥ WellFormed (images state.volume) ∥₁ },
     ghost order: { IsInOrder state },
     ghost places: { ArePlaces state.max_objects named.items kept },
+}
+
+// Who drops one calls this, and needn't take it apart.
+impl Drop for Store {
+    fn drop(self) {
+        let Store {
+            state,
+            selected,
+            named,
+            kept,
+        } = self;
+        drop(state);
+        drop(selected);
+        drop(named);
+        drop(kept);
+    }
 }
 
 impl Store {

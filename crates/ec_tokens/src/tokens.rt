@@ -44,10 +44,17 @@ impl From<NoMemory> for ClaimFault {
 /// They are kept by session, and then by object, in sorted maps: a look-up by object takes a search
 /// in the row of each session, and a session is dropped, or claims, in one piece. A session without
 /// a token has no row, so that two tables with the same tokens are one list.
-#[derive(Drop)]
 pub struct Tokens {
     alloc: Global,
     rows: Rows,
+}
+
+// Who drops one calls this, and needn't take it apart.
+impl Drop for Tokens {
+    fn drop(self) {
+        let Tokens { alloc: _, rows } = self;
+        drop(rows);
+    }
 }
 
 impl Model for Tokens {

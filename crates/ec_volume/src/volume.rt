@@ -39,11 +39,18 @@ impl From<NoMemory> for ApplyFault {
 }
 
 /// A volume: its live objects' images by rising ids.
-#[derive(Drop)]
 pub struct Volume {
     map: SortedMap<ObjId, Image>,
     // The place of the object that was changed last.
     near: usize,
+}
+
+// Who drops one calls this, and needn't take it apart.
+impl Drop for Volume {
+    fn drop(self) {
+        let Volume { map, near: _ } = self;
+        drop(map);
+    }
 }
 
 impl Model for Volume {

@@ -27,7 +27,6 @@ use ec_wire::MsgKind;
 use std::alloc::Global;
 
 /// All clerks, the server and the pool of messages. Its disk is lent to each call that needs one.
-#[derive(Drop)]
 pub struct World {
     // what the disk keeps
     pub(crate) store: Store,
@@ -45,6 +44,35 @@ pub struct World {
     pub(crate) piece: Vec<Shown>,
     // a step was left in the middle
     pub(crate) is_broken: bool,
+}
+
+// Who drops one calls this, and needn't take it apart.
+impl Drop for World {
+    fn drop(self) {
+        let World {
+            store,
+            server,
+            unshown,
+            choice: _,
+            clerks,
+            boots,
+            calls,
+            pool,
+            lines,
+            records: _,
+            piece,
+            is_broken: _,
+        } = self;
+        drop(store);
+        drop(server);
+        drop(unshown);
+        drop(clerks);
+        drop(boots);
+        drop(calls);
+        drop(pool);
+        drop(lines);
+        drop(piece);
+    }
 }
 
 impl World {
