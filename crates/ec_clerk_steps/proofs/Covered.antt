@@ -39,18 +39,15 @@ use Rattle.ec_protocol.specs.declared.clerk.Waiting.{Waiting}
 use Rattle.ec_coherence.specs.Answers.{Gives}
 use Rattle.ec_clerk_steps.specs.Calls.{IsBefore, LosesBelow}
 use Rattle.ec_clerk_steps.specs.Waits.{does_wait, waits_with}
-use Rattle.ec_judge.proofs.Asked.{walk-last}
+use Rattle.ec_laws.proofs.Walked.{walked, walked-split}
 use Rattle.ec_clerk_steps.proofs.Known.{none_some}
 use Rattle.ec_clerk_steps.proofs.Rests.{rest-issued}
 
--- the last of a list, by its place
-last-is : (os : List ℕ) (x : ℕ) → slice_get os (length os - 1) ≡ Some x → last_of os ≡ Some x
-last-is [] x e = absurd (none_some e)
-last-is (o ∷ []) x e = e
-last-is (o ∷ n ∷ os) x e = last-is (n ∷ os) x (sym (ap (slice_get (o ∷ n ∷ os)) (count (length os))) ∙ e)
-  where
-    count : (k : ℕ) → suc (suc k) - 1 ≡ suc (suc k - 1)
-    count k = omega arith
+-- what stands behind a list is the last of both
+last-behind : (os : List ℕ) (x : ℕ) → last_of (os ++ x ∷ []) ≡ Some x
+last-behind [] x = refl
+last-behind (o ∷ []) x = refl
+last-behind (o ∷ n ∷ os) x = last-behind (n ∷ os) x
 
 -- Entries that ask for nothing cover nothing.
 
@@ -186,7 +183,7 @@ module _ (base : Base) (most c sb : ℕ) (past : History) (legal : IsLegal base 
         ]) t) v)
         go (At x) t =
             let out : o ≡ answers reply.Ok (walk V path).read = sym plain-is ∙ ap (λ z. elim z as (λ y. Outcome) [ At obj ↦ answers reply.Ok (walk V path).read | Not r ↦ refuses r (walk V path).read ]) t in
-            let waits-for : awaited w.call o ≡ Some (Object x) = ap (λ z. awaited z o) e ∙ ap (awaited (call.Fsync path)) out ∙ ap on_object (last-is (walk V path).read x (walk-last V 0 root path x t)) in
+            let waits-for : awaited w.call o ≡ Some (Object x) = ap (λ z. awaited z o) e ∙ ap (awaited (call.Fsync path)) out ∙ ap on_object (ap last_of (walked-split V root path (walk V path).read x (walked V 0 root path x t)) ∙ last-behind (ids_of (with_names (walk V path).read path)) x) in
             fsync-covers base past c sb place w.begun k.log done all-rest in-time p l path op x t (later o (Object x) verdict-is (ap (λ z. z.update) out) waits-for) n v
 
     sync-done : w.call ≡ call.Sync → Gives m k (verdict w.call k) (answer.Reply reply.Ok) op left → Covers base past (p, entry.Call c sb l place call.Sync (answer.Reply reply.Ok) op) c sb n → T (done n)

@@ -13,7 +13,7 @@ use Rattle.ec_laws.proofs.Cuts.{legal-step}
 use Rattle.ec_laws.proofs.More.{kept-step, issued-step, is_lost-append, count-step}
 use Rattle.ec_laws.proofs.Numbers.{IsUpTo, count, each-append, each-back, each-map, kept-up_to}
 use Rattle.ec_coherence.proofs.Lists.{filter-alike, filter-more, filter-two}
-use Rattle.ec_judge.proofs.Numbers.{kept-unlost, unlost}
+use Rattle.ec_laws.proofs.Unlost.{kept-unlost}
 use Rattle.ec_clerk_steps.specs.Calls.{IsBefore, LosesBelow}
 
 equals : (m n : ℕ) → (m == n) ≡ true → m ≡ n
@@ -124,6 +124,13 @@ module _ (base : Base) (most : ℕ) where
   abbrev is_unlost : History → Op → Bool
   is_unlost h k = not (is_lost k.clerk k.boot k.number h)
 
+  abbrev unlost : History → Op → Type 0
+  unlost h k = T (is_lost k.clerk k.boot k.number h) → ⊥
+
+  refuted : (x : Bool) → (T x → ⊥) → not x ≡ true
+  refuted true n = absurd (n tt)
+  refuted false n = refl
+
   named-is : (k : Op) (d f : ℕ) (ns : List ℕ) → names k.clerk k.boot k.number (entry.Loss d f ns) ≡ is_one_of d f ns k
   named-is k d f ns = ap (λ x. (x && (k.boot == f)) && member k.number ns) (flip k.clerk d) ∙ ap (λ x. ((d == k.clerk) && x) && member k.number ns) (flip k.boot f)
 
@@ -153,11 +160,11 @@ module _ (base : Base) (most : ℕ) where
   kept-next-is past (p, entry.Call d f i begun cl a op) l n q =
       let e : ℕ × Entry = (p, entry.Call d f i begun cl a op) in
       let new : List Op = issued_by base (kept base past) e in
-      let fresh : Each (unlost base most (past ++ e ∷ [])) new = each-back (unlost base most (past ++ e ∷ [])) (kept base past) new (subst (Each (unlost base most (past ++ e ∷ []))) (kept-step base past e) (kept-unlost base most (past ++ e ∷ []) (legal-step base most past e l n))) in
+      let fresh : Each (unlost (past ++ e ∷ [])) new = each-back (unlost (past ++ e ∷ [])) (kept base past) new (subst (Each (unlost (past ++ e ∷ []))) (kept-step base past e) (kept-unlost base most (past ++ e ∷ []) (legal-step base most past e l n))) in
       kept-step base past e
       ∙ ap (λ x. x ++ new) q
       ∙ ap (λ x. x ++ new) (filter-alike (is_unlost past) (is_unlost (past ++ e ∷ [])) (issued base past) (each-all _ (issued base past) alike))
-      ∙ ap (λ x. filter (is_unlost (past ++ e ∷ [])) (issued base past) ++ x) (sym (all-such (is_unlost (past ++ e ∷ [])) new (each-map (unlost base most (past ++ e ∷ [])) (λ k. is_unlost (past ++ e ∷ []) k ≡ true) (λ k u. ap not u) new fresh)))
+      ∙ ap (λ x. filter (is_unlost (past ++ e ∷ [])) (issued base past) ++ x) (sym (all-such (is_unlost (past ++ e ∷ [])) new (each-map (unlost (past ++ e ∷ [])) (λ k. is_unlost (past ++ e ∷ []) k ≡ true) (λ k u. refuted (is_lost k.clerk k.boot k.number (past ++ e ∷ [])) u) new fresh)))
       ∙ sym (filter-more (is_unlost (past ++ e ∷ [])) (issued base past) new)
       ∙ ap (filter (is_unlost (past ++ e ∷ []))) (sym (issued-step base past e))
     where

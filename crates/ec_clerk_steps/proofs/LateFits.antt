@@ -17,7 +17,7 @@ use Rattle.ec_history.specs.Placing.{MayFollow}
 use Rattle.ec_history.specs.declared.entry.Answer.{Answer}
 use Rattle.ec_history.specs.declared.entry.Entry.{Entry}
 use Rattle.ec_history.specs.declared.shown.Shown.TheVariants.{Answered}
-use Rattle.ec_judge.proofs.Numbers.{issue-sorted}
+use Rattle.ec_laws.proofs.Issues.{issue-sorted}
 use Rattle.ec_laws.proofs.More.{issued-append}
 use Rattle.ec_machine_laws.proofs.Holding.{holds-front, one-update}
 use Rattle.ec_resolve.specs.declared.verdict.Verdict.{Verdict}

@@ -18,7 +18,7 @@ use Rattle.ec_log.specs.declared.state.LogState.{LogState}
 use Rattle.ec_machine_laws.specs.Picks.{IsRest}
 use Rattle.ec_machine_laws.proofs.Holding.{holds-kept}
 use Rattle.ec_coherence.proofs.Lists.{filter-alike, filter-two}
-use Rattle.ec_judge.proofs.Numbers.{issue-sorted}
+use Rattle.ec_laws.proofs.Issues.{issue-sorted}
 use Rattle.ec_clerk_steps.specs.Calls.{LosesBelow}
 use Rattle.ec_clerk_steps.proofs.Issued.{kept-of}
 

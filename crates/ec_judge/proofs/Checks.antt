@@ -30,7 +30,7 @@ use Rattle.ec_laws.proofs.Removed.{both, left, right}
 use Rattle.ec_judge.specs.declared.carried.Judge.{Judge}
 use Rattle.ec_judge.specs.Faults.{IsFirstEntry}
 use Rattle.ec_judge.specs.Carried.{Carries, IsReady, Judges}
-use Rattle.ec_judge.proofs.Numbers.{kept-sorted}
+use Rattle.ec_laws.proofs.Issues.{kept-sorted}
 use Rattle.ec_judge.proofs.Volumes.{all-same}
 
 abbrev places : History → List ℕ

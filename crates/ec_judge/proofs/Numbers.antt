@@ -1,4 +1,4 @@
--- What the numbers of a legal history's operations say: they rise, none is kept twice, and what is kept wasn't lost.
+-- What the numbers of a legal history's operations say: none is kept twice, what is kept wasn't lost, and a new one isn't covered or touched. That they rise stands in ec_laws.
 use Rattle.std.proofs.Common.{◌≡◌, refl, sym, ap, subst, ◌∙◌, arith, ◌≤◌, ◌<◌, ℕ, T, Bool, true, false, not, ◌==◌, ◌&&◌, ◌||◌, cond, map, List, [], ◌∷◌, ◌++◌, Option, Some, None, append-nil, append_assoc}
 use Rattle.std.specs.Prelude.{nat_lt, ⊤}
 use Rattle.std.specs.Ordering.{nat_cmp, is_lt}
@@ -18,7 +18,9 @@ use Rattle.ec_history.specs.Legal.{IsLegal, IsLegalNext, leaves, is_call_of_othe
 use Rattle.ec_history.specs.declared.entry.Answer.{Answer}
 use Rattle.ec_history.specs.declared.entry.Entry.{Entry}
 use Rattle.ec_history.specs.declared.entry.Entry.TheVariants as entry
-use Rattle.ec_laws.proofs.Cuts.{legal-step, throughout-append}
+use Rattle.ec_laws.proofs.Cuts.{throughout-append}
+use Rattle.ec_laws.proofs.Issues.{by-steps}
+use Rattle.ec_laws.proofs.Unlost as unlosts
 use Rattle.ec_laws.proofs.More.{kept-step, issued-step, is_lost-append, count-step}
 use Rattle.ec_laws.proofs.Numbers.{count, IsUpTo, issued-up_to, kept-up_to, kept-each, throughout-issued, covers-up_to, each-append, each-map}
 use Rattle.ec_laws.proofs.Removed.{both, left, right}
@@ -81,16 +83,6 @@ not-one c b m n k u l = go (is_one_of c b (n ∷ []) k) refl
         let parts = one-parts c b n k e in
         absurd (omega (arith, u parts.0, parts.1, l))
 
-any-up_to : (c b m n : ℕ) (ks : List Op) → Each (IsUpTo c b m) ks → T (list_any (is_one_of c b (n ∷ [])) ks) → n ≤ m
-any-up_to c b m n [] u t = absurd t
-any-up_to c b m n (k ∷ ks) u t = go (is_one_of c b (n ∷ []) k) refl t (any-up_to c b m n ks u.1)
-  where
-    go : (x : Bool) → is_one_of c b (n ∷ []) k ≡ x → T (x || list_any (is_one_of c b (n ∷ [])) ks) → (T (list_any (is_one_of c b (n ∷ [])) ks) → n ≤ m) → n ≤ m
-    go false e r f = f r
-    go true e r f =
-        let parts = one-parts c b n k e in
-        omega (arith, u.0 parts.0, parts.1)
-
 abbrev pub only : List Op → Op → Type 0
 only ks k = filter (is_one_of k.clerk k.boot (k.number ∷ [])) ks ≡ k ∷ []
 
@@ -140,14 +132,6 @@ only-without c b ns ks h =
     ∙ ap (λ x. cond x (k ∷ []) []) e) ks h
 
 module _ (base : Base) (most : ℕ) where
-  module _ (Q : History → Type 0) (more : (past : History) (e : ℕ × Entry) → IsLegal base most past → IsLegalNext base most past e → Q past → Q (past ++ e ∷ [])) where
-    steps-from : (past h : History) → IsLegal base most past → Q past → Throughout (IsLegalNext base most) past h → Q (past ++ h)
-    steps-from past [] l q t = subst Q (sym (append-nil past)) q
-    steps-from past (e ∷ h) l q t = subst Q (append_assoc past (e ∷ []) h) (steps-from (past ++ e ∷ []) h (legal-step base most past e l t.0) (more past e l t.0 q) t.1)
-
-    by-steps : Q [] → (h : History) → IsLegal base most h → Q h
-    by-steps q h l = steps-from [] h tt q l
-
   -- a new operation is behind those of its start
   new-number : (past : History) (p c b l g : ℕ) (cl : _) (a : Answer) (n : ℕ) → IsLegalNext base most past (p, entry.Call c b l g cl a (Some n)) → count c b past < n
   new-number past p c b l g cl a n k = omega (arith, k.number)
@@ -167,180 +151,19 @@ module _ (base : Base) (most : ℕ) where
           only-more (kept base past) j (count c b past) h (kept-up_to base most c b past l) (new-number past p c b li g cl a n k)
 
   pub kept-only : (h : History) → IsLegal base most h → Each (only (kept base h)) (kept base h)
-  kept-only = by-steps (λ h. Each (only (kept base h)) (kept base h)) (λ past e l k h. subst (λ ks. Each (only ks) ks) (sym (kept-step base past e)) (only-next past e l k h)) tt
-
-  -- The numbers of a start's operations rise.
-
-  module _ (c b : ℕ) where
-    behind-all : (m n : ℕ) (ks : List Op) → Each (IsUpTo c b m) ks → m < n → is_behind n (of_issue c b ks) ≡ true
-    behind-all m n [] u l = refl
-    behind-all m n (k ∷ ks) u l = go (of_start c b k) refl (behind-all m n ks u.1 l)
-      where
-        lower : (x : ℕ) → x ≤ m → nat_lt x n ≡ true
-        lower x f = grind (arith, nat_tests, f, l)
-
-        go : (x : Bool) → of_start c b k ≡ x → is_behind n (of_issue c b ks) ≡ true → is_behind n (map (λ j. (j.number, j.update)) (cond x (k ∷ filter (of_start c b) ks) (filter (of_start c b) ks))) ≡ true
-        go true e r = ap (λ z. z && is_behind n (of_issue c b ks)) (lower k.number (u.0 e)) ∙ r
-        go false e r = r
-
-    issue-more : (ks : List Op) (j : Op) (m : ℕ) → T (is_sorted nat_cmp (of_issue c b ks)) → Each (IsUpTo c b m) ks → (of_start c b j ≡ true → m < j.number) → T (is_sorted nat_cmp (of_issue c b (ks ++ j ∷ [])))
-    issue-more ks j m s u l = subst (λ x. T (is_sorted nat_cmp x)) (sym (split ks)) (go (of_start c b j) refl)
-      where
-        pair : Op → ℕ × Update
-        pair k = (k.number, k.update)
-
-        map-append : (xs ys : List Op) → map {B = ℕ × Update} (λ k. (k.number, k.update)) (xs ++ ys) ≡ map (λ k. (k.number, k.update)) xs ++ map (λ k. (k.number, k.update)) ys
-        map-append [] ys = refl
-        map-append (x ∷ xs) ys = ap (λ z. (x.number, x.update) ∷ z) (map-append xs ys)
-
-        split : (xs : List Op) → of_issue c b (xs ++ j ∷ []) ≡ of_issue c b xs ++ of_issue c b (j ∷ [])
-        split xs = ap (map (λ k. (k.number, k.update))) (filter-append (of_start c b) xs (j ∷ [])) ∙ map-append (filter (of_start c b) xs) (filter (of_start c b) (j ∷ []))
-
-        go : (x : Bool) → of_start c b j ≡ x → T (is_sorted nat_cmp (of_issue c b ks ++ map (λ k. (k.number, k.update)) (cond x (j ∷ []) [])))
-        go true e = sorted_more (of_issue c b ks) j.number j.update s (behind-all m j.number ks u (l e))
-        go false e = subst (λ x. T (is_sorted nat_cmp x)) (sym (append-nil (of_issue c b ks))) s
-
-    issue-next : (past : History) (e : ℕ × Entry) → IsLegal base most past → IsLegalNext base most past e → T (is_sorted nat_cmp (of_issue c b (issued base past))) → T (is_sorted nat_cmp (of_issue c b (issued base past ++ issued_by base (kept base past) e)))
-    issue-next past (p, entry.Loss d f ns) l k h = subst (λ ks. T (is_sorted nat_cmp (of_issue c b ks))) (sym (append-nil (issued base past))) h
-    issue-next past (p, entry.Call d f li g cl a None) l k h = subst (λ ks. T (is_sorted nat_cmp (of_issue c b ks))) (sym (append-nil (issued base past))) h
-    issue-next past (p, entry.Call d f li g cl a (Some n)) l k h = go ((outcome base (kept base past) p cl).update)
-      where
-        own : same_start c b d f ≡ true → count c b past < n
-        own e =
-            let parts = and_parts (c == d) (b == f) e in
-            let same : count c b past ≡ count d f past = ap (λ x. count x b past) (eqb-true c d parts.0) ∙ ap (λ x. count d x past) (eqb-true b f parts.1) in
-            omega (arith, k.number, same)
-
-        go : (u : Option Update) → T (is_sorted nat_cmp (of_issue c b (issued base past ++ elim u [ None ↦ [] | Some w ↦ record { clerk = d; boot = f; number = n; place = p; update = w } ∷ [] ])))
-        go None = subst (λ ks. T (is_sorted nat_cmp (of_issue c b ks))) (sym (append-nil (issued base past))) h
-        go (Some w) = issue-more (issued base past) (record { clerk = d; boot = f; number = n; place = p; update = w }) (count c b past) h (issued-up_to base most c b past l) own
-
-    pub issue-sorted : (h : History) → IsLegal base most h → T (is_sorted nat_cmp (of_issue c b (issued base h)))
-    issue-sorted = by-steps (λ h. T (is_sorted nat_cmp (of_issue c b (issued base h)))) (λ past e l k h. subst (λ ks. T (is_sorted nat_cmp (of_issue c b ks))) (sym (issued-step base past e)) (issue-next past e l k h)) tt
-
-    -- The same of what is kept.
-
-    abbrev pair-of : Op → ℕ × Update
-    pair-of k = (k.number, k.update)
-
-    below-filter : (m : ℕ) (q : Op → Bool) (ks : List Op) → T (below_all nat_cmp m (of_issue c b ks)) → T (below_all nat_cmp m (of_issue c b (filter q ks)))
-    below-filter m q [] t = t
-    below-filter m q (k ∷ ks) t = go (q k) (of_start c b k) refl t (below-filter m q ks)
-      where
-        own : List Op
-        own = filter (of_start c b) ks
-
-        left-own : List Op
-        left-own = filter (of_start c b) (filter q ks)
-
-        go : (x y : Bool) → of_start c b k ≡ y → T (below_all nat_cmp m (map pair-of (cond y (k ∷ own) own))) → (T (below_all nat_cmp m (map pair-of own)) → T (below_all nat_cmp m (map pair-of left-own))) → T (below_all nat_cmp m (map pair-of (filter (of_start c b) (cond x (k ∷ filter q ks) (filter q ks)))))
-        go true true d u f = subst (λ z. T (below_all nat_cmp m (map pair-of (cond z (k ∷ left-own) left-own)))) (sym d) (both (is_lt (nat_cmp m k.number)) _ (first _ _ u) (f (second _ _ u)))
-        go true false d u f = subst (λ z. T (below_all nat_cmp m (map pair-of (cond z (k ∷ left-own) left-own)))) (sym d) (f u)
-        go false true d u f = f (second _ _ u)
-        go false false d u f = f u
-
-    sorted-filter : (q : Op → Bool) (ks : List Op) → T (is_sorted nat_cmp (of_issue c b ks)) → T (is_sorted nat_cmp (of_issue c b (filter q ks)))
-    sorted-filter q [] t = t
-    sorted-filter q (k ∷ ks) t = go (q k) (of_start c b k) refl t (sorted-filter q ks)
-      where
-        own : List Op
-        own = filter (of_start c b) ks
-
-        left-own : List Op
-        left-own = filter (of_start c b) (filter q ks)
-
-        go : (x y : Bool) → of_start c b k ≡ y → T (is_sorted nat_cmp (map pair-of (cond y (k ∷ own) own))) → (T (is_sorted nat_cmp (map pair-of own)) → T (is_sorted nat_cmp (map pair-of left-own))) → T (is_sorted nat_cmp (map pair-of (filter (of_start c b) (cond x (k ∷ filter q ks) (filter q ks)))))
-        go true true d u f = subst (λ z. T (is_sorted nat_cmp (map pair-of (cond z (k ∷ left-own) left-own)))) (sym d) (both (below_all nat_cmp k.number (map pair-of left-own)) _ (below-filter k.number q ks (first _ _ u)) (f (second _ _ u)))
-        go true false d u f = subst (λ z. T (is_sorted nat_cmp (map pair-of (cond z (k ∷ left-own) left-own)))) (sym d) (f u)
-        go false true d u f = f (second _ _ u)
-        go false false d u f = f u
-
-    kept-sorted-next : (past : History) (e : ℕ × Entry) → IsLegal base most past → IsLegalNext base most past e → T (is_sorted nat_cmp (of_issue c b (kept base past))) → T (is_sorted nat_cmp (of_issue c b (kept_next base (kept base past) e)))
-    kept-sorted-next past (p, entry.Loss d f ns) l k h = sorted-filter (λ j. not (is_one_of d f ns j)) (kept base past) h
-    kept-sorted-next past (p, entry.Call d f li g cl a None) l k h = subst (λ ks. T (is_sorted nat_cmp (of_issue c b ks))) (sym (append-nil (kept base past))) h
-    kept-sorted-next past (p, entry.Call d f li g cl a (Some n)) l k h = go ((outcome base (kept base past) p cl).update)
-      where
-        own : same_start c b d f ≡ true → count c b past < n
-        own e =
-            let parts = and_parts (c == d) (b == f) e in
-            let same : count c b past ≡ count d f past = ap (λ x. count x b past) (eqb-true c d parts.0) ∙ ap (λ x. count d x past) (eqb-true b f parts.1) in
-            omega (arith, k.number, same)
-
-        go : (u : Option Update) → T (is_sorted nat_cmp (of_issue c b (kept base past ++ elim u [ None ↦ [] | Some w ↦ record { clerk = d; boot = f; number = n; place = p; update = w } ∷ [] ])))
-        go None = subst (λ ks. T (is_sorted nat_cmp (of_issue c b ks))) (sym (append-nil (kept base past))) h
-        go (Some w) = issue-more (kept base past) (record { clerk = d; boot = f; number = n; place = p; update = w }) (count c b past) h (kept-up_to base most c b past l) own
-
-    pub kept-sorted : (h : History) → IsLegal base most h → T (is_sorted nat_cmp (of_issue c b (kept base h)))
-    kept-sorted = by-steps (λ h. T (is_sorted nat_cmp (of_issue c b (kept base h)))) (λ past e l k h. subst (λ ks. T (is_sorted nat_cmp (of_issue c b ks))) (sym (kept-step base past e)) (kept-sorted-next past e l k h)) tt
-
-    -- What was lost has a number of the start.
-
-    named-up_to : (past : History) (e : ℕ × Entry) (n : ℕ) → IsLegal base most past → IsLegalNext base most past e → T (names c b n e.1) → n ≤ count c b past
-    named-up_to past (p, entry.Call d f li g cl a op) n l k t = absurd t
-    named-up_to past (p, entry.Loss d f ns) n l k t =
-        let own = and_parts (c == d) (b == f) (is-true _ (left (same_start c b d f) (member n ns) t)) in
-        let there : T (list_any (is_one_of d f (n ∷ [])) (kept base past)) = all-member (λ m. list_any (is_one_of d f (m ∷ [])) (kept base past)) ns n k.kept_so_far (right (same_start c b d f) (member n ns) t) in
-        any-up_to c b (count c b past) n (kept base past) (kept-up_to base most c b past l)
-        (subst (λ x. T (list_any (is_one_of x b (n ∷ [])) (kept base past))) (sym (eqb-true c d own.0)) (subst (λ x. T (list_any (is_one_of d x (n ∷ [])) (kept base past))) (sym (eqb-true b f own.1)) there))
-
-    lost-up_to : (h : History) → IsLegal base most h → (n : ℕ) → T (is_lost c b n h) → n ≤ count c b h
-    lost-up_to = by-steps (λ h. (n : ℕ) → T (is_lost c b n h) → n ≤ count c b h) next (λ n t. absurd t)
-      where
-        next : (past : History) (e : ℕ × Entry) → IsLegal base most past → IsLegalNext base most past e → ((n : ℕ) → T (is_lost c b n past) → n ≤ count c b past) → (n : ℕ) → T (is_lost c b n (past ++ e ∷ [])) → n ≤ count c b (past ++ e ∷ [])
-        next past e l k q n t = go (is_lost c b n past) (names c b n e.1) refl refl (subst T (is_lost-append c b n past (e ∷ [])) t)
-          where
-            go : (x y : Bool) → is_lost c b n past ≡ x → names c b n e.1 ≡ y → T (x || (y || false)) → n ≤ count c b (past ++ e ∷ [])
-            go true y d f r = omega (arith, q n (holds d), count-step c b past e)
-            go false true d f r = omega (arith, named-up_to past e n l k (holds f), count-step c b past e)
-            go false false d f r = absurd r
+  kept-only = by-steps base most (λ h. Each (only (kept base h)) (kept base h)) (λ past e l k h. subst (λ ks. Each (only ks) ks) (sym (kept-step base past e)) (only-next past e l k h)) tt
 
   -- What is kept wasn't lost.
 
   abbrev pub unlost : History → Op → Type 0
   unlost h k = is_lost k.clerk k.boot k.number h ≡ false
 
-  named-not : (p c b : ℕ) (ns : List ℕ) (k : Op) → not (is_one_of c b ns k) ≡ true → names k.clerk k.boot k.number (entry.Loss c b ns) ≡ false
-  named-not p c b ns k e = go (is_one_of c b ns k) refl e
-    where
-      turn : (names k.clerk k.boot k.number (entry.Loss c b ns)) ≡ is_one_of c b ns k
-      turn = ap (λ x. (x && (k.boot == b)) && member k.number ns) (flip k.clerk c) ∙ ap (λ x. ((c == k.clerk) && x) && member k.number ns) (flip k.boot b)
-        where
-          flip : (x y : ℕ) → (x == y) ≡ (y == x)
-          flip x y = grind (arith, nat_tests)
-
-      go : (x : Bool) → is_one_of c b ns k ≡ x → not x ≡ true → names k.clerk k.boot k.number (entry.Loss c b ns) ≡ false
-      go false d r = turn ∙ d
-      go true d r = absurd (true≢false (sym r))
-
-  unlost-more : (past : History) (e : ℕ × Entry) (k : Op) → unlost past k → names k.clerk k.boot k.number e.1 ≡ false → unlost (past ++ e ∷ []) k
-  unlost-more past e k h f = is_lost-append k.clerk k.boot k.number past (e ∷ []) ∙ ap (λ x. x || (names k.clerk k.boot k.number e.1 || false)) h ∙ ap (λ x. x || false) f
-
-  unlost-next : (past : History) (e : ℕ × Entry) → IsLegal base most past → IsLegalNext base most past e → Each (unlost past) (kept base past) → Each (unlost (past ++ e ∷ [])) (kept_next base (kept base past) e)
-  unlost-next past (p, entry.Loss c b ns) l k h =
-      each-kept (unlost past) (unlost (past ++ (p, entry.Loss c b ns) ∷ [])) (λ k. not (is_one_of c b ns k)) (λ k e o. unlost-more past (p, entry.Loss c b ns) k o (named-not p c b ns k e)) (kept base past) h
-  unlost-next past (p, entry.Call c b li g cl a op) l k h =
-      each-append (unlost longer) (kept base past) (issued_by base (kept base past) (p, entry.Call c b li g cl a op)) (each-map (unlost past) (unlost longer) (λ k o. unlost-more past (p, entry.Call c b li g cl a op) k o refl) (kept base past) h) (new op k)
-    where
-      longer : History
-      longer = past ++ (p, entry.Call c b li g cl a op) ∷ []
-
-      new : (op : Option ℕ) → IsLegalNext base most past (p, entry.Call c b li g cl a op) → Each (unlost (past ++ (p, entry.Call c b li g cl a op) ∷ [])) (issued_by base (kept base past) (p, entry.Call c b li g cl a op))
-      new None k = tt
-      new (Some n) k = go ((outcome base (kept base past) p cl).update)
-        where
-          fresh : is_lost c b n past ≡ false
-          fresh = at (is_lost c b n past) refl
-            where
-              at : (x : Bool) → is_lost c b n past ≡ x → x ≡ false
-              at false e = refl
-              at true e = absurd (omega (arith, lost-up_to c b past l n (holds e), k.number))
-
-          go : (u : Option Update) → Each (unlost (past ++ (p, entry.Call c b li g cl a (Some n)) ∷ [])) (elim u [ None ↦ [] | Some w ↦ record { clerk = c; boot = b; number = n; place = p; update = w } ∷ [] ])
-          go None = tt
-          go (Some w) = (unlost-more past (p, entry.Call c b li g cl a (Some n)) (record { clerk = c; boot = b; number = n; place = p; update = w }) fresh refl, tt)
-
   pub kept-unlost : (h : History) → IsLegal base most h → Each (unlost h) (kept base h)
-  kept-unlost = by-steps (λ h. Each (unlost h) (kept base h)) (λ past e l k h. subst (Each (unlost (past ++ e ∷ []))) (sym (kept-step base past e)) (unlost-next past e l k h)) tt
+  kept-unlost h l = each-map (λ k. T (is_lost k.clerk k.boot k.number h) → ⊥) (unlost h) (λ k n. go (is_lost k.clerk k.boot k.number h) n) (kept base h) (unlosts.kept-unlost base most h l)
+    where
+      go : (x : Bool) → (T x → ⊥) → x ≡ false
+      go true n = absurd (n tt)
+      go false n = refl
 
   -- A new operation isn't covered or touched.
 

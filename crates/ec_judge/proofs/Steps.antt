@@ -45,7 +45,8 @@ use Rattle.ec_judge.specs.Asks.{asked_on, asked_by_call}
 use Rattle.ec_judge.specs.Carried as Carried
 use Rattle.ec_judge.specs.Carried.{op_of, ops_of, issue_of, issues_in, is_among, is_start, count_of, owed_of, pending_of, is_covered, IsUpward, IsStart, IsFlagged, IsUncovered, IsUntouched, IsFirm, Carries, touched_next, is_touched, AreBelow, count_next, keeps_of, IsFitting, are_kept, are_uncovered, are_closed, BreaksMarks, KeepsMarks}
 use Rattle.ec_pending.specs.Pending.{numbers_in, is_in, is_asked, taken, rest, numbered, issues_of}
-use Rattle.ec_judge.proofs.Numbers.{each-kept, only, unlost, kept-only, kept-unlost, issue-sorted, new-uncovered, new-untouched}
+use Rattle.ec_laws.proofs.Issues.{issue-sorted}
+use Rattle.ec_judge.proofs.Numbers.{each-kept, only, unlost, kept-only, kept-unlost, new-uncovered, new-untouched}
 use Rattle.ec_judge.proofs.Flags.{flag-step, through-more, through-front, through-last, touched-one, covered-one}
 use Rattle.ec_judge.proofs.Asked.{asks-same, asked-same, issue-same}
 use Rattle.ec_judge.proofs.Pending.{Rising, rising-from, or-none, pending-own, upward-own, pending-next, taken-closure, in-append}

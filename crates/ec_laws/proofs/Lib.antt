@@ -77,3 +77,4 @@ pub mod Placed
 pub mod Grown
 pub mod LateIds
 pub mod Reading
+pub mod Issues
