@@ -105,6 +105,7 @@ fn step_over(
     }
 }
 
+// What stood there is dropped by one call.
 fn put<T: Drop>(place: &mut T, value: T)
     ensures { place.new ≡ value }
 {
