@@ -31,7 +31,10 @@ below-more : (m : ℕ) (xs : Issued) (y : ℕ × Update) → T (below_all nat_cm
 below-more m [] y h l = both _ _ (is-lower m y.0 l) tt
 below-more m (x ∷ xs) y h l = both _ _ (first _ _ h) (below-more m xs y (second _ _ h) l)
 
-sorted-more : (xs : Issued) (y : ℕ × Update) → T (is_sorted nat_cmp xs) → Each (λ x. x.0 < y.0) xs → T (is_sorted nat_cmp (xs ++ y ∷ []))
+abbrev IsLower : ℕ → ℕ × Update → Type 0
+IsLower n x = x.0 < n
+
+sorted-more : (xs : Issued) (y : ℕ × Update) → T (is_sorted nat_cmp xs) → Each (IsLower y.0) xs → T (is_sorted nat_cmp (xs ++ y ∷ []))
 sorted-more [] y s h = tt
 sorted-more (x ∷ xs) y s h = both _ _ (below-more x.0 xs y (first _ _ s) h.0) (sorted-more xs y (second _ _ s) h.1)
 
@@ -49,11 +52,11 @@ module _ (base : Base) (most : ℕ) where
   new-number past p c b l g cl a n k = omega (arith, k.number)
 
   module _ (c b : ℕ) where
-    all-lower : (m n : ℕ) (ks : List Op) → Each (IsUpTo c b m) ks → m < n → Each (λ x. x.0 < n) (of_issue c b ks)
+    all-lower : (m n : ℕ) (ks : List Op) → Each (IsUpTo c b m) ks → m < n → Each (IsLower n) (of_issue c b ks)
     all-lower m n [] u l = tt
     all-lower m n (k ∷ ks) u l = go (of_start c b k) refl (all-lower m n ks u.1 l)
       where
-        go : (x : Bool) → of_start c b k ≡ x → Each (λ x. x.0 < n) (of_issue c b ks) → Each (λ x. x.0 < n) (map (λ j. (j.number, j.update)) (cond x (k ∷ filter (of_start c b) ks) (filter (of_start c b) ks)))
+        go : (x : Bool) → of_start c b k ≡ x → Each (IsLower n) (of_issue c b ks) → Each (IsLower n) (map (λ j. (j.number, j.update)) (cond x (k ∷ filter (of_start c b) ks) (filter (of_start c b) ks)))
         go true e r = (omega (arith, u.0 e, l), r)
         go false e r = r
 
