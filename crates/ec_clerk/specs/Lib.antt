@@ -1,3 +1,4 @@
 pub mod Owing
 pub mod Prompt
+pub mod Resting
 pub mod Seen
