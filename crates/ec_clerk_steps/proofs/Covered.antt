@@ -4,11 +4,11 @@ use Rattle.std.specs.Prelude.{nat_le, slice_get}
 use Rattle.std.specs.List.{filter, list_all}
 use Rattle.std.proofs.lemmas.Bool.Decides.{nat_tests}
 use Rattle.ec_base.specs.Tables.{or_else}
-use Rattle.ec_volume.specs.Update.{has_operand, member, root}
+use Rattle.ec_volume.specs.Update.{has_operand, ids_of, member, root}
 use Rattle.ec_volume.specs.Volume.{Images, after}
 use Rattle.ec_volume.specs.declared.update.Update.{Update}
 use Rattle.ec_plain.specs.Walk.{Path, Reached, At, Not, walk}
-use Rattle.ec_plain.specs.Plain.{plain, answers, on_reached, refuses}
+use Rattle.ec_plain.specs.Plain.{plain, answers, on_reached, refuses, with_names}
 use Rattle.ec_plain.specs.declared.call.Call.{Call}
 use Rattle.ec_plain.specs.declared.call.Call.TheVariants as call
 use Rattle.ec_plain.specs.declared.call.Outcome.{Outcome}
