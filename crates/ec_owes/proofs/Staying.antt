@@ -1,5 +1,5 @@
 -- Pairs that stay, where spans change.
-use Rattle.std.proofs.Common.{◌≡◌, refl, sym, ap, subst, ◌∙◌, arith, ◌<◌, ◌≤◌, ◌+◌, ℕ, suc, Bool, true, false, not, cond, List, [], ◌∷◌, ◌++◌, length, Option, Some, None}
+use Rattle.std.proofs.Common.{◌≡◌, refl, sym, ap, subst, ◌∙◌, arith, ◌<◌, ◌≤◌, ◌+◌, ℕ, zero, suc, Bool, true, false, not, cond, List, [], ◌∷◌, ◌++◌, length, take, get_or, Option, Some, None}
 use Rattle.std.specs.Prelude.{◌==◌, ◌&&◌, ◌||◌, is_some, nat_le, nat_lt}
 use Rattle.std.specs.List.{filter}
 use Rattle.std.proofs.lemmas.Bool.{eqb-true}
@@ -186,3 +186,29 @@ module _ (objs : List ℕ) (end : ℕ) (old new : Spans) (is : AreEnded objs end
 pub none-stays : (spans : Spans) (qs now : Pairs) → (length qs == 0) ≡ true → staying spans 0 qs ≡ now → now ≡ []
 none-stays spans [] now e is = sym is
 none-stays spans (q ∷ qs) now e is = absurd (omega (arith, eqb-true (length (q ∷ qs)) 0 e))
+
+-- The last pair goes, which doesn't stay.
+
+pub trimmed-in : (spans : Spans) (i n : ℕ) (qs : Pairs) → AreIn spans i qs → AreIn spans i (take n qs)
+trimmed-in spans i zero [] h = tt
+trimmed-in spans i (suc n) [] h = tt
+trimmed-in spans i zero (q ∷ qs) h = tt
+trimmed-in spans i (suc n) (q ∷ qs) h = (h.0, trimmed-in spans (suc i) n qs h.1)
+
+pub trimmed-same : (spans : Spans) (i n : ℕ) (qs : Pairs) (q : ℕ × ℕ) → n + 1 ≡ length qs → q ≡ get_or qs n q → nat_le (span q.1 spans).0 (i + n) ≡ false → staying spans i (take n qs) ≡ staying spans i qs
+trimmed-same spans i n [] q l is e = absurd (omega (arith, l))
+trimmed-same spans i zero (r ∷ []) q l is e = sym (ap (λ b. cond b (r ∷ []) []) (subst (λ (x : ℕ × ℕ). nat_le (span x.1 spans).0 i ≡ false) is (subst (λ k. nat_le (span q.1 spans).0 k ≡ false) (none i) e)))
+  where
+    none : (i : ℕ) → i + 0 ≡ i
+    none i = omega arith
+trimmed-same spans i zero (r ∷ s ∷ qs) q l is e = absurd (omega (arith, l))
+trimmed-same spans i (suc n) (r ∷ qs) q l is e =
+    ap (λ t. cond (nat_le (span r.1 spans).0 i) (r ∷ t) t) (trimmed-same spans (suc i) n qs q (omega (arith, l)) is (subst (λ k. nat_le (span q.1 spans).0 k ≡ false) (next i n) e))
+  where
+    next : (i n : ℕ) → i + suc n ≡ suc i + n
+    next i n = omega arith
+
+pub trimmed-count : (n : ℕ) (qs : Pairs) → n + 1 ≡ length qs → n ≡ length (take n qs)
+trimmed-count n [] l = absurd (omega (arith, l))
+trimmed-count zero (q ∷ qs) l = refl
+trimmed-count (suc n) (q ∷ qs) l = ap suc (trimmed-count n qs (omega (arith, l)))

@@ -123,6 +123,7 @@ impl Owes {
         }
         let end = self.pairs.len();
         take_out(&mut self.spans, objs, end);
+        trim(&mut self.pairs, &self.spans);
     }
 
     // All are taken out.
@@ -173,6 +174,22 @@ fn found(
         at += 1;
     }
     Ok(found)
+}
+
+// The last pairs that were taken out go.
+fn trim(pairs: &mut Vec<(OpNo, ObjId)>, spans: &ObjMap<Span>)
+    requires { AreIn spans.now 0 pairs.old.items }
+    ensures within { AreIn spans.now 0 pairs.new.items }
+    ensures same { staying spans.now 0 pairs.new.items ≡ staying spans.now 0 pairs.old.items }
+{
+    let mut end = pairs.len();
+    'back: while end > 0 {
+        if is_staying(spans, pairs[end - 1].1, end - 1) {
+            return;
+        }
+        end -= 1;
+        pairs.truncate(end);
+    }
 }
 
 // Whether the object is one of these, and the pair on it stays at the place.

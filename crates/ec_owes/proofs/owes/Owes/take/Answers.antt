@@ -4,11 +4,11 @@ use Rattle.ec_owes.specs.Owes.{on_none}
 use Rattle.ec_owes.proofs.Staying.{none-stays, take-in, take-view}
 use Rattle.ec_owes.proofs.owes.Owes.take.Goals as goal
 
-pub invariant_of-self : goal.invariant_of-self
-invariant_of-self c = take-in c.args.objs.now c.len-end.result c.self.inside.spans c.take_out.new.spans c.take_out.ensures c.self.inside.pairs.items (c.len-end.ensures ∙ c.self.inside.pairs.ok.0) c.self.invariant
+pub trim-requires : goal.trim-requires
+trim-requires c = take-in c.args.objs.now c.len-end.result c.self.inside.spans c.take_out.new.spans c.take_out.ensures c.self.inside.pairs.items (c.len-end.ensures ∙ c.self.inside.pairs.ok.0) c.self.invariant
 
 pub returns : goal.returns
-returns c = take-view c.args.objs.now c.len-end.result c.self.inside.spans c.take_out.new.spans c.take_out.ensures c.self.inside.pairs.items (c.len-end.ensures ∙ c.self.inside.pairs.ok.0) c.self.invariant ∙ ap (on_none c.args.objs.now) c.self.view_is
+returns c = c.trim.ensures.same ∙ take-view c.args.objs.now c.len-end.result c.self.inside.spans c.take_out.new.spans c.take_out.ensures c.self.inside.pairs.items (c.len-end.ensures ∙ c.self.inside.pairs.ok.0) c.self.invariant ∙ ap (on_none c.args.objs.now) c.self.view_is
 
 pub returns-then-is_empty : goal.returns-then-is_empty
 returns-then-is_empty c =
