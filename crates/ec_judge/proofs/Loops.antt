@@ -13,30 +13,16 @@ use Rattle.ec_volume.specs.declared.update.Update.{Update}
 use Rattle.ec_history.specs.History.{Op, Owed, updates, pairs_of}
 use Rattle.ec_history.specs.Legal.{is_closed}
 use Rattle.ec_laws.proofs.Removed.{left, right}
+use Rattle.ec_outside.proofs.Known.{any-either, any-same}
 use Rattle.ec_judge.specs.declared.carried.Kept.{Kept}
 use Rattle.ec_judge.proofs.Volumes.{fits-more, after-more, unfit-not}
 use Rattle.ec_judge.specs.Carried.{op_of, ops_of, IsFront}
 
 -- Two lists with a common number.
 
-pub any-either : (p q : ℕ → Bool) (xs : List ℕ) → list_any (λ x. p x || q x) xs ≡ (list_any p xs || list_any q xs)
-any-either p q [] = refl
-any-either p q (x ∷ xs) = ap (λ r. (p x || q x) || r) (any-either p q xs) ∙ go (p x) (q x) (list_any p xs) (list_any q xs)
-  where
-    go : (a b c d : Bool) → ((a || b) || (c || d)) ≡ ((a || c) || (b || d))
-    go true b c d = refl
-    go false true true d = refl
-    go false true false d = refl
-    go false false true d = refl
-    go false false false d = refl
-
 any-none : (xs : List ℕ) → false ≡ list_any (λ x. false) xs
 any-none [] = refl
 any-none (x ∷ xs) = any-none xs
-
-pub any-same : (p q : ℕ → Bool) → ((x : ℕ) → p x ≡ q x) → (xs : List ℕ) → list_any p xs ≡ list_any q xs
-any-same p q h [] = refl
-any-same p q h (x ∷ xs) = ap (λ b. b || list_any p xs) (h x) ∙ ap (λ b. q x || b) (any-same p q h xs)
 
 flip : (x y : ℕ) → (x == y) ≡ (y == x)
 flip x y = grind (arith, nat_tests)

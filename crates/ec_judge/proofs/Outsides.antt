@@ -13,36 +13,12 @@ use Rattle.ec_history.specs.History.{Op}
 use Rattle.ec_history.specs.Legal.{is_closed}
 use Rattle.ec_judge.specs.declared.carried.Kept.{Kept}
 use Rattle.ec_judge.specs.Carried.{op_of, ops_of}
-use Rattle.ec_judge.specs.Outside.{is_after}
-use Rattle.ec_judge.proofs.Loops.{any-either, any-same, back-more}
-
-and-true : (b : Bool) → (b && true) ≡ b
-and-true true = refl
-and-true false = refl
+use Rattle.ec_outside.specs.Outside.{is_after}
+use Rattle.ec_judge.proofs.Loops.{back-more}
 
 and-false : (b : Bool) → (b && false) ≡ false
 and-false true = refl
 and-false false = refl
-
--- One more operation outside.
-
-known-more : (u v : Update) (old new : Table (Unit {0})) → ((o : ℕ) → is_some (at o new) ≡ (member o (operands v) || is_some (at o old))) → list_any (λ o. is_some (at o new)) (operands u) ≡ (share u v || list_any (λ o. is_some (at o old)) (operands u))
-known-more u v old new h = any-same (λ o. is_some (at o new)) (λ o. member o (operands v) || is_some (at o old)) h (operands u) ∙ any-either (λ o. member o (operands v)) (λ o. is_some (at o old)) (operands u)
-
-pub overwrite-more : (u v : Update) (objs objs' others : Table (Unit {0})) → is_overwrite v ≡ true → ((o : ℕ) → is_some (at o objs') ≡ (member o (operands v) || is_some (at o objs))) → is_after objs' others u ≡ (before u v || is_after objs others u)
-overwrite-more u v objs objs' others e h = go (is_overwrite u)
-  where
-    go : (b : Bool) → list_any (λ o. is_some (at o (cond b others objs'))) (operands u) ≡ ((share u v && not (b && is_overwrite v)) || list_any (λ o. is_some (at o (cond b others objs))) (operands u))
-    go true = sym (ap (λ z. (share u v && not z) || list_any (λ o. is_some (at o others)) (operands u)) e ∙ ap (λ z. z || list_any (λ o. is_some (at o others)) (operands u)) (and-false (share u v)))
-    go false = known-more u v objs objs' h ∙ sym (ap (λ z. z || list_any (λ o. is_some (at o objs)) (operands u)) (and-true (share u v)))
-
-pub other-more : (u v : Update) (objs objs' others others' : Table (Unit {0})) → is_overwrite v ≡ false → ((o : ℕ) → is_some (at o objs') ≡ (member o (operands v) || is_some (at o objs))) → ((o : ℕ) → is_some (at o others') ≡ (member o (operands v) || is_some (at o others)))
-    → is_after objs' others' u ≡ (before u v || is_after objs others u)
-other-more u v objs objs' others others' e h k = go (is_overwrite u)
-  where
-    go : (b : Bool) → list_any (λ o. is_some (at o (cond b others' objs'))) (operands u) ≡ ((share u v && not (b && is_overwrite v)) || list_any (λ o. is_some (at o (cond b others objs))) (operands u))
-    go true = known-more u v others others' k ∙ sym (ap (λ z. (share u v && not z) || list_any (λ o. is_some (at o others)) (operands u)) e ∙ ap (λ z. z || list_any (λ o. is_some (at o others)) (operands u)) (and-true (share u v)))
-    go false = known-more u v objs objs' h ∙ sym (ap (λ z. z || list_any (λ o. is_some (at o objs)) (operands u)) (and-true (share u v)))
 
 any-nothing : (ts : Table (Unit {0})) (os : List ℕ) → ts ≡ [] → list_any (λ o. is_some (at o ts)) os ≡ false
 any-nothing ts [] e = refl

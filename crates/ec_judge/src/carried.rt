@@ -3,7 +3,7 @@ use crate::starts::Starts;
 use ec_base::{ClerkId, ObjId, OpNo, SortedMap};
 use ec_overlay::Overlay;
 use ec_owes::Owes;
-use ec_pending::Pending;
+use ec_pending::Deferred;
 use ec_volume::Update;
 use std::alloc::Global;
 
@@ -50,7 +50,7 @@ pub struct Start {
     /// Its lost operations that are to be reported, each with one of its operands.
     pub owed: Owes,
     /// How many operations its entries had, and those that aren't covered, the lost ones too.
-    pub pending: Pending,
+    pub pending: Deferred,
 }
 
 /// The volume behind the kept operations. Below it lies the one behind the first so many of them; a

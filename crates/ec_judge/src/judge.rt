@@ -137,11 +137,9 @@ impl Judge {
     {
         let at = self.starts.index_of(clerk, boot)?;
         let from = tail::first_of(&self.kept, clerk, boot, ops);
-        let start = self.starts.at(at);
-        let broken = losses::broken(
-            self.alloc,
+        let broken = self.starts.broken_at(
             &self.touches,
-            &start.pending,
+            at,
             &self.kept,
             from,
             clerk,

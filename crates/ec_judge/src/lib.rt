@@ -10,7 +10,6 @@ mod judge;
 mod judging;
 mod laws;
 mod losses;
-mod outside;
 mod rebuilt;
 mod starts;
 mod tail;

@@ -9,22 +9,45 @@ ghost use Rattle.ec_pending.specs.Pending.{numbers_in};
 ghost use Rattle.ec_judge.specs.declared.carried.Start.{Start as StartOf};
 
 use crate::carried::{Kept, Start, Touches};
-use crate::outside::Outside;
 use crate::touches::is_touched;
 use ec_base::{ClerkId, NoMemory, ObjId, OpNo, SortedMap};
 use ec_history::Rule;
 use ec_numbers::Numbers;
+use ec_outside::Outside;
 use ec_owes::Owes;
-use ec_pending::Pending;
+use ec_pending::Deferred;
 use ec_volume::operands;
 use std::alloc::Global;
 
-/// The first rule that a loss of these operations breaks, but for what is left of the others. None of
-/// them is kept before the index.
-pub fn broken(
+/// The first rule that a loss of these operations of the start at this index breaks, but for what is
+/// left of the others. None of them is kept before the index `from`.
+pub fn broken_at(
     alloc: Global,
     touches: &SortedMap<ObjId, Touches>,
-    pending: &Pending,
+    starts: &mut Vec<Start>,
+    at: usize,
+    kept: &[Kept],
+    from: usize,
+    clerk: ClerkId,
+    boot: u64,
+    ops: &Numbers,
+) -> Result<Option<Rule>, NoMemory>
+    requires at { at < length starts.old.items }
+    requires within { from ≤ length kept.now }
+    requires none { list_any (is_among clerk boot ops.now) (take from kept.now) ≡ false }
+    ensures found { IfOk result (λ found. (s : StartOf) × (s ≡ slice_index_or starts.old.items at s) × MatchOption found (KeepsMarks clerk boot ops.now (numbers_in s.pending.1) touches.now kept.now)
+        (λ rule. BreaksMarks clerk boot ops.now (numbers_in s.pending.1) touches.now kept.now rule)) }
+    ensures unchanged { OnOk result (starts.new.items ≡ starts.old.items) }
+    ensures same { SamePlaces starts.old.items starts.new.items }
+{
+    broken(alloc, touches, &mut starts[at], kept, from, clerk, boot, ops)
+}
+
+// The same of this start.
+fn broken(
+    alloc: Global,
+    touches: &SortedMap<ObjId, Touches>,
+    start: &mut Start,
     kept: &[Kept],
     from: usize,
     clerk: ClerkId,
@@ -33,8 +56,12 @@ pub fn broken(
 ) -> Result<Option<Rule>, NoMemory>
     requires within { from ≤ length kept.now }
     requires none { list_any (is_among clerk boot ops.now) (take from kept.now) ≡ false }
-    ensures { IfOk result (λ found. MatchOption found (KeepsMarks clerk boot ops.now (numbers_in pending.now.1) touches.now kept.now) (λ rule. BreaksMarks clerk boot ops.now (numbers_in pending.now.1) touches.now kept.now rule)) }
+    ensures found { IfOk result (λ found. MatchOption found (KeepsMarks clerk boot ops.now (numbers_in start.old.pending.1) touches.now kept.now) (λ rule. BreaksMarks clerk boot ops.now (numbers_in start.old.pending.1) touches.now kept.now rule)) }
+    ensures clerk { start.new.clerk ≡ start.old.clerk }
+    ensures boot { start.new.boot ≡ start.old.boot }
+    ensures unchanged { OnOk result (start.new ≡ start.old) }
 {
+    let pending = &mut start.pending;
     broken_in(alloc, touches, pending, &kept[from..], clerk, boot, ops)
 }
 
@@ -42,18 +69,19 @@ pub fn broken(
 fn broken_in(
     alloc: Global,
     touches: &SortedMap<ObjId, Touches>,
-    pending: &Pending,
+    pending: &mut Deferred,
     kept: &[Kept],
     clerk: ClerkId,
     boot: u64,
     ops: &Numbers,
 ) -> Result<Option<Rule>, NoMemory>
-    ensures { IfOk result (λ found. MatchOption found (KeepsMarks clerk boot ops.now (numbers_in pending.now.1) touches.now kept.now) (λ rule. BreaksMarks clerk boot ops.now (numbers_in pending.now.1) touches.now kept.now rule)) }
+    ensures found { IfOk result (λ found. MatchOption found (KeepsMarks clerk boot ops.now (numbers_in pending.old.1) touches.now kept.now) (λ rule. BreaksMarks clerk boot ops.now (numbers_in pending.old.1) touches.now kept.now rule)) }
+    ensures unchanged { OnOk result (pending.new ≡ pending.old) }
 {
     if !are_kept(alloc, kept, clerk, boot, ops)? {
         return Ok(Some(Rule::Named));
     }
-    if !are_uncovered(pending, kept, clerk, boot, ops) {
+    if !are_uncovered(pending, kept, clerk, boot, ops)? {
         return Ok(Some(Rule::Covered));
     }
     if !are_untouched(alloc, touches, kept, clerk, boot, ops)? {
@@ -112,10 +140,22 @@ fn are_all_in(known: &Numbers, ops: &Numbers) -> bool
 }
 
 // Whether none of the operations is covered.
-fn are_uncovered(pending: &Pending, kept: &[Kept], clerk: ClerkId, boot: u64, ops: &Numbers) -> bool
-    ensures { result ≡ are_uncovered clerk boot ops.now (numbers_in pending.now.1) kept.now }
+fn are_uncovered(
+    pending: &mut Deferred,
+    kept: &[Kept],
+    clerk: ClerkId,
+    boot: u64,
+    ops: &Numbers,
+) -> Result<bool, NoMemory>
+    ensures are { IfOk result (λ are. are ≡ are_uncovered clerk boot ops.now (numbers_in pending.old.1) kept.now) }
+    ensures unchanged { OnOk result (pending.new ≡ pending.old) }
 {
-    kept.iter().all(|kept| !is_among(kept, clerk, boot, ops) || pending.has(kept.number))
+    for kept in kept {
+        if is_among(kept, clerk, boot, ops) && !pending.has(kept.number)? {
+            return Ok(false);
+        }
+    }
+    Ok(true)
 }
 
 // Whether none of the operations was touched.

@@ -16,7 +16,7 @@ use ec_volume::{ApplyFault, Update, Volume};
 use std::alloc::Global;
 
 // At least so many of the last kept operations stay out of the volume below.
-const RECENT: usize = 8;
+const RECENT: usize = 2;
 
 /// The volume behind none of the operations.
 pub fn nothing(alloc: Global) -> Result<Firm, NoMemory>
@@ -53,7 +53,7 @@ pub fn leave(
     if !advance(firm, kept, clerk, boot, ops)? {
         return Ok(false);
     }
-    firm.volume.uncover(alloc);
+    firm.volume.uncover();
     carry_rest(alloc, &mut firm.volume, firm.count, kept, clerk, boot, ops)
 }
 

@@ -1,22 +1,23 @@
 // The starts of clerks, each with what it did.
-ghost use Rattle.std.specs.Prelude.{◌≡◌, ◌<◌, ◌≤◌, ◌++◌, ◌∷◌, [], ℕ, false, not, length, take, slice_index_or, slice_set, vec_len, vec_capacity, IfOk, OnOk};
+ghost use Rattle.std.specs.Prelude.{◌≡◌, ◌<◌, ◌≤◌, ◌++◌, ◌∷◌, [], ℕ, false, not, length, take, slice_index_or, slice_set, vec_len, vec_capacity, IfOk, OnOk, MatchOption};
 ghost use Rattle.std.specs.List.{filter, find, list_any, position_or_len};
 ghost use Rattle.ec_volume.specs.Volume.{after};
 ghost use Rattle.ec_overlay.specs.Shown.{shown};
 ghost use Rattle.ec_history.specs.History.{is_one_of, meets, pairs_of, updates};
-ghost use Rattle.ec_judge.specs.Carried.{is_start, count_of, owed_of, pending_of, count_next, keeps_of, ops_of, is_among, IsFitting, IsNoted, IsOwing};
+ghost use Rattle.ec_judge.specs.Carried.{is_start, count_of, owed_of, pending_of, count_next, keeps_of, ops_of, is_among, IsFitting, IsNoted, IsOwing, KeepsMarks, BreaksMarks};
 ghost use Rattle.ec_judge.specs.Index.{SamePlaces};
-ghost use Rattle.ec_pending.specs.Pending.{is_asked, rest, issues_of};
+ghost use Rattle.ec_pending.specs.Pending.{is_asked, rest, issues_of, numbers_in};
 ghost use Rattle.ec_owes.specs.Rules.{IsNumbered};
 ghost use Rattle.ec_judge.specs.declared.carried.Start.{Start as StartOf};
 
-use crate::carried::{Issuer, Kept, Start};
+use crate::carried::{Issuer, Kept, Start, Touches};
 use crate::losses;
-use ec_base::{ClerkId, Duplicate, NoMemory, ObjId, OpNo};
+use ec_base::{ClerkId, Duplicate, NoMemory, ObjId, OpNo, SortedMap};
+use ec_history::Rule;
 use ec_numbers::{Numbers, StartIndex, find_start, note_start};
 use ec_overlay::Overlay;
 use ec_owes::Owes;
-use ec_pending::{Asked, Pending};
+use ec_pending::{Asked, Deferred};
 use ec_plain::{Call, Outcome};
 use ec_volume::Update;
 use std::alloc::Global;
@@ -79,7 +80,7 @@ impl Starts {
             clerk,
             boot,
             owed: Owes::new(self.alloc),
-            pending: Pending::new(self.alloc)?,
+            pending: Deferred::new(self.alloc)?,
         };
         self.items.reserve(1)?;
         let at = self.items.len();
@@ -104,6 +105,29 @@ impl Starts {
         ensures { OnOk result ((s : StartOf) × IsNoted asked.now place op.now call.now outcome.now (slice_index_or self.old at s) s × (self.new ≡ slice_set self.old at s)) }
     {
         note_at(&mut self.items, at, asked, place, op, call, outcome)
+    }
+
+    /// The first rule that a loss of these operations of the start at this index breaks, but for what
+    /// is left of the others.
+    pub fn broken_at(
+        &mut self,
+        touches: &SortedMap<ObjId, Touches>,
+        at: usize,
+        kept: &[Kept],
+        from: usize,
+        clerk: ClerkId,
+        boot: u64,
+        ops: &Numbers,
+    ) -> Result<Option<Rule>, NoMemory>
+        requires at { at < length self.old }
+        requires within { from ≤ length kept.now }
+        requires none { list_any (is_among clerk boot ops.now) (take from kept.now) ≡ false }
+        ensures found { IfOk result (λ found. (s : StartOf) × (s ≡ slice_index_or self.old at s) × MatchOption found (KeepsMarks clerk boot ops.now (numbers_in s.pending.1) touches.now kept.now)
+            (λ rule. BreaksMarks clerk boot ops.now (numbers_in s.pending.1) touches.now kept.now rule)) }
+        ensures same { OnOk result (self.new ≡ self.old) }
+    {
+        let alloc = self.alloc;
+        losses::broken_at(alloc, touches, &mut self.items, at, kept, from, clerk, boot, ops)
     }
 
     /// Adds the pairs of the lost operations to what the start at this index owes.

@@ -1,13 +1,7 @@
 -- Images that may be laid over a volume.
 use Rattle.std.proofs.Common.{Bor, ◌≡◌, refl, sym, ap, subst, ◌∙◌, ℕ, T, Bool, true, false, cond, ◌==◌, ◌||◌, ◌&&◌, List, [], ◌∷◌, Option, Some, None}
 use Rattle.std.specs.Prelude.{option_copied, IfSome, IfNone, OnSome, Result, Ok, Err, OnOk, OnErr}
-use Rattle.std.specs.List.{list_all}
-use Rattle.std.specs.Ordering.{nat_cmp}
-use Rattle.std.specs.FinMap.{find}
-use Rattle.std.specs.Ordering.{eq_by_cmp}
 use Rattle.std.proofs.lemmas.Bool.{true≢false}
-use Rattle.ec_base.specs.SortedLaws.{first, second}
-use Rattle.ec_base.specs.Tables.{at, put}
 use Rattle.ec_volume.specs.Image.{is_gone, is_id, new_object}
 use Rattle.ec_volume.specs.Update.{is_sound, fits, effect}
 use Rattle.ec_volume.specs.Held.{is_held}
@@ -17,48 +11,38 @@ use Rattle.ec_volume.specs.declared.image.Kind.{Kind}
 use Rattle.ec_volume.specs.declared.image.Kind.TheVariants as kind
 use Rattle.ec_volume.specs.declared.update.Update.{Update}
 use Rattle.ec_volume.specs.declared.update.Update.TheVariants as update
-use Rattle.ec_volume.proofs.Held.{all-put}
 use Rattle.ec_volume.proofs.Within.{effect_held}
-use Rattle.ec_overlay.specs.Fine.{is_fine}
+use Rattle.ec_objtable.specs.Slots.{held}
+use Rattle.ec_overlay.specs.Fine.{is_fine, IsFine}
 
-is-true : (b : Bool) → T b → b ≡ true
-is-true true t = refl
-is-true false t = absurd t
+-- Images that are laid, if any.
 
-holds : (b : Bool) → b ≡ true → T b
-holds b e = subst T (sym e) tt
+abbrev Laid : Type 0
+Laid = List ℕ × List (ℕ × Image)
 
--- Images of a map.
+pub looked-fine : (x : Option Image) (r : Option (Bor Image)) → IsFine x → option_copied r ≡ x → IfSome r (λ i. is_fine i.now ≡ true)
+looked-fine x None f e = tt
+looked-fine x (Some i) f e = subst IsFine (sym e) f
 
-abbrev pub all_fine : List (ℕ × Image) → Type 0
-all_fine es = T (list_all (λ e. is_fine e.1) es)
+pub found-fine : (x r : Option Image) → IsFine x → r ≡ x → IfSome r (λ i. is_fine i ≡ true)
+found-fine x None f e = tt
+found-fine x (Some i) f e = subst IsFine (sym e) f
 
-fine-found : (es : List (ℕ × Image)) (k : ℕ) (i : Image) → all_fine es → at k es ≡ Some i → is_fine i ≡ true
-fine-found [] k i a f = cc
-fine-found (e ∷ es) k i a f =
-    elim (eq_by_cmp nat_cmp k e.0) as (λ b. cond b (Some e.1) (find nat_cmp k es) ≡ Some i → is_fine i ≡ true) [
-      | true ↦ λ g. let same : e.1 ≡ i = cc in subst (λ x. is_fine x ≡ true) same (is-true _ (first _ _ a))
-      | false ↦ λ g. fine-found es k i (second _ _ a) g
-    ] f
+one-fine : (b : Bool) (x : Option Image) (i : Image) → is_fine i ≡ true → IsFine x → IsFine (cond b (Some i) x)
+one-fine true x i f a = f
+one-fine false x i f a = a
 
-pub looked-fine : (es : List (ℕ × Image)) (k : ℕ) (r : Option (Bor Image)) → all_fine es → option_copied r ≡ at k es → IfSome r (λ i. is_fine i.now ≡ true)
-looked-fine es k None a e = tt
-looked-fine es k (Some i) a e = fine-found es k i.now a (sym e)
+pub fine-put : {A E : Type 0} (r : Result A E) (k : ℕ) (i : Image) (old new : Laid) → OnOk r ((o : ℕ) → held o new ≡ cond (o == k) (Some i) (held o old)) → OnErr r ((o : ℕ) → held o new ≡ held o old) → is_fine i ≡ true
+    → ((o : ℕ) → IsFine (held o old)) → (o : ℕ) → IsFine (held o new)
+fine-put (Ok x) k i old new ok err f a o = subst IsFine (sym (ok o)) (one-fine (o == k) (held o old) i f (a o))
+fine-put (Err x) k i old new ok err f a o = subst IsFine (sym (err o)) (a o)
 
-pub found-fine : (es : List (ℕ × Image)) (k : ℕ) (r : Option Image) → all_fine es → r ≡ at k es → IfSome r (λ i. is_fine i ≡ true)
-found-fine es k None a e = tt
-found-fine es k (Some i) a e = fine-found es k i a (sym e)
+pub fine-taken : (r : Option Image) (k : ℕ) (old new : Laid) → OnSome r ((o : ℕ) → held o new ≡ cond (o == k) (Some Gone) (held o old)) → IfNone r (new ≡ old) → ((o : ℕ) → IsFine (held o old)) → (o : ℕ) → IsFine (held o new)
+fine-taken (Some x) k old new some none a o = subst IsFine (sym (some o)) (one-fine (o == k) (held o old) Gone refl (a o))
+fine-taken None k old new some none a o = subst (λ t. IsFine (held o t)) (sym none) (a o)
 
-put-fine : (k : ℕ) (i : Image) (es : List (ℕ × Image)) → is_fine i ≡ true → all_fine es → all_fine (put k i es)
-put-fine k i es f a = all-put (λ e. is_fine e.1) k i es (λ o. holds (is_fine i) f) a
-
-pub fine-put : {A E : Type 0} (r : Result A E) (k : ℕ) (i : Image) (es new : List (ℕ × Image)) → OnOk r (new ≡ put k i es) → OnErr r (new ≡ es) → is_fine i ≡ true → all_fine es → all_fine new
-fine-put (Ok x) k i es new ok err f a = subst all_fine (sym ok) (put-fine k i es f a)
-fine-put (Err x) k i es new ok err f a = subst all_fine (sym err) a
-
-pub fine-taken : (r : Option Image) (k : ℕ) (es new : List (ℕ × Image)) → OnSome r (new ≡ put k Gone es) → IfNone r (new ≡ es) → all_fine es → all_fine new
-fine-taken (Some x) k es new some none a = subst all_fine (sym some) (put-fine k Gone es refl a)
-fine-taken None k es new some none a = subst all_fine (sym none) a
+pub none-fine : (t : Laid) → ((o : ℕ) → held o t ≡ None) → (o : ℕ) → IsFine (held o t)
+none-fine t e o = subst IsFine (sym (e o)) tt
 
 -- What an update makes of an image.
 

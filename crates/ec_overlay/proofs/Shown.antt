@@ -1,40 +1,41 @@
 -- What is shown behind an update.
 use Rattle.std.proofs.Common.{◌≤◌, ◌-◌, length, take, drop, get_or, ◌≡◌, refl, sym, ap, subst, ◌∙◌, arith, ℕ, T, Bool, true, false, not, cond, ◌==◌, ◌||◌, ◌&&◌, List, [], ◌∷◌, Option, Some, None}
 use Rattle.std.specs.Prelude.{Result, Ok, Err, IfOk, MatchBool}
-use Rattle.std.specs.Ordering.{nat_cmp}
-use Rattle.std.specs.Cmp.{nat_cmp_total, unsigned_ties}
-use Rattle.std.specs.FinMap.Entries.{find-put}
 use Rattle.std.proofs.lemmas.List.{take_all}
 use Rattle.std.proofs.lemmas.Bool.{true≢false, and_parts, eqb-true}
 use Rattle.std.proofs.lemmas.Bool.Decides.{nat_tests}
-use Rattle.ec_base.specs.Tables.{Table, at, put}
 use Rattle.ec_volume.specs.Update.{member, fits, effect, first_unfit, distinct}
 use Rattle.ec_volume.specs.Volume.{Images, images}
 use Rattle.ec_volume.specs.declared.image.Image.{Image}
 use Rattle.ec_volume.specs.declared.update.Update.{Update}
-use Rattle.ec_overlay.specs.Shown.{laid}
+use Rattle.ec_objtable.specs.Slots.{held}
+use Rattle.ec_overlay.specs.Shown.{laid_or}
 
-at-put : (j k : ℕ) (x : Image) (es : Table Image) → at j (put k x es) ≡ cond (j == k) (Some x) (at j es)
-at-put j k x es = find-put nat_cmp nat_cmp_total j k x es ∙ ap (λ b. cond b (Some x) (at j es)) (sym (unsigned_ties j k))
+abbrev Laid : Type 0
+Laid = List ℕ × List (ℕ × Image)
 
-abbrev over-or : List (ℕ × Image) → ℕ → Option Image → Image
-over-or under o t = elim t [ None ↦ images under o | Some i ↦ i ]
+abbrev pub laid : List (ℕ × Image) → Laid → Images
+laid under t o = laid_or under o (held o t)
 
-laid-put : (under : List (ℕ × Image)) (es : Table Image) (k : ℕ) (x : Image) (o : ℕ) → laid under (put k x es) o ≡ cond (o == k) x (laid under es o)
-laid-put under es k x o = ap (over-or under o) (at-put o k x es) ∙ go (o == k)
+-- an object has this image laid over it, and the others have theirs
+abbrev pub IsLaid : ℕ → Image → Laid → Laid → Type 0
+IsLaid k x old new = (o : ℕ) → held o new ≡ cond (o == k) (Some x) (held o old)
+
+laid-put : (under : List (ℕ × Image)) (old new : Laid) (k : ℕ) (x : Image) → IsLaid k x old new → (o : ℕ) → laid under new o ≡ cond (o == k) x (laid under old o)
+laid-put under old new k x is o = ap (laid_or under o) (is o) ∙ go (o == k)
   where
-    go : (b : Bool) → over-or under o (cond b (Some x) (at o es)) ≡ cond b x (over-or under o (at o es))
+    go : (b : Bool) → laid_or under o (cond b (Some x) (held o old)) ≡ cond b x (laid_or under o (held o old))
     go true = refl
     go false = refl
 
 -- the others are shown as before
-pub others-taken : (under : List (ℕ × Image)) (es new : Table Image) (k : ℕ) (x : Image) → new ≡ put k x es → (o : ℕ) → (o == k) ≡ false → laid under new o ≡ laid under es o
-others-taken under es new k x is o e = ap (λ t. laid under t o) is ∙ laid-put under es k x o ∙ ap (λ b. cond b x (laid under es o)) e
+pub others-taken : (under : List (ℕ × Image)) (old new : Laid) (k : ℕ) (x : Image) → IsLaid k x old new → (o : ℕ) → (o == k) ≡ false → laid under new o ≡ laid under old o
+others-taken under old new k x is o e = laid-put under old new k x is o ∙ ap (λ b. cond b x (laid under old o)) e
 
 module _ (u : Update) where
-  pub one-changed : (k : ℕ) (v : Images) (under : List (ℕ × Image)) (es new : Table Image) (i j : Image) → i ≡ v k → j ≡ effect u k i → ((o : ℕ) → (o == k) ≡ false → laid under es o ≡ v o) → new ≡ put k j es
+  pub one-changed : (k : ℕ) (v : Images) (under : List (ℕ × Image)) (es new : Laid) (i j : Image) → i ≡ v k → j ≡ effect u k i → ((o : ℕ) → (o == k) ≡ false → laid under es o ≡ v o) → IsLaid k j es new
       → (o : ℕ) → laid under new o ≡ cond (o == k) (effect u k (v k)) (v o)
-  one-changed k v under es new i j old next others is o = ap (λ t. laid under t o) is ∙ laid-put under es k j o ∙ go (o == k) refl
+  one-changed k v under es new i j old next others is o = laid-put under es new k j is o ∙ go (o == k) refl
     where
       go : (b : Bool) → (o == k) ≡ b → cond b j (laid under es o) ≡ cond b (effect u k (v k)) (v o)
       go true e = next ∙ ap (effect u k) old

@@ -1,10 +1,10 @@
 // The images of objects that updates changed.
-ghost use Rattle.std.specs.Prelude.{◌≡◌, ◌==◌, true, if◌then◌else◌, [], ℕ, Some, option_copied, IfSome, OnOk, OnSome, IfNone};
-ghost use Rattle.ec_base.specs.Tables.{at, put};
+ghost use Rattle.std.specs.Prelude.{◌≡◌, ◌==◌, true, if◌then◌else◌, ℕ, None, Some, option_copied, IfSome, OnOk, OnSome, IfNone};
+ghost use Rattle.ec_objtable.specs.Slots.{held};
 ghost use Rattle.ec_overlay.specs.Fine.{is_fine};
 
 use ec_base::{NoMemory, ObjId};
-use ec_objmap::ObjMap;
+use ec_objtable::ObjTable;
 use ec_volume::Image;
 use std::alloc::Global;
 use std::marker::Model;
@@ -12,55 +12,62 @@ use std::marker::Model;
 /// Images by object. Objects that are gone have one too.
 #[derive(Drop)]
 pub struct Changed {
-    map: ObjMap<Image>,
+    table: ObjTable<Image>,
 }
 
 impl Model for Changed {
-    ghost use Rattle.std.specs.Prelude.{ℕ, List, T};
-    ghost use Rattle.std.specs.List.{list_all};
+    ghost use Rattle.std.specs.Prelude.{ℕ, List};
     ghost use Rattle.ec_volume.specs.declared.image.Image.{Image};
-    ghost use Rattle.ec_overlay.specs.Fine.{is_fine};
+    ghost use Rattle.ec_objtable.specs.Slots.{held};
+    ghost use Rattle.ec_overlay.specs.Fine.{IsFine};
 
-    ghost Value = { List (ℕ × Image) };
+    ghost Value = { List ℕ × List (ℕ × Image) };
 
-    ghost view = { λ a. a.map };
+    ghost view = { λ a. a.table };
 
-    ghost invariant = { λ a. T (list_all (λ e. is_fine e.1) a.map) };
+    ghost invariant = { λ a. (o : ℕ) → IsFine (held o a.table) };
 }
 
 impl Changed {
     /// No object is changed.
     pub fn new(alloc: Global) -> Changed
-        ensures { result ≡ [] }
+        ensures { (o : ℕ) → held o result ≡ None }
     {
         Changed {
-            map: ObjMap::new(alloc),
+            table: ObjTable::new(alloc),
         }
+    }
+
+    /// No object is changed any more. It takes no memory.
+    pub fn clear(&mut self)
+        ensures { (o : ℕ) → held o self.new ≡ None }
+    {
+        self.table.clear();
     }
 
     /// The image of a changed object.
     pub fn get(&self, obj: ObjId) -> Option<&Image>
-        ensures image { option_copied result ≡ at obj self.now }
+        ensures image { option_copied result ≡ held obj self.now }
         ensures fine { IfSome result (λ image. is_fine image.now ≡ true) }
     {
-        self.map.get(&obj)
+        self.table.get(obj)
     }
 
     /// Takes out the image of a changed object, which is gone then.
     pub fn take(&mut self, obj: ObjId) -> Option<Image>
-        ensures image { result ≡ at obj self.old }
+        ensures image { result ≡ held obj self.old }
         ensures fine { IfSome result (λ image. is_fine image ≡ true) }
-        ensures some { OnSome result (self.new ≡ put obj Image.Gone self.old) }
+        ensures some { OnSome result ((o : ℕ) → held o self.new ≡ (if o == obj then Some Image.Gone else held o self.old)) }
         ensures none { IfNone result (self.new ≡ self.old) }
     {
-        self.map.replace(&obj, Image::Gone)
+        self.table.replace(obj, Image::Gone)
     }
 
     /// The object has this image.
     pub fn put(&mut self, obj: ObjId, image: Image) -> Result<(), NoMemory>
         requires { is_fine image ≡ true }
-        ensures { OnOk result (self.new ≡ put obj image self.old) }
+        ensures { OnOk result ((o : ℕ) → held o self.new ≡ (if o == obj then Some image else held o self.old)) }
     {
-        self.map.insert(obj, image)
+        self.table.insert(obj, image)
     }
 }

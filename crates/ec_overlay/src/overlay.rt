@@ -42,11 +42,11 @@ impl Overlay {
     }
 
     /// The volume below shows again.
-    pub fn uncover(&mut self, alloc: Global)
+    pub fn uncover(&mut self)
         ensures shown { (o : ℕ) → shown self.new o ≡ images self.old.under o }
         ensures under { self.new.under ≡ self.old.under }
     {
-        self.over = Changed::new(alloc);
+        self.over.clear();
     }
 
     /// Carries the update out, if it fits each of its operands. Where it doesn't, its operands'

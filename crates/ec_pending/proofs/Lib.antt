@@ -3,3 +3,4 @@ pub mod Holding
 pub mod Leaving
 pub mod Rising
 pub mod Walks
+pub mod Deferring

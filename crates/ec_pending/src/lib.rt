@@ -4,10 +4,12 @@
 
 mod asked;
 mod closed;
+mod deferred;
 mod early;
 mod issue;
+mod note;
 mod pending;
 
 pub use asked::Asked;
+pub use deferred::Deferred;
 pub use issue::Issue;
-pub use pending::Pending;

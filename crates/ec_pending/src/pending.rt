@@ -80,7 +80,8 @@ impl Pending {
     /// An operation is issued by an entry at the place. Its number is above those before it.
     pub fn issue(&mut self, op: OpNo, place: u32, update: Option<Update>) -> Result<(), NoMemory>
         requires { self.old.0 < op }
-        ensures { OnOk result (self.new ≡ (op, self.old.1 ++ issues_of place (Some op) update)) }
+        ensures count { self.new.0 ≡ op }
+        ensures pending { OnOk result (self.new ≡ (op, self.old.1 ++ issues_of place (Some op) update)) }
     {
         self.count = op.0;
         let Some(update) = update else {
@@ -106,7 +107,8 @@ impl Pending {
 
     /// What is asked is covered, and what it needs.
     pub fn cover(&mut self, asked: &Asked) -> Result<(), NoMemory>
-        ensures { OnOk result (self.new ≡ (self.old.0, rest (is_asked asked.now) self.old.1)) }
+        ensures count { self.new.0 ≡ self.old.0 }
+        ensures pending { OnOk result (self.new ≡ (self.old.0, rest (is_asked asked.now) self.old.1)) }
     {
         if self.rising && self.is_early(asked) {
             return cover_early(&mut self.order, &self.places, asked);

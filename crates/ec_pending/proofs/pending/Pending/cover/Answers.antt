@@ -25,6 +25,6 @@ invariant_of-self-2 c = (
   (λ e. subst (AreRising c.self.inside.places) (sym c.settle.ensures) (rising-part c.self.inside.places (λ x. not (member x.0 c.deref.result.now)) c.self.inside.order (c.self.invariant.3 e))),
 )
 
-pub returns : goal.returns
-returns c =
+pub returns-clause-pending : goal.returns-clause-pending
+returns-clause-pending c =
     left-view c.self.inside.count c.self.inside.places c.self.inside.order c.settle.new.self c.args.self.now (is_asked c.args.asked.now) c.deref.result.now c.self.view_is (c.deref.ensures.value ∙ c.in_ok-ops.ensures.ops) c.covered.ensures.sorted c.settle.ensures

@@ -42,8 +42,8 @@ invariant_of-self-2 c =
           (rising-issued c.hold.result c.args.op c.args.place c.self.inside.last c.in-Some.update c.self.inside.places c.self.inside.order c.hold.new.self behind c.self.invariant.1 (c.rises-self-inside.ensures e).1 (c.self.invariant.3 (c.rises-self-inside.ensures e).0) c.hold.ensures.ok c.hold.ensures.err)),
     )
 
-pub returns : goal.returns
-returns c =
+pub returns-clause-pending : goal.returns-clause-pending
+returns-clause-pending c =
     let less : c.self.inside.count < c.args.op = count-below c.self.inside.count c.args.op c.args.op _ c.args.self.now c.self.view_is refl c.requires in
     on_ok_weaker c.hold.result
     (issued-view c.self.inside.count c.args.op c.op.inside.0 c.args.place c.in-Some.update c.self.inside.places c.prepare-ready.new.places c.self.inside.order c.hold.new.self c.args.self.now c.args.update c.self.view_is c.op.view_is c.in-Some.is c.in_default-ready.ensures.ok

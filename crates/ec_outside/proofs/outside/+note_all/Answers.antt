@@ -1,6 +1,6 @@
 use Rattle.std.proofs.lemmas.Result.{on_ok_weaker}
 use Rattle.ec_chains.proofs.Maps.{noted_first, split_first}
-use Rattle.ec_judge.proofs.outside.+note_all.Goals as goal
+use Rattle.ec_outside.proofs.outside.+note_all.Goals as goal
 
 pub returns-in_ok-insert-in-len1-up : goal.returns-in_ok-insert-in-len1-up
 returns-in_ok-insert-in-len1-up t c =

@@ -3,8 +3,8 @@ use Rattle.std.specs.Prelude.{is_some, ◌||◌}
 use Rattle.std.proofs.lemmas.Result.{on_ok_weaker}
 use Rattle.ec_base.specs.Tables.{at}
 use Rattle.ec_volume.specs.Update.{member}
-use Rattle.ec_judge.proofs.Outsides.{overwrite-more, other-more}
-use Rattle.ec_judge.proofs.outside.Outside.add.Goals as goal
+use Rattle.ec_outside.proofs.Known.{overwrite-more, other-more}
+use Rattle.ec_outside.proofs.outside.Outside.add.Goals as goal
 
 pub returns-then-is_overwrite : goal.returns-then-is_overwrite
 returns-then-is_overwrite c = λ u. overwrite-more u c.args.update.now c.args.self.now.objs c.note_all.new.known c.args.self.now.others (sym c.is_overwrite.ensures ∙ c.if-is_overwrite.true)

@@ -5,7 +5,7 @@ ghost use Rattle.ec_base.specs.Tables.{at};
 ghost use Rattle.ec_volume.specs.Update.{member};
 ghost use Rattle.ec_volume.specs.declared.update.Update.{Update as Of};
 ghost use Rattle.ec_order.specs.Order.{before};
-ghost use Rattle.ec_judge.specs.Outside.{is_after};
+ghost use Rattle.ec_outside.specs.Outside.{is_after};
 
 use ec_base::{NoMemory, ObjId, SortedMap};
 use ec_order::is_overwrite;

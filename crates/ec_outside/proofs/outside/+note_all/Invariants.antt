@@ -1,5 +1,5 @@
 use Rattle.std.proofs.Common.{length}
-use Rattle.ec_judge.proofs.outside.+note_all.Given as goal
+use Rattle.ec_outside.proofs.outside.+note_all.Given as goal
 
 abbrev pub decreases-note_all : goal.decreases-note_all
 decreases-note_all l = length l.objs.now

@@ -1,0 +1,31 @@
+-- What happened to the operations of a start, from some pending ones on.
+use Rattle.std.specs.Prelude.{ℕ, ◌≤◌, ◌<◌, List, [], ◌∷◌, ◌++◌, ⊤}
+use Rattle.ec_pending.specs.Pending.{is_asked, rest}
+use Rattle.ec_pending.specs.declared.issue.Issue.{Issue}
+use Rattle.ec_pending.specs.declared.note.Note.{Note}
+use Rattle.ec_pending.specs.declared.note.Note.TheVariants as note
+
+-- the pending operations behind one note
+abbrev pub next_of : Note → List Issue → List Issue
+next_of (note.Issue n p u) is = is ++ record { number = n; place = p; update = u } ∷ []
+next_of (note.Cover a) is = rest (is_asked a) is
+
+-- the pending operations behind some notes
+abbrev pub behind : List Note → List Issue → List Issue
+behind [] is = is
+behind (n ∷ ns) is = behind ns (next_of n is)
+
+-- how many were issued behind the note
+abbrev pub above_next : ℕ → Note → ℕ
+above_next k (note.Issue n p u) = n
+above_next k (note.Cover a) = k
+
+-- an operation that is issued is above these
+abbrev pub IsAbove : ℕ → Note → Type 0
+IsAbove k (note.Issue n p u) = k < n
+IsAbove k (note.Cover a) = ⊤
+
+-- each operation that is issued is above those before it, and the last one is at most the count
+abbrev pub AreAbove : ℕ → ℕ → List Note → Type 0
+AreAbove count k [] = k ≤ count
+AreAbove count k (n ∷ ns) = IsAbove k n × AreAbove count (above_next k n) ns
