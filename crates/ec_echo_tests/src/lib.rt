@@ -5,6 +5,14 @@
 #[cfg(test)]
 mod faults;
 #[cfg(test)]
+mod lanes;
+#[cfg(test)]
 mod links;
 #[cfg(test)]
+mod nodes;
+#[cfg(test)]
 mod runs;
+#[cfg(test)]
+mod serving;
+#[cfg(test)]
+mod settling;

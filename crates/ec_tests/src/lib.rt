@@ -1,24 +1,18 @@
-//! The tests of the crates below the clerk, in one crate, so that each of them is proved once: bytes and texts from outside, files, threads and links, and disks that stop.
+//! The tests of bytes and texts from outside, of volumes, tables and stores, and of disks that stop, in one crate, so that each of them is proved once.
 #![tactic(auto)]
 
 #[cfg(test)]
-mod cache;
+mod base;
 #[cfg(test)]
 mod checkpoints;
 #[cfg(test)]
 mod codes;
 #[cfg(test)]
-mod disk;
-#[cfg(test)]
 mod durable;
-#[cfg(test)]
-mod frame;
 #[cfg(test)]
 mod generator;
 #[cfg(test)]
-mod link;
-#[cfg(test)]
-mod lock;
+mod plain;
 #[cfg(test)]
 mod script;
 #[cfg(test)]
@@ -30,6 +24,10 @@ mod stores;
 #[cfg(test)]
 mod table;
 #[cfg(test)]
+mod volume;
+#[cfg(test)]
 mod volumes;
 #[cfg(test)]
 mod wire;
+#[cfg(test)]
+mod written;

@@ -1,5 +1,5 @@
 use Rattle.ec_lock.specs.Passes.{IsPassOf}
-use Rattle.ec_tests.proofs.lock.make_steps.Given as goal
+use Rattle.ec_part_tests.proofs.lock.make_steps.Given as goal
 
 abbrev pub invariant-loop : goal.invariant-loop
 invariant-loop g l = IsPassOf l.lock l.pass
