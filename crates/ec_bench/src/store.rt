@@ -2,34 +2,12 @@
 ghost use Rattle.std.specs.Prelude.{◌≡◌, true};
 ghost use Rattle.ec_durable.specs.Codes.{is_sound_record};
 
-use ec_codes::CodeFault;
+use crate::pieces::{add, joined};
 use ec_disk::FileDisk;
 use ec_durable::{Record, decode};
 use ec_store::Store;
-use std::alloc::{AllocError, AllocFailed, Global};
+use std::alloc::Global;
 use std::time::{Duration, Instant};
-
-/// The store or its disk failed, or memory ran out.
-#[derive(Clone, Copy, Debug, Drop)]
-pub struct NotDone;
-
-impl From<AllocError> for NotDone {
-    fn from(_: AllocError) -> Self {
-        NotDone
-    }
-}
-
-impl<T: Drop> From<AllocFailed<T>> for NotDone {
-    fn from(_: AllocFailed<T>) -> Self {
-        NotDone
-    }
-}
-
-impl From<CodeFault> for NotDone {
-    fn from(_: CodeFault) -> Self {
-        NotDone
-    }
-}
 
 // A session of the first clerk.
 const OPEN: &[u8] = b"\x02\0\0\0\0\0\0\0\0\x01\0\0\0\0\0\0\0\0\0\0\0\x01";
@@ -65,7 +43,7 @@ struct Sound {
 /// Formats the disk, makes a file, and commits so many batches of 64 updates, each of which writes so many bytes to the file. Tells how
 /// long the commits took, for which all records stand ready.
 pub fn commit_all(rt: HostRuntime, disk: FileDisk, commits: u32, bytes: u32) -> Option<Duration> {
-    let mut on = begin(rt.alloc(), disk).ok()?;
+    let mut on = begin(rt.alloc(), disk)?;
     let time = time_commits(rt, &mut on, commits, bytes);
     drop(on);
     time
@@ -73,63 +51,68 @@ pub fn commit_all(rt: HostRuntime, disk: FileDisk, commits: u32, bytes: u32) -> 
 
 fn time_commits(rt: HostRuntime, on: &mut OnDisk, commits: u32, bytes: u32) -> Option<Duration> {
     let alloc = rt.alloc();
-    grant(alloc, on, 0).ok()?;
-    let batches = batches(alloc, on.number, commits, bytes.min(1_024) as u16).ok()?;
+    commit_bytes(alloc, on, OPEN)?;
+    grant(alloc, on, 0)?;
+    let batches = batches(alloc, on.number, commits, bytes.min(1_024) as u16)?;
+    let time = time_each(rt, on, &batches);
+    drop(batches);
+    time
+}
+
+fn time_each(rt: HostRuntime, on: &mut OnDisk, batches: &[Sound]) -> Option<Duration> {
     let start = Instant::now(&rt).ok()?;
-    commit_each(on, &batches).ok()?;
+    for batch in batches {
+        commit(on, batch)?;
+    }
     start.elapsed(&rt).ok()
 }
 
 // So many batches, from this number on.
-fn batches(alloc: Global, first: u64, count: u32, bytes: u16) -> Result<Vec<Sound>, NotDone> {
+fn batches(alloc: Global, first: u64, count: u32, bytes: u16) -> Option<Vec<Sound>> {
     let mut batches = Vec::new(alloc);
     for place in 0..count {
         let number = first.saturating_add(u64::from(place));
         let puts = puts(alloc, number, 10, 64, bytes)?;
-        batches.push(sound_record(alloc, &puts)?)?;
+        batches.push(sound_record(alloc, &puts)?).ok()?;
     }
-    Ok(batches)
-}
-
-fn commit_each(on: &mut OnDisk, batches: &[Sound]) -> Result<(), NotDone> {
-    for batch in batches {
-        commit(on, batch)?;
-    }
-    Ok(())
+    Some(batches)
 }
 
 /// Formats the disk, and fills it with files of 64 KiB.
 pub fn fill(alloc: Global, disk: FileDisk) -> Option<u64> {
-    let mut on = begin(alloc, disk).ok()?;
+    let mut on = begin(alloc, disk)?;
     let done = fill_all(alloc, &mut on);
     drop(on);
-    done.ok()?;
+    done?;
     Some(u64::from(GRANTS))
 }
 
-fn fill_all(alloc: Global, on: &mut OnDisk) -> Result<(), NotDone> {
+fn fill_all(alloc: Global, on: &mut OnDisk) -> Option<()> {
+    commit_bytes(alloc, on, OPEN)?;
     for got in 0..GRANTS {
         fill_some(alloc, on, got)?;
     }
-    Ok(())
+    Some(())
 }
 
 // The objects of one grant, each file of them full.
-fn fill_some(alloc: Global, on: &mut OnDisk, got: u32) -> Result<(), NotDone> {
+fn fill_some(alloc: Global, on: &mut OnDisk, got: u32) -> Option<()> {
     grant(alloc, on, got)?;
     for quarter in 0..4 {
         let first = got
             .saturating_mul(IDS_PER_GRANT)
             .saturating_add(2 + quarter * 4);
         if first >= DIRECTORIES + 2 {
-            put_all(alloc, on, first, PIECES, 4_096)?;
+            let puts = puts(alloc, on.number, first, PIECES, 4_096)?;
+            commit_batch(alloc, on, &puts)?;
         }
     }
-    Ok(())
+    Some(())
 }
 
 /// Opens the disk, and tells how many objects it holds.
-pub fn open(alloc: Global, mut disk: FileDisk) -> Option<u64> {
+pub fn open(alloc: Global, disk: FileDisk) -> Option<u64> {
+    let mut disk = disk;
     let Ok(store) = Store::open(alloc, &mut disk) else {
         drop(disk);
         return None;
@@ -140,31 +123,21 @@ pub fn open(alloc: Global, mut disk: FileDisk) -> Option<u64> {
     Some(u64::from(live))
 }
 
-fn begin(alloc: Global, disk: FileDisk) -> Result<OnDisk, NotDone> {
+fn begin(alloc: Global, disk: FileDisk) -> Option<OnDisk> {
     let mut disk = disk;
     let Ok(store) = Store::format(alloc, &mut disk, 1_024) else {
         drop(disk);
-        return Err(NotDone);
+        return None;
     };
-    let mut on = OnDisk {
+    Some(OnDisk {
         store,
         disk,
         number: 1,
-    };
-    let done = open_session(alloc, &mut on);
-    if done.is_err() {
-        drop(on);
-        return Err(NotDone);
-    }
-    Ok(on)
-}
-
-fn open_session(alloc: Global, on: &mut OnDisk) -> Result<(), NotDone> {
-    commit_bytes(alloc, on, OPEN)
+    })
 }
 
 // The ids of a grant are granted, and their objects made.
-fn grant(alloc: Global, on: &mut OnDisk, got: u32) -> Result<(), NotDone> {
+fn grant(alloc: Global, on: &mut OnDisk, got: u32) -> Option<()> {
     let first = got.saturating_mul(IDS_PER_GRANT).saturating_add(2);
     let ids = ids(alloc, got, first)?;
     commit_bytes(alloc, on, &ids)?;
@@ -172,93 +145,92 @@ fn grant(alloc: Global, on: &mut OnDisk, got: u32) -> Result<(), NotDone> {
     commit_batch(alloc, on, &makes)
 }
 
-// 64 writes to the files from `first` on, so many to each, of so many bytes.
-fn put_all(
-    alloc: Global,
-    on: &mut OnDisk,
-    first: u32,
-    per_file: u32,
-    size: u16,
-) -> Result<(), NotDone> {
-    let puts = puts(alloc, on.number, first, per_file, size)?;
-    commit_batch(alloc, on, &puts)
-}
-
-fn commit_batch(alloc: Global, on: &mut OnDisk, bytes: &[u8]) -> Result<(), NotDone> {
+fn commit_batch(alloc: Global, on: &mut OnDisk, bytes: &[u8]) -> Option<()> {
     on.number = on.number.saturating_add(1);
     commit_bytes(alloc, on, bytes)
 }
 
 // The record of these bytes.
-fn commit_bytes(alloc: Global, on: &mut OnDisk, bytes: &[u8]) -> Result<(), NotDone> {
+fn commit_bytes(alloc: Global, on: &mut OnDisk, bytes: &[u8]) -> Option<()> {
     let sound = sound_record(alloc, bytes)?;
     let done = commit(on, &sound);
     drop(sound);
     done
 }
 
-fn commit(on: &mut OnDisk, sound: &Sound) -> Result<(), NotDone> {
+fn commit(on: &mut OnDisk, sound: &Sound) -> Option<()> {
     match on.store.commit(&mut on.disk, &sound.change) {
-        Ok(()) => Ok(()),
-        Err(_) => Err(NotDone),
+        Ok(()) => Some(()),
+        Err(_) => None,
     }
 }
 
-fn sound_record(alloc: Global, bytes: &[u8]) -> Result<Sound, CodeFault> {
-    let change = decode(alloc, bytes)?;
-    Ok(Sound { change })
+fn sound_record(alloc: Global, bytes: &[u8]) -> Option<Sound> {
+    let change = decode(alloc, bytes).ok()?;
+    Some(Sound { change })
 }
 
-fn ids(alloc: Global, got: u32, first: u32) -> Result<Vec<u8>, AllocError> {
-    let mut out = Vec::new(alloc);
-    out.extend_from_slice(b"\x04\0\0\0\0\0\0\0\0\x01")?;
-    out.extend_from_slice(&got.to_be_bytes())?;
-    out.extend_from_slice(&first.to_be_bytes())?;
-    Ok(out)
+fn ids(alloc: Global, got: u32, first: u32) -> Option<Vec<u8>> {
+    joined(
+        alloc,
+        &[
+            b"\x04\0\0\0\0\0\0\0\0\x01",
+            &got.to_be_bytes(),
+            &first.to_be_bytes(),
+        ],
+    )
 }
 
 // A batch, behind which so many operations stand.
-fn batch(alloc: Global, number: u64, count: u8) -> Result<Vec<u8>, AllocError> {
-    let mut out = Vec::new(alloc);
-    out.extend_from_slice(b"\x01\0\0\0\0\0\0\0\0\x01")?;
-    out.extend_from_slice(&number.to_be_bytes())?;
-    out.push(count)?;
-    Ok(out)
+fn batch(alloc: Global, number: u64, count: u8) -> Option<Vec<u8>> {
+    joined(
+        alloc,
+        &[b"\x01\0\0\0\0\0\0\0\0\x01", &number.to_be_bytes(), &[count]],
+    )
 }
 
 // Makes the objects of a grant: directories in the root, and files in the directories.
-fn makes(alloc: Global, number: u64, first: u32) -> Result<Vec<u8>, AllocError> {
+fn makes(alloc: Global, number: u64, first: u32) -> Option<Vec<u8>> {
     let mut out = batch(alloc, number, 16)?;
     for place in 0..IDS_PER_GRANT {
         let obj = first.saturating_add(place);
-        if obj < DIRECTORIES + 2 {
-            add_make(&mut out, 1, obj, 2)?;
+        let (dir, kind) = if obj < DIRECTORIES + 2 {
+            (1, 2)
         } else {
-            add_make(&mut out, obj % DIRECTORIES + 2, obj, 1)?;
-        }
+            (obj % DIRECTORIES + 2, 1)
+        };
+        add_make(&mut out, dir, obj, kind)?;
     }
-    Ok(out)
+    Some(out)
+}
+
+// A letter for the last four bits of the number.
+fn letter(number: u32) -> u8 {
+    b'a' + (number & 15) as u8
 }
 
 // An operation whose number no rule looks at here. The name has the digits of the object's number.
-fn add_make(out: &mut Vec<u8>, dir: u32, obj: u32, kind: u8) -> Result<(), AllocError> {
-    out.extend_from_slice(b"\0\0\0\0\0\0\0\x01\x01")?;
-    out.extend_from_slice(&dir.to_be_bytes())?;
-    out.extend_from_slice(&obj.to_be_bytes())?;
-    out.extend_from_slice(&[kind, 4])?;
-    for shift in [12, 8, 4, 0] {
-        out.push(b'a' + (obj >> shift & 15) as u8)?;
-    }
-    Ok(())
+fn add_make(out: &mut Vec<u8>, dir: u32, obj: u32, kind: u8) -> Option<()> {
+    let name = [
+        letter(obj >> 12),
+        letter(obj >> 8),
+        letter(obj >> 4),
+        letter(obj),
+    ];
+    add(
+        out,
+        &[
+            b"\0\0\0\0\0\0\0\x01\x01",
+            &dir.to_be_bytes(),
+            &obj.to_be_bytes(),
+            &[kind, 4],
+            &name,
+        ],
+    )
 }
 
-fn puts(
-    alloc: Global,
-    number: u64,
-    first: u32,
-    per_file: u32,
-    size: u16,
-) -> Result<Vec<u8>, AllocError> {
+// 64 writes to the files from `first` on, so many to each, of so many bytes.
+fn puts(alloc: Global, number: u64, first: u32, per_file: u32, size: u16) -> Option<Vec<u8>> {
     let mut out = batch(alloc, number, 64)?;
     let (mut obj, mut left, mut at) = (first, per_file, 0u32);
     for _ in 0..64 {
@@ -269,14 +241,19 @@ fn puts(
         left = left.saturating_sub(1);
         at = at.saturating_add(u32::from(size));
     }
-    Ok(out)
+    Some(out)
 }
 
-fn add_put(out: &mut Vec<u8>, obj: u32, at: u32, size: u16) -> Result<(), AllocError> {
-    out.extend_from_slice(b"\0\0\0\0\0\0\0\x01\x04")?;
-    out.extend_from_slice(&obj.to_be_bytes())?;
-    out.extend_from_slice(&at.to_be_bytes())?;
-    out.push(0)?;
-    out.extend_from_slice(&size.to_be_bytes())?;
-    out.extend_from_slice(&PIECE[..size.min(4_096) as usize])
+fn add_put(out: &mut Vec<u8>, obj: u32, at: u32, size: u16) -> Option<()> {
+    add(
+        out,
+        &[
+            b"\0\0\0\0\0\0\0\x01\x04",
+            &obj.to_be_bytes(),
+            &at.to_be_bytes(),
+            b"\0",
+            &size.to_be_bytes(),
+            &PIECE[..size.min(4_096) as usize],
+        ],
+    )
 }

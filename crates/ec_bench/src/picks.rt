@@ -1,6 +1,6 @@
 // Operations on one file of several, picked batch by batch.
 use ec_base::ObjId;
-use ec_log::{Asked, Log, LogFault, Pick};
+use ec_log::{Asked, Log, Pick};
 use ec_volume::Update;
 use std::alloc::Global;
 
@@ -15,9 +15,16 @@ pub fn pick_all(alloc: Global, files: u32, count: u32) -> Option<u64> {
 
 fn issue_and_pick(log: &mut Log, files: u32, count: u32) -> Option<u64> {
     for place in 0..count {
-        issue_on(log, place.checked_rem(files).unwrap_or(0)).ok()?;
+        issue_on(log, place.checked_rem(files)?)?;
     }
-    take_all(log, file(0)?, count).ok()
+    let mut last = 0;
+    for _ in 0..count {
+        match take(log)? {
+            0 => return Some(last),
+            number => last = number,
+        }
+    }
+    Some(last)
 }
 
 // The root has the id 1.
@@ -25,24 +32,19 @@ fn file(number: u32) -> Option<ObjId> {
     ObjId::new(number.saturating_add(2))
 }
 
-fn issue_on(log: &mut Log, number: u32) -> Result<(), LogFault> {
-    if let Some(obj) = file(number) {
-        log.issue(Update::Stamp { obj, stamp: 0 })?;
-    }
-    Ok(())
+fn issue_on(log: &mut Log, number: u32) -> Option<()> {
+    let obj = file(number)?;
+    log.issue(Update::Stamp { obj, stamp: 0 }).ok()?;
+    Some(())
 }
 
-// There are at most so many batches.
-fn take_all(log: &mut Log, obj: ObjId, most: u32) -> Result<u64, LogFault> {
-    let mut last = 0;
-    for _ in 0..most {
-        match log.pick(Asked::Object(obj))? {
-            Pick::Batch(no, _) => {
-                log.kept(no);
-                last = no;
-            }
-            _ => return Ok(last),
+// The number of the next batch on the first file, which is kept, or 0.
+fn take(log: &mut Log) -> Option<u64> {
+    match log.pick(Asked::Object(file(0)?)).ok()? {
+        Pick::Batch(number, _) => {
+            log.kept(number);
+            Some(number)
         }
+        _ => Some(0),
     }
-    Ok(last)
 }

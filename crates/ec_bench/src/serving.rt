@@ -2,6 +2,7 @@
 ghost use Rattle.std.specs.Prelude.{IfSome};
 ghost use Rattle.ec_servernode.specs.Turns.{IsServerPass};
 
+use crate::pieces::joined;
 use ec_durable::{Durable, formatted_states_are_in_order};
 use ec_link::{Got, Link, MemLink, Sent, mem_pair};
 use ec_server::{InMemory, Keeper, Server};
@@ -27,35 +28,29 @@ struct Ends {
 
 // For a Write token, behind the last one.
 fn want(alloc: Global, last: u64) -> Option<Vec<u8>> {
-    let mut body = Vec::from_slice(alloc, b"\x02").ok()?;
-    body.extend_from_slice(SESSION).ok()?;
-    body.extend_from_slice(ROOT).ok()?;
-    body.extend_from_slice(b"\x02").ok()?;
-    body.extend_from_slice(&last.to_be_bytes()).ok()?;
-    Some(body)
+    joined(
+        alloc,
+        &[b"\x02", SESSION, ROOT, b"\x02", &last.to_be_bytes()],
+    )
 }
 
 // The batch and the operation of this number, which stamps the root with it.
 fn batch(alloc: Global, number: u64) -> Option<Vec<u8>> {
-    let mut body = Vec::from_slice(alloc, b"\x04").ok()?;
-    body.extend_from_slice(SESSION).ok()?;
-    body.extend_from_slice(&number.to_be_bytes()).ok()?;
-    body.extend_from_slice(b"\x01").ok()?;
-    body.extend_from_slice(&number.to_be_bytes()).ok()?;
-    body.extend_from_slice(b"\x07").ok()?;
-    body.extend_from_slice(ROOT).ok()?;
-    body.extend_from_slice(&number.to_be_bytes()).ok()?;
-    Some(body)
+    let number = number.to_be_bytes();
+    joined(
+        alloc,
+        &[
+            b"\x04", SESSION, &number, b"\x01", &number, b"\x07", ROOT, &number,
+        ],
+    )
 }
 
 // The token of this number is given back.
 fn back(alloc: Global, number: u64) -> Option<Vec<u8>> {
-    let mut body = Vec::from_slice(alloc, b"\x03").ok()?;
-    body.extend_from_slice(SESSION).ok()?;
-    body.extend_from_slice(ROOT).ok()?;
-    body.extend_from_slice(&number.to_be_bytes()).ok()?;
-    body.extend_from_slice(b"\0").ok()?;
-    Some(body)
+    joined(
+        alloc,
+        &[b"\x03", SESSION, ROOT, &number.to_be_bytes(), b"\0"],
+    )
 }
 
 fn heard<R: Wait + Clock>(rt: &R, far: &mut MemLink) -> Option<Vec<u8>> {

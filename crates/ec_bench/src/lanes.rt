@@ -1,41 +1,20 @@
-//! The work that the benches of a shared clerk and a shared server time: calls that a clerk answers from its cache, and messages of a clerk to a server.
-#![tactic(auto)]
-
+// A shared clerk at one end of a link, the other end of which has said what its calls need.
 ghost use Rattle.std.specs.Prelude.{IfSome};
 ghost use Rattle.ec_lock.specs.Passes.{IsPassOf};
 
-mod calls;
-mod feed;
-mod serving;
-
-use calls::{What, call_often, read_beside};
+use crate::calls::{Work, call_often, read_beside};
+use crate::feed::{Granted, give_grant, give_session};
 use ec_base::ClerkId;
 use ec_clerk::Clerk;
 use ec_clerknode::{Node, SharedClerk, send_all};
 use ec_link::{Around, Link, Net, Sent, TcpNet};
 use ec_lock::Pass;
-use feed::{Granted, give_grant, give_session};
-use serving::serve_messages;
 use std::alloc::Global;
-use std::env;
-use std::net::{TcpListener, TcpStream};
-use std::process::ExitCode;
 use std::sync::Wait;
 use std::thread::Threads;
 use std::time::Clock;
 
 const ADDRESS: &str = "127.0.0.1:4714";
-
-const USAGE: &str =
-    "usage: ec_node_bench reads|beside|writes|messages COUNT; or a call or a message had no answer";
-
-// The calls that are timed.
-#[derive(Clone, Copy, Debug, Drop)]
-enum Work {
-    Alone(What),
-    /// Reads beside a lane that waits.
-    Beside,
-}
 
 // A clerk that has greeted over this end of a link.
 fn greeted<L: Link, R: Wait + Clock>(rt: &R, alloc: Global, link: &mut L) -> Option<Clerk> {
@@ -75,21 +54,17 @@ fn make_calls<L: Link + Send + Drop, R: Threads + Wait + Clock + Sync>(
     requires { IsPassOf clerk.now.lock pass }
 {
     let mut pass = pass;
-    let what = match work {
-        Work::Alone(what) => what,
-        Work::Beside => What::Read,
-    };
-    if !call_often(rt, alloc, clerk, &mut pass, what, 1) {
+    if !call_often(rt, alloc, clerk, &mut pass, work, 1) {
         drop(pass);
         return Some(false);
     }
     match work {
-        Work::Alone(_) => {
-            let is_done = call_often(rt, alloc, clerk, &mut pass, what, count);
+        Work::Beside => read_beside(rt, alloc, clerk, pass, far, count),
+        _ => {
+            let is_done = call_often(rt, alloc, clerk, &mut pass, work, count);
             drop(pass);
             Some(is_done)
         }
-        Work::Beside => read_beside(rt, alloc, clerk, pass, far, count),
     }
 }
 
@@ -142,55 +117,8 @@ fn call<N: Net, R: Around>(rt: &R, net: &mut N, work: Work, count: u32) -> Optio
     call_between(rt, near, far, work, count)
 }
 
-// The work that this word asks for; so many messages, or calls.
-fn does<R: Around>(rt: &R, name: &str, count: u32) -> Option<bool> {
-    let work = match name.as_bytes() {
-        b"reads" => Work::Alone(What::Read),
-        b"beside" => Work::Beside,
-        b"writes" => Work::Alone(What::Write),
-        b"messages" => return Some(serve_messages(rt, rt.alloc(), count)),
-        _ => return None,
-    };
+/// So many calls, over loopback. True if each was answered.
+pub fn call_over_loopback<R: Around>(rt: &R, work: Work, count: u32) -> Option<bool> {
     let mut net = TcpNet::new();
     call(rt, &mut net, work, count)
-}
-
-fn words(rt: HostRuntime) -> Option<Vec<String>> {
-    let mut words = Vec::new(rt.alloc());
-    for word in env::args(&rt).ok()?.skip(1) {
-        words.push(word).ok()?;
-    }
-    Some(words)
-}
-
-// How much was done. None says that the words ask for nothing, or that it can't be done.
-fn run<R: Around>(rt: &R, words: &[String]) -> Option<u32> {
-    let [name, count] = words else {
-        return None;
-    };
-    let count = count.parse::<u32>().ok()?;
-    if does(rt, name, count)? {
-        Some(count)
-    } else {
-        None
-    }
-}
-
-fn main(rt: HostRuntime) -> ExitCode {
-    // so that the program's table has the types of the net
-    drop::<(Option<TcpListener>, Option<TcpStream>)>((None, None));
-    let done = match words(rt) {
-        Some(words) => run(&rt, words.as_slice()),
-        None => None,
-    };
-    match done {
-        Some(count) => {
-            let _ = println!(&rt; "{count}");
-            ExitCode::SUCCESS
-        }
-        None => {
-            let _ = eprintln!(&rt; "{USAGE}");
-            ExitCode::FAILURE
-        }
-    }
 }

@@ -15,26 +15,31 @@ use std::thread;
 use std::thread::Threads;
 use std::time::Clock;
 
-#[derive(Clone, Copy, Debug, Drop, PartialEq, Eq)]
-pub enum What {
+/// The calls that are timed.
+#[derive(Clone, Copy)]
+pub enum Work {
     /// Reads of 4,096 bytes.
-    Read,
+    Reads,
+    /// The same beside a lane that waits.
+    Beside,
     /// Writes of 64 bytes, which stay behind.
-    Write,
+    Writes,
 }
 
 fn read(alloc: Global, path: &[u8]) -> Option<Call> {
     Some(Call::Read(Path::read(alloc, path).ok()?, 0, 4096))
 }
 
-fn asked(alloc: Global, what: What, turn: u32) -> Option<Call> {
-    match what {
-        What::Read => read(alloc, b"/f"),
-        What::Write => {
-            let path = Path::read(alloc, b"/f").ok()?;
-            let bytes = Vec::from_slice(alloc, &[7; 64]).ok()?;
-            Some(Call::Write(path, turn % 64 * 64, List::of(bytes)))
-        }
+fn write(alloc: Global, turn: u32) -> Option<Call> {
+    let bytes = Vec::from_slice(alloc, &[7; 64]).ok()?;
+    let path = Path::read(alloc, b"/f").ok()?;
+    Some(Call::Write(path, turn % 64 * 64, List::of(bytes)))
+}
+
+fn asked(alloc: Global, work: Work, turn: u32) -> Option<Call> {
+    match work {
+        Work::Writes => write(alloc, turn),
+        _ => read(alloc, b"/f"),
     }
 }
 
@@ -59,14 +64,14 @@ pub fn call_often<L: Link, R: Wait + Clock>(
     alloc: Global,
     clerk: &SharedClerk<L>,
     pass: &mut Pass<Node<L>>,
-    what: What,
+    work: Work,
     count: u32,
 ) -> bool
     requires { IsPassOf clerk.now.lock pass.old }
     ensures { IsPassOf clerk.now.lock pass.new }
 {
     for turn in 0..count {
-        let call = asked(alloc, what, turn);
+        let call = asked(alloc, work, turn);
         if !is_answered(rt, clerk, pass, call) {
             return false;
         }
@@ -94,7 +99,7 @@ fn run_side<L: Link + Drop, R: Wait + Clock>(
     let Side { mut pass, far } = side;
     match far {
         Some(mut far) => {
-            let is_done = call_often(rt, alloc, clerk, &mut pass, What::Read, count);
+            let is_done = call_often(rt, alloc, clerk, &mut pass, Work::Beside, count);
             let is_granted = give_grant(rt, alloc, &mut far, Granted::G);
             (is_done && is_granted, Some(far))
         }

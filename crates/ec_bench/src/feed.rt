@@ -1,27 +1,26 @@
 // What the other end of a clerk's link says: it opens a session, and grants a root with the files `f` and `g`, each of 4,096 bytes.
+use crate::pieces::joined;
 use ec_link::{Link, Sent};
-use std::alloc::{AllocError, Global};
+use std::alloc::Global;
 use std::sync::Wait;
 use std::time::Clock;
 
 /// What is granted.
-#[derive(Clone, Copy, Debug, Drop, PartialEq, Eq)]
+#[derive(Clone, Copy)]
 pub enum Granted {
     Root,
     F,
     G,
 }
 
-// Age 1, 0, session 1 and epoch 1.
-const OPENED: &[u8] = b"\x41\0\0\0\0\0\0\0\x01\0\0\0\0\0\0\0\0\0\0\0\x01\0\0\0\0\0\0\0\x01";
+/// Age 1, 0, session 1 and epoch 1.
+pub const OPENED: &[u8] = b"\x41\0\0\0\0\0\0\0\x01\0\0\0\0\0\0\0\0\0\0\0\x01\0\0\0\0\0\0\0\x01";
 
 // A grant in session 1 and epoch 1.
 const GRANT: &[u8] = b"\x42\0\0\0\0\0\0\0\x01\0\0\0\0\0\0\0\x01";
 
-// The first grant of an object.
-const FIRST: &[u8] = b"\0\0\0\0\0\0\0\x01";
-
-const WRITE: u8 = 2;
+// The first grant of an object, which is a Write token.
+const FIRST: &[u8] = b"\0\0\0\0\0\0\0\x01\x02";
 
 // A directory with mode 0755, and its entries.
 const ROOT: &[u8] = b"\x02\x01\xed\0\0\0\0\0\0\0\0\0\0\0\0\x02\x01f\0\0\0\x02\x01g\0\0\0\x03";
@@ -31,24 +30,13 @@ const FILE: &[u8] = b"\x01\x01\xa4\0\0\0\0\0\0\0\0\0\0\0\0\0\0\x10\0";
 
 const BYTES: [u8; 4096] = [7; 4096];
 
-// A Write token of the object, and its image.
-fn grant(alloc: Global, granted: Granted) -> Result<Vec<u8>, AllocError> {
-    let obj = match granted {
-        Granted::Root => 1,
-        Granted::F => 2,
-        Granted::G => 3,
-    };
-    let mut body = Vec::from_slice(alloc, GRANT)?;
-    body.extend_from_slice(&[0, 0, 0, obj])?;
-    body.extend_from_slice(FIRST)?;
-    body.push(WRITE)?;
-    if granted == Granted::Root {
-        body.extend_from_slice(ROOT)?;
-    } else {
-        body.extend_from_slice(FILE)?;
-        body.extend_from_slice(&BYTES)?;
+/// The message that grants an object with its image.
+pub fn grant(alloc: Global, granted: Granted) -> Option<Vec<u8>> {
+    match granted {
+        Granted::Root => joined(alloc, &[GRANT, b"\0\0\0\x01", FIRST, ROOT]),
+        Granted::F => joined(alloc, &[GRANT, b"\0\0\0\x02", FIRST, FILE, &BYTES]),
+        Granted::G => joined(alloc, &[GRANT, b"\0\0\0\x03", FIRST, FILE, &BYTES]),
     }
-    Ok(body)
 }
 
 pub fn give_session<L: Link, R: Wait + Clock>(rt: &R, link: &mut L) -> bool {
@@ -62,7 +50,7 @@ pub fn give_grant<L: Link, R: Wait + Clock>(
     granted: Granted,
 ) -> bool {
     match grant(alloc, granted) {
-        Ok(body) => link.send(rt, &body) == Sent::Done,
-        Err(_) => false,
+        Some(body) => link.send(rt, &body) == Sent::Done,
+        None => false,
     }
 }
