@@ -137,15 +137,9 @@ impl Judge {
     {
         let at = self.starts.index_of(clerk, boot)?;
         let from = tail::first_of(&self.kept, clerk, boot, ops);
-        let broken = self.starts.broken_at(
-            &self.touches,
-            at,
-            &self.kept,
-            from,
-            clerk,
-            boot,
-            ops,
-        )?;
+        let broken = self
+            .starts
+            .broken_at(&self.touches, at, &self.kept, from, clerk, boot, ops)?;
         if let Some(rule) = broken {
             return Ok(Some(rule));
         }

@@ -40,7 +40,16 @@ pub fn broken_at(
     ensures unchanged { OnOk result (starts.new.items ≡ starts.old.items) }
     ensures same { SamePlaces starts.old.items starts.new.items }
 {
-    broken(alloc, touches, &mut starts[at], kept, from, clerk, boot, ops)
+    broken(
+        alloc,
+        touches,
+        &mut starts[at],
+        kept,
+        from,
+        clerk,
+        boot,
+        ops,
+    )
 }
 
 // The same of this start.

@@ -127,7 +127,17 @@ impl Starts {
         ensures same { OnOk result (self.new ≡ self.old) }
     {
         let alloc = self.alloc;
-        losses::broken_at(alloc, touches, &mut self.items, at, kept, from, clerk, boot, ops)
+        losses::broken_at(
+            alloc,
+            touches,
+            &mut self.items,
+            at,
+            kept,
+            from,
+            clerk,
+            boot,
+            ops,
+        )
     }
 
     /// Adds the pairs of the lost operations to what the start at this index owes.
