@@ -23,7 +23,7 @@ enum Noted {
     Other,
 }
 
-fn noted(served: Result<Served, ServerFault>) -> Noted {
+fn recorded(served: Result<Served, ServerFault>) -> Noted {
     match &served {
         Ok(served) => match &served.rec {
             Some(Record::Epoch(epoch)) => Noted::Epoch(*epoch),
@@ -41,7 +41,7 @@ fn start(alloc: Global) -> Option<(Server, InMemory, Noted)>
 {
     let mut keeper = keeper(alloc)?;
     let (server, served) = Server::start(alloc, &mut keeper).ok()?;
-    Some((server, keeper, noted(Ok(served))))
+    Some((server, keeper, recorded(Ok(served))))
 }
 
 // What a start, a greeting and two ends of a session write down.
@@ -49,9 +49,9 @@ fn session(alloc: Global) -> Option<[Noted; 4]> {
     let clerk = ClerkId::new(0)?;
     let hello = Msg::Hello(clerk, Age { boot: 1, round: 0 });
     let (mut server, mut keeper, begun) = start(alloc)?;
-    let opened = noted(server.take(&mut keeper, clerk, &hello));
-    let ended = noted(server.end(&mut keeper, clerk));
-    let again = noted(server.end(&mut keeper, clerk));
+    let opened = recorded(server.take(&mut keeper, clerk, &hello));
+    let ended = recorded(server.end(&mut keeper, clerk));
+    let again = recorded(server.end(&mut keeper, clerk));
     Some([begun, opened, ended, again])
 }
 
