@@ -140,11 +140,33 @@ impl Durable {
         if low >= LAST_COUNTER || low + 8 < batch {
             return Err(RecordFault::Beyond(low));
         }
-        let mut next = self.duplicate()?;
-        next.operations(clerk, ops)?;
-        next.sessions.mark(clerk, batch);
-        *self = next;
+        self.operations_whole(clerk, ops)?;
+        self.sessions.mark(clerk, batch);
         Ok(())
+    }
+
+    // The operations of a batch, or none of them: a single one is carried out in place, and several on a copy.
+    fn operations_whole(
+        &mut self,
+        clerk: ClerkId,
+        ops: &[(OpNo, Update)],
+    ) -> Result<(), RecordFault>
+        requires { AreSoundOps ops.now }
+        ensures ok { OnOk result (durable.operations clerk ops.now self.old ≡ Ok self.new) }
+        ensures refused { IfErr result (λ fault. Refuses fault (durable.operations clerk ops.now self.old)) }
+        ensures err { OnErr result (self.new ≡ self.old) }
+        ensures mark { CanMark (durable.slot self.old clerk) → CanMark (durable.slot self.new clerk) }
+    {
+        match ops {
+            [] => Ok(()),
+            [(op, update)] => self.carry_out(clerk, *op, update),
+            _ => {
+                let mut next = self.duplicate()?;
+                next.operations(clerk, ops)?;
+                *self = next;
+                Ok(())
+            }
+        }
     }
 
     // The operations of a batch, one by one.
@@ -165,6 +187,7 @@ impl Durable {
         ensures fits { OnOk result (durable.op_fault clerk op update.now self.old ≡ None) }
         ensures ok { OnOk result (self.new ≡ durable.carried_out clerk update.now self.old) }
         ensures refused { IfErr result (λ fault. RefusesOp fault (durable.op_fault clerk op update.now self.old)) }
+        ensures err { OnErr result (self.new ≡ self.old) }
         ensures mark { CanMark (durable.slot self.old clerk) → CanMark (durable.slot self.new clerk) }
     {
         let made = made(update);

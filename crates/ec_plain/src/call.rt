@@ -1,5 +1,5 @@
 // Calls and their outcomes.
-use ec_base::{Duplicate, List, Name, NoMemory, ObjId, Path};
+use ec_base::{Duplicate, List, Name, NoMemory, ObjId, Path, duplicate_bytes};
 use ec_volume::{Kind, Update};
 
 /// A read asks for at most this many bytes.
@@ -76,7 +76,7 @@ impl Duplicate for Call {
             Call::Mkdir(path) => Call::Mkdir(path.duplicate()?),
             Call::Create(path) => Call::Create(path.duplicate()?),
             Call::Write(path, at, bytes) => {
-                Call::Write(path.duplicate()?, *at, bytes.duplicate()?)
+                Call::Write(path.duplicate()?, *at, duplicate_bytes(bytes)?)
             }
             Call::SetLen(path, len) => Call::SetLen(path.duplicate()?, *len),
             Call::Read(path, at, count) => Call::Read(path.duplicate()?, *at, *count),
@@ -99,7 +99,7 @@ impl Duplicate for Reply {
     fn duplicate(&self) -> Result<Self, NoMemory> {
         Ok(match self {
             Reply::Ok => Reply::Ok,
-            Reply::Data(bytes) => Reply::Data(bytes.duplicate()?),
+            Reply::Data(bytes) => Reply::Data(duplicate_bytes(bytes)?),
             Reply::Stat {
                 kind,
                 mode,

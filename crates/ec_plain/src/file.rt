@@ -5,9 +5,9 @@ ghost use Rattle.ec_plain.specs.Walk.{Path};
 ghost use Rattle.ec_plain.specs.Plain.{write_in, len_in, read_in, list_in, stat_of};
 
 use crate::call::{Outcome, Refusal, Reply};
-use crate::object::{bytes_of, entries_of, is_dir};
+use crate::object::{entries_of, file_bytes, is_dir};
 use crate::outcome::{answers, issues, refuses};
-use ec_base::{Duplicate, List, Name, NoMemory, ObjId};
+use ec_base::{Duplicate, List, Name, NoMemory, ObjId, duplicate_bytes};
 use ec_volume::{Entries, Image, Kind, Look, MAX_FILE_BYTES, Update};
 use std::alloc::Global;
 
@@ -20,15 +20,15 @@ pub(crate) fn write_in<V: Look>(
 ) -> Result<Outcome, NoMemory>
     ensures { IfOk result (λ outcome. outcome ≡ write_in (V.images volume.now) at bytes.now obj read.items) }
 {
-    if is_dir(volume, obj) {
+    let Some(there) = file_bytes(volume, obj) else {
         return Ok(refuses(Refusal::IsDir, read));
-    }
+    };
     let end = at as usize + bytes.as_slice().len();
     if end > MAX_FILE_BYTES {
         return Ok(refuses(Refusal::TooLong, read));
     }
-    let inside = end <= bytes_of(volume, obj).len();
-    let bytes = bytes.duplicate()?;
+    let inside = end <= there.len();
+    let bytes = duplicate_bytes(bytes)?;
     Ok(issues(
         Update::Put {
             obj,
@@ -62,13 +62,10 @@ pub(crate) fn read_in<V: Look>(
 ) -> Result<Outcome, NoMemory>
     ensures { IfOk result (λ outcome. outcome ≡ read_in (V.images volume.now) at count obj read.items) }
 {
-    if is_dir(volume, obj) {
+    let Some(bytes) = file_bytes(volume, obj) else {
         return Ok(refuses(Refusal::IsDir, read));
-    }
-    let bytes = Vec::from_slice(
-        alloc,
-        part(bytes_of(volume, obj), at as usize, count as usize),
-    )?;
+    };
+    let bytes = Vec::from_slice(alloc, part(bytes, at as usize, count as usize))?;
     Ok(answers(Reply::Data(List::of(bytes)), read))
 }
 

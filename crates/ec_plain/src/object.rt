@@ -17,13 +17,14 @@ pub(crate) fn is_dir<V: Look>(volume: &V, id: ObjId) -> bool
     matches!(volume.look(id), Some(Image::Dir { .. }))
 }
 
-// The bytes of a file, and none of another object.
-pub(crate) fn bytes_of<V: Look>(volume: &V, id: ObjId) -> &[u8]
-    ensures { result.now ≡ bytes_of (V.images volume.now id) }
+// The bytes of an object that is no directory.
+pub(crate) fn file_bytes<V: Look>(volume: &V, id: ObjId) -> Option<&[u8]>
+    ensures { MatchOption result (is_dir (V.images volume.now id) ≡ true) (λ bytes. (is_dir (V.images volume.now id) ≡ false) × (bytes.now ≡ bytes_of (V.images volume.now id))) }
 {
     match volume.look(id) {
-        Some(Image::File { bytes, .. }) => bytes.as_slice(),
-        _ => &[],
+        Some(Image::Dir { .. }) => None,
+        Some(Image::File { bytes, .. }) => Some(bytes.as_slice()),
+        Some(Image::Gone) | None => Some(&[]),
     }
 }
 

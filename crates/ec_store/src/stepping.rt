@@ -1,4 +1,4 @@
-// A record steps the state in place. A batch is tried first, on copies of its operands' images where need be, so that a refusal changes nothing.
+// A record steps the state in place. A batch of several operations is tried first, on copies of its operands' images where need be, so that a refusal changes nothing.
 ghost use Rattle.std.specs.Prelude.{◌≡◌, IfOk, OnOk, OnErr, IfErr, Err, Ok};
 ghost use Rattle.std.specs.List.{flat_map};
 ghost use Rattle.ec_volume.specs.Update.{member, operands, fits};
@@ -33,7 +33,7 @@ pub(crate) fn step(
     ensures err { OnErr result (IsSpare state.old state.new) }
 {
     match change {
-        Record::Batch(clerk, session, batch, ops) => {
+        Record::Batch(clerk, session, batch, ops) if ops.as_slice().len() > 1 => {
             let empty = Record::Batch(*clerk, *session, *batch, List::of(Vec::new(alloc)));
             step_batch(alloc, state, change, &empty, ops.as_slice(), ids)
         }
