@@ -3,15 +3,17 @@ ghost use Rattle.std.specs.Prelude.{◌≡◌, IfOk};
 ghost use Rattle.ec_plain.specs.Plain.{plain};
 
 use crate::call::{Call, Outcome, Reply};
-use crate::file::{len_in, list_in, read_in, stat_of, write_in};
 use crate::forder::plain_forder;
 use crate::make::plain_make;
-use crate::outcome::{answers, issues};
+use crate::outcome::answers;
+use crate::reached::{
+    plain_fsync, plain_len, plain_list, plain_mode, plain_owner, plain_read, plain_stamp,
+    plain_stat, plain_write,
+};
 use crate::remove::plain_drop;
 use crate::rename::plain_rename;
-use crate::step::{Step, object_at};
 use ec_base::{NoMemory, ObjId};
-use ec_volume::{Kind, Look, Update};
+use ec_volume::{Kind, Look};
 use std::alloc::Global;
 
 /// What the call comes to, where a new object is to have the fresh id.
@@ -31,41 +33,14 @@ pub fn plain<V: Look>(
         Call::Rename(path, target) => { plain_rename(alloc, volume, path.names(), target.names()) },
         Call::Forder(paths) => plain_forder(alloc, volume, paths.as_slice()),
         Call::Sync => Ok(answers(Reply::Ok, Vec::new(alloc))),
-        Call::Write(path, at, bytes) => match object_at(alloc, volume, path.names())? {
-            Step::Goes((obj, read)) => write_in(volume, *at, bytes, obj, read),
-            Step::Ends(outcome) => Ok(outcome),
-        },
-        Call::SetLen(path, len) => match object_at(alloc, volume, path.names())? {
-            Step::Goes((obj, read)) => Ok(len_in(volume, *len, obj, read)),
-            Step::Ends(outcome) => Ok(outcome),
-        },
-        Call::Read(path, at, count) => match object_at(alloc, volume, path.names())? {
-            Step::Goes((obj, read)) => read_in(alloc, volume, *at, *count, obj, read),
-            Step::Ends(outcome) => Ok(outcome),
-        },
-        Call::List(path) => match object_at(alloc, volume, path.names())? {
-            Step::Goes((obj, read)) => list_in(alloc, volume, path.names().len() as u8, obj, read),
-            Step::Ends(outcome) => Ok(outcome),
-        },
-        Call::Chmod(path, mode) => match object_at(alloc, volume, path.names())? {
-            Step::Goes((obj, read)) => Ok(issues(Update::Mode { obj, mode: *mode }, read)),
-            Step::Ends(outcome) => Ok(outcome),
-        },
-        Call::Touch(path, stamp) => match object_at(alloc, volume, path.names())? {
-            Step::Goes((obj, read)) => Ok(issues(Update::Stamp { obj, stamp: *stamp }, read)),
-            Step::Ends(outcome) => Ok(outcome),
-        },
-        Call::Chown(path, owner) => match object_at(alloc, volume, path.names())? {
-            Step::Goes((obj, read)) => Ok(issues(Update::Owner { obj, owner: *owner }, read)),
-            Step::Ends(outcome) => Ok(outcome),
-        },
-        Call::Stat(path) => match object_at(alloc, volume, path.names())? {
-            Step::Goes((obj, read)) => Ok(answers(stat_of(volume, obj), read)),
-            Step::Ends(outcome) => Ok(outcome),
-        },
-        Call::Fsync(path) => match object_at(alloc, volume, path.names())? {
-            Step::Goes((_, read)) => Ok(answers(Reply::Ok, read)),
-            Step::Ends(outcome) => Ok(outcome),
-        },
+        Call::Write(path, at, bytes) => plain_write(alloc, volume, path.names(), *at, bytes),
+        Call::SetLen(path, len) => plain_len(alloc, volume, path.names(), *len),
+        Call::Read(path, at, count) => plain_read(alloc, volume, path.names(), *at, *count),
+        Call::List(path) => plain_list(alloc, volume, path.names()),
+        Call::Chmod(path, mode) => plain_mode(alloc, volume, path.names(), *mode),
+        Call::Touch(path, stamp) => plain_stamp(alloc, volume, path.names(), *stamp),
+        Call::Chown(path, owner) => plain_owner(alloc, volume, path.names(), *owner),
+        Call::Stat(path) => plain_stat(alloc, volume, path.names()),
+        Call::Fsync(path) => plain_fsync(alloc, volume, path.names()),
     }
 }

@@ -9,6 +9,7 @@ use ec_base::{List, NoMemory, ObjId, Path};
 use ec_volume::{Look, Update};
 use std::alloc::Global;
 
+#[inline(never)]
 pub(crate) fn plain_forder<V: Look>(
     alloc: Global,
     volume: &V,

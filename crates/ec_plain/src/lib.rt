@@ -8,6 +8,7 @@ mod forder;
 mod make;
 mod object;
 mod outcome;
+mod reached;
 mod remove;
 mod rename;
 mod step;

@@ -12,6 +12,7 @@ use ec_base::{Duplicate, Name, NoMemory, ObjId};
 use ec_volume::{Entries, Kind, Look, MAX_ENTRIES, Update};
 use std::alloc::Global;
 
+#[inline(never)]
 pub(crate) fn plain_make<V: Look>(
     alloc: Global,
     volume: &V,

@@ -13,6 +13,7 @@ use ec_base::{Duplicate, Name, NoMemory};
 use ec_volume::{Kind, Look, Update};
 use std::alloc::Global;
 
+#[inline(never)]
 pub(crate) fn plain_drop<V: Look>(
     alloc: Global,
     volume: &V,

@@ -15,6 +15,7 @@ use ec_base::{Duplicate, List, Name, NoMemory, ObjId};
 use ec_volume::{Entries, Image, Kind, Look, MAX_ENTRIES, Update};
 use std::alloc::Global;
 
+#[inline(never)]
 pub(crate) fn plain_rename<V: Look>(
     alloc: Global,
     volume: &V,
