@@ -10,7 +10,7 @@ use Rattle.std.specs.List.{list_all}
 use Rattle.std.proofs.lemmas.List.{take_more, take-append-drop, length-take-le}
 use Rattle.ec_volume.specs.Image.{is_gone}
 use Rattle.ec_volume.specs.Update.{distinct, member, is_sound}
-use Rattle.ec_volume.specs.Volume.{after, WellFormed}
+use Rattle.ec_volume.specs.Volume.{after, formatted, Fits, WellFormed}
 use Rattle.ec_overlay.specs.Shown.{shown}
 use Rattle.ec_laws.specs.Bases.{AreAtLines, LeaveWellFormed, is_bounded_entry}
 use Rattle.ec_laws.proofs.Bases.{base-formatted}
@@ -77,7 +77,12 @@ ready most past e j lines h legal =
       gone = subst (λ v. T (is_gone (v (1 + e.0)))) same (gone kept-formed kept-reached call-sound call-fits kept-held from_formatted base-formatted most past e lines legal);
       bounded = all-last past e lines.bounded;
       sound = subst (λ ks. T (list_all is_sound (updates ks))) (sym h.kept) w.sound;
-      firm = h.firm;
+      whole = record {
+        fits = subst (λ ks. Fits formatted (updates ks)) (sym h.kept) w.fits;
+        shown = λ o. h.volume o ∙ ap (λ ks. after formatted (updates ks) o) (sym h.kept);
+        firm = h.firm;
+        laid = h.laid;
+      };
       rising = λ c b. subst (λ ks. T (is_sorted nat_cmp (of_issue c b ks))) (sym h.kept) (kept-sorted from_formatted most c b past legal);
     }
 

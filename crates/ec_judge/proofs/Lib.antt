@@ -12,6 +12,7 @@ pub mod Indexes
 pub mod Volumes
 pub mod Loops
 pub mod Prefixes
+pub mod Restored
 pub mod Tails
 pub mod Outsides
 pub mod Steps

@@ -1,6 +1,5 @@
 -- The volume behind the first operations, at a call and at a loss.
 use Rattle.std.proofs.Common.{◌≡◌, refl, sym, ap, subst, ◌∙◌, arith, ◌<◌, ◌≤◌, ◌+◌, ℕ, zero, suc, Bool, true, false, not, ◌||◌, cond, List, [], ◌∷◌, ◌++◌, length, take, get_or}
-use Rattle.std.specs.Prelude.{Result, Ok, Err, IfOk, MatchBool}
 use Rattle.std.specs.List.{filter, list_any}
 use Rattle.std.proofs.lemmas.Bool.{true≢false}
 use Rattle.std.proofs.lemmas.List.{take_more, take_all}
@@ -11,7 +10,7 @@ use Rattle.ec_overlay.specs.Shown.{shown}
 use Rattle.ec_history.specs.History.{Op, updates, is_one_of}
 use Rattle.ec_judge.specs.declared.carried.Kept.{Kept}
 use Rattle.ec_judge.specs.declared.carried.Firm.{Firm}
-use Rattle.ec_judge.specs.Carried.{op_of, ops_of, is_among, IsFront, IsFirm, IsBehind, IsLeft}
+use Rattle.ec_judge.specs.Carried.{op_of, ops_of, is_among, AreLaid, IsFront, IsFirm, IsBehind, IsLeft}
 
 -- two tests that agree on the first operations
 front-same : (q r : Op → Bool) (ks js : List Kept) (n : ℕ) (v : Images) → filter r (ops_of (take n js)) ≡ filter q (ops_of (take n ks)) → IsFront q ks n v → IsFront r js n v
@@ -108,18 +107,13 @@ module _ (c b : ℕ) (ns : List ℕ) where
       let left = unlost-take ks n h.within h.unlost in
       record { within = left.1; front = front-same q (λ k. true) ks (filter (λ k. not (is_among c b ns k)) ks) n v (ap (λ l. filter (λ k. true) (ops_of l)) left.0 ∙ sym (unlost-filter (take n ks) h.unlost)) h.front }
 
-  left-all : (ks : List Kept) (f : Firm) (n : ℕ) (under : List (ℕ × Image)) → IsFront q ks (length ks) (shown f.volume) → IsBehind c b ns ks n (images under) → f.count ≡ n → f.volume.under ≡ under → IsLeft c b ns ks f
-  left-all ks f n under a h count-is under-is =
+  pub left-all : (ks : List Kept) (f : Firm) (n : ℕ) (under : List (ℕ × Image)) → IsFront q ks (length ks) (shown f.volume) → IsBehind c b ns ks n (images under) → f.count ≡ n → f.volume.under ≡ under
+      → AreLaid (filter (λ k. not (is_among c b ns k)) ks) f.count f.volume → IsLeft c b ns ks f
+  left-all ks f n under a h count-is under-is laid =
       let whole = take_all (length ks) ks (omega arith) in
       record {
         fits = subst (λ l. Fits formatted (updates (filter q (ops_of l)))) whole a.fits;
         volume = λ o. a.same o ∙ ap (λ l. after formatted (updates (filter q (ops_of l))) o) whole;
         firm = subst (λ m. IsFirm (filter (λ k. not (is_among c b ns k)) ks) m (images f.volume.under)) (sym count-is) (subst (λ u. IsFirm (filter (λ k. not (is_among c b ns k)) ks) n (images u)) (sym under-is) (firm-left ks n (images under) h));
+        laid = laid;
       }
-
-  pub left-done : {E : Type 0} (ks : List Kept) (f : Firm) (r : Result Bool E) (n : ℕ) (under : List (ℕ × Image)) → IsBehind c b ns ks n (images under) → f.count ≡ n
-      → IfOk r (λ fits. MatchBool fits (IsFront q ks (length ks) (shown f.volume)) (¬ (Fits formatted (updates (filter q (ops_of ks)))))) → IfOk r (λ fits. f.volume.under ≡ under)
-      → IfOk r (λ fits. MatchBool fits (IsLeft c b ns ks f) (¬ (Fits formatted (updates (filter q (ops_of ks))))))
-  left-done ks f (Ok true) n under h count-is a u = left-all ks f n under a h count-is u
-  left-done ks f (Ok false) n under h count-is a u = a
-  left-done ks f (Err e) n under h count-is a u = tt

@@ -43,7 +43,7 @@ use Rattle.ec_pending.specs.declared.asked.Asked.{Asked}
 use Rattle.ec_owes.specs.Rules.{IsNumbered, KeepsRules, BreaksRule, due_of}
 use Rattle.ec_judge.specs.Asks.{asked_on, asked_by_call}
 use Rattle.ec_judge.specs.Carried as Carried
-use Rattle.ec_judge.specs.Carried.{op_of, ops_of, issue_of, issues_in, is_among, is_start, count_of, owed_of, pending_of, is_covered, IsUpward, IsStart, IsFlagged, IsUncovered, IsUntouched, IsFirm, Carries, touched_next, is_touched, AreBelow, count_next, keeps_of, IsFitting, are_kept, are_uncovered, are_closed, BreaksMarks, KeepsMarks}
+use Rattle.ec_judge.specs.Carried.{op_of, ops_of, issue_of, issues_in, is_among, is_start, count_of, owed_of, pending_of, is_covered, IsUpward, IsStart, IsFlagged, IsUncovered, IsUntouched, IsFirm, AreLaid, Carries, touched_next, is_touched, AreBelow, count_next, keeps_of, IsFitting, are_kept, are_uncovered, are_closed, BreaksMarks, KeepsMarks}
 use Rattle.ec_pending.specs.Pending.{numbers_in, is_in, is_asked, taken, rest, numbered, issues_of}
 use Rattle.ec_laws.proofs.Issues.{issue-sorted}
 use Rattle.ec_judge.proofs.Numbers.{each-kept, only, unlost, kept-only, kept-unlost, new-uncovered, new-untouched}
@@ -304,9 +304,9 @@ module _ (most : ℕ) (past : History) (by : Issuer) (l g : ℕ) (cl : Call) (a 
       → s'.clerk ≡ by.clerk → s'.boot ≡ by.boot → s'.pending.0 ≡ count_next s.pending.0 op → s'.owed ≡ filter (λ q. not (meets o cl q)) s.owed → s'.pending.1 ≡ rest (is_asked w) s.pending.1 ++ issues_of by.place op o.update
       → j'.starts ≡ set ss at s' → j'.kept.items ≡ j.kept.items ++ keeps_of by op o.update
       → ((x : ℕ) → Tables.at x j'.touches ≡ cond (member x o.touched) (Some (touched_next by.clerk by.turn (Tables.at x j.touches))) (Tables.at x j.touches))
-      → ((x : ℕ) → shown j'.firm.volume x ≡ after (shown j.firm.volume) (updates (ops_of (keeps_of by op o.update))) x) → j'.firm.count ≡ j.firm.count → j'.firm.volume.under ≡ j.firm.volume.under
+      → ((x : ℕ) → shown j'.firm.volume x ≡ after (shown j.firm.volume) (updates (ops_of (keeps_of by op o.update))) x) → j'.firm.count ≡ j.firm.count → j'.firm.volume.under ≡ j.firm.volume.under → AreLaid j'.kept.items j'.firm.count j'.firm.volume
       → Carries F (past ++ e ∷ []) j'
-  call-carried j' ss at s s' w o turn same legal-call starts at-is within own pending-same found w-is sc sb count-of owed-of pending-is starts-are kept-are touches-are volume-is count-same under-same =
+  call-carried j' ss at s s' w o turn same legal-call starts at-is within own pending-same found w-is sc sb count-of owed-of pending-is starts-are kept-are touches-are volume-is count-same under-same laid =
       let seen : (x : ℕ) → Tables.at x j'.touches ≡ cond (member x out.touched) (Some (touched_next by.clerk by.turn (Tables.at x j.touches))) (Tables.at x j.touches) =
       λ x. touches-are x ∙ ap (λ z. cond (member x z.touched) (Some (touched_next by.clerk by.turn (Tables.at x j.touches))) (Tables.at x j.touches)) same in
       let step : kept F (past ++ e ∷ []) ≡ kept F past ++ issued_by F (kept F past) e = kept-step F past e in
@@ -348,6 +348,7 @@ module _ (most : ℕ) (past : History) (by : Issuer) (l g : ℕ) (cl : Call) (a 
         touches = λ x. subst (λ n. AreBelow n (Tables.at x j'.touches)) (length-more past e) (below-next by.clerk by.turn out.touched j.touches j'.touches seen (length past) x turn (h.touches x));
         firm = subst (λ n. IsFirm j'.kept.items n (images j'.firm.volume.under)) (sym count-same) (subst (λ u. IsFirm j'.kept.items j.firm.count (images u)) (sym under-same)
             (subst (λ ks. IsFirm ks j.firm.count (images j.firm.volume.under)) (sym kept-are) (firm-more j.kept.items (keeps_of by op o.update) j.firm.count (images j.firm.volume.under) h.firm)));
+        laid = laid;
       }
 
 -- The rules of a loss.
@@ -467,8 +468,8 @@ module _ (most : ℕ) (past : History) (p c b : ℕ) (ns : List ℕ) (j : Judge)
       → s'.clerk ≡ c → s'.boot ≡ b → s'.pending.0 ≡ s.pending.0 → s'.owed ≡ s.owed ++ pairs_of (filter (is_one_of c b ns) (ops_of j.kept.items)) → s'.pending.1 ≡ s.pending.1
       → j'.starts ≡ set ss at s' → j'.kept.items ≡ filter (λ k. not (is_among c b ns k)) j.kept.items → j'.touches ≡ j.touches
       → ((x : ℕ) → shown j'.firm.volume x ≡ after formatted (updates (without c b ns (ops_of j.kept.items))) x) → IsFirm (filter (λ k. not (is_among c b ns k)) j.kept.items) j'.firm.count (images j'.firm.volume.under)
-      → Carries F (past ++ lost ∷ []) j'
-  loss-carried j' ss at s s' starts at-is within own pending-same found sc sb count-of owed-of pending-is starts-are kept-are touches-are volume-is firm-is =
+      → AreLaid (filter (λ k. not (is_among c b ns k)) j.kept.items) j'.firm.count j'.firm.volume → Carries F (past ++ lost ∷ []) j'
+  loss-carried j' ss at s s' starts at-is within own pending-same found sc sb count-of owed-of pending-is starts-are kept-are touches-are volume-is firm-is laid-is =
       let step : kept F (past ++ lost ∷ []) ≡ without c b ns (kept F past) = kept-step F past lost in
       let as-before : (d f : ℕ) → pending_of (find (is_start d f) j'.starts) ≡ pending_of (find (is_start d f) j.starts) =
       λ d f. ap (λ ts. pending_of (find (is_start d f) ts)) starts-are ∙ pending-set c b ss at s' at-is within sc sb d f ∙ unchanged c b d f ss s s' found pending-is ∙ pending-same d f in
@@ -486,6 +487,7 @@ module _ (most : ℕ) (past : History) (p c b : ℕ) (ns : List ℕ) (j : Judge)
         turns = subst (λ n. Each (λ k. k.turn < n) j'.kept.items) (length-more past lost) (subst (Each (λ k. k.turn < length past + 1)) (sym kept-are) (each-kept (λ k. k.turn < length past + 1) (λ k. k.turn < length past + 1) (λ k. not (is_among c b ns k)) (λ k e f. f) j.kept.items (turns-more (length past) j.kept.items h.turns)));
         touches = λ x. subst (λ n. AreBelow n (Tables.at x j'.touches)) (length-more past lost) (subst (λ ts. AreBelow (length past + 1) (Tables.at x ts)) (sym touches-are) (below-more (length past) (Tables.at x j.touches) (h.touches x)));
         firm = subst (λ ks. IsFirm ks j'.firm.count (images j'.firm.volume.under)) (sym kept-are) firm-is;
+        laid = subst (λ ks. AreLaid ks j'.firm.count j'.firm.volume) (sym kept-are) laid-is;
       }
 
 -- What is known of the start at an index.

@@ -12,7 +12,7 @@ all-same v w h = λ k o. h o k
 
 -- An update that fits has no operand at which it doesn't.
 
-first-none : (u : Update) (v : Images) (os : List ℕ) → ((o : ℕ) → T (member o os) → T (fits u o (v o))) → first_unfit u v os ≡ None
+pub first-none : (u : Update) (v : Images) (os : List ℕ) → ((o : ℕ) → T (member o os) → T (fits u o (v o))) → first_unfit u v os ≡ None
 first-none u v [] all = refl
 first-none u v (o ∷ os) all =
     elim (fits u o (v o)) as (λ b. T b → cond b (first_unfit u v os) (Some o) ≡ None) [ true ↦ λ h. first-none u v os (λ p m. all p (more p m)) | false ↦ λ h. absurd h ] (all o (own o))
@@ -36,14 +36,14 @@ fits-last base us ws u f o =
     let all = and_parts (fits_in_turn o (base o) us) (fits_in_turn o (after base us o) (u ∷ ws)) (sym (fits-append o (base o) us (u ∷ ws)) ∙ is-true _ (f o)) in
     holds (and_parts (not (has_operand o u) || fits u o (after base us o)) _ all.1).0
 
-or-out : (a b : Bool) → T (not a || b) → T a → T b
+pub or-out : (a b : Bool) → T (not a || b) → T a → T b
 or-out true b t a = t
 or-out false b t a = absurd a
 
 pub first-fits : (v : Images) (u : Update) → ((o : ℕ) → T (not (has_operand o u) || fits u o (v o))) → first_unfit u v (operands u) ≡ None
 first-fits v u f = first-none u v (operands u) (λ o m. or-out (has_operand o u) (fits u o (v o)) (f o) m)
 
-none-some : (x : Option ℕ) (o : ℕ) → x ≡ None → x ≡ Some o → ⊥
+pub none-some : (x : Option ℕ) (o : ℕ) → x ≡ None → x ≡ Some o → ⊥
 none-some x o a b = not (sym a ∙ b)
   where
     not : ◌≡◌ {A = Option ℕ} None (Some o) → ⊥

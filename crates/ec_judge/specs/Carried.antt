@@ -1,12 +1,12 @@
 -- What the judge carries from entry to entry. No public clause cites this module.
-use Rattle.std.specs.Prelude.{◌≡◌, ◌==◌, ◌+◌, ℕ, ◌<◌, ◌≤◌, T, Bool, true, false, not, ◌&&◌, ◌||◌, if◌then◌else◌, nat_lt, map, List, [], ◌∷◌, ◌++◌, length, take, Option, Some, None, MatchBool, MatchOption, ⊤}
+use Rattle.std.specs.Prelude.{◌≡◌, ◌==◌, ◌+◌, ℕ, ◌<◌, ◌≤◌, T, Bool, true, false, not, ◌&&◌, ◌||◌, if◌then◌else◌, nat_lt, map, List, [], ◌∷◌, ◌++◌, length, take, drop, Option, Some, None, is_some, MatchBool, MatchOption, ⊤}
 use Rattle.std.specs.Ordering.{nat_cmp}
 use Rattle.std.specs.FinMap.{is_sorted}
 use Rattle.std.specs.List.{filter, find, list_any, list_all}
 use Rattle.ec_base.specs.Tables.{Table, at}
 use Rattle.ec_volume.specs.Image.{is_gone}
 use Rattle.ec_volume.specs.Update.{member, operands, is_sound, first_unfit}
-use Rattle.ec_volume.specs.Volume.{Images, images, after, formatted, Fits, WellFormed}
+use Rattle.ec_volume.specs.Volume.{Images, images, after, fits_in_turn, formatted, Fits, WellFormed}
 use Rattle.ec_volume.specs.declared.update.Update.{Update}
 use Rattle.ec_plain.specs.declared.call.Call.{Call}
 use Rattle.ec_plain.specs.declared.call.Outcome.{Outcome}
@@ -24,7 +24,8 @@ use Rattle.ec_pending.specs.declared.issue.Issue.{Issue}
 use Rattle.ec_judge.specs.declared.carried.Issuer.{Issuer}
 use Rattle.ec_judge.specs.declared.carried.Start.{Start}
 use Rattle.ec_judge.specs.declared.carried.Touches.{Touches}
-use Rattle.ec_overlay.specs.Shown.{shown}
+use Rattle.ec_overlay.specs.Shown.{shown, has_own}
+use Rattle.ec_overlay.specs.declared.overlay.Overlay.{Overlay}
 use Rattle.ec_judge.specs.declared.carried.Firm.{Firm}
 use Rattle.ec_judge.specs.declared.carried.Judge.{Judge}
 use Rattle.ec_pending.specs.declared.asked.Asked.{Asked}
@@ -118,17 +119,47 @@ pub record IsFirm (ks : List Kept) (n : ℕ) (v : Images) : Type 0 where
   pub within : n ≤ length ks
   pub front : IsFront (λ k. true) ks n v
 
+-- each operand of the operations behind the first ones has an image of its own
+abbrev pub AreLaid : List Kept → ℕ → Overlay → Type 0
+AreLaid ks n l = Each (λ k. (o : ℕ) → T (member o (operands k.update)) → T (has_own l o)) (drop n ks)
+
 -- the same, and none of the first operations is lost
 pub record IsBehind (c b : ℕ) (ns : List ℕ) (ks : List Kept) (n : ℕ) (v : Images) : Type 0 where
   pub within : n ≤ length ks
   pub front : IsFront (λ k. not (is_one_of c b ns k)) ks n v
   pub unlost : list_any (is_among c b ns) (take n ks) ≡ false
 
+-- Objects that are shown as the volume below has them again, while the others are shown as before.
+
+abbrev pub is_noted : Table (Unit {0}) → ℕ → Bool
+is_noted t o = is_some (at o t)
+
+pub record IsRestored (old new : Overlay) (noted : ℕ → Bool) : Type 0 where
+  pub under : new.under ≡ old.under
+  pub shown : (o : ℕ) → shown new o ≡ (if noted o then images old.under o else shown old o)
+  pub own : (o : ℕ) → T (has_own old o) → T (has_own new o)
+  pub laid : (o : ℕ) → noted o ≡ true → T (has_own new o)
+
+-- the objects of each of these operations are noted
+abbrev pub AreNoted : (Kept → Bool) → (ℕ → Bool) → List Kept → Type 0
+AreNoted p noted ks = Each (λ k. p k ≡ true → (o : ℕ) → T (member o (operands k.update)) → noted o ≡ true) ks
+
+-- at these objects the volume behind those of the first operations that pass, where they fit there
+pub record IsFrontAt (noted : ℕ → Bool) (q : Op → Bool) (ks : List Kept) (n : ℕ) (v : Images) : Type 0 where
+  pub fits : (o : ℕ) → noted o ≡ true → T (fits_in_turn o (formatted o) (updates (filter q (ops_of (take n ks)))))
+  pub same : (o : ℕ) → noted o ≡ true → v o ≡ after formatted (updates (filter q (ops_of (take n ks)))) o
+
+-- at the other objects the volume behind all that pass
+pub record IsWholeBeside (noted : ℕ → Bool) (q : Op → Bool) (ks : List Kept) (v : Images) : Type 0 where
+  pub fits : (o : ℕ) → noted o ≡ false → T (fits_in_turn o (formatted o) (updates (filter q (ops_of ks))))
+  pub same : (o : ℕ) → noted o ≡ false → v o ≡ after formatted (updates (filter q (ops_of ks))) o
+
 -- the volumes without the lost operations
 pub record IsLeft (c b : ℕ) (ns : List ℕ) (ks : List Kept) (f : Firm) : Type 0 where
   pub fits : Fits formatted (updates (filter (λ k. not (is_one_of c b ns k)) (ops_of ks)))
   pub volume : (o : ℕ) → shown f.volume o ≡ after formatted (updates (filter (λ k. not (is_one_of c b ns k)) (ops_of ks))) o
   pub firm : IsFirm (filter (λ k. not (is_among c b ns k)) ks) f.count (images f.volume.under)
+  pub laid : AreLaid (filter (λ k. not (is_among c b ns k)) ks) f.count f.volume
 
 pub record Carries (base : Base) (past : History) (j : Judge) : Type 0 where
   pub volume : (o : ℕ) → shown j.firm.volume o ≡ after base.volume (updates (kept base past)) o
@@ -138,6 +169,7 @@ pub record Carries (base : Base) (past : History) (j : Judge) : Type 0 where
   pub turns : Each (λ k. k.turn < length past) j.kept.items
   pub touches : (o : ℕ) → AreBelow (length past) (at o j.touches)
   pub firm : IsFirm j.kept.items j.firm.count (images j.firm.volume.under)
+  pub laid : AreLaid j.kept.items j.firm.count j.firm.volume
 
 -- behind a history of so many entries
 pub record HasJudged (past : History) (n : ℕ) (j : Judge) : Type 0 where
@@ -189,13 +221,20 @@ pub record KeepsMarks (c b : ℕ) (ns : List ℕ) (pending : List ℕ) (ts : Tab
 
 -- What the judge does.
 
+-- the kept operations fit, and the volumes are behind them
+pub record IsWhole (j : Judge) : Type 0 where
+  pub fits : Fits formatted (updates (ops_of j.kept.items))
+  pub shown : (o : ℕ) → shown j.firm.volume o ≡ after formatted (updates (ops_of j.kept.items)) o
+  pub firm : IsFirm j.kept.items j.firm.count (images j.firm.volume.under)
+  pub laid : AreLaid j.kept.items j.firm.count j.firm.volume
+
 -- an entry can be judged: the volume is well formed, the fresh id of its place is free, and so on
 pub record IsReady (j : Judge) (e : ℕ × Entry) : Type 0 where
   pub formed : WellFormed (shown j.firm.volume)
   pub gone : T (is_gone (shown j.firm.volume (1 + e.0)))
   pub bounded : T (is_bounded_entry e.1)
   pub sound : T (list_all is_sound (updates (ops_of j.kept.items)))
-  pub firm : IsFirm j.kept.items j.firm.count (images j.firm.volume.under)
+  pub whole : IsWhole j
   pub rising : (c b : ℕ) → T (is_sorted nat_cmp (of_issue c b (ops_of j.kept.items)))
 
 -- the entry of this turn is legal and carried, or this is the first rule that it breaks

@@ -54,7 +54,7 @@ pub struct Start {
 }
 
 /// The volume behind the kept operations. Below it lies the one behind the first so many of them; a
-/// loss hardly names one of these.
+/// loss hardly names one of these. Each operand of the others has an image of its own over it.
 #[derive(Drop)]
 pub struct Firm {
     pub volume: Overlay,

@@ -8,7 +8,7 @@ ghost use Rattle.ec_volume.specs.Volume.{images};
 ghost use Rattle.ec_history.specs.History.{updates, of_issue};
 ghost use Rattle.ec_history.specs.Legal.{from_formatted};
 ghost use Rattle.ec_history.specs.declared.entry.Entry.TheVariants as entry;
-ghost use Rattle.ec_judge.specs.Carried.{Carries, IsFirm, IsReady, Judges, ops_of};
+ghost use Rattle.ec_judge.specs.Carried.{Carries, IsReady, IsWhole, Judges, ops_of};
 
 use crate::carried::{Issuer, Judge};
 use crate::starts::Starts;
@@ -115,7 +115,7 @@ impl Judge {
         ops: &[OpNo],
     ) -> Result<Option<Rule>, NoMemory>
         requires sound { T (list_all is_sound (updates (ops_of self.old.kept.items))) }
-        requires firm { IsFirm self.old.kept.items self.old.firm.count (images self.old.firm.volume.under) }
+        requires whole { IsWhole self.old }
         requires rising { T (is_sorted nat_cmp (of_issue clerk boot (ops_of self.old.kept.items))) }
         ensures { IfOk result (λ found. (most turn p : ℕ) → Judges most turn self.old self.new (p, entry.Loss clerk boot ops.now) found) }
     {
@@ -131,7 +131,7 @@ impl Judge {
         ops: &Numbers,
     ) -> Result<Option<Rule>, NoMemory>
         requires sound { T (list_all is_sound (updates (ops_of self.old.kept.items))) }
-        requires firm { IsFirm self.old.kept.items self.old.firm.count (images self.old.firm.volume.under) }
+        requires whole { IsWhole self.old }
         requires rising { T (is_sorted nat_cmp (of_issue clerk boot (ops_of self.old.kept.items))) }
         ensures { IfOk result (λ found. (most turn p : ℕ) → Judges most turn self.old self.new (p, entry.Loss clerk boot ops.now) found) }
     {

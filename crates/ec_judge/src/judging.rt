@@ -51,6 +51,14 @@ impl Judging {
         })
     }
 
+    /// Makes room for so many more operations.
+    pub fn reserve(&mut self, operations: usize) -> Result<(), NoMemory>
+        ensures { OnOk result (self.new ≡ self.old) }
+    {
+        self.judge.kept.reserve(operations)?;
+        Ok(())
+    }
+
     /// Judges some more entries, each with the place of its transcript line. `At` shows the line of
     /// the first one that breaks a rule, and the first rule that it breaks. Behind a fault nothing
     /// more is judged: then it answers that there is no memory.

@@ -1,18 +1,20 @@
 // The volume behind what a loss leaves.
-ghost use Rattle.std.specs.Prelude.{◌≡◌, ◌≤◌, ◌<◌, ℕ, T, ◌∷◌, [], true, false, not, length, take, Some, None, IfOk, OnOk, MatchBool};
+ghost use Rattle.std.specs.Prelude.{◌≡◌, ◌≤◌, ◌<◌, ◌||◌, ℕ, T, ◌∷◌, [], true, false, not, length, take, Some, None, IfOk, OnOk, MatchBool};
 ghost use Rattle.std.specs.List.{filter, list_any, list_all};
-ghost use Rattle.ec_volume.specs.Update.{operands, is_sound, first_unfit};
+ghost use Rattle.ec_volume.specs.Update.{member, operands, is_sound, first_unfit};
 ghost use Rattle.ec_volume.specs.Volume.{images, formatted, after, Fits};
-ghost use Rattle.ec_overlay.specs.Shown.{shown};
+ghost use Rattle.ec_overlay.specs.Shown.{shown, has_own};
+ghost use Rattle.ec_overlay.specs.declared.overlay.Overlay.{Overlay as Laid};
 ghost use Rattle.ec_history.specs.History.{updates, is_one_of};
-ghost use Rattle.ec_judge.specs.Carried.{ops_of, is_among, IsFront, IsFirm, IsBehind, IsLeft};
+ghost use Rattle.ec_judge.specs.Carried.{ops_of, is_among, is_noted, AreLaid, AreNoted, IsFront, IsFrontAt, IsWholeBeside, IsFirm, IsBehind, IsRestored, IsLeft};
 
 use crate::carried::{Firm, Kept};
 use crate::losses::is_among;
-use ec_base::{ClerkId, NoMemory};
+use ec_base::{ClerkId, NoMemory, ObjId};
 use ec_numbers::Numbers;
+use ec_objmap::ObjMap;
 use ec_overlay::Overlay;
-use ec_volume::{ApplyFault, Update, Volume};
+use ec_volume::{ApplyFault, Update, Volume, operands};
 use std::alloc::Global;
 
 // At least so many of the last kept operations stay out of the volume below.
@@ -44,17 +46,24 @@ pub fn leave(
     ops: &Numbers,
 ) -> Result<bool, NoMemory>
     requires sound { T (list_all is_sound (updates (ops_of kept.now))) }
+    requires fits { Fits formatted (updates (ops_of kept.now)) }
+    requires shown { (o : ℕ) → shown firm.old.volume o ≡ after formatted (updates (ops_of kept.now)) o }
     requires firm { IsFirm kept.now firm.old.count (images firm.old.volume.under) }
+    requires laid { AreLaid kept.now firm.old.count firm.old.volume }
     requires within { from ≤ length kept.now }
     requires none { list_any (is_among clerk boot ops.now) (take from kept.now) ≡ false }
     ensures { IfOk result (λ fits. MatchBool fits (IsLeft clerk boot ops.now kept.now firm.new) (¬ (Fits formatted (updates (filter (λ k. not (is_one_of clerk boot ops.now k)) (ops_of kept.now)))))) }
 {
-    begin(alloc, firm, kept, from, clerk, boot, ops)?;
+    let anew = begin(alloc, firm, kept, from, clerk, boot, ops)?;
     if !advance(firm, kept, clerk, boot, ops)? {
         return Ok(false);
     }
-    firm.volume.uncover();
-    carry_rest(alloc, &mut firm.volume, firm.count, kept, clerk, boot, ops)
+    let mut noted = ObjMap::new(alloc);
+    let count = firm.count;
+    let volume = &mut firm.volume;
+    let behind = &kept[count..];
+    restore_all(alloc, volume, &mut noted, behind, anew, clerk, boot, ops)?;
+    carry_on(alloc, volume, &noted, count, kept, clerk, boot, ops)
 }
 
 // Begins anew where the volume below is behind the index. From then on twice as many operations stay
@@ -67,11 +76,12 @@ fn begin(
     clerk: ClerkId,
     boot: u64,
     ops: &Numbers,
-) -> Result<(), NoMemory>
+) -> Result<bool, NoMemory>
     requires firm { IsFirm kept.now firm.old.count (images firm.old.volume.under) }
     requires within { from ≤ length kept.now }
     requires none { list_any (is_among clerk boot ops.now) (take from kept.now) ≡ false }
-    ensures { OnOk result (IsBehind clerk boot ops.now kept.now firm.new.count (images firm.new.volume.under)) }
+    ensures behind { OnOk result (IsBehind clerk boot ops.now kept.now firm.new.count (images firm.new.volume.under)) }
+    ensures anew { IfOk result (λ anew. MatchBool anew ((o : ℕ) → has_own firm.new.volume o ≡ false) ((firm.new.volume ≡ firm.old.volume) × (firm.new.count ≡ firm.old.count))) }
 {
     if firm.count <= from {
         firm.idle = firm
@@ -81,7 +91,7 @@ fn begin(
             firm.recent = (firm.recent / 2).max(RECENT);
             firm.idle = 0;
         }
-        return Ok(());
+        return Ok(false);
     }
     *firm = Firm {
         volume: Overlay::formatted(alloc)?,
@@ -89,7 +99,7 @@ fn begin(
         recent: (kept.len() - from).saturating_mul(2),
         idle: 0,
     };
-    Ok(())
+    Ok(true)
 }
 
 // Carries more of the operations out on the volume below, up to the first lost one, but for recent
@@ -103,7 +113,9 @@ fn advance(
 ) -> Result<bool, NoMemory>
     requires sound { T (list_all is_sound (updates (ops_of kept.now))) }
     requires behind { IsBehind clerk boot ops.now kept.now firm.old.count (images firm.old.volume.under) }
-    ensures { IfOk result (λ fits. MatchBool fits (IsBehind clerk boot ops.now kept.now firm.new.count (images firm.new.volume.under)) (¬ (Fits formatted (updates (filter (λ k. not (is_one_of clerk boot ops.now k)) (ops_of kept.now)))))) }
+    ensures behind { IfOk result (λ fits. MatchBool fits (IsBehind clerk boot ops.now kept.now firm.new.count (images firm.new.volume.under)) (¬ (Fits formatted (updates (filter (λ k. not (is_one_of clerk boot ops.now k)) (ops_of kept.now)))))) }
+    ensures onward { IfOk result (λ fits. firm.old.count ≤ firm.new.count) }
+    ensures over { IfOk result (λ fits. firm.new.volume.over ≡ firm.old.volume.over) }
 {
     'advance: while firm.count < kept.len() && kept.len() - firm.count > firm.recent {
         let next = &kept[firm.count];
@@ -118,10 +130,55 @@ fn advance(
     Ok(true)
 }
 
-// Carries out the operations from an index on that aren't lost. It's false where one doesn't fit.
-fn carry_rest(
+// Shows the operands of those of the operations that are lost, or of all, as the volume below has them,
+// and notes them.
+fn restore_all(
     alloc: Global,
     volume: &mut Overlay,
+    noted: &mut ObjMap<()>,
+    kept: &[Kept],
+    all: bool,
+    clerk: ClerkId,
+    boot: u64,
+    ops: &Numbers,
+) -> Result<(), NoMemory>
+    requires { noted.old ≡ [] }
+    ensures restored { OnOk result (IsRestored volume.old volume.new (is_noted noted.new)) }
+    ensures noted { OnOk result (AreNoted (λ k. all || is_among clerk boot ops.now k) (is_noted noted.new) kept.now) }
+{
+    for next in kept {
+        if all || is_among(next, clerk, boot, ops) {
+            restore_each(volume, noted, &operands(alloc, &next.update)?)?;
+        }
+    }
+    Ok(())
+}
+
+// The same of these objects.
+fn restore_each(
+    volume: &mut Overlay,
+    noted: &mut ObjMap<()>,
+    objs: &[ObjId],
+) -> Result<(), NoMemory>
+    ensures noted { OnOk result ((o : ℕ) → is_noted noted.new o ≡ (member o objs.now || is_noted noted.old o)) }
+    ensures restored { OnOk result ((v : Laid) → IsRestored v volume.old (is_noted noted.old) → IsRestored v volume.new (is_noted noted.new)) }
+{
+    match objs {
+        [] => Ok(()),
+        [obj, rest @ ..] => {
+            volume.restore(*obj)?;
+            noted.insert(*obj, ())?;
+            restore_each(volume, noted, rest)
+        }
+    }
+}
+
+// Carries out the operations from an index on that aren't lost, at the noted objects alone. It's false
+// where one doesn't fit.
+fn carry_on(
+    alloc: Global,
+    volume: &mut Overlay,
+    noted: &ObjMap<()>,
     from: usize,
     kept: &[Kept],
     clerk: ClerkId,
@@ -130,20 +187,36 @@ fn carry_rest(
 ) -> Result<bool, NoMemory>
     requires sound { T (list_all is_sound (updates (ops_of kept.now))) }
     requires within { from ≤ length kept.now }
-    requires behind { IsFront (λ k. not (is_one_of clerk boot ops.now k)) kept.now from (shown volume.old) }
+    requires at { IsFrontAt (is_noted noted.now) (λ k. not (is_one_of clerk boot ops.now k)) kept.now from (shown volume.old) }
+    requires beside { IsWholeBeside (is_noted noted.now) (λ k. not (is_one_of clerk boot ops.now k)) kept.now (shown volume.old) }
     ensures images { IfOk result (λ fits. MatchBool fits (IsFront (λ k. not (is_one_of clerk boot ops.now k)) kept.now (length kept.now) (shown volume.new)) (¬ (Fits formatted (updates (filter (λ k. not (is_one_of clerk boot ops.now k)) (ops_of kept.now)))))) }
-    ensures under { IfOk result (λ _. volume.new.under ≡ volume.old.under) }
+    ensures own { IfOk result (λ fits. (o : ℕ) → T (has_own volume.old o) → T (has_own volume.new o)) }
+    ensures under { IfOk result (λ fits. volume.new.under ≡ volume.old.under) }
 {
     for at in from..kept.len() {
         let next = &kept[at];
         if is_among(next, clerk, boot, ops) {
             continue;
         }
-        if !volume.carry_out(alloc, &next.update)? {
+        let objs = noted_operands(alloc, noted, &next.update)?;
+        if !volume.carry_out_at(alloc, &next.update, &objs)? {
             return Ok(false);
         }
     }
     Ok(true)
+}
+
+// The operands of the update that are noted.
+fn noted_operands(
+    alloc: Global,
+    noted: &ObjMap<()>,
+    update: &Update,
+) -> Result<Vec<ObjId>, NoMemory>
+    ensures { IfOk result (λ objs. objs.items ≡ filter (is_noted noted.now) (operands update.now)) }
+{
+    let mut objs = operands(alloc, update)?;
+    objs.retain(|obj| noted.contains(obj));
+    Ok(objs)
 }
 
 // Carries the update out, if it fits.

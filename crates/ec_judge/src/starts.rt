@@ -4,7 +4,7 @@ ghost use Rattle.std.specs.List.{filter, find, list_any, position_or_len};
 ghost use Rattle.ec_volume.specs.Volume.{after};
 ghost use Rattle.ec_overlay.specs.Shown.{shown};
 ghost use Rattle.ec_history.specs.History.{is_one_of, meets, pairs_of, updates};
-ghost use Rattle.ec_judge.specs.Carried.{is_start, count_of, owed_of, pending_of, count_next, keeps_of, ops_of, is_among, IsFitting, IsNoted, IsOwing, KeepsMarks, BreaksMarks};
+ghost use Rattle.ec_judge.specs.Carried.{is_start, count_of, owed_of, pending_of, count_next, keeps_of, ops_of, is_among, AreLaid, IsFitting, IsNoted, IsOwing, KeepsMarks, BreaksMarks};
 ghost use Rattle.ec_judge.specs.Index.{SamePlaces};
 ghost use Rattle.ec_pending.specs.Pending.{is_asked, rest, issues_of, numbers_in};
 ghost use Rattle.ec_owes.specs.Rules.{IsNumbered};
@@ -243,6 +243,7 @@ pub fn keep(
     requires { IsFitting update (shown volume.old) }
     ensures volume { OnOk result ((o : ℕ) → shown volume.new o ≡ after (shown volume.old) (updates (ops_of (keeps_of issuer.now op.now update))) o) }
     ensures under { volume.new.under ≡ volume.old.under }
+    ensures laid { OnOk result ((n : ℕ) → n ≤ length kept.old.items → AreLaid kept.old.items n volume.old → AreLaid kept.new.items n volume.new) }
     ensures kept { OnOk result (kept.new.items ≡ kept.old.items ++ keeps_of issuer.now op.now update) }
 {
     let Some(number) = op else {

@@ -1,5 +1,5 @@
 -- Images that may be laid over a volume.
-use Rattle.std.proofs.Common.{Bor, ◌≡◌, refl, sym, ap, subst, ◌∙◌, ℕ, T, Bool, true, false, cond, ◌==◌, ◌||◌, ◌&&◌, List, [], ◌∷◌, Option, Some, None}
+use Rattle.std.proofs.Common.{Bor, ◌≡◌, refl, sym, subst, ℕ, T, Bool, true, false, cond, ◌==◌, ◌||◌, List, Option, Some, None}
 use Rattle.std.specs.Prelude.{option_copied, IfSome, IfNone, OnSome, Result, Ok, Err, OnOk, OnErr}
 use Rattle.std.proofs.lemmas.Bool.{true≢false}
 use Rattle.ec_volume.specs.Image.{is_gone, is_id, new_object}

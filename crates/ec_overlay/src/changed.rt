@@ -38,13 +38,6 @@ impl Changed {
         }
     }
 
-    /// No object is changed any more. It takes no memory.
-    pub fn clear(&mut self)
-        ensures { (o : ℕ) → held o self.new ≡ None }
-    {
-        self.table.clear();
-    }
-
     /// The image of a changed object.
     pub fn get(&self, obj: ObjId) -> Option<&Image>
         ensures image { option_copied result ≡ held obj self.now }

@@ -1,4 +1,4 @@
-//! A volume with changed images laid over it, which can be taken off again.
+//! A volume with changed images laid over it, of which each can be made anew from the volume below.
 #![tactic(auto)]
 
 mod changed;

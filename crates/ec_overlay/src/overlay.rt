@@ -1,9 +1,10 @@
 // A volume with changed images laid over it.
-ghost use Rattle.std.specs.Prelude.{◌≡◌, ◌==◌, ◌∷◌, [], true, false, if◌then◌else◌, ℕ, T, None, Some, IfOk, IfSome, MatchBool};
+ghost use Rattle.std.specs.Prelude.{◌≡◌, ◌==◌, ◌∷◌, [], true, false, if◌then◌else◌, ℕ, T, None, Some, IfOk, OnOk, IfSome, MatchBool};
 ghost use Rattle.ec_volume.specs.Update.{is_sound, member, operands, distinct, first_unfit, fits, effect};
 ghost use Rattle.ec_volume.specs.Volume.{images, formatted, after};
 ghost use Rattle.ec_overlay.specs.Fine.{is_fine};
-ghost use Rattle.ec_overlay.specs.Shown.{shown};
+ghost use Rattle.ec_overlay.specs.Shown.{shown, has_own};
+ghost use Rattle.ec_objtable.specs.Slots.{held};
 
 use crate::changed::Changed;
 use ec_base::{Duplicate, NoMemory, ObjId};
@@ -34,6 +35,7 @@ impl Overlay {
     pub fn formatted(alloc: Global) -> Result<Overlay, NoMemory>
         ensures shown { IfOk result (λ overlay. (o : ℕ) → shown overlay o ≡ formatted o) }
         ensures under { IfOk result (λ overlay. (o : ℕ) → images overlay.under o ≡ formatted o) }
+        ensures own { IfOk result (λ overlay. (o : ℕ) → has_own overlay o ≡ false) }
     {
         Ok(Overlay {
             under: Volume::formatted(alloc)?,
@@ -41,12 +43,15 @@ impl Overlay {
         })
     }
 
-    /// The volume below shows again.
-    pub fn uncover(&mut self)
-        ensures shown { (o : ℕ) → shown self.new o ≡ images self.old.under o }
+    /// The object has an image of its own again, the one that it has in the volume below.
+    pub fn restore(&mut self, obj: ObjId) -> Result<(), NoMemory>
+        ensures images { OnOk result ((o : ℕ) → shown self.new o ≡ (if o == obj then images self.old.under obj else shown self.old o)) }
+        ensures own { OnOk result ((o : ℕ) → T (has_own self.old o) → T (has_own self.new o)) }
+        ensures laid { OnOk result (T (has_own self.new obj)) }
         ensures under { self.new.under ≡ self.old.under }
     {
-        self.over.clear();
+        let image = self.below(obj)?;
+        self.over.put(obj, image)
     }
 
     /// Carries the update out, if it fits each of its operands. Where it doesn't, its operands'
@@ -55,17 +60,20 @@ impl Overlay {
         requires { T (is_sound update.now) }
         ensures images { IfOk result (λ fits. MatchBool fits ((first_unfit update.now (shown self.old) (operands update.now) ≡ None)
             × ((o : ℕ) → shown self.new o ≡ after (shown self.old) (update.now ∷ []) o)) ((o : ℕ) × (first_unfit update.now (shown self.old) (operands update.now) ≡ Some o))) }
+        ensures own { IfOk result (λ fits. (o : ℕ) → T (has_own self.old o) → T (has_own self.new o)) }
+        ensures laid { IfOk result (λ fits. fits ≡ true → (o : ℕ) → T (member o (operands update.now)) → T (has_own self.new o)) }
         ensures under { self.new.under ≡ self.old.under }
     {
         if let Some(obj) = only_operand(update) {
-            return self.change_all(alloc, update, &[obj]);
+            return self.carry_out_at(alloc, update, &[obj]);
         }
         let objs = operands(alloc, update)?;
-        self.change_all(alloc, update, &objs)
+        self.carry_out_at(alloc, update, &objs)
     }
 
-    // Makes of the images of these operands what the update makes of them.
-    fn change_all(
+    /// Carries the update out at these of its operands alone, if it fits each of them. Where it
+    /// doesn't, their images are lost.
+    pub fn carry_out_at(
         &mut self,
         alloc: Global,
         update: &Update,
@@ -75,6 +83,8 @@ impl Overlay {
         requires distinct { distinct objs.now ≡ true }
         ensures images { IfOk result (λ fits. MatchBool fits ((first_unfit update.now (shown self.old) objs.now ≡ None)
             × ((o : ℕ) → shown self.new o ≡ (if member o objs.now then effect update.now o (shown self.old o) else shown self.old o))) ((o : ℕ) × (first_unfit update.now (shown self.old) objs.now ≡ Some o))) }
+        ensures own { IfOk result (λ fits. (o : ℕ) → T (has_own self.old o) → T (has_own self.new o)) }
+        ensures laid { IfOk result (λ fits. fits ≡ true → (o : ℕ) → T (member o objs.now) → T (has_own self.new o)) }
         ensures under { self.new.under ≡ self.old.under }
     {
         match objs {
@@ -83,7 +93,7 @@ impl Overlay {
                 if !self.change(alloc, update, *obj)? {
                     return Ok(false);
                 }
-                self.change_all(alloc, update, rest)
+                self.carry_out_at(alloc, update, rest)
             }
         }
     }
@@ -92,6 +102,8 @@ impl Overlay {
         requires { T (is_sound update.now) }
         ensures images { IfOk result (λ done. MatchBool done ((fits update.now obj (shown self.old obj) ≡ true)
             × ((o : ℕ) → shown self.new o ≡ (if o == obj then effect update.now obj (shown self.old obj) else shown self.old o))) (fits update.now obj (shown self.old obj) ≡ false)) }
+        ensures own { IfOk result (λ done. (o : ℕ) → T (has_own self.old o) → T (has_own self.new o)) }
+        ensures laid { IfOk result (λ done. done ≡ true → T (has_own self.new obj)) }
         ensures under { self.new.under ≡ self.old.under }
     {
         let mut image = self.take(obj)?;
@@ -108,11 +120,20 @@ impl Overlay {
         ensures image { IfOk result (λ image. image ≡ shown self.old obj) }
         ensures fine { IfOk result (λ image. is_fine image ≡ true) }
         ensures others { (o : ℕ) → (o == obj) ≡ false → shown self.new o ≡ shown self.old o }
+        ensures own { (o : ℕ) → T (has_own self.old o) → T (has_own self.new o) }
         ensures under { self.new.under ≡ self.old.under }
     {
         if let Some(image) = self.over.take(obj) {
             return Ok(image);
         }
+        self.below(obj)
+    }
+
+    // A copy of the object's image in the volume below.
+    fn below(&self, obj: ObjId) -> Result<Image, NoMemory>
+        ensures image { IfOk result (λ image. image ≡ images self.now.under obj) }
+        ensures fine { IfOk result (λ image. is_fine image ≡ true) }
+    {
         match self.under.look(obj) {
             Some(image) => image.duplicate(),
             None => Ok(Image::Gone),

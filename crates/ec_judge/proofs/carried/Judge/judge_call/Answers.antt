@@ -64,5 +64,6 @@ returns c = λ l past turn h legal.
           (noted.1.pending ∙ ap (λ t. rest (is_asked c.wanted-asked.result) t.pending.1 ++ issues_of by.place op o.update) old) noted.2
           c.in_ok-keep.ensures.kept
           (λ x. c.in_ok-touch_all.ensures x ∙ ap (λ os. cond (member x os) (Some (touched_next by.clerk by.turn (Tables.at x j.touches))) (Tables.at x j.touches)) c.as_slice-touched.ensures)
-          c.in_ok-keep.ensures.volume refl c.in_ok-keep.ensures.under,
+          c.in_ok-keep.ensures.volume refl c.in_ok-keep.ensures.under
+          (c.in_ok-keep.ensures.laid j.firm.count h.firm.within h.laid),
     )

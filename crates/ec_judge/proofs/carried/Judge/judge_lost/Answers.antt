@@ -3,7 +3,7 @@ use Rattle.std.specs.List.{filter}
 use Rattle.ec_volume.specs.Volume.{images, after, Fits, formatted}
 use Rattle.ec_overlay.specs.Shown.{shown}
 use Rattle.ec_history.specs.History.{updates, is_one_of, pairs_of}
-use Rattle.ec_judge.specs.Carried.{ops_of, is_among, IsFirm, is_start, pending_of, KeepsMarks, BreaksMarks}
+use Rattle.ec_judge.specs.Carried.{ops_of, is_among, IsFirm, AreLaid, is_start, pending_of, KeepsMarks, BreaksMarks}
 use Rattle.ec_pending.specs.Pending.{numbers_in}
 use Rattle.ec_judge.proofs.AllStarts.{found-at}
 use Rattle.ec_judge.proofs.Steps.{own-at, starts-now, is-own, same-at, loss-broken, loss-unfit, loss-lawful, loss-carried}
@@ -57,7 +57,8 @@ returns c = λ most turn p past at-turn h legal.
           c.in_ok-forget.ensures
           refl
           (λ x. subst (λ ks. shown c.leave.new.firm.volume x ≡ after formatted (updates (filter (λ k. not (is_one_of c.args.clerk c.args.boot ns k)) (ops_of ks))) x) c.deref-3.ensures.value (left.volume x))
-          (subst (λ ks. IsFirm (filter (λ k. not (is_among c.args.clerk c.args.boot ns k)) ks) c.leave.new.firm.count (images c.leave.new.firm.volume.under)) c.deref-3.ensures.value left.firm),
+          (subst (λ ks. IsFirm (filter (λ k. not (is_among c.args.clerk c.args.boot ns k)) ks) c.leave.new.firm.count (images c.leave.new.firm.volume.under)) c.deref-3.ensures.value left.firm)
+          (subst (λ ks. AreLaid (filter (λ k. not (is_among c.args.clerk c.args.boot ns k)) ks) c.leave.new.firm.count c.leave.new.firm.volume) c.deref-3.ensures.value left.laid),
     )
 
 pub owe_at-requires-clause-at : goal.owe_at-requires-clause-at

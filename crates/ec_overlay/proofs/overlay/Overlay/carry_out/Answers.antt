@@ -8,4 +8,4 @@ pub returns-in-Some-clause-images : goal.returns-in-Some-clause-images
 returns-in-Some-clause-images c =
     let u = c.args.update.now in
     let v = shown c.args.self.now in
-    subst (λ os. IfOk c.change_all.result (λ done. MatchBool done (Changes u v os (shown c.change_all.new.self)) (Unfit u v os))) (sym c.in-Some.ensures) c.change_all.ensures.images
+    subst (λ os. IfOk c.carry_out_at.result (λ done. MatchBool done (Changes u v os (shown c.carry_out_at.new.self)) (Unfit u v os))) (sym c.in-Some.ensures) c.carry_out_at.ensures.images
