@@ -32,7 +32,7 @@ pub fn none_placed(alloc: Global, shown: &[Shown]) -> Result<Ahead, NoMemory>
     ensures ahead { IfOk result (λ ahead. IsAhead ahead shown.now) }
     ensures first { IfOk result (λ ahead. ahead.placed ≡ 0) }
 {
-    let following = none_followed(alloc)?;
+    let following = none_followed(alloc, shown.len())?;
     let watches = ec_watching::none_watched(alloc)?;
     Ok(Ahead {
         following,

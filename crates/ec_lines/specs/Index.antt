@@ -1,10 +1,10 @@
 -- The call lines so far, by their numbers, and where the calls began.
-use Rattle.std.specs.Prelude.{◌≡◌, ◌==◌, ◌≤◌, ◌<◌, ◌+◌, ℕ, Bool, true, false, if◌then◌else◌, List, [], ◌∷◌, ◌++◌, length, slice_get, Option, Some, None, MatchBool, MatchOption}
+use Rattle.std.specs.Prelude.{◌≡◌, ◌==◌, ◌≤◌, ◌<◌, ◌+◌, ℕ, Bool, true, false, if◌then◌else◌, List, [], ◌∷◌, ◌++◌, length, slice_get, Option, Some, None, MatchBool, MatchOption, ⊤}
 use Rattle.ec_base.specs.Limits.{clerk_count}
 use Rattle.ec_plain.specs.declared.call.Call.{Call}
 use Rattle.ec_history.specs.Placing.{Agrees, Unanswered, EachLine, begun, watch, unwatched, last_place, before_line, is_numbered}
 use Rattle.ec_history.specs.declared.shown.Shown.{Shown}
-use Rattle.ec_history.specs.declared.shown.Shown.TheVariants.{Answered}
+use Rattle.ec_history.specs.declared.shown.Shown.TheVariants.{Waits, Answered}
 use Rattle.ec_lines.specs.declared.index.CallLines.{CallLines}
 
 -- the start of a clerk that runs behind these lines, or comes next
@@ -57,8 +57,24 @@ pub record IsCalled (past : List Shown) (n : ℕ) (f : CallLines) : Type 0 where
   pub later : f.boot ≤ start_of clerk past
   pub begun : (b : ℕ) → f.boot ≤ b → last_place clerk b unwatched 1 0 (before_line n past) ≡ (if b == f.boot then f.begun else 0)
 
+-- this is known of the call of this number
+abbrev pub IsKnown : List Shown → ℕ → Option CallLines → Type 0
+IsKnown past n known = MatchOption known (IsNew n past) (IsCalled past n)
+
 abbrev pub IsIndex : (ℕ → Option CallLines) → List Shown → Type 0
-IsIndex g past = (n : ℕ) → MatchOption (g n) (IsNew n past) (IsCalled past n)
+IsIndex g past = (n : ℕ) → IsKnown past n (g n)
+
+-- what the index tells of the call of a line
+abbrev pub known_of : (ℕ → Option CallLines) → Shown → Option CallLines
+known_of g (Waits l c cl) = g l
+known_of g (Answered l c cl a op) = g l
+known_of g _ = None
+
+-- this is known of the call of a line
+abbrev pub IsKnownOf : List Shown → Shown → Option CallLines → Type 0
+IsKnownOf past (Waits l c cl) known = IsKnown past l known
+IsKnownOf past (Answered l c cl a op) known = IsKnown past l known
+IsKnownOf past _ known = ⊤
 
 -- what is kept of a call behind one more of its lines
 abbrev pub called_next : Option CallLines → ℕ → ℕ → ℕ → Bool → CallLines

@@ -25,15 +25,13 @@ pub struct Following {
     pub begins: Vec<u32>,
 }
 
-/// No line is followed yet.
-pub fn none_followed(alloc: Global) -> Result<Following, NoMemory>
+/// No line is followed yet. There is room for the calls of so many lines.
+pub fn none_followed(alloc: Global, lines: usize) -> Result<Following, NoMemory>
     ensures { IfOk result (λ following. Follows following []) }
 {
-    let seen = seen::nothing(alloc)?;
-    Ok(Following {
-        seen,
-        begins: Vec::new(alloc),
-    })
+    let seen = seen::nothing(alloc, lines)?;
+    let begins = Vec::with_capacity(alloc, lines)?;
+    Ok(Following { seen, begins })
 }
 
 /// Follows the lines between these places. `At` shows the first line that may not follow those above
@@ -55,14 +53,15 @@ pub fn follow(
     for at in from..to {
         let above = &shown[..at];
         let line = &shown[at];
-        if let Some(rule) = lines::broken(alloc, above, &following.seen, line)? {
+        let known = seen::known(&following.seen, above, line);
+        if let Some(rule) = lines::broken(alloc, above, &following.seen, known, line)? {
             return Err(PlaceFault::At(at as u32 + 1, rule));
         }
-        let begun = seen::begins(&following.seen, above, line);
+        let begun = seen::begins(&following.seen, above, known, line);
         if following.begins.push(begun).is_err() {
             return Err(PlaceFault::NoMemory);
         }
-        seen::note(alloc, &mut following.seen, above, line)?;
+        seen::note(alloc, &mut following.seen, above, known, line)?;
     }
     Ok(())
 }
@@ -95,7 +94,7 @@ pub fn begins(alloc: Global, shown: &[Shown]) -> Result<Vec<u32>, PlaceFault>
     ensures begins { IfOk result (λ begins. AreBegins [] shown.now begins.items) }
     ensures fault { IfErr result (λ fault. IsPlaceFault shown.now fault) }
 {
-    let mut following = none_followed(alloc)?;
+    let mut following = none_followed(alloc, shown.len())?;
     follow(alloc, &mut following, shown, 0, shown.len())?;
     let Following { begins, .. } = following;
     Ok(begins)

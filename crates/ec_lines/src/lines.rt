@@ -1,16 +1,15 @@
 // Which lines may follow those above them.
-ghost use Rattle.std.specs.Prelude.{◌≡◌, ◌<◌, ◌^◌, T, length, nat_eq, is_some, Decides, IfOk, MatchOption};
-ghost use Rattle.std.specs.HashMap.{get};
+ghost use Rattle.std.specs.Prelude.{◌≡◌, ◌<◌, ◌^◌, T, length, is_some, Decides, IfOk, MatchOption};
 ghost use Rattle.std.specs.List.{list_all};
 ghost use Rattle.ec_volume.specs.Update.{member};
 ghost use Rattle.ec_history.specs.Placing.{Agrees, Unanswered, EachLine, MayFollow, owner, same_numbers, to_lose};
 ghost use Rattle.ec_lines.specs.Faults.{HasShape, BreaksLine};
-ghost use Rattle.ec_lines.specs.Index.{IsIndex};
+ghost use Rattle.ec_lines.specs.Index.{IsKnown, IsKnownOf};
 ghost use Rattle.ec_lines.specs.Named.{is_told, IsNamed};
 ghost use Rattle.ec_lines.specs.Seen.{Sees};
 
 use crate::calls;
-use crate::index::{self, Calls};
+use crate::index::CallLines;
 use crate::seen::Seen;
 use ec_base::{ClerkId, List, NoMemory, OpNo};
 use ec_history::{Rule, Shown};
@@ -23,13 +22,15 @@ pub fn broken(
     alloc: Global,
     above: &[Shown],
     seen: &Seen,
+    known: Option<CallLines>,
     line: &Shown,
 ) -> Result<Option<Rule>, NoMemory>
     requires sees { Sees seen.now above.now }
+    requires known { IsKnownOf above.now line.now known }
     requires few { length above.now < 2 ^ 31 }
     ensures { IfOk result (λ found. MatchOption found (MayFollow above.now line.now) (λ rule. BreaksLine above.now line.now rule)) }
 {
-    if !has_shape(above, &seen.calls, line) {
+    if !has_shape(above, known, line) {
         return Ok(Some(Rule::Shape));
     }
     match ec_watch::clerk_of(line) {
@@ -46,25 +47,31 @@ pub fn broken(
 }
 
 // Whether its number has one clerk, one call and one answer.
-fn has_shape(above: &[Shown], calls: &Calls, line: &Shown) -> bool
-    requires { IsIndex (get nat_eq calls.now) above.now }
+fn has_shape(above: &[Shown], known: Option<CallLines>, line: &Shown) -> bool
+    requires { IsKnownOf above.now line.now known }
     ensures { Decides result (HasShape above.now line.now) }
 {
     match line {
-        Shown::Waits(number, clerk, call) => all_agree(above, calls, *number, *clerk, call),
+        Shown::Waits(number, clerk, call) => all_agree(above, known, *number, *clerk, call),
         Shown::Answered(number, clerk, call, _, _) => {
-            all_agree(above, calls, *number, *clerk, call) && is_unanswered(above, calls, *number)
+            all_agree(above, known, *number, *clerk, call) && is_unanswered(above, known, *number)
         }
         _ => true,
     }
 }
 
 // Whether each line of this number above has this clerk and call.
-fn all_agree(above: &[Shown], calls: &Calls, number: u32, clerk: ClerkId, call: &Call) -> bool
-    requires { IsIndex (get nat_eq calls.now) above.now }
+fn all_agree(
+    above: &[Shown],
+    known: Option<CallLines>,
+    number: u32,
+    clerk: ClerkId,
+    call: &Call,
+) -> bool
+    requires { IsKnown above.now number known }
     ensures { Decides result (EachLine (Agrees number clerk call.now) above.now) }
 {
-    match index::find(calls, number) {
+    match known {
         Some(lines) => agrees(number, clerk, call, &above[lines.first]),
         None => true,
     }
@@ -88,11 +95,11 @@ fn is_call(clerk: ClerkId, call: &Call, of: ClerkId, its: &Call) -> bool
 }
 
 // Whether no line above answers the call of this number.
-fn is_unanswered(above: &[Shown], calls: &Calls, number: u32) -> bool
-    requires { IsIndex (get nat_eq calls.now) above.now }
+fn is_unanswered(above: &[Shown], known: Option<CallLines>, number: u32) -> bool
+    requires { IsKnown above.now number known }
     ensures { Decides result (EachLine (Unanswered number) above.now) }
 {
-    match index::find(calls, number) {
+    match known {
         Some(lines) => !lines.is_answered,
         None => true,
     }

@@ -6,7 +6,7 @@ ghost use Rattle.ec_plain.specs.declared.call.Call.{Call};
 ghost use Rattle.ec_history.specs.Placing.{EachLine, Agrees, gives_entry, last_place, before_line, unwatched, watch as watched};
 ghost use Rattle.ec_watch.specs.Watches.{AreWatched};
 ghost use Rattle.ec_lines.specs.Faults.{HasShape};
-ghost use Rattle.ec_lines.specs.Index.{IsIndex, AreLast, Renews, begins, start_of, last_after};
+ghost use Rattle.ec_lines.specs.Index.{IsIndex, IsKnown, IsKnownOf, AreLast, Renews, begins, known_of, start_of, last_after};
 ghost use Rattle.ec_lines.specs.Seen.{Sees};
 
 use crate::index::{self, CallLines, Calls};
@@ -26,15 +26,16 @@ pub struct Seen {
     pub last: Vec<u32>,
 }
 
-/// What no line shows.
-pub fn nothing(alloc: Global) -> Result<Seen, NoMemory>
+/// What no line shows, with room for the calls of so many lines.
+pub fn nothing(alloc: Global, lines: usize) -> Result<Seen, NoMemory>
     ensures { IfOk result (λ seen. Sees seen []) }
 {
     let watches = ec_watching::none_watched(alloc)?;
+    let calls = HashMap::with_capacity(alloc, lines)?;
     let last = no_entries(alloc)?;
     Ok(Seen {
         watches,
-        calls: HashMap::new(alloc),
+        calls,
         last,
     })
 }
@@ -49,28 +50,43 @@ fn no_entries(alloc: Global) -> Result<Vec<u32>, NoMemory>
     Ok(last)
 }
 
+/// What is known of the line's call.
+pub fn known(seen: &Seen, above: &[Shown], line: &Shown) -> Option<CallLines>
+    requires { Sees seen.now above.now }
+    ensures value { result ≡ known_of (get nat_eq seen.now.calls) line.now }
+    ensures known { IsKnownOf above.now line.now result }
+{
+    match line {
+        Shown::Waits(number, _, _) => index::find(&seen.calls, *number),
+        Shown::Answered(number, _, _, _, _) => index::find(&seen.calls, *number),
+        _ => None,
+    }
+}
+
 /// The place at which the answer's call began, as an entry of its start shows it.
-pub fn begins(seen: &Seen, above: &[Shown], line: &Shown) -> u32
+pub fn begins(seen: &Seen, above: &[Shown], known: Option<CallLines>, line: &Shown) -> u32
     requires few { length above.now < 2 ^ 31 }
     requires sees { Sees seen.now above.now }
+    requires known { IsKnownOf above.now line.now known }
     requires shape { HasShape above.now line.now }
     ensures { result ≡ begins above.now line.now }
 {
     match line {
-        Shown::Answered(number, clerk, _, _, _) => begun(seen, above, *number, *clerk),
+        Shown::Answered(number, clerk, _, _, _) => begun(seen, above, known, *number, *clerk),
         _ => 0,
     }
 }
 
 // The place at which the clerk's call of this number began, if its answer comes now.
-fn begun(seen: &Seen, above: &[Shown], number: u32, clerk: ClerkId) -> u32
+fn begun(seen: &Seen, above: &[Shown], known: Option<CallLines>, number: u32, clerk: ClerkId) -> u32
     requires few { length above.now < 2 ^ 31 }
     requires sees { Sees seen.now above.now }
+    requires known { IsKnown above.now number known }
     requires call { (call : Call) × EachLine (Agrees number clerk call) above.now }
     ensures { result ≡ last_place clerk (start_of clerk above.now) unwatched 1 0 (before_line number above.now) }
 {
     let boot = start_of(&seen.watches, above, clerk);
-    match index::find(&seen.calls, number) {
+    match known {
         Some(lines) => begun_at(lines, boot),
         None => last_of(&seen.last, clerk),
     }
@@ -99,13 +115,27 @@ fn last_of(last: &[u32], clerk: ClerkId) -> u32
 }
 
 /// One more line, of the shape that it may have behind those above it.
-pub fn note(alloc: Global, seen: &mut Seen, above: &[Shown], line: &Shown) -> Result<(), NoMemory>
+pub fn note(
+    alloc: Global,
+    seen: &mut Seen,
+    above: &[Shown],
+    known: Option<CallLines>,
+    line: &Shown,
+) -> Result<(), NoMemory>
     requires few { length above.now < 2 ^ 31 }
     requires sees { Sees seen.old above.now }
+    requires known { known ≡ known_of (get nat_eq seen.old.calls) line.now }
     requires shape { HasShape above.now line.now }
     ensures { OnOk result (Sees seen.new (above.now ++ line.now ∷ [])) }
 {
-    note_call(&mut seen.calls, &seen.watches, &seen.last, above, line)?;
+    note_call(
+        &mut seen.calls,
+        &seen.watches,
+        &seen.last,
+        above,
+        known,
+        line,
+    )?;
     note_clerk(alloc, &mut seen.watches, &mut seen.last, above, line)
 }
 
@@ -114,22 +144,24 @@ fn note_call(
     watches: &[Watching],
     last: &[u32],
     above: &[Shown],
+    known: Option<CallLines>,
     line: &Shown,
 ) -> Result<(), NoMemory>
     requires few { length above.now < 2 ^ 31 }
     requires watched { AreWatched watches.now above.now }
     requires last { AreLast last.now above.now }
+    requires known { known ≡ known_of (get nat_eq calls.old) line.now }
     requires shape { HasShape above.now line.now }
     requires index { IsIndex (get nat_eq calls.old) above.now }
     ensures { OnOk result (IsIndex (get nat_eq calls.new) (above.now ++ line.now ∷ [])) }
 {
     match line {
         Shown::Waits(number, clerk, _) => {
-            note_number(calls, watches, last, above, *number, *clerk, false)?;
+            note_number(calls, watches, last, above, known, *number, *clerk, false)?;
             Ok(())
         }
         Shown::Answered(number, clerk, _, _, _) => {
-            note_number(calls, watches, last, above, *number, *clerk, true)?;
+            note_number(calls, watches, last, above, known, *number, *clerk, true)?;
             Ok(())
         }
         _ => Ok(()),
@@ -141,6 +173,7 @@ fn note_number(
     watches: &[Watching],
     last: &[u32],
     above: &[Shown],
+    known: Option<CallLines>,
     number: u32,
     clerk: ClerkId,
     answers: bool,
@@ -148,11 +181,11 @@ fn note_number(
     requires few { length above.now < 2 ^ 31 }
     requires watched { AreWatched watches.now above.now }
     requires last { AreLast last.now above.now }
+    requires known { known ≡ get nat_eq calls.old number }
     ensures { OnOk result (Renews (get nat_eq calls.old) (get nat_eq calls.new) above.now number clerk answers) }
 {
     let boot = start_of(watches, above, clerk);
     let last = last_of(last, clerk);
-    let known = index::find(calls, number);
     let lines = index::next(known, above.len(), boot, last, answers);
     index::put(calls, number, lines)
 }

@@ -1,42 +1,41 @@
-// Numbers of operations of which some are taken out, each in a time that grows with the logarithm of their count.
-ghost use Rattle.std.specs.Prelude.{◌≡◌, ◌==◌, ◌≤◌, ◌&&◌, ◌||◌, ◌++◌, ◌∷◌, [], ℕ, T, not, true, filter, IfOk, OnOk, OnErr};
-ghost use Rattle.std.specs.BTreeSet.{contains};
+// Numbers of operations of which some are taken out, each in a time that grows with the logarithm of
+// their count where they rise.
+ghost use Rattle.std.specs.Prelude.{◌≡◌, ◌==◌, ◌++◌, ◌∷◌, [], ℕ, T, not, true, filter, IfOk, OnOk};
+ghost use Rattle.std.specs.Bool.{OnTrue};
+ghost use Rattle.std.specs.FinMap.{is_sorted, put};
 ghost use Rattle.std.specs.List.{list_all};
 ghost use Rattle.std.specs.Ordering.{nat_cmp};
 ghost use Rattle.ec_volume.specs.Update.{member};
-ghost use Rattle.ec_watching.specs.Left.{AreLeft, IsFree};
+ghost use Rattle.ec_watching.specs.Left.{left};
 
-use ec_base::{NoMemory, OpNo};
+use ec_base::{NoMemory, OpNo, SortedMap};
 use std::alloc::Global;
-use std::collections::BTreeSet;
 use std::marker::Model;
 
 /// A list of numbers, of which some were taken out.
 #[derive(Drop)]
 pub struct Left {
     alloc: Global,
-    // those that were taken out may still be here
-    items: Vec<OpNo>,
-    // the ones that are left
-    known: BTreeSet<OpNo>,
-    // none of all is above it
-    top: u64,
+    // numbers that rise, each with whether it's left
+    rising: SortedMap<OpNo, bool>,
+    // those behind them that are left, in their order; none where all rose
+    others: Vec<OpNo>,
 }
 
 impl Model for Left {
-    ghost use Rattle.std.specs.Prelude.{List, ℕ, filter};
+    ghost use Rattle.std.specs.Prelude.{List, ℕ, T, ◌++◌};
     ghost use Rattle.std.specs.Coded.{coded_list, coded_ℕ};
-    ghost use Rattle.std.specs.BTreeSet.{contains};
+    ghost use Rattle.std.specs.FinMap.{is_sorted};
     ghost use Rattle.std.specs.Ordering.{nat_cmp};
-    ghost use Rattle.ec_watching.specs.Left.{AreLeft};
+    ghost use Rattle.ec_watching.specs.Left.{left};
 
     ghost Value = { List ℕ };
 
     ghost coded = { coded_list coded_ℕ };
 
-    ghost view = { λ l. filter (contains nat_cmp l.known) l.items.items };
+    ghost view = { λ l. left l.rising ++ l.others.items };
 
-    ghost invariant = { λ l. AreLeft (contains nat_cmp l.known) l.items.items l.top };
+    ghost invariant = { λ l. T (is_sorted nat_cmp l.rising) };
 }
 
 impl Left {
@@ -46,17 +45,17 @@ impl Left {
     {
         Left {
             alloc,
-            items: Vec::new(alloc),
-            known: BTreeSet::new(alloc),
-            top: 0,
+            rising: SortedMap::new(alloc),
+            others: Vec::new(alloc),
         }
     }
 
-    /// One number more. It takes long where it isn't above those before it.
+    /// One number more. One that isn't above those before it, and each one behind it, are looked
+    /// through one by one from then on.
     pub fn push(&mut self, op: OpNo) -> Result<(), NoMemory>
         ensures { OnOk result (self.new ≡ self.old ++ op ∷ []) }
     {
-        add(&mut self.items, &mut self.known, &mut self.top, op)
+        add(&mut self.rising, &mut self.others, op)
     }
 
     /// These numbers more.
@@ -73,14 +72,15 @@ impl Left {
     pub fn take_out(&mut self, ops: &[OpNo])
         ensures { self.new ≡ filter (λ n. not (member n ops.now)) self.old }
     {
-        forget_all(&mut self.known, ops);
+        forget_all(&mut self.rising, ops);
+        leave_out(&mut self.others, ops);
     }
 
     /// Whether this is one of them.
     pub fn has(&self, op: OpNo) -> bool
         ensures { result ≡ member op self.now }
     {
-        is_known(&self.known, op)
+        is_left(&self.rising, op) || is_among(&self.others, op)
     }
 
     /// Whether each of these is one of them.
@@ -94,75 +94,87 @@ impl Left {
     pub fn all(&self) -> Result<Vec<OpNo>, NoMemory>
         ensures { IfOk result (λ ops. ops.items ≡ self.now) }
     {
-        let mut ops = Vec::from_slice(self.alloc, &self.items)?;
-        keep_known(&mut ops, &self.known);
+        let mut ops = left_of(self.alloc, &self.rising)?;
+        ops.extend_from_slice(&self.others)?;
         Ok(ops)
     }
 }
 
-fn is_known(known: &BTreeSet<OpNo>, op: OpNo) -> bool
-    ensures { result ≡ contains nat_cmp known.now op }
-{
-    known.contains(&op)
-}
-
-fn keep_known(items: &mut Vec<OpNo>, known: &BTreeSet<OpNo>)
-    ensures { items.new.items ≡ filter (contains nat_cmp known.now) items.old.items }
-{
-    items.retain(|op| is_known(known, *op));
-}
-
 // One number more.
-fn add(
-    items: &mut Vec<OpNo>,
-    known: &mut BTreeSet<OpNo>,
-    top: &mut u64,
-    op: OpNo,
-) -> Result<(), NoMemory>
-    requires { AreLeft (contains nat_cmp known.old) items.old.items top.old }
-    ensures left { AreLeft (contains nat_cmp known.new) items.new.items top.new }
-    ensures ok { OnOk result (filter (contains nat_cmp known.new) items.new.items ≡ filter (contains nat_cmp known.old) items.old.items ++ op ∷ []) }
+fn add(rising: &mut SortedMap<OpNo, bool>, others: &mut Vec<OpNo>, op: OpNo) -> Result<(), NoMemory>
+    requires { T (is_sorted nat_cmp rising.old) }
+    ensures sorted { T (is_sorted nat_cmp rising.new) }
+    ensures ok { OnOk result (left rising.new ++ others.new.items ≡ (left rising.old ++ others.old.items) ++ op ∷ []) }
 {
-    free(items, known, *top, op);
-    *top = (*top).max(op.0);
-    items.push(op)?;
-    note(known, op)
+    if others.as_slice().is_empty() && is_above(rising, op) {
+        return rising.insert(op, true);
+    }
+    others.push(op)?;
+    Ok(())
 }
 
-// What was taken out goes, unless the number is above all.
-fn free(items: &mut Vec<OpNo>, known: &BTreeSet<OpNo>, top: u64, op: OpNo)
-    requires { AreLeft (contains nat_cmp known.now) items.old.items top }
-    ensures left { AreLeft (contains nat_cmp known.now) items.new.items top }
-    ensures same { filter (contains nat_cmp known.now) items.new.items ≡ filter (contains nat_cmp known.now) items.old.items }
-    ensures free { IsFree (contains nat_cmp known.now) op items.new.items }
+// Whether the number is above each of these.
+fn is_above(rising: &SortedMap<OpNo, bool>, op: OpNo) -> bool
+    ensures { OnTrue result (put nat_cmp op true rising.now ≡ rising.now ++ (op, true) ∷ []) }
 {
-    if op.0 <= top {
-        keep_known(items, known);
+    match rising.items().last() {
+        Some((last, _)) => last.0 < op.0,
+        None => true,
     }
 }
 
-// One number more is known.
-fn note(known: &mut BTreeSet<OpNo>, op: OpNo) -> Result<(), NoMemory>
-    ensures ok { OnOk result ((n : ℕ) → contains nat_cmp known.new n ≡ ((n == op) || contains nat_cmp known.old n)) }
-    ensures err { OnErr result ((n : ℕ) → contains nat_cmp known.new n ≡ contains nat_cmp known.old n) }
+// The ones that are left.
+fn left_of(alloc: Global, rising: &SortedMap<OpNo, bool>) -> Result<Vec<OpNo>, NoMemory>
+    ensures { IfOk result (λ ops. ops.items ≡ left rising.now) }
 {
-    match known.insert(op) {
-        Ok(_) => Ok(()),
-        Err(_) => Err(NoMemory),
+    let mut ops = Vec::new(alloc);
+    for (op, is_left) in rising.items() {
+        if *is_left {
+            ops.push(*op)?;
+        }
+    }
+    Ok(ops)
+}
+
+// Whether the number is left.
+fn is_left(rising: &SortedMap<OpNo, bool>, op: OpNo) -> bool
+    requires { T (is_sorted nat_cmp rising.now) }
+    ensures { result ≡ member op (left rising.now) }
+{
+    match rising.get(&op) {
+        Some(is_left) => *is_left,
+        None => false,
     }
 }
 
-// These numbers aren't known any more.
-fn forget_all(known: &mut BTreeSet<OpNo>, ops: &[OpNo])
-    ensures { (n : ℕ) → contains nat_cmp known.new n ≡ (contains nat_cmp known.old n && not (member n ops.now)) }
+fn is_among(ops: &[OpNo], op: OpNo) -> bool
+    ensures { result ≡ member op ops.now }
+{
+    ops.iter().any(|other| op == *other)
+}
+
+// These numbers aren't left any more.
+fn forget_all(rising: &mut SortedMap<OpNo, bool>, ops: &[OpNo])
+    requires { T (is_sorted nat_cmp rising.old) }
+    ensures sorted { T (is_sorted nat_cmp rising.new) }
+    ensures left { left rising.new ≡ filter (λ n. not (member n ops.now)) (left rising.old) }
 {
     for op in ops {
-        forget(known, *op);
+        forget(rising, *op);
     }
 }
 
-fn forget(known: &mut BTreeSet<OpNo>, op: OpNo)
-    ensures { (n : ℕ) → contains nat_cmp known.new n ≡ (contains nat_cmp known.old n && not (n == op)) }
+fn forget(rising: &mut SortedMap<OpNo, bool>, op: OpNo)
+    requires { T (is_sorted nat_cmp rising.old) }
+    ensures sorted { T (is_sorted nat_cmp rising.new) }
+    ensures left { left rising.new ≡ filter (λ n. not (n == op)) (left rising.old) }
 {
-    known.remove(&op);
+    rising.replace(&op, false);
+}
+
+// The same for numbers that may not rise.
+fn leave_out(others: &mut Vec<OpNo>, ops: &[OpNo])
+    ensures { others.new.items ≡ filter (λ n. not (member n ops.now)) others.old.items }
+{
+    others.retain(|op| !is_among(ops, *op));
 }
