@@ -63,14 +63,14 @@ pub fn check_transcript<R: Threads + Sync, S: Source>(
         Err(ReadFault::Failed) => return Err(CheckFault::SourceFailed),
         Err(ReadFault::NoMemory) => return Err(CheckFault::NoMemory),
     };
-    let shown = match read_parts(rt, alloc, &bytes, PARTS) {
+    let shown = match read_parts(rt, alloc, &bytes, PARTS, 0) {
         Ok(shown) => shown,
         Err(lines::ReadFault::BadLine(line, column)) => {
             return Err(CheckFault::BadLine(line, column));
         }
         Err(lines::ReadFault::NoMemory) => return Err(CheckFault::NoMemory),
     };
-    match verdict(rt, alloc, &shown, max_objects) {
+    match verdict(rt, alloc, shown, max_objects) {
         Ok(checked) => Ok(checked),
         Err(NoMemory) => Err(CheckFault::NoMemory),
     }
@@ -80,12 +80,12 @@ pub fn check_transcript<R: Threads + Sync, S: Source>(
 fn verdict<R: Threads + Sync>(
     rt: &R,
     alloc: Global,
-    shown: &[Shown],
+    shown: Vec<Shown>,
     most: u32,
 ) -> Result<Checked, NoMemory>
-    requires few { length shown.now < 2 ^ 31 }
-    requires bounded { T (list_all is_bounded_line shown.now) }
-    ensures { IfOk result (IsVerdict most shown.now) }
+    requires few { length shown.items < 2 ^ 31 }
+    requires bounded { T (list_all is_bounded_line shown.items) }
+    ensures { IfOk result (IsVerdict most shown.items) }
 {
     match judge(rt, alloc, shown, most) {
         Ok(()) => Ok(Checked::Legal),

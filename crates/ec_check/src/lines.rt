@@ -21,13 +21,14 @@ pub(crate) enum ReadFault {
     NoMemory,
 }
 
-/// Reads each line.
-pub(crate) fn read_lines(alloc: Global, bytes: &[u8]) -> Result<Vec<Shown>, ReadFault>
+/// Reads each line, and leaves room for so many more behind them, where there is memory for it.
+pub(crate) fn read_lines(alloc: Global, bytes: &[u8], room: usize) -> Result<Vec<Shown>, ReadFault>
     requires { length bytes.now ≤ max_transcript_bytes }
     ensures read { IfOk result (λ shown. IsRead bytes.now shown.items) }
     ensures fault { IfErr result (λ fault. HasBadLine bytes.now fault) }
 {
     let mut lines = Vec::new(alloc);
+    let _ = lines.reserve(count_lines(bytes).saturating_add(room));
     let mut rest = bytes;
     'lines: while !rest.is_empty() {
         let (line, behind) = split_line(rest);
@@ -45,6 +46,11 @@ pub(crate) fn read_lines(alloc: Global, bytes: &[u8]) -> Result<Vec<Shown>, Read
         rest = behind;
     }
     Ok(lines)
+}
+
+/// How many lines end in these bytes.
+pub(crate) fn count_lines(bytes: &[u8]) -> usize {
+    bytes.iter().filter(|byte| **byte == b'\n').count()
 }
 
 fn add(lines: &mut Vec<Shown>, line: Shown) -> Result<(), NoMemory>

@@ -6,37 +6,41 @@ ghost use Rattle.ec_check.specs.Limits.{max_transcript_bytes};
 ghost use Rattle.ec_check.specs.Lines.{IsRead, HasBadLine};
 ghost use Rattle.ec_check.specs.declared.lines.ReadFault.TheVariants.{NoMemory};
 
-use crate::lines::{ReadFault, read_lines};
+use crate::lines::{ReadFault, count_lines, read_lines};
 use ec_history::Shown;
 use std::alloc::Global;
 use std::thread::{Threads, join};
 
-/// Reads each line, in at most so many parts, each by a thread of its own where one can be made.
+/// Reads each line, in at most so many parts, each by a thread of its own where one can be made. It
+/// leaves room for so many more lines behind them, where there is memory for it: the lines of the
+/// other parts come behind those of the first one, which then stay where they are.
 #[cycle(parts)]
 pub(crate) fn read_parts<R: Threads + Sync>(
     rt: &R,
     alloc: Global,
     bytes: &[u8],
     parts: u32,
+    room: usize,
 ) -> Result<Vec<Shown>, ReadFault>
     requires { length bytes.now ≤ max_transcript_bytes }
     ensures read { IfOk result (λ shown. IsRead bytes.now shown.items) }
     ensures fault { IfErr result (λ fault. HasBadLine bytes.now fault) }
 {
     if parts < 2 {
-        return read_lines(alloc, bytes);
+        return read_lines(alloc, bytes, room);
     }
     let (front, back) = cut(bytes);
+    let front_room = count_lines(back).saturating_add(room);
     let low = parts / 2;
     let high = parts - low;
     let upper = move || -> Result<Vec<Shown>, ReadFault>
         requires { IsSync R.row × (length front.now ≤ max_transcript_bytes) }
         ensures { IfOk result (λ shown. IsRead front.entry.now shown.items) × IfErr result (λ fault. HasBadLine front.entry.now fault) }
-    { read_parts(rt, alloc, front, low) };
+    { read_parts(rt, alloc, front, low, front_room) };
     let lower = move || -> Result<Vec<Shown>, ReadFault>
         requires { IsSync R.row × (length back.now ≤ max_transcript_bytes) }
         ensures { IfOk result (λ shown. IsRead back.entry.now shown.items) × IfErr result (λ fault. HasBadLine back.entry.now fault) }
-    { read_parts(rt, alloc, back, high) };
+    { read_parts(rt, alloc, back, high, 0) };
     let (above, below) = join(rt, upper, lower);
     let lines = above?;
     match below {

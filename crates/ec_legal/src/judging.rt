@@ -15,26 +15,49 @@ use ec_history::{Entry, Shown};
 use ec_judge::{HistoryFault, Judging};
 use std::alloc::Global;
 use std::mem;
-use std::thread::{Threads, join_mut};
+use std::thread::{Threads, join, join_mut};
 
 /// Whether each line may follow those above it, and the history of all is legal, where there may be
 /// at most so many objects. `At` shows the first line that may not follow those above it; where all
 /// may, the line of the first entry that breaks a rule. In both cases it shows the first rule that
-/// is broken. A block of lines is placed while the entries of the one above it are judged.
+/// is broken. A block of lines is placed while the entries of the one above it are judged. In the
+/// end the lines are dropped beside what was carried from entry to entry.
 pub fn judge<R: Threads + Sync>(
+    rt: &R,
+    alloc: Global,
+    shown: Vec<Shown>,
+    max_objects: u32,
+) -> Result<(), HistoryFault>
+    requires few { length shown.items < 2 ^ 31 }
+    requires bounded { T (list_all is_bounded_line shown.items) }
+    ensures placeable { OnOk result (ArePlaceable [] shown.items) }
+    ensures legal { OnOk result (IsLegal from_formatted max_objects (place shown.items)) }
+    ensures fault { IfErr result (λ fault. IsJudgeFault max_objects shown.items fault) }
+{
+    let mut judging = Judging::new(alloc)?;
+    judging.reserve(shown.len())?;
+    let judged = judge_lines(rt, alloc, &shown, max_objects, &mut judging);
+    join(rt, move || drop(judging), move || drop(shown));
+    judged
+}
+
+// The same, of lines that are only looked at, by a judge of no entry yet.
+fn judge_lines<R: Threads + Sync>(
     rt: &R,
     alloc: Global,
     shown: &[Shown],
     max_objects: u32,
+    judging: &mut Judging,
 ) -> Result<(), HistoryFault>
     requires few { length shown.now < 2 ^ 31 }
     requires bounded { T (list_all is_bounded_line shown.now) }
+    requires first { judging.old ≡ [] }
+    requires legal { IsLegal from_formatted max_objects judging.old }
     ensures placeable { OnOk result (ArePlaceable [] shown.now) }
     ensures legal { OnOk result (IsLegal from_formatted max_objects (place shown.now)) }
     ensures fault { IfErr result (λ fault. IsJudgeFault max_objects shown.now fault) }
 {
     let mut ahead = none_placed(alloc, shown)?;
-    let mut judging = Judging::new(alloc)?;
     let mut entries = Vec::new(alloc);
     let mut next = Vec::new(alloc);
     'blocks: while ahead.placed < shown.len() {
@@ -45,17 +68,18 @@ pub fn judge<R: Threads + Sync>(
             max_objects,
             &mut ahead,
             &mut next,
-            &mut judging,
+            judging,
             &entries,
         );
         placed?;
         if let Err(fault) = judged {
-            let Ahead {
-                mut following,
-                followed,
-                ..
-            } = ahead;
-            follow_to(alloc, &mut following, shown, followed, shown.len())?;
+            follow_to(
+                alloc,
+                &mut ahead.following,
+                shown,
+                ahead.followed,
+                shown.len(),
+            )?;
             return Err(fault);
         }
         mem::swap(&mut entries, &mut next);

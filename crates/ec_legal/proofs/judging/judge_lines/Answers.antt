@@ -5,7 +5,7 @@ use Rattle.ec_history.specs.Legal.{IsLegal, from_formatted}
 use Rattle.ec_judge.specs.Fault.{IsEntryFault}
 use Rattle.ec_legal.specs.Placed.{IsJudgeFault}
 use Rattle.ec_legal.proofs.Judged.{Judges, block-lines, block-few, next-block, block-fault, all-placeable, on-ok, on-not, if-err}
-use Rattle.ec_legal.proofs.judging.judge.Goals as goal
+use Rattle.ec_legal.proofs.judging.judge_lines.Goals as goal
 
 pub step-placed-requires-clause-lines : goal.step-placed-requires-clause-lines
 step-placed-requires-clause-lines g c k l =
