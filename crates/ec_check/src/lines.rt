@@ -28,7 +28,7 @@ pub(crate) fn read_lines(alloc: Global, bytes: &[u8], room: usize) -> Result<Vec
     ensures fault { IfErr result (λ fault. HasBadLine bytes.now fault) }
 {
     let mut lines = Vec::new(alloc);
-    let _ = lines.reserve(count_lines(bytes).saturating_add(room));
+    let _ = lines.reserve(count_about(bytes).saturating_add(room));
     let mut rest = bytes;
     'lines: while !rest.is_empty() {
         let (line, behind) = split_line(rest);
@@ -48,9 +48,14 @@ pub(crate) fn read_lines(alloc: Global, bytes: &[u8], room: usize) -> Result<Vec
     Ok(lines)
 }
 
-/// How many lines end in these bytes.
-pub(crate) fn count_lines(bytes: &[u8]) -> usize {
-    bytes.iter().filter(|byte| **byte == b'\n').count()
+// So many of the first bytes tell about how many lines there are.
+const SAMPLE_BYTES: usize = 65_536;
+
+/// About how many lines there are, by those among the first bytes.
+pub(crate) fn count_about(bytes: &[u8]) -> usize {
+    let sample = &bytes[..bytes.len().min(SAMPLE_BYTES)];
+    let lines = sample.iter().filter(|byte| **byte == b'\n').count();
+    lines.saturating_mul(bytes.len() / SAMPLE_BYTES + 1)
 }
 
 fn add(lines: &mut Vec<Shown>, line: Shown) -> Result<(), NoMemory>

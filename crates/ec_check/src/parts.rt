@@ -6,7 +6,7 @@ ghost use Rattle.ec_check.specs.Limits.{max_transcript_bytes};
 ghost use Rattle.ec_check.specs.Lines.{IsRead, HasBadLine};
 ghost use Rattle.ec_check.specs.declared.lines.ReadFault.TheVariants.{NoMemory};
 
-use crate::lines::{ReadFault, count_lines, read_lines};
+use crate::lines::{ReadFault, count_about, read_lines};
 use ec_history::Shown;
 use std::alloc::Global;
 use std::thread::{Threads, join};
@@ -30,7 +30,7 @@ pub(crate) fn read_parts<R: Threads + Sync>(
         return read_lines(alloc, bytes, room);
     }
     let (front, back) = cut(bytes);
-    let front_room = count_lines(back).saturating_add(room);
+    let front_room = count_about(back).saturating_add(room);
     let low = parts / 2;
     let high = parts - low;
     let upper = move || -> Result<Vec<Shown>, ReadFault>

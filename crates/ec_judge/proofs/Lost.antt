@@ -4,7 +4,6 @@ use Rattle.std.specs.Prelude.{MatchBool}
 use Rattle.std.specs.List.{filter, list_all, list_any}
 use Rattle.std.proofs.lemmas.Bool.{and_parts, and_from, eqb-true, true≢false}
 use Rattle.std.proofs.lemmas.Bool.Decides.{nat_tests}
-use Rattle.ec_base.specs.Tables.{Table}
 use Rattle.ec_volume.specs.Update.{member}
 use Rattle.ec_history.specs.History.{Base, History, Op, Throughout, Each, Covers, of_start, is_one_of, kept}
 use Rattle.ec_history.specs.Legal.{leaves, touches_none, is_call_of_other}
@@ -12,9 +11,8 @@ use Rattle.ec_history.specs.declared.entry.Entry.{Entry}
 use Rattle.ec_laws.proofs.Objects.{holds, is-true}
 use Rattle.ec_laws.proofs.Removed.{both, left, right}
 use Rattle.ec_judge.specs.declared.carried.Kept.{Kept}
-use Rattle.ec_judge.specs.declared.carried.Touches.{Touches}
 use Rattle.ec_judge.specs.declared.carried.Start.{Start}
-use Rattle.ec_judge.specs.Carried.{op_of, ops_of, is_among, IsUncovered, IsUntouched, is_touched, is_covered, IsFlagged}
+use Rattle.ec_judge.specs.Carried.{Known, op_of, ops_of, is_among, IsUncovered, IsUntouched, is_touched, is_covered, IsFlagged}
 use Rattle.ec_judge.specs.Faults.{AreUncovered, AreUntouched}
 use Rattle.ec_judge.proofs.Numbers.{all-member}
 
@@ -130,7 +128,7 @@ one-number c b n k e =
     go false d r = absurd (true≢false (sym r))
 
 -- the marked operations of a list that are all of kept numbers
-module _ (base : Base) (past : History) (c b : ℕ) (ns : List ℕ) (ss : List Start) (ts : Table Touches) (ks : List Kept) (flags : Each (IsFlagged base past ss ts) ks) where
+module _ (base : Base) (past : History) (c b : ℕ) (ns : List ℕ) (ss : List Start) (ts : Known) (ks : List Kept) (flags : Each (IsFlagged base past ss ts) ks) where
   abbrev Uncovered : ℕ → ℕ → ℕ → Type 0
   Uncovered d f n = Throughout (λ h e. ¬ (Covers base h e d f n)) [] past
 

@@ -7,8 +7,6 @@ use Rattle.std.specs.List.{filter, list_all, list_any, find, position_or_len}
 use Rattle.std.proofs.Math.ListN.{set}
 use Rattle.std.proofs.lemmas.Bool.{true≢false, and_parts, eqb-true}
 use Rattle.std.proofs.lemmas.Bool.Decides.{nat_tests}
-use Rattle.ec_base.specs.Tables.{Table}
-use Rattle.ec_base.specs.Tables as Tables
 use Rattle.ec_volume.specs.Image.{is_gone}
 use Rattle.ec_volume.specs.Update.{operands, has_operand, member, fits}
 use Rattle.ec_volume.specs.Volume.{Images, images, after, Fits, WellFormed, formatted}
@@ -43,7 +41,7 @@ use Rattle.ec_pending.specs.declared.asked.Asked.{Asked}
 use Rattle.ec_owes.specs.Rules.{IsNumbered, KeepsRules, BreaksRule, due_of}
 use Rattle.ec_judge.specs.Asks.{asked_on, asked_by_call}
 use Rattle.ec_judge.specs.Carried as Carried
-use Rattle.ec_judge.specs.Carried.{op_of, ops_of, issue_of, issues_in, is_among, is_start, count_of, owed_of, pending_of, is_covered, IsUpward, IsStart, IsFlagged, IsUncovered, IsUntouched, IsFirm, AreLaid, Carries, touched_next, is_touched, AreBelow, count_next, keeps_of, IsFitting, are_kept, are_uncovered, are_closed, BreaksMarks, KeepsMarks}
+use Rattle.ec_judge.specs.Carried.{op_of, ops_of, issue_of, issues_in, is_among, is_start, count_of, owed_of, pending_of, is_covered, IsUpward, IsStart, IsFlagged, IsUncovered, IsUntouched, IsFirm, AreLaid, Carries, Known, touches_in, touched_next, is_touched, AreBelow, count_next, keeps_of, IsFitting, are_kept, are_uncovered, are_closed, BreaksMarks, KeepsMarks}
 use Rattle.ec_pending.specs.Pending.{numbers_in, is_in, is_asked, taken, rest, numbered, issues_of}
 use Rattle.ec_laws.proofs.Issues.{issue-sorted}
 use Rattle.ec_judge.proofs.Numbers.{each-kept, only, unlost, kept-only, kept-unlost, new-uncovered, new-untouched}
@@ -222,7 +220,7 @@ module _ (most : ℕ) (past : History) (by : Issuer) (l g : ℕ) (cl : Call) (a 
   -- the flags of an operation, by what is now pending and known of each object
   module _ (next : IsNext by.clerk by.boot past op) (ss : List Start)
       (pending-are : (c b : ℕ) → pending_of (find (is_start c b) ss) ≡ cond (same_start by.clerk by.boot c b) (rest wants was ++ new) (pending_of (find (is_start c b) j.starts)))
-      (ts : Table Touches) (ts-is : (o : ℕ) → Tables.at o ts ≡ cond (member o out.touched) (Some (touched_next by.clerk by.turn (Tables.at o j.touches))) (Tables.at o j.touches)) where
+      (ts : Known) (ts-is : (o : ℕ) → ts o ≡ cond (member o out.touched) (Some (touched_next by.clerk by.turn (touches_in j.touches o))) (touches_in j.touches o)) where
     covered-next : (k : Kept) → IsUpTo by.clerk by.boot (count by.clerk by.boot past) (op_of k) → is_covered ss k ≡ (is_covered j.starts k || is_one_of by.clerk by.boot (numbers_in (taken wants all)) (op_of k))
     covered-next k up = ap (λ l. not (is_in l k.number)) (pending-are k.clerk k.boot) ∙ go (of_start by.clerk by.boot (op_of k)) refl
       where
@@ -246,21 +244,21 @@ module _ (most : ℕ) (past : History) (by : Issuer) (l g : ℕ) (cl : Call) (a 
             ∙ or-none (not (is_in (pending_of (find (is_start k.clerk k.boot) j.starts)) k.number))
             ∙ sym (ap (λ x. not (is_in (pending_of (find (is_start k.clerk k.boot) j.starts)) k.number) || (x && is_in (taken wants all) k.number)) e)
 
-    flag-next : (k : Kept) → IsFlagged F past j.starts j.touches k → k.turn < by.turn → only (kept F past) (op_of k) → unlost F most past (op_of k) → IsUpTo by.clerk by.boot (count by.clerk by.boot past) (op_of k)
+    flag-next : (k : Kept) → IsFlagged F past j.starts (touches_in j.touches) k → k.turn < by.turn → only (kept F past) (op_of k) → unlost F most past (op_of k) → IsUpTo by.clerk by.boot (count by.clerk by.boot past) (op_of k)
         → IsFlagged F (past ++ e ∷ []) ss ts k
     flag-next k f late o u up = record {
       covered = subst (λ x. MatchBool x (¬ (IsUncovered F (past ++ e ∷ []) (op_of k))) (IsUncovered F (past ++ e ∷ []) (op_of k))) (sym (covered-next k up))
           (flag-step (IsUncovered F past (op_of k)) (¬ (Covers F past e k.clerk k.boot k.number)) (IsUncovered F (past ++ e ∷ []) (op_of k)) (is_covered j.starts k) (is_one_of by.clerk by.boot (numbers_in (taken wants all)) (op_of k)) f.covered
           (covered-one F past by.place by.clerk by.boot l g cl a op (numbers_in (taken wants all)) (op_of k) (issue-sorted F most by.clerk by.boot past legal) taken-is u)
           (λ v w. through-more _ past e v w) (λ w. through-front _ past e w) (λ w. through-last _ past e w));
-      touched = subst (λ x. MatchBool x (¬ (IsUntouched F (past ++ e ∷ []) (op_of k))) (IsUntouched F (past ++ e ∷ []) (op_of k))) (sym (any-since by.clerk by.turn out.touched j.touches ts ts-is k.clerk k.turn (operands k.update) late))
-          (flag-step (IsUntouched F past (op_of k)) (T (leaves F (kept F past) k.clerk (filter (is_one_of k.clerk k.boot (k.number ∷ [])) (kept F past)) e)) (IsUntouched F (past ++ e ∷ []) (op_of k)) (is_touched j.touches k)
+      touched = subst (λ x. MatchBool x (¬ (IsUntouched F (past ++ e ∷ []) (op_of k))) (IsUntouched F (past ++ e ∷ []) (op_of k))) (sym (any-since by.clerk by.turn out.touched (touches_in j.touches) ts ts-is k.clerk k.turn (operands k.update) late))
+          (flag-step (IsUntouched F past (op_of k)) (T (leaves F (kept F past) k.clerk (filter (is_one_of k.clerk k.boot (k.number ∷ [])) (kept F past)) e)) (IsUntouched F (past ++ e ∷ []) (op_of k)) (is_touched (touches_in j.touches) k)
           (not (k.clerk == by.clerk) && list_any (λ o. member o out.touched) (operands k.update)) f.touched
           (touched-one F past by.place by.clerk by.boot l g cl a op (op_of k) o)
           (λ v w. through-more _ past e v w) (λ w. through-front _ past e w) (λ w. through-last _ past e w));
     }
 
-    flags-next : (ks : List Kept) → Each (IsFlagged F past j.starts j.touches) ks → Each (λ k. k.turn < by.turn) ks → Each (λ k. only (kept F past) (op_of k)) ks → Each (λ k. unlost F most past (op_of k)) ks → Each (λ k. IsUpTo by.clerk by.boot (count by.clerk by.boot past) (op_of k)) ks
+    flags-next : (ks : List Kept) → Each (IsFlagged F past j.starts (touches_in j.touches)) ks → Each (λ k. k.turn < by.turn) ks → Each (λ k. only (kept F past) (op_of k)) ks → Each (λ k. unlost F most past (op_of k)) ks → Each (λ k. IsUpTo by.clerk by.boot (count by.clerk by.boot past) (op_of k)) ks
         → Each (IsFlagged F (past ++ e ∷ []) ss ts) ks
     flags-next [] f late o u up = tt
     flags-next (k ∷ ks) f late o u up = (flag-next k f.0 late.0 o.0 u.0 up.0, flags-next ks f.1 late.1 o.1 u.1 up.1)
@@ -284,7 +282,7 @@ module _ (most : ℕ) (past : History) (by : Issuer) (l g : ℕ) (cl : Call) (a 
         let k : Op = record { clerk = by.clerk; boot = by.boot; number = m; place = by.place; update = w } in
         let above : count by.clerk by.boot past < m = omega (arith, n) in
         let there : is_in new m ≡ true = ap (λ l. is_in l m) (sym is) ∙ ap (λ x. x || false) (same-self m) in
-        let below : (o : ℕ) → AreBelow (by.turn + 1) (Tables.at o ts) = λ o. below-next by.clerk by.turn out.touched j.touches ts ts-is by.turn o refl (subst (λ z. AreBelow z (Tables.at o j.touches)) (sym turn) (h.touches o)) in (
+        let below : (o : ℕ) → AreBelow (by.turn + 1) (ts o) = λ o. below-next by.clerk by.turn out.touched (touches_in j.touches) ts ts-is by.turn o refl (subst (λ z. AreBelow z (touches_in j.touches o)) (sym turn) (h.touches o)) in (
           record {
             covered = subst (λ x. MatchBool x (¬ (IsUncovered F (past ++ e ∷ []) k)) (IsUncovered F (past ++ e ∷ []) k)) (sym (new-covered m there)) (new-uncovered F most past e k legal above);
             touched = subst (λ x. MatchBool x (¬ (IsUntouched F (past ++ e ∷ []) k)) (IsUntouched F (past ++ e ∷ []) k)) (sym (none-since by.clerk by.turn ts (operands w) below)) (new-untouched F most past e k legal above);
@@ -303,12 +301,12 @@ module _ (most : ℕ) (past : History) (by : Issuer) (l g : ℕ) (cl : Call) (a 
       → ((c b : ℕ) → pending_of (find (is_start c b) ss) ≡ pending_of (find (is_start c b) j.starts)) → find (is_start by.clerk by.boot) ss ≡ Some s → w ≡ asked_by_call o.touched g cl a
       → s'.clerk ≡ by.clerk → s'.boot ≡ by.boot → s'.pending.0 ≡ count_next s.pending.0 op → s'.owed ≡ filter (λ q. not (meets o cl q)) s.owed → s'.pending.1 ≡ rest (is_asked w) s.pending.1 ++ issues_of by.place op o.update
       → j'.starts ≡ set ss at s' → j'.kept.items ≡ j.kept.items ++ keeps_of by op o.update
-      → ((x : ℕ) → Tables.at x j'.touches ≡ cond (member x o.touched) (Some (touched_next by.clerk by.turn (Tables.at x j.touches))) (Tables.at x j.touches))
+      → ((x : ℕ) → touches_in j'.touches x ≡ cond (member x o.touched) (Some (touched_next by.clerk by.turn (touches_in j.touches x))) (touches_in j.touches x))
       → ((x : ℕ) → shown j'.firm.volume x ≡ after (shown j.firm.volume) (updates (ops_of (keeps_of by op o.update))) x) → j'.firm.count ≡ j.firm.count → j'.firm.volume.under ≡ j.firm.volume.under → AreLaid j'.kept.items j'.firm.count j'.firm.volume
       → Carries F (past ++ e ∷ []) j'
   call-carried j' ss at s s' w o turn same legal-call starts at-is within own pending-same found w-is sc sb count-of owed-of pending-is starts-are kept-are touches-are volume-is count-same under-same laid =
-      let seen : (x : ℕ) → Tables.at x j'.touches ≡ cond (member x out.touched) (Some (touched_next by.clerk by.turn (Tables.at x j.touches))) (Tables.at x j.touches) =
-      λ x. touches-are x ∙ ap (λ z. cond (member x z.touched) (Some (touched_next by.clerk by.turn (Tables.at x j.touches))) (Tables.at x j.touches)) same in
+      let seen : (x : ℕ) → touches_in j'.touches x ≡ cond (member x out.touched) (Some (touched_next by.clerk by.turn (touches_in j.touches x))) (touches_in j.touches x) =
+      λ x. touches-are x ∙ ap (λ z. cond (member x z.touched) (Some (touched_next by.clerk by.turn (touches_in j.touches x))) (touches_in j.touches x)) same in
       let step : kept F (past ++ e ∷ []) ≡ kept F past ++ issued_by F (kept F past) e = kept-step F past e in
       let news : ops_of (keeps_of by op o.update) ≡ issued_by F (kept F past) e = keeps-issued (kept F past) by l g cl a op o same in
       let before : s.pending.1 ≡ was = ap (λ x. pending_of x) (sym found) ∙ pending-same by.clerk by.boot in
@@ -338,14 +336,14 @@ module _ (most : ℕ) (past : History) (by : Issuer) (l g : ℕ) (cl : Call) (a 
           pending = subst (λ is. is ≡ filter (λ i. is_in is i.number) (issues_in by.clerk by.boot (issued F (past ++ e ∷ [])))) (sym pending) (pending-own wants was all mine.pending mine.upward rise new (far-all legal-call.number) (own-new by.place op out.update) ∙ ap (filter (λ i. is_in (rest wants was ++ new) i.number)) (sym whole));
           upward = subst (λ is. IsUpward (is_in is) (issues_in by.clerk by.boot (issued F (past ++ e ∷ [])))) (sym pending) (subst (IsUpward (is_in (rest wants was ++ new))) (sym whole) (upward-own wants was all mine.pending mine.upward rise new (far-all legal-call.number) (own-new by.place op out.update)));
         }) c b);
-        flags = subst (Each (IsFlagged F (past ++ e ∷ []) j'.starts j'.touches)) (sym kept-are) (each-append (IsFlagged F (past ++ e ∷ []) j'.starts j'.touches) j.kept.items (keeps_of by op o.update)
-            (flags-next legal-call.number j'.starts pending-are j'.touches seen j.kept.items h.flags (subst (λ n. Each (λ k. k.turn < n) j.kept.items) (sym turn) h.turns) (each-ops (only (kept F past)) j.kept.items (subst (Each (only (kept F past))) (sym h.kept) (kept-only F most past legal)))
+        flags = subst (Each (IsFlagged F (past ++ e ∷ []) j'.starts (touches_in j'.touches))) (sym kept-are) (each-append (IsFlagged F (past ++ e ∷ []) j'.starts (touches_in j'.touches)) j.kept.items (keeps_of by op o.update)
+            (flags-next legal-call.number j'.starts pending-are (touches_in j'.touches) seen j.kept.items h.flags (subst (λ n. Each (λ k. k.turn < n) j.kept.items) (sym turn) h.turns) (each-ops (only (kept F past)) j.kept.items (subst (Each (only (kept F past))) (sym h.kept) (kept-only F most past legal)))
             (each-ops (unlost F most past) j.kept.items (subst (Each (unlost F most past)) (sym h.kept) (kept-unlost F most past legal)))
             (each-ops (IsUpTo by.clerk by.boot (count by.clerk by.boot past)) j.kept.items (subst (Each (IsUpTo by.clerk by.boot (count by.clerk by.boot past))) (sym h.kept) (kept-up_to F most by.clerk by.boot past legal))))
-            (new-flags legal-call.number j'.starts pending-are j'.touches seen op o.update (ap (λ z. issues_of by.place op z.update) same) turn legal-call.number));
+            (new-flags legal-call.number j'.starts pending-are (touches_in j'.touches) seen op o.update (ap (λ z. issues_of by.place op z.update) same) turn legal-call.number));
         turns = subst (λ n. Each (λ k. k.turn < n) j'.kept.items) (length-more past e) (subst (Each (λ k. k.turn < length past + 1)) (sym kept-are) (each-append (λ k. k.turn < length past + 1) j.kept.items (keeps_of by op o.update)
             (turns-more (length past) j.kept.items h.turns) (turns-new (length past) by op o.update turn)));
-        touches = λ x. subst (λ n. AreBelow n (Tables.at x j'.touches)) (length-more past e) (below-next by.clerk by.turn out.touched j.touches j'.touches seen (length past) x turn (h.touches x));
+        touches = λ x. subst (λ n. AreBelow n (touches_in j'.touches x)) (length-more past e) (below-next by.clerk by.turn out.touched (touches_in j.touches) (touches_in j'.touches) seen (length past) x turn (h.touches x));
         firm = subst (λ n. IsFirm j'.kept.items n (images j'.firm.volume.under)) (sym count-same) (subst (λ u. IsFirm j'.kept.items j.firm.count (images u)) (sym under-same)
             (subst (λ ks. IsFirm ks j.firm.count (images j.firm.volume.under)) (sym kept-are) (firm-more j.kept.items (keeps_of by op o.update) j.firm.count (images j.firm.volume.under) h.firm)));
         laid = laid;
@@ -422,11 +420,11 @@ module _ (most : ℕ) (past : History) (p c b : ℕ) (ns : List ℕ) (j : Judge)
   marks : are_uncovered c b ns is j.kept.items ≡ list_all (λ k. not (is_covered j.starts k && is_among c b ns k)) j.kept.items
   marks = uncovered-same c b ns j.starts is j.kept.items is-are
 
-  pub loss-broken : (r : Rule) → BreaksMarks c b ns is j.touches j.kept.items r → BreaksLoss F past c b ns r
+  pub loss-broken : (r : Rule) → BreaksMarks c b ns is (touches_in j.touches) j.kept.items r → BreaksLoss F past c b ns r
   loss-broken rule.Named k = kept-no k
-  loss-broken rule.Covered k = (kept-yes k.0, uncovered-no F past c b ns j.starts j.touches j.kept.items h.flags (sym marks ∙ k.1))
-  loss-broken rule.Touched k = (kept-yes k.0, uncovered-yes F past c b ns j.starts j.touches j.kept.items h.flags (holds k.0) (sym marks ∙ k.1), untouched-no F past c b ns j.starts j.touches j.kept.items h.flags k.2)
-  loss-broken rule.Closed k = (kept-yes k.0, uncovered-yes F past c b ns j.starts j.touches j.kept.items h.flags (holds k.0) (sym marks ∙ k.1), untouched-yes F past c b ns j.starts j.touches j.kept.items h.flags (holds k.0) k.2, closed-no k.3)
+  loss-broken rule.Covered k = (kept-yes k.0, uncovered-no F past c b ns j.starts (touches_in j.touches) j.kept.items h.flags (sym marks ∙ k.1))
+  loss-broken rule.Touched k = (kept-yes k.0, uncovered-yes F past c b ns j.starts (touches_in j.touches) j.kept.items h.flags (holds k.0) (sym marks ∙ k.1), untouched-no F past c b ns j.starts (touches_in j.touches) j.kept.items h.flags k.2)
+  loss-broken rule.Closed k = (kept-yes k.0, uncovered-yes F past c b ns j.starts (touches_in j.touches) j.kept.items h.flags (holds k.0) (sym marks ∙ k.1), untouched-yes F past c b ns j.starts (touches_in j.touches) j.kept.items h.flags (holds k.0) k.2, closed-no k.3)
   loss-broken rule.Shape k = k
   loss-broken rule.Number k = k
   loss-broken rule.Report k = k
@@ -437,29 +435,29 @@ module _ (most : ℕ) (past : History) (p c b : ℕ) (ns : List ℕ) (j : Judge)
   left-fits : Fits formatted (updates (without c b ns (ops_of j.kept.items))) → LeaveFitting F past c b ns
   left-fits f = subst (λ ks. Fits formatted (updates (without c b ns ks))) h.kept f
 
-  pub loss-unfit : KeepsMarks c b ns is j.touches j.kept.items → ¬ (Fits formatted (updates (without c b ns (ops_of j.kept.items)))) → BreaksLoss F past c b ns rule.Fits
+  pub loss-unfit : KeepsMarks c b ns is (touches_in j.touches) j.kept.items → ¬ (Fits formatted (updates (without c b ns (ops_of j.kept.items)))) → BreaksLoss F past c b ns rule.Fits
   loss-unfit k n = (
     kept-yes k.kept,
-    uncovered-yes F past c b ns j.starts j.touches j.kept.items h.flags (holds k.kept) (sym marks ∙ k.uncovered),
-    untouched-yes F past c b ns j.starts j.touches j.kept.items h.flags (holds k.kept) k.untouched,
+    uncovered-yes F past c b ns j.starts (touches_in j.touches) j.kept.items h.flags (holds k.kept) (sym marks ∙ k.uncovered),
+    untouched-yes F past c b ns j.starts (touches_in j.touches) j.kept.items h.flags (holds k.kept) k.untouched,
     closed-yes k.closed,
     λ f. n (subst (λ ks. Fits formatted (updates (without c b ns ks))) (sym h.kept) f),
   )
 
-  pub loss-lawful : KeepsMarks c b ns is j.touches j.kept.items → Fits formatted (updates (without c b ns (ops_of j.kept.items))) → IsLawful F past c b ns
+  pub loss-lawful : KeepsMarks c b ns is (touches_in j.touches) j.kept.items → Fits formatted (updates (without c b ns (ops_of j.kept.items))) → IsLawful F past c b ns
   loss-lawful k f = record {
     kept_so_far = kept-yes k.kept;
-    uncovered = uncovered-yes F past c b ns j.starts j.touches j.kept.items h.flags (holds k.kept) (sym marks ∙ k.uncovered);
-    untouched = untouched-yes F past c b ns j.starts j.touches j.kept.items h.flags (holds k.kept) k.untouched;
+    uncovered = uncovered-yes F past c b ns j.starts (touches_in j.touches) j.kept.items h.flags (holds k.kept) (sym marks ∙ k.uncovered);
+    untouched = untouched-yes F past c b ns j.starts (touches_in j.touches) j.kept.items h.flags (holds k.kept) k.untouched;
     closed = closed-yes k.closed;
     fits = left-fits f;
   }
 
-  loss-flag : (ss : List Start) → ((d f : ℕ) → pending_of (find (is_start d f) ss) ≡ pending_of (find (is_start d f) j.starts)) → (k : Kept) → IsFlagged F past j.starts j.touches k → IsFlagged F (past ++ lost ∷ []) ss j.touches k
+  loss-flag : (ss : List Start) → ((d f : ℕ) → pending_of (find (is_start d f) ss) ≡ pending_of (find (is_start d f) j.starts)) → (k : Kept) → IsFlagged F past j.starts (touches_in j.touches) k → IsFlagged F (past ++ lost ∷ []) ss (touches_in j.touches) k
   loss-flag ss same k f = record {
     covered = subst (λ x. MatchBool x (¬ (IsUncovered F (past ++ lost ∷ []) (op_of k))) (IsUncovered F (past ++ lost ∷ []) (op_of k))) (ap (λ l. not (is_in l k.number)) (sym (same k.clerk k.boot)))
         (mark-same (IsUncovered F past (op_of k)) (IsUncovered F (past ++ lost ∷ []) (op_of k)) (is_covered j.starts k) f.covered (λ u. through-more _ past lost u (λ v. loss-covers past p c b k.clerk k.boot k.number ns v)) (λ w. through-front _ past lost w));
-    touched = mark-same (IsUntouched F past (op_of k)) (IsUntouched F (past ++ lost ∷ []) (op_of k)) (is_touched j.touches k) f.touched (λ u. through-more _ past lost u tt) (λ w. through-front _ past lost w);
+    touched = mark-same (IsUntouched F past (op_of k)) (IsUntouched F (past ++ lost ∷ []) (op_of k)) (is_touched (touches_in j.touches) k) f.touched (λ u. through-more _ past lost u tt) (λ w. through-front _ past lost w);
   }
 
   pub loss-carried : (j' : Judge) (ss : List Start) (at : ℕ) (s s' : Start)
@@ -482,10 +480,10 @@ module _ (most : ℕ) (past : History) (p c b : ℕ) (ns : List ℕ) (j : Judge)
           pending = subst (λ l. l ≡ filter (λ i. is_in l i.number) (issues_in c b (issued F (past ++ lost ∷ [])))) (sym pending-is) (own.pending ∙ ap (filter (λ i. is_in s.pending.1 i.number)) (sym (lost-issued F past p c b c b ns)));
           upward = subst (λ l. IsUpward (is_in l) (issues_in c b (issued F (past ++ lost ∷ [])))) (sym pending-is) (subst (IsUpward (is_in s.pending.1)) (sym (lost-issued F past p c b c b ns)) own.upward);
         }) d f);
-        flags = subst (λ ts. Each (IsFlagged F (past ++ lost ∷ []) j'.starts ts) j'.kept.items) (sym touches-are)
-            (subst (Each (IsFlagged F (past ++ lost ∷ []) j'.starts j.touches)) (sym kept-are) (each-kept (IsFlagged F past j.starts j.touches) (IsFlagged F (past ++ lost ∷ []) j'.starts j.touches) (λ k. not (is_among c b ns k)) (λ k e f. loss-flag j'.starts as-before k f) j.kept.items h.flags));
+        flags = subst (λ ts. Each (IsFlagged F (past ++ lost ∷ []) j'.starts (touches_in ts)) j'.kept.items) (sym touches-are)
+            (subst (Each (IsFlagged F (past ++ lost ∷ []) j'.starts (touches_in j.touches))) (sym kept-are) (each-kept (IsFlagged F past j.starts (touches_in j.touches)) (IsFlagged F (past ++ lost ∷ []) j'.starts (touches_in j.touches)) (λ k. not (is_among c b ns k)) (λ k e f. loss-flag j'.starts as-before k f) j.kept.items h.flags));
         turns = subst (λ n. Each (λ k. k.turn < n) j'.kept.items) (length-more past lost) (subst (Each (λ k. k.turn < length past + 1)) (sym kept-are) (each-kept (λ k. k.turn < length past + 1) (λ k. k.turn < length past + 1) (λ k. not (is_among c b ns k)) (λ k e f. f) j.kept.items (turns-more (length past) j.kept.items h.turns)));
-        touches = λ x. subst (λ n. AreBelow n (Tables.at x j'.touches)) (length-more past lost) (subst (λ ts. AreBelow (length past + 1) (Tables.at x ts)) (sym touches-are) (below-more (length past) (Tables.at x j.touches) (h.touches x)));
+        touches = λ x. subst (λ n. AreBelow n (touches_in j'.touches x)) (length-more past lost) (subst (λ ts. AreBelow (length past + 1) (touches_in ts x)) (sym touches-are) (below-more (length past) (touches_in j.touches x) (h.touches x)));
         firm = subst (λ ks. IsFirm ks j'.firm.count (images j'.firm.volume.under)) (sym kept-are) firm-is;
         laid = subst (λ ks. AreLaid ks j'.firm.count j'.firm.volume) (sym kept-are) laid-is;
       }

@@ -10,7 +10,6 @@ use Rattle.std.proofs.lemmas.List.{take_all, take-append-drop, length-drop, reve
 use Rattle.std.proofs.lemmas.List.Elements.{filter-append}
 use Rattle.std.proofs.lemmas.List.Folds.{list_all-append, list_any-append}
 use Rattle.ec_base.specs.SortedLaws.{first, second}
-use Rattle.ec_base.specs.Tables.{Table}
 use Rattle.ec_volume.specs.Update.{member}
 use Rattle.ec_volume.specs.declared.update.Update.{Update}
 use Rattle.ec_order.specs.Order.{Holds, before}
@@ -22,8 +21,7 @@ use Rattle.ec_history.specs.declared.rule.Rule.TheVariants as rule
 use Rattle.ec_laws.proofs.Objects.{holds, is-true}
 use Rattle.ec_judge.specs.declared.carried.Kept.{Kept}
 use Rattle.ec_judge.proofs.Loops.{cut-at}
-use Rattle.ec_judge.specs.declared.carried.Touches.{Touches}
-use Rattle.ec_judge.specs.Carried.{op_of, ops_of, is_among, is_touched, are_kept, are_uncovered, are_untouched, are_closed, KeepsMarks, BreaksMarks}
+use Rattle.ec_judge.specs.Carried.{Known, op_of, ops_of, is_among, is_touched, are_kept, are_uncovered, are_untouched, are_closed, KeepsMarks, BreaksMarks}
 
 abbrev pub IsUnder : ℕ → List ℕ → Type 0
 IsUnder m ns = (n : ℕ) → T (member n ns) → m ≤ n
@@ -148,7 +146,7 @@ module _ (c b : ℕ) (ns : List ℕ) where
     uncovered-one : (ps : List ℕ) (x : Kept) → is_among c b ns x ≡ false → (not (is_among c b ns x) || member x.number ps) ≡ true
     uncovered-one ps x e = ap (λ z. not z || member x.number ps) e
 
-    untouched-one : (ts : Table Touches) (x : Kept) → is_among c b ns x ≡ false → not (is_touched ts x && is_among c b ns x) ≡ true
+    untouched-one : (ts : Known) (x : Kept) → is_among c b ns x ≡ false → not (is_touched ts x && is_among c b ns x) ≡ true
     untouched-one ts x e = ap (λ z. not (is_touched ts x && z)) e ∙ off (is_touched ts x)
       where
         off : (z : Bool) → not (z && false) ≡ true
@@ -161,16 +159,16 @@ module _ (c b : ℕ) (ns : List ℕ) where
     uncovered-tail : (ps : List ℕ) → are_uncovered c b ns ps (xs ++ ys) ≡ are_uncovered c b ns ps ys
     uncovered-tail ps = all-tail (λ k. not (is_among c b ns k) || member k.number ps) (uncovered-one ps)
 
-    untouched-tail : (ts : Table Touches) → are_untouched c b ns ts (xs ++ ys) ≡ are_untouched c b ns ts ys
+    untouched-tail : (ts : Known) → are_untouched c b ns ts (xs ++ ys) ≡ are_untouched c b ns ts ys
     untouched-tail ts = all-tail (λ k. not (is_touched ts k && is_among c b ns k)) (untouched-one ts)
 
     closed-tail : are_closed c b ns (xs ++ ys) ≡ are_closed c b ns ys
     closed-tail = closed-front xs none
 
-    keeps : (ps : List ℕ) (ts : Table Touches) → KeepsMarks c b ns ps ts ys → KeepsMarks c b ns ps ts (xs ++ ys)
+    keeps : (ps : List ℕ) (ts : Known) → KeepsMarks c b ns ps ts ys → KeepsMarks c b ns ps ts (xs ++ ys)
     keeps ps ts k = record { kept = kept-tail ∙ k.kept; uncovered = uncovered-tail ps ∙ k.uncovered; untouched = untouched-tail ts ∙ k.untouched; closed = closed-tail ∙ k.closed }
 
-    breaks : (ps : List ℕ) (ts : Table Touches) (r : Rule) → BreaksMarks c b ns ps ts ys r → BreaksMarks c b ns ps ts (xs ++ ys) r
+    breaks : (ps : List ℕ) (ts : Known) (r : Rule) → BreaksMarks c b ns ps ts ys r → BreaksMarks c b ns ps ts (xs ++ ys) r
     breaks ps ts rule.Named k = kept-tail ∙ k
     breaks ps ts rule.Covered k = (kept-tail ∙ k.0, uncovered-tail ps ∙ k.1)
     breaks ps ts rule.Touched k = (kept-tail ∙ k.0, uncovered-tail ps ∙ k.1, untouched-tail ts ∙ k.2)
@@ -208,7 +206,7 @@ module _ (c b : ℕ) (ns : List ℕ) where
     whole : take i ks ++ drop i ks ≡ ks
     whole = take-append-drop i ks
 
-    pub marks-cut : {E : Type 0} (ys : List Kept) → ys ≡ drop i ks → (ps : List ℕ) (ts : Table Touches) (r : Result (Option Rule) E)
+    pub marks-cut : {E : Type 0} (ys : List Kept) → ys ≡ drop i ks → (ps : List ℕ) (ts : Known) (r : Result (Option Rule) E)
         → IfOk r (λ found. MatchOption found (KeepsMarks c b ns ps ts ys) (λ x. BreaksMarks c b ns ps ts ys x))
         → IfOk r (λ found. MatchOption found (KeepsMarks c b ns ps ts ks) (λ x. BreaksMarks c b ns ps ts ks x))
     marks-cut ys e ps ts (Ok None) h = subst (KeepsMarks c b ns ps ts) whole (keeps (take i ks) (drop i ks) none ps ts (subst (KeepsMarks c b ns ps ts) e h))

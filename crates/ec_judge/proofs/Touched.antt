@@ -4,11 +4,9 @@ use Rattle.std.specs.Prelude.{nat_lt}
 use Rattle.std.specs.List.{list_any}
 use Rattle.std.proofs.lemmas.Bool.{eqb-true}
 use Rattle.std.proofs.lemmas.Bool.Decides.{nat_tests}
-use Rattle.ec_base.specs.Tables.{Table, at, put}
-use Rattle.ec_chains.proofs.Maps.{at-put}
 use Rattle.ec_volume.specs.Update.{member}
 use Rattle.ec_judge.specs.declared.carried.Touches.{Touches}
-use Rattle.ec_judge.specs.Carried.{touched_next, is_since, AreBelow}
+use Rattle.ec_judge.specs.Carried.{Known, touched_next, is_since, AreBelow}
 
 flip : (x y : ℕ) → (x == y) ≡ (y == x)
 flip x y = grind (arith, nat_tests)
@@ -29,7 +27,7 @@ and-none true = refl
 and-none false = refl
 
 -- a call of the clerk c at the turn t touched these objects
-module _ (c t : ℕ) (objs : List ℕ) (old new : Table Touches) (is : (o : ℕ) → at o new ≡ cond (member o objs) (Some (touched_next c t (at o old))) (at o old)) where
+module _ (c t : ℕ) (objs : List ℕ) (old new : Known) (is : (o : ℕ) → new o ≡ cond (member o objs) (Some (touched_next c t (old o))) (old o)) where
   one-since : (d u : ℕ) (x : Option Touches) → u < t → is_since d u (Some (touched_next c t x)) ≡ (is_since d u x || (not (d == c) && true))
   one-since d u None l = go (c == d) refl
     where
@@ -59,18 +57,18 @@ module _ (c t : ℕ) (objs : List ℕ) (old new : Table Touches) (is : (o : ℕ)
           ∙ or-all (nat_lt u (cond (x.clerk == d) x.other x.last))
           ∙ sym (ap (λ z. nat_lt u (cond (x.clerk == d) x.other x.last) || (not z && true)) (flip d c ∙ e))
 
-  since-next : (d u o : ℕ) → u < t → is_since d u (at o new) ≡ (is_since d u (at o old) || (not (d == c) && member o objs))
+  since-next : (d u o : ℕ) → u < t → is_since d u (new o) ≡ (is_since d u (old o) || (not (d == c) && member o objs))
   since-next d u o l = ap (is_since d u) (is o) ∙ go (member o objs)
     where
-      go : (m : Bool) → is_since d u (cond m (Some (touched_next c t (at o old))) (at o old)) ≡ (is_since d u (at o old) || (not (d == c) && m))
-      go true = one-since d u (at o old) l
-      go false = or-none (is_since d u (at o old)) ∙ ap (λ z. is_since d u (at o old) || z) (and-none (not (d == c)))
+      go : (m : Bool) → is_since d u (cond m (Some (touched_next c t (old o))) (old o)) ≡ (is_since d u (old o) || (not (d == c) && m))
+      go true = one-since d u (old o) l
+      go false = or-none (is_since d u (old o)) ∙ ap (λ z. is_since d u (old o) || z) (and-none (not (d == c)))
 
   -- what was issued before the call
-  pub any-since : (d u : ℕ) (os : List ℕ) → u < t → list_any (λ o. is_since d u (at o new)) os ≡ (list_any (λ o. is_since d u (at o old)) os || (not (d == c) && list_any (λ o. member o objs) os))
+  pub any-since : (d u : ℕ) (os : List ℕ) → u < t → list_any (λ o. is_since d u (new o)) os ≡ (list_any (λ o. is_since d u (old o)) os || (not (d == c) && list_any (λ o. member o objs) os))
   any-since d u [] l = and-none (not (d == c))
-  any-since d u (o ∷ os) l = ap (λ z. z || list_any (λ o. is_since d u (at o new)) os) (since-next d u o l) ∙ ap (λ z. (is_since d u (at o old) || (not (d == c) && member o objs)) || z) (any-since d u os l)
-      ∙ mix (is_since d u (at o old)) (not (d == c)) (member o objs) (list_any (λ o. is_since d u (at o old)) os) (list_any (λ o. member o objs) os)
+  any-since d u (o ∷ os) l = ap (λ z. z || list_any (λ o. is_since d u (new o)) os) (since-next d u o l) ∙ ap (λ z. (is_since d u (old o) || (not (d == c) && member o objs)) || z) (any-since d u os l)
+      ∙ mix (is_since d u (old o)) (not (d == c)) (member o objs) (list_any (λ o. is_since d u (old o)) os) (list_any (λ o. member o objs) os)
     where
       mix : (p z q r s : Bool) → ((p || (z && q)) || (r || (z && s))) ≡ ((p || r) || (z && (q || s)))
       mix true z q r s = refl
@@ -80,8 +78,8 @@ module _ (c t : ℕ) (objs : List ℕ) (old new : Table Touches) (is : (o : ℕ)
       mix false false q r s = refl
 
   -- the turns are below the next one
-  pub below-next : (n o : ℕ) → t ≡ n → AreBelow n (at o old) → AreBelow (n + 1) (at o new)
-  below-next n o e h = subst (AreBelow (n + 1)) (sym (is o)) (go (member o objs) (at o old) h)
+  pub below-next : (n o : ℕ) → t ≡ n → AreBelow n (old o) → AreBelow (n + 1) (new o)
+  below-next n o e h = subst (AreBelow (n + 1)) (sym (is o)) (go (member o objs) (old o) h)
     where
       now : t < n + 1
       now = omega (arith, e)
@@ -97,9 +95,9 @@ module _ (c t : ℕ) (objs : List ℕ) (old new : Table Touches) (is : (o : ℕ)
       go false (Some x) h = (omega (arith, h.0), omega (arith, h.1))
 
 -- no call touched the object behind the last turn
-pub none-since : (d n : ℕ) (ts : Table Touches) (os : List ℕ) → ((o : ℕ) → AreBelow (n + 1) (at o ts)) → list_any (λ o. is_since d n (at o ts)) os ≡ false
+pub none-since : (d n : ℕ) (ts : Known) (os : List ℕ) → ((o : ℕ) → AreBelow (n + 1) (ts o)) → list_any (λ o. is_since d n (ts o)) os ≡ false
 none-since d n ts [] h = refl
-none-since d n ts (o ∷ os) h = ap (λ z. z || list_any (λ o. is_since d n (at o ts)) os) (one (at o ts) (h o)) ∙ none-since d n ts os h
+none-since d n ts (o ∷ os) h = ap (λ z. z || list_any (λ o. is_since d n (ts o)) os) (one (ts o) (h o)) ∙ none-since d n ts os h
   where
     late : (b : Bool) (x y : ℕ) → x < n + 1 → y < n + 1 → nat_lt n (cond b x y) ≡ false
     late true x y l m = grind (arith, nat_tests, l)
@@ -108,39 +106,3 @@ none-since d n ts (o ∷ os) h = ap (λ z. z || list_any (λ o. is_since d n (at
     one : (x : Option Touches) → AreBelow (n + 1) x → is_since d n x ≡ false
     one None h = refl
     one (Some x) h = late (x.clerk == d) x.other x.last h.1 h.0
-
-pub none-below : (o n : ℕ) (ts : Table Touches) → ts ≡ [] → AreBelow n (at o ts)
-none-below o n ts e = subst (λ l. AreBelow n (at o l)) (sym e) tt
-
--- The same object twice is as once.
-twice : (c t : ℕ) (x : Option Touches) → touched_next c t (Some (touched_next c t x)) ≡ touched_next c t x
-twice c t None = ap (λ z. record { clerk = c; last = t; other = cond z 0 t }) (same c)
-twice c t (Some x) = ap (λ z. record { clerk = c; last = t; other = cond z (cond (x.clerk == c) x.other x.last) t }) (same c)
-
--- the first object of a list, and the others
-pub touched-first : (c t k : ℕ) (objs rest : List ℕ) (old middle new : Table Touches) (x : Touches) → objs ≡ k ∷ rest → x ≡ touched_next c t (at k old) → middle ≡ put k x old
-    → ((o : ℕ) → at o new ≡ cond (member o rest) (Some (touched_next c t (at o middle))) (at o middle))
-    → (o : ℕ) → at o new ≡ cond (member o objs) (Some (touched_next c t (at o old))) (at o old)
-touched-first c t k objs rest old middle new x split what is h o =
-    h o ∙ ap (λ z. cond (member o rest) (Some (touched_next c t z)) z) first ∙ go (o == k) refl ∙ ap (λ l. cond (member o l) (Some (touched_next c t (at o old))) (at o old)) (sym split)
-  where
-    first : at o middle ≡ cond (o == k) (Some (touched_next c t (at k old))) (at o old)
-    first = ap (at o) is ∙ at-put o k x old ∙ ap (λ y. cond (o == k) (Some y) (at o old)) what
-
-    again : (m : Bool) → cond m (Some (touched_next c t (Some (touched_next c t (at o old))))) (Some (touched_next c t (at o old))) ≡ Some (touched_next c t (at o old))
-    again true = ap Some (twice c t (at o old))
-    again false = refl
-
-    go : (b : Bool) → (o == k) ≡ b → cond (member o rest) (Some (touched_next c t (cond (o == k) (Some (touched_next c t (at k old))) (at o old)))) (cond (o == k) (Some (touched_next c t (at k old))) (at o old))
-        ≡ cond ((o == k) || member o rest) (Some (touched_next c t (at o old))) (at o old)
-    go true e =
-        ap (λ z. cond (member o rest) (Some (touched_next c t (cond z (Some (touched_next c t (at k old))) (at o old)))) (cond z (Some (touched_next c t (at k old))) (at o old))) e
-        ∙ ap (λ z. cond (member o rest) (Some (touched_next c t (Some (touched_next c t (at z old))))) (Some (touched_next c t (at z old)))) (sym (eqb-true o k e))
-        ∙ again (member o rest)
-        ∙ sym (ap (λ z. cond (z || member o rest) (Some (touched_next c t (at o old))) (at o old)) e)
-    go false e =
-        ap (λ z. cond (member o rest) (Some (touched_next c t (cond z (Some (touched_next c t (at k old))) (at o old)))) (cond z (Some (touched_next c t (at k old))) (at o old))) e
-        ∙ sym (ap (λ z. cond (z || member o rest) (Some (touched_next c t (at o old))) (at o old)) e)
-
-pub touched-none : (c t : ℕ) (objs : List ℕ) (ts : Table Touches) → objs ≡ [] → (o : ℕ) → at o ts ≡ cond (member o objs) (Some (touched_next c t (at o ts))) (at o ts)
-touched-none c t objs ts e o = ap (λ l. cond (member o l) (Some (touched_next c t (at o ts))) (at o ts)) (sym e)

@@ -24,6 +24,7 @@ use Rattle.ec_pending.specs.declared.issue.Issue.{Issue}
 use Rattle.ec_judge.specs.declared.carried.Issuer.{Issuer}
 use Rattle.ec_judge.specs.declared.carried.Start.{Start}
 use Rattle.ec_judge.specs.declared.carried.Touches.{Touches}
+use Rattle.ec_objtable.specs.Slots.{held}
 use Rattle.ec_overlay.specs.Shown.{shown, has_own}
 use Rattle.ec_overlay.specs.declared.overlay.Overlay.{Overlay}
 use Rattle.ec_judge.specs.declared.carried.Firm.{Firm}
@@ -87,14 +88,21 @@ abbrev pub touched_next : ℕ → ℕ → Option Touches → Touches
 touched_next c t None = record { clerk = c; last = t; other = 0 }
 touched_next c t (Some x) = record { clerk = c; last = t; other = if x.clerk == c then x.other else x.last }
 
+-- which calls touched each object
+abbrev pub Known : Type 0
+Known = ℕ → Option Touches
+
+abbrev pub touches_in : List ℕ × List (ℕ × Touches) → Known
+touches_in t o = held o t
+
 -- a call of another clerk than c touched the object behind the turn t
 abbrev pub is_since : ℕ → ℕ → Option Touches → Bool
 is_since c t None = false
 is_since c t (Some x) = nat_lt t (if x.clerk == c then x.other else x.last)
 
 -- a call of another clerk touched an operand of it since its turn
-abbrev pub is_touched : Table Touches → Kept → Bool
-is_touched ts k = list_any (λ o. is_since k.clerk k.turn (at o ts)) (operands k.update)
+abbrev pub is_touched : Known → Kept → Bool
+is_touched ts k = list_any (λ o. is_since k.clerk k.turn (ts o)) (operands k.update)
 
 -- the turns are below n
 abbrev pub AreBelow : ℕ → Option Touches → Type 0
@@ -105,7 +113,7 @@ AreBelow n (Some x) = (x.last < n) × (x.other < n)
 abbrev pub is_covered : List Start → Kept → Bool
 is_covered ss k = not (is_in (pending_of (find (is_start k.clerk k.boot) ss)) k.number)
 
-pub record IsFlagged (base : Base) (past : History) (ss : List Start) (ts : Table Touches) (k : Kept) : Type 0 where
+pub record IsFlagged (base : Base) (past : History) (ss : List Start) (ts : Known) (k : Kept) : Type 0 where
   pub covered : MatchBool (is_covered ss k) (¬ (IsUncovered base past (op_of k))) (IsUncovered base past (op_of k))
   pub touched : MatchBool (is_touched ts k) (¬ (IsUntouched base past (op_of k))) (IsUntouched base past (op_of k))
 
@@ -165,9 +173,9 @@ pub record Carries (base : Base) (past : History) (j : Judge) : Type 0 where
   pub volume : (o : ℕ) → shown j.firm.volume o ≡ after base.volume (updates (kept base past)) o
   pub kept : ops_of j.kept.items ≡ kept base past
   pub starts : (c b : ℕ) → IsStart base past c b (find (is_start c b) j.starts)
-  pub flags : Each (IsFlagged base past j.starts j.touches) j.kept.items
+  pub flags : Each (IsFlagged base past j.starts (touches_in j.touches)) j.kept.items
   pub turns : Each (λ k. k.turn < length past) j.kept.items
-  pub touches : (o : ℕ) → AreBelow (length past) (at o j.touches)
+  pub touches : (o : ℕ) → AreBelow (length past) (touches_in j.touches o)
   pub firm : IsFirm j.kept.items j.firm.count (images j.firm.volume.under)
   pub laid : AreLaid j.kept.items j.firm.count j.firm.volume
 
@@ -200,20 +208,20 @@ are_kept c b ns ks = list_all (λ n. list_any (λ k. is_among c b (n ∷ []) k) 
 abbrev pub are_uncovered : ℕ → ℕ → List ℕ → List ℕ → List Kept → Bool
 are_uncovered c b ns pending ks = list_all (λ k. not (is_among c b ns k) || member k.number pending) ks
 
-abbrev pub are_untouched : ℕ → ℕ → List ℕ → Table Touches → List Kept → Bool
+abbrev pub are_untouched : ℕ → ℕ → List ℕ → Known → List Kept → Bool
 are_untouched c b ns ts ks = list_all (λ k. not (is_touched ts k && is_among c b ns k)) ks
 
 abbrev pub are_closed : ℕ → ℕ → List ℕ → List Kept → Bool
 are_closed c b ns ks = is_closed (is_one_of c b ns) (filter (of_start c b) (ops_of ks))
 
-abbrev pub BreaksMarks : ℕ → ℕ → List ℕ → List ℕ → Table Touches → List Kept → Rule → Type 0
+abbrev pub BreaksMarks : ℕ → ℕ → List ℕ → List ℕ → Known → List Kept → Rule → Type 0
 BreaksMarks c b ns pending ts ks rule.Named = are_kept c b ns ks ≡ false
 BreaksMarks c b ns pending ts ks rule.Covered = (are_kept c b ns ks ≡ true) × (are_uncovered c b ns pending ks ≡ false)
 BreaksMarks c b ns pending ts ks rule.Touched = (are_kept c b ns ks ≡ true) × (are_uncovered c b ns pending ks ≡ true) × (are_untouched c b ns ts ks ≡ false)
 BreaksMarks c b ns pending ts ks rule.Closed = (are_kept c b ns ks ≡ true) × (are_uncovered c b ns pending ks ≡ true) × (are_untouched c b ns ts ks ≡ true) × (are_closed c b ns ks ≡ false)
 BreaksMarks c b ns pending ts ks _ = ⊥
 
-pub record KeepsMarks (c b : ℕ) (ns : List ℕ) (pending : List ℕ) (ts : Table Touches) (ks : List Kept) : Type 0 where
+pub record KeepsMarks (c b : ℕ) (ns : List ℕ) (pending : List ℕ) (ts : Known) (ks : List Kept) : Type 0 where
   pub kept : are_kept c b ns ks ≡ true
   pub uncovered : are_uncovered c b ns pending ks ≡ true
   pub untouched : are_untouched c b ns ts ks ≡ true

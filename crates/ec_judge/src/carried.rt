@@ -1,6 +1,7 @@
 // What the judge carries from entry to entry.
 use crate::starts::Starts;
-use ec_base::{ClerkId, ObjId, OpNo, SortedMap};
+use ec_base::{ClerkId, OpNo};
+use ec_objtable::ObjTable;
 use ec_overlay::Overlay;
 use ec_owes::Owes;
 use ec_pending::Deferred;
@@ -73,5 +74,5 @@ pub struct Judge {
     pub firm: Firm,
     pub starts: Starts,
     /// Of each object which calls touched it.
-    pub touches: SortedMap<ObjId, Touches>,
+    pub touches: ObjTable<Touches>,
 }

@@ -13,9 +13,10 @@ ghost use Rattle.ec_judge.specs.Carried.{Carries, IsReady, IsWhole, Judges, ops_
 use crate::carried::{Issuer, Judge};
 use crate::starts::Starts;
 use crate::{covers, losses, rebuilt, starts, tail, touches};
-use ec_base::{ClerkId, NoMemory, ObjId, OpNo, SortedMap};
+use ec_base::{ClerkId, NoMemory, ObjId, OpNo};
 use ec_history::{Answer, Entry, Rule};
 use ec_numbers::Numbers;
+use ec_objtable::ObjTable;
 use ec_owes::broken_rule;
 use ec_plain::{Call, Outcome, plain};
 use std::alloc::Global;
@@ -30,7 +31,7 @@ impl Judge {
             kept: Vec::new(alloc),
             firm: rebuilt::nothing(alloc)?,
             starts: Starts::new(alloc),
-            touches: SortedMap::new(alloc),
+            touches: ObjTable::new(alloc),
         })
     }
 

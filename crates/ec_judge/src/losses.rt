@@ -3,16 +3,17 @@ ghost use Rattle.std.specs.Prelude.{◌≡◌, ℕ, T, ◌||◌, ◌&&◌, ◌++
 ghost use Rattle.std.specs.List.{filter, list_any, list_all};
 ghost use Rattle.ec_volume.specs.Update.{member, operands};
 ghost use Rattle.ec_history.specs.History.{of_start, is_one_of, pairs_of};
-ghost use Rattle.ec_judge.specs.Carried.{ops_of, op_of, is_among, is_touched, are_kept, are_uncovered, are_untouched, are_closed, KeepsMarks, BreaksMarks, IsOwing};
+ghost use Rattle.ec_judge.specs.Carried.{ops_of, op_of, is_among, is_touched, are_kept, are_uncovered, are_untouched, are_closed, KeepsMarks, BreaksMarks, touches_in, IsOwing};
 ghost use Rattle.ec_judge.specs.Index.{SamePlaces};
 ghost use Rattle.ec_pending.specs.Pending.{numbers_in};
 ghost use Rattle.ec_judge.specs.declared.carried.Start.{Start as StartOf};
 
 use crate::carried::{Kept, Start, Touches};
 use crate::touches::is_touched;
-use ec_base::{ClerkId, NoMemory, ObjId, OpNo, SortedMap};
+use ec_base::{ClerkId, NoMemory, ObjId, OpNo};
 use ec_history::Rule;
 use ec_numbers::Numbers;
+use ec_objtable::ObjTable;
 use ec_outside::Outside;
 use ec_owes::Owes;
 use ec_pending::Deferred;
@@ -23,7 +24,7 @@ use std::alloc::Global;
 /// left of the others. None of them is kept before the index `from`.
 pub fn broken_at(
     alloc: Global,
-    touches: &SortedMap<ObjId, Touches>,
+    touches: &ObjTable<Touches>,
     starts: &mut Vec<Start>,
     at: usize,
     kept: &[Kept],
@@ -35,8 +36,8 @@ pub fn broken_at(
     requires at { at < length starts.old.items }
     requires within { from ≤ length kept.now }
     requires none { list_any (is_among clerk boot ops.now) (take from kept.now) ≡ false }
-    ensures found { IfOk result (λ found. (s : StartOf) × (s ≡ slice_index_or starts.old.items at s) × MatchOption found (KeepsMarks clerk boot ops.now (numbers_in s.pending.1) touches.now kept.now)
-        (λ rule. BreaksMarks clerk boot ops.now (numbers_in s.pending.1) touches.now kept.now rule)) }
+    ensures found { IfOk result (λ found. (s : StartOf) × (s ≡ slice_index_or starts.old.items at s) × MatchOption found (KeepsMarks clerk boot ops.now (numbers_in s.pending.1) (touches_in touches.now) kept.now)
+        (λ rule. BreaksMarks clerk boot ops.now (numbers_in s.pending.1) (touches_in touches.now) kept.now rule)) }
     ensures unchanged { OnOk result (starts.new.items ≡ starts.old.items) }
     ensures same { SamePlaces starts.old.items starts.new.items }
 {
@@ -55,7 +56,7 @@ pub fn broken_at(
 // The same of this start.
 fn broken(
     alloc: Global,
-    touches: &SortedMap<ObjId, Touches>,
+    touches: &ObjTable<Touches>,
     start: &mut Start,
     kept: &[Kept],
     from: usize,
@@ -65,7 +66,7 @@ fn broken(
 ) -> Result<Option<Rule>, NoMemory>
     requires within { from ≤ length kept.now }
     requires none { list_any (is_among clerk boot ops.now) (take from kept.now) ≡ false }
-    ensures found { IfOk result (λ found. MatchOption found (KeepsMarks clerk boot ops.now (numbers_in start.old.pending.1) touches.now kept.now) (λ rule. BreaksMarks clerk boot ops.now (numbers_in start.old.pending.1) touches.now kept.now rule)) }
+    ensures found { IfOk result (λ found. MatchOption found (KeepsMarks clerk boot ops.now (numbers_in start.old.pending.1) (touches_in touches.now) kept.now) (λ rule. BreaksMarks clerk boot ops.now (numbers_in start.old.pending.1) (touches_in touches.now) kept.now rule)) }
     ensures clerk { start.new.clerk ≡ start.old.clerk }
     ensures boot { start.new.boot ≡ start.old.boot }
     ensures unchanged { OnOk result (start.new ≡ start.old) }
@@ -77,14 +78,14 @@ fn broken(
 // The same among all of these.
 fn broken_in(
     alloc: Global,
-    touches: &SortedMap<ObjId, Touches>,
+    touches: &ObjTable<Touches>,
     pending: &mut Deferred,
     kept: &[Kept],
     clerk: ClerkId,
     boot: u64,
     ops: &Numbers,
 ) -> Result<Option<Rule>, NoMemory>
-    ensures found { IfOk result (λ found. MatchOption found (KeepsMarks clerk boot ops.now (numbers_in pending.old.1) touches.now kept.now) (λ rule. BreaksMarks clerk boot ops.now (numbers_in pending.old.1) touches.now kept.now rule)) }
+    ensures found { IfOk result (λ found. MatchOption found (KeepsMarks clerk boot ops.now (numbers_in pending.old.1) (touches_in touches.now) kept.now) (λ rule. BreaksMarks clerk boot ops.now (numbers_in pending.old.1) (touches_in touches.now) kept.now rule)) }
     ensures unchanged { OnOk result (pending.new ≡ pending.old) }
 {
     if !are_kept(alloc, kept, clerk, boot, ops)? {
@@ -170,13 +171,13 @@ fn are_uncovered(
 // Whether none of the operations was touched.
 fn are_untouched(
     alloc: Global,
-    touches: &SortedMap<ObjId, Touches>,
+    touches: &ObjTable<Touches>,
     kept: &[Kept],
     clerk: ClerkId,
     boot: u64,
     ops: &Numbers,
 ) -> Result<bool, NoMemory>
-    ensures { IfOk result (λ are. are ≡ are_untouched clerk boot ops.now touches.now kept.now) }
+    ensures { IfOk result (λ are. are ≡ are_untouched clerk boot ops.now (touches_in touches.now) kept.now) }
 {
     for kept in kept {
         if is_among(kept, clerk, boot, ops) && is_touched(alloc, touches, kept)? {

@@ -4,7 +4,7 @@ ghost use Rattle.std.specs.List.{filter, find, list_any, position_or_len};
 ghost use Rattle.ec_volume.specs.Volume.{after};
 ghost use Rattle.ec_overlay.specs.Shown.{shown};
 ghost use Rattle.ec_history.specs.History.{is_one_of, meets, pairs_of, updates};
-ghost use Rattle.ec_judge.specs.Carried.{is_start, count_of, owed_of, pending_of, count_next, keeps_of, ops_of, is_among, AreLaid, IsFitting, IsNoted, IsOwing, KeepsMarks, BreaksMarks};
+ghost use Rattle.ec_judge.specs.Carried.{is_start, count_of, owed_of, pending_of, count_next, keeps_of, ops_of, is_among, AreLaid, IsFitting, IsNoted, IsOwing, KeepsMarks, BreaksMarks, touches_in};
 ghost use Rattle.ec_judge.specs.Index.{SamePlaces};
 ghost use Rattle.ec_pending.specs.Pending.{is_asked, rest, issues_of, numbers_in};
 ghost use Rattle.ec_owes.specs.Rules.{IsNumbered};
@@ -12,9 +12,10 @@ ghost use Rattle.ec_judge.specs.declared.carried.Start.{Start as StartOf};
 
 use crate::carried::{Issuer, Kept, Start, Touches};
 use crate::losses;
-use ec_base::{ClerkId, Duplicate, NoMemory, ObjId, OpNo, SortedMap};
+use ec_base::{ClerkId, Duplicate, NoMemory, ObjId, OpNo};
 use ec_history::Rule;
 use ec_numbers::{Numbers, StartIndex, find_start, note_start};
+use ec_objtable::ObjTable;
 use ec_overlay::Overlay;
 use ec_owes::Owes;
 use ec_pending::{Asked, Deferred};
@@ -111,7 +112,7 @@ impl Starts {
     /// is left of the others.
     pub fn broken_at(
         &mut self,
-        touches: &SortedMap<ObjId, Touches>,
+        touches: &ObjTable<Touches>,
         at: usize,
         kept: &[Kept],
         from: usize,
@@ -122,8 +123,8 @@ impl Starts {
         requires at { at < length self.old }
         requires within { from ≤ length kept.now }
         requires none { list_any (is_among clerk boot ops.now) (take from kept.now) ≡ false }
-        ensures found { IfOk result (λ found. (s : StartOf) × (s ≡ slice_index_or self.old at s) × MatchOption found (KeepsMarks clerk boot ops.now (numbers_in s.pending.1) touches.now kept.now)
-            (λ rule. BreaksMarks clerk boot ops.now (numbers_in s.pending.1) touches.now kept.now rule)) }
+        ensures found { IfOk result (λ found. (s : StartOf) × (s ≡ slice_index_or self.old at s) × MatchOption found (KeepsMarks clerk boot ops.now (numbers_in s.pending.1) (touches_in touches.now) kept.now)
+            (λ rule. BreaksMarks clerk boot ops.now (numbers_in s.pending.1) (touches_in touches.now) kept.now rule)) }
         ensures same { OnOk result (self.new ≡ self.old) }
     {
         let alloc = self.alloc;

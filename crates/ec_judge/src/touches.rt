@@ -1,103 +1,52 @@
 // Which calls touched each object.
 ghost use Rattle.std.specs.Prelude.{◌≡◌, ◌==◌, ℕ, if◌then◌else◌, Some, IfOk, OnOk};
 ghost use Rattle.std.specs.List.{list_any};
-ghost use Rattle.ec_base.specs.Tables.{at, put};
 ghost use Rattle.ec_volume.specs.Update.{member};
-ghost use Rattle.ec_judge.specs.Carried.{touched_next, is_since, is_touched};
+ghost use Rattle.ec_judge.specs.Carried.{touched_next, touches_in, is_since, is_touched};
 
 use crate::carried::{Kept, Touches};
-use ec_base::{Change, ClerkId, NoMemory, ObjId, SortedMap};
+use ec_base::{ClerkId, NoMemory, ObjId};
+use ec_objtable::ObjTable;
 use ec_volume::operands;
 use std::alloc::Global;
 
-// A call of the clerk at this turn, for an object that was touched before.
-#[derive(Drop)]
-struct Touch {
-    clerk: ClerkId,
-    turn: usize,
-}
-
-impl Change<Touches> for Touch {
-    ghost use Rattle.std.specs.Prelude.{Some, ⊤};
-    ghost use Rattle.ec_judge.specs.Carried.{touched_next};
-
-    ghost ready = { λ touch. ⊤ };
-
-    ghost makes = { λ touch known. touched_next touch.clerk touch.turn (Some known) };
-
-    fn change(&self, known: &mut Touches) -> Result<(), NoMemory> {
-        *known = Touches {
-            clerk: self.clerk,
-            last: self.turn,
-            other: last_of_others(known, self.clerk),
-        };
-        Ok(())
-    }
-}
-
 /// A call of the clerk touched these objects at this turn.
 pub fn touch_all(
-    touches: &mut SortedMap<ObjId, Touches>,
+    touches: &mut ObjTable<Touches>,
     clerk: ClerkId,
     turn: usize,
     objs: &[ObjId],
 ) -> Result<(), NoMemory>
-    ensures { OnOk result ((o : ℕ) → at o touches.new ≡ (if member o objs.now then Some (touched_next clerk turn (at o touches.old)) else at o touches.old)) }
-{
-    touch_from(touches, clerk, turn, objs, 0)
-}
-
-// The same. The first object is looked for at this place first.
-fn touch_from(
-    touches: &mut SortedMap<ObjId, Touches>,
-    clerk: ClerkId,
-    turn: usize,
-    objs: &[ObjId],
-    near: usize,
-) -> Result<(), NoMemory>
-    ensures { OnOk result ((o : ℕ) → at o touches.new ≡ (if member o objs.now then Some (touched_next clerk turn (at o touches.old)) else at o touches.old)) }
+    ensures { OnOk result ((o : ℕ) → touches_in touches.new o ≡ (if member o objs.now then Some (touched_next clerk turn (touches_in touches.old o)) else touches_in touches.old o)) }
 {
     match objs {
         [] => Ok(()),
         [obj, rest @ ..] => {
-            let behind = touch_one(touches, clerk, turn, *obj, near)?;
-            let next = next_place(touches, rest, behind);
-            touch_from(touches, clerk, turn, rest, next)
+            touch(touches, clerk, turn, *obj)?;
+            touch_all(touches, clerk, turn, rest)
         }
     }
 }
 
-// Where the first of these objects is looked for first: at this place, or at the end if it's the
-// only one.
-fn next_place(touches: &SortedMap<ObjId, Touches>, objs: &[ObjId], place: usize) -> usize {
-    if objs.len() == 1 {
-        touches.len().saturating_sub(1)
-    } else {
-        place
-    }
-}
-
-// The same of one object, which is looked for at this place first; and the place behind it.
-fn touch_one(
-    touches: &mut SortedMap<ObjId, Touches>,
+// The same of one object.
+fn touch(
+    touches: &mut ObjTable<Touches>,
     clerk: ClerkId,
     turn: usize,
     obj: ObjId,
-    near: usize,
-) -> Result<usize, NoMemory>
-    ensures { OnOk result (touches.new ≡ put obj (touched_next clerk turn (at obj touches.old)) touches.old) }
+) -> Result<(), NoMemory>
+    ensures { OnOk result ((o : ℕ) → touches_in touches.new o ≡ (if o == obj then Some (touched_next clerk turn (touches_in touches.old obj)) else touches_in touches.old o)) }
 {
-    let Some((place, _)) = touches.find(&obj, near) else {
-        let first = Touches {
-            clerk,
-            last: turn,
-            other: 0,
-        };
-        touches.insert(obj, first)?;
-        return Ok(near);
+    let other = match touches.get(obj) {
+        None => 0,
+        Some(known) => last_of_others(known, clerk),
     };
-    touches.change_at(&obj, place, &Touch { clerk, turn })?;
-    Ok(place.saturating_add(1))
+    let next = Touches {
+        clerk,
+        last: turn,
+        other,
+    };
+    touches.insert(obj, next)
 }
 
 // The turn of the last call of another clerk than this one, or 0.
@@ -112,33 +61,24 @@ fn last_of_others(known: &Touches, clerk: ClerkId) -> usize
 }
 
 /// Whether a call of another clerk touched an operand of the operation since it was issued.
-pub fn is_touched(
-    alloc: Global,
-    touches: &SortedMap<ObjId, Touches>,
-    kept: &Kept,
-) -> Result<bool, NoMemory>
-    ensures { IfOk result (λ touched. touched ≡ is_touched touches.now kept.now) }
+pub fn is_touched(alloc: Global, touches: &ObjTable<Touches>, kept: &Kept) -> Result<bool, NoMemory>
+    ensures { IfOk result (λ touched. touched ≡ is_touched (touches_in touches.now) kept.now) }
 {
     let objs = operands(alloc, &kept.update)?;
     Ok(is_one_since(touches, kept.clerk, kept.turn, &objs))
 }
 
-fn is_one_since(
-    touches: &SortedMap<ObjId, Touches>,
-    clerk: ClerkId,
-    turn: usize,
-    objs: &[ObjId],
-) -> bool
-    ensures { result ≡ list_any (λ o. is_since clerk turn (at o touches.now)) objs.now }
+fn is_one_since(touches: &ObjTable<Touches>, clerk: ClerkId, turn: usize, objs: &[ObjId]) -> bool
+    ensures { result ≡ list_any (λ o. is_since clerk turn (touches_in touches.now o)) objs.now }
 {
     objs.iter().any(|obj| is_since(touches, clerk, turn, *obj))
 }
 
 // Whether a call of another clerk touched the object behind this turn.
-fn is_since(touches: &SortedMap<ObjId, Touches>, clerk: ClerkId, turn: usize, obj: ObjId) -> bool
-    ensures { result ≡ is_since clerk turn (at obj touches.now) }
+fn is_since(touches: &ObjTable<Touches>, clerk: ClerkId, turn: usize, obj: ObjId) -> bool
+    ensures { result ≡ is_since clerk turn (touches_in touches.now obj) }
 {
-    match touches.get(&obj) {
+    match touches.get(obj) {
         None => false,
         Some(known) => turn < last_of_others(known, clerk),
     }

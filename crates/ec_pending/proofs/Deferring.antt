@@ -2,6 +2,8 @@
 use Rattle.std.proofs.Common.{◌≡◌, refl, sym, ap, subst, ◌∙◌, ◌<◌, ◌≤◌, arith, ℕ, cond, List, [], ◌∷◌, ◌++◌}
 use Rattle.std.specs.Prelude.{reverse}
 use Rattle.std.specs.List.{list_any}
+use Rattle.std.specs.declared.alloc.Global.{Global}
+use Rattle.std.specs.declared.boxed.Box.{Box}
 use Rattle.std.proofs.lemmas.List.{reverse-append}
 use Rattle.ec_order.specs.Order.{needs}
 use Rattle.ec_volume.specs.declared.update.Update.{Update}
@@ -18,7 +20,7 @@ pub behind-more : (ns : List Note) (n : Note) (is : List Issue) → behind (ns +
 behind-more [] n is = refl
 behind-more (m ∷ ns) n is = behind-more ns n (next_of m is)
 
-pub above-issued : (count k n p : ℕ) (u : Update) (ns : List Note) → count < n → AreAbove count k ns → AreAbove n k (ns ++ note.Issue n p u ∷ [])
+pub above-issued : (count k n p : ℕ) (u : Box Update Global) (ns : List Note) → count < n → AreAbove count k ns → AreAbove n k (ns ++ note.Issue n p u ∷ [])
 above-issued count k n p u [] l a = (omega (arith, l, a), omega arith)
 above-issued count k n p u (m ∷ ns) l a = (a.0, above-issued count (above_next k m) n p u ns l a.1)
 

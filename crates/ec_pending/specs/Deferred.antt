@@ -7,7 +7,7 @@ use Rattle.ec_pending.specs.declared.note.Note.TheVariants as note
 
 -- the pending operations behind one note
 abbrev pub next_of : Note → List Issue → List Issue
-next_of (note.Issue n p u) is = is ++ record { number = n; place = p; update = u } ∷ []
+next_of (note.Issue n p u) is = is ++ record { number = n; place = p; update = u.value } ∷ []
 next_of (note.Cover a) is = rest (is_asked a) is
 
 -- the pending operations behind some notes

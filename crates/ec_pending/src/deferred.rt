@@ -81,6 +81,7 @@ impl Deferred {
             self.count = op.0;
             return Ok(());
         };
+        let update = Box::new(self.alloc, update)?;
         self.notes.push(Note::Issue(op, place, update))?;
         self.count = op.0;
         Ok(())
@@ -128,7 +129,9 @@ fn follow(pending: &mut Pending, note: Note) -> Result<(), NoMemory>
     ensures pending { OnOk result (pending.new.1 ≡ next_of note pending.old.1) }
 {
     match note {
-        Note::Issue(op, place, update) => pending.issue(op, place, Some(update)),
+        Note::Issue(op, place, update) => {
+            pending.issue(op, place, Some(Box::into_inner(update)))
+        },
         Note::Cover(asked) => pending.cover(&asked),
     }
 }

@@ -7,7 +7,7 @@ use ec_volume::Update;
 #[derive(Drop)]
 pub enum Note {
     /// An operation of this number was issued by an entry at this place.
-    Issue(OpNo, u32, Update),
+    Issue(OpNo, u32, Box<Update>),
     /// This was asked.
     Cover(Asked),
 }

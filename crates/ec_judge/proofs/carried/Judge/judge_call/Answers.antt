@@ -1,5 +1,4 @@
 use Rattle.std.proofs.Common.{refl, ◌++◌, sym, ap, subst, ◌∙◌, not, cond, Some}
-use Rattle.ec_base.specs.Tables as Tables
 use Rattle.ec_volume.specs.Update.{member}
 use Rattle.ec_overlay.specs.Shown.{shown}
 use Rattle.std.specs.List.{filter}
@@ -7,7 +6,7 @@ use Rattle.ec_history.specs.History.{meets}
 use Rattle.ec_owes.specs.Rules.{IsNumbered, KeepsRules, BreaksRule, due_of}
 use Rattle.ec_judge.specs.Asks.{asked_by_call}
 use Rattle.ec_judge.specs.declared.carried.Start.{Start}
-use Rattle.ec_judge.specs.Carried.{is_start, touched_next, count_next}
+use Rattle.ec_judge.specs.Carried.{touches_in, is_start, touched_next, count_next}
 use Rattle.ec_pending.specs.Pending.{issues_of, is_asked, rest}
 use Rattle.ec_judge.proofs.AllStarts.{found-at}
 use Rattle.ec_judge.proofs.Steps.{out-fits, out-same, own-at, starts-now, is-own, same-at, call-broken, call-legal, call-carried}
@@ -63,7 +62,7 @@ returns c = λ l past turn h legal.
           (noted.1.clerk ∙ ap (λ t. t.clerk) old ∙ mine.0) (noted.1.boot ∙ ap (λ t. t.boot) old ∙ mine.1) (noted.1.count ∙ ap (λ t. count_next t.pending.0 op) old) (noted.1.owed ∙ ap (λ t. filter (λ q. not (meets o cl q)) t.owed) old)
           (noted.1.pending ∙ ap (λ t. rest (is_asked c.wanted-asked.result) t.pending.1 ++ issues_of by.place op o.update) old) noted.2
           c.in_ok-keep.ensures.kept
-          (λ x. c.in_ok-touch_all.ensures x ∙ ap (λ os. cond (member x os) (Some (touched_next by.clerk by.turn (Tables.at x j.touches))) (Tables.at x j.touches)) c.as_slice-touched.ensures)
+          (λ x. c.in_ok-touch_all.ensures x ∙ ap (λ os. cond (member x os) (Some (touched_next by.clerk by.turn (touches_in j.touches x))) (touches_in j.touches x)) c.as_slice-touched.ensures)
           c.in_ok-keep.ensures.volume refl c.in_ok-keep.ensures.under
           (c.in_ok-keep.ensures.laid j.firm.count h.firm.within h.laid),
     )

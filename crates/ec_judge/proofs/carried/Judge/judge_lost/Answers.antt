@@ -3,7 +3,7 @@ use Rattle.std.specs.List.{filter}
 use Rattle.ec_volume.specs.Volume.{images, after, Fits, formatted}
 use Rattle.ec_overlay.specs.Shown.{shown}
 use Rattle.ec_history.specs.History.{updates, is_one_of, pairs_of}
-use Rattle.ec_judge.specs.Carried.{ops_of, is_among, IsFirm, AreLaid, is_start, pending_of, KeepsMarks, BreaksMarks}
+use Rattle.ec_judge.specs.Carried.{touches_in, ops_of, is_among, IsFirm, AreLaid, is_start, pending_of, KeepsMarks, BreaksMarks}
 use Rattle.ec_pending.specs.Pending.{numbers_in}
 use Rattle.ec_judge.proofs.AllStarts.{found-at}
 use Rattle.ec_judge.proofs.Steps.{own-at, starts-now, is-own, same-at, loss-broken, loss-unfit, loss-lawful, loss-carried}
@@ -18,7 +18,7 @@ returns-in-Some c = λ most turn p past at-turn h legal.
     let found = found-at (is_start c.args.clerk c.args.boot) ss c.in_ok-at.at s at.found at.within marks.1 in
     let is = ap numbers_in (ap pending_of (sym found) ∙ at.pending c.args.clerk c.args.boot) in
     loss-broken most past p c.args.clerk c.args.boot c.args.ops.now c.args.self.now h (numbers_in s.pending.1) is c.in-Some.rule
-    (subst (λ ks. BreaksMarks c.args.clerk c.args.boot c.args.ops.now (numbers_in s.pending.1) c.args.self.now.touches ks c.in-Some.rule) c.deref-2.ensures.value marks.2)
+    (subst (λ ks. BreaksMarks c.args.clerk c.args.boot c.args.ops.now (numbers_in s.pending.1) (touches_in c.args.self.now.touches) ks c.in-Some.rule) c.deref-2.ensures.value marks.2)
 
 pub returns-then-not-branch : goal.returns-then-not-branch
 returns-then-not-branch c = λ most turn p past at-turn h legal.
@@ -29,7 +29,7 @@ returns-then-not-branch c = λ most turn p past at-turn h legal.
     let found = found-at (is_start c.args.clerk c.args.boot) ss c.in_ok-at.at s at.found at.within marks.1 in
     let is = ap numbers_in (ap pending_of (sym found) ∙ at.pending c.args.clerk c.args.boot) in
     loss-unfit most past p c.args.clerk c.args.boot c.args.ops.now c.args.self.now h (numbers_in s.pending.1) is
-    (subst (KeepsMarks c.args.clerk c.args.boot c.args.ops.now (numbers_in s.pending.1) c.args.self.now.touches) c.deref-2.ensures.value marks.2)
+    (subst (KeepsMarks c.args.clerk c.args.boot c.args.ops.now (numbers_in s.pending.1) (touches_in c.args.self.now.touches)) c.deref-2.ensures.value marks.2)
     (subst (λ ks. ¬ (Fits formatted (updates (filter (λ k. not (is_one_of c.args.clerk c.args.boot c.args.ops.now k)) (ops_of ks))))) c.deref-3.ensures.value (rw c.if-not-branch.true at c.in_ok-leave.ensures))
 
 pub returns : goal.returns
@@ -44,7 +44,7 @@ returns c = λ most turn p past at-turn h legal.
     let is = ap numbers_in (ap pending_of (sym found-start) ∙ at.pending c.args.clerk c.args.boot) in
     let owing = rw c.in_ok-broken.ensures.same at c.in_ok-owe_at.ensures in
     let old = same-at ss c.in_ok-at.at owing.0 s at.within ∙ sym known.1 in
-    let marks = subst (KeepsMarks c.args.clerk c.args.boot ns (numbers_in s.pending.1) j.touches) c.deref-2.ensures.value known.2 in
+    let marks = subst (KeepsMarks c.args.clerk c.args.boot ns (numbers_in s.pending.1) (touches_in j.touches)) c.deref-2.ensures.value known.2 in
     let left = rw c.if-not-branch.false at c.in_ok-leave.ensures in
     let mine = is-own c.args.clerk c.args.boot ss c.in_ok-at.at s at.found at.within known.1 in (
       loss-lawful most past p c.args.clerk c.args.boot ns j h (numbers_in s.pending.1) is marks (subst (λ ks. Fits formatted (updates (filter (λ k. not (is_one_of c.args.clerk c.args.boot ns k)) (ops_of ks)))) c.deref-3.ensures.value left.fits),

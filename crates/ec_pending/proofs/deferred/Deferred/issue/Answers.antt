@@ -1,4 +1,4 @@
-use Rattle.std.proofs.Common.{◌∙◌, ◌++◌, ◌∷◌, [], ℕ, List, Some, refl, sym, ap, subst}
+use Rattle.std.proofs.Common.{◌∙◌, ◌++◌, ◌∷◌, [], ℕ, List, Some, sym, ap, subst}
 use Rattle.ec_pending.specs.Deferred.{behind, AreAbove}
 use Rattle.ec_pending.specs.Pending.{issues_of}
 use Rattle.ec_pending.specs.declared.issue.Issue.{Issue}
@@ -17,8 +17,8 @@ invariant_of-self-2 c =
     let k = c.self.inside.pending.0 in
     let ns = c.self.inside.notes.items in
     subst (AreAbove c.op-2.inside.0 k) (sym c.in_ok-push.ensures.items)
-    (subst (λ n. AreAbove n k (ns ++ note.Issue c.args.op c.args.place c.in-Some.update ∷ [])) (sym c.op-2.view_is)
-    (above-issued c.self.inside.count k c.args.op c.args.place c.in-Some.update ns (issued-below c.self.inside.count c.args.op _ c.args.self.now c.self.view_is c.requires) c.self.invariant))
+    (subst (λ n. AreAbove n k (ns ++ note.Issue c.args.op c.args.place c.in_ok-update.update ∷ [])) (sym c.op-2.view_is)
+    (above-issued c.self.inside.count k c.args.op c.args.place c.in_ok-update.update ns (issued-below c.self.inside.count c.args.op _ c.args.self.now c.self.view_is c.requires) c.self.invariant))
 
 pub returns : goal.returns
 returns c =
@@ -27,6 +27,7 @@ returns c =
     ap (λ n. pair n (behind c.push.new.self.items is)) c.op-2.view_is
     ∙ ap (pair c.args.op)
     (ap (λ ns. behind ns is) c.in_ok-push.ensures.items
-    ∙ behind-more c.self.inside.notes.items (note.Issue c.args.op c.args.place c.in-Some.update) is
-    ∙ ap (λ (v : ℕ × List Issue). v.1 ++ issues_of c.args.place (Some c.args.op) (Some c.in-Some.update)) c.self.view_is
+    ∙ behind-more c.self.inside.notes.items (note.Issue c.args.op c.args.place c.in_ok-update.update) is
+    ∙ ap (λ (v : ℕ × List Issue). v.1 ++ issues_of c.args.place (Some c.args.op) (Some c.in_ok-update.update.value)) c.self.view_is
+    ∙ ap (λ w. now.1 ++ issues_of c.args.place (Some c.args.op) (Some w)) c.in_ok-update.ensures.ok
     ∙ ap (λ w. now.1 ++ issues_of c.args.place (Some c.args.op) w) (sym c.in-Some.is))
