@@ -81,16 +81,6 @@ impl<V> ObjTable<V> {
         drop(put_at(&mut self.pairs, behind - 1, value));
         Ok(())
     }
-
-    /// No object has a value any more. It takes no memory.
-    pub fn clear(&mut self)
-    where
-        V: Drop,
-        ensures { (o : ℕ) → held o self.new ≡ None }
-    {
-        forget(&mut self.places, &self.pairs);
-        self.pairs.clear();
-    }
 }
 
 // The place behind that of the object's pair, or 0.
@@ -141,23 +131,4 @@ fn lengthen(places: &mut Vec<usize>, len: usize) -> Result<(), NoMemory>
         places.resize(len, 0)?;
     }
     Ok(())
-}
-
-// No object has a pair any more.
-fn forget<V>(places: &mut Vec<usize>, pairs: &[(ObjId, V)])
-    requires { IsIndex places.old.items pairs.now }
-    ensures { (o : ℕ) → slot o places.new.items ≡ 0 }
-{
-    for at in 0..pairs.len() {
-        forget_one(places, pairs[at].0);
-    }
-}
-
-fn forget_one(places: &mut Vec<usize>, obj: ObjId)
-    ensures { (o : ℕ) → slot o places.new.items ≡ (if o == obj then 0 else slot o places.old.items) }
-{
-    let at = obj.get() as usize;
-    if at < places.len() {
-        places[at] = 0;
-    }
 }

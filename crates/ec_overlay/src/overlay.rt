@@ -4,7 +4,6 @@ ghost use Rattle.ec_volume.specs.Update.{is_sound, member, operands, distinct, f
 ghost use Rattle.ec_volume.specs.Volume.{images, formatted, after};
 ghost use Rattle.ec_overlay.specs.Fine.{is_fine};
 ghost use Rattle.ec_overlay.specs.Shown.{shown, has_own};
-ghost use Rattle.ec_objtable.specs.Slots.{held};
 
 use crate::changed::Changed;
 use ec_base::{Duplicate, NoMemory, ObjId};

@@ -22,7 +22,11 @@ pub enum WriteFault {
     NoMemory,
 }
 
-/// The bytes of a source, read to its end. At most one more than the limit is read.
+// So many bytes are asked for at once.
+const PIECE_BYTES: usize = 65_536;
+
+/// The bytes of a source, read to its end. At most one more than the limit is read. Room for the
+/// limit is asked for at once, where there is memory for it, so that no byte is moved.
 pub fn read_whole<S: Source>(
     alloc: Global,
     source: &mut S,
@@ -34,9 +38,10 @@ pub fn read_whole<S: Source>(
     ensures err { IfErr result (λ f. ReadFailed (S.left source.old) (S.left source.new) (S.faults source.old) (S.faults source.new) limit f) }
 {
     let mut bytes = Vec::new(alloc);
-    let mut buffer = [0u8; 4096];
+    let _ = bytes.reserve(limit + 1);
+    let mut buffer = [0u8; PIECE_BYTES];
     'reading: while bytes.len() <= limit {
-        let room = (limit + 1 - bytes.len()).min(4096);
+        let room = (limit + 1 - bytes.len()).min(PIECE_BYTES);
         match source.take(&mut buffer[..room]) {
             Took::Bytes(count) => {
                 if bytes.extend_from_slice(&buffer[..count]).is_err() {
