@@ -71,13 +71,13 @@ bad-few bs n column k =
 
 -- Both parts are read, or one has a bad line.
 
-shown-append : (ls ms : List (List ℕ)) (ss ts : List Shown) → AreShown ls ss → AreShown ms ts → AreShown (ls ++ ms) (ss ++ ts)
+pub shown-append : (ls ms : List (List ℕ)) (ss ts : List Shown) → AreShown ls ss → AreShown ms ts → AreShown (ls ++ ms) (ss ++ ts)
 shown-append [] ms [] ts h k = k
 shown-append [] ms (s ∷ ss) ts h k = absurd h
 shown-append (l ∷ ls) ms [] ts h k = absurd h
 shown-append (l ∷ ls) ms (s ∷ ss) ts h k = (h.0, shown-append ls ms ss ts h.1 k)
 
-bounded-append : (ss ts : List Shown) → T (list_all is_bounded_line ss) → T (list_all is_bounded_line ts) → T (list_all is_bounded_line (ss ++ ts))
+pub bounded-append : (ss ts : List Shown) → T (list_all is_bounded_line ss) → T (list_all is_bounded_line ts) → T (list_all is_bounded_line (ss ++ ts))
 bounded-append [] ts h k = k
 bounded-append (s ∷ ss) ts h k = both (is_bounded_line s) _ (left (is_bounded_line s) _ h) (bounded-append ss ts (right (is_bounded_line s) _ h) k)
 
@@ -91,7 +91,7 @@ read-both bs front back ss ts e b h k =
       few = omega (arith, m, n, h.few, k.few);
     }
 
-pub bad-above : (bs front back : List ℕ) (n column : ℕ) → lines_of bs ≡ lines_of front ++ lines_of back → IsBadLine front n column → IsBadLine bs n column
+bad-above : (bs front back : List ℕ) (n column : ℕ) → lines_of bs ≡ lines_of front ++ lines_of back → IsBadLine front n column → IsBadLine bs n column
 bad-above bs front back n column e k = record {
   above = k.above;
   shown = k.shown;
@@ -102,6 +102,11 @@ bad-above bs front back n column e k = record {
   read = k.read;
   unfit = k.unfit;
 }
+
+-- a fault of the first part
+pub above-fault : (bs front back : List ℕ) (f : ReadFault) → lines_of bs ≡ lines_of front ++ lines_of back → HasBadLine front f → HasBadLine bs f
+above-fault bs front back (fault.BadLine n column) e k = bad-above bs front back n column e k
+above-fault bs front back fault.NoMemory e k = tt
 
 pub bad-below : (bs front back : List ℕ) (ss : List Shown) (m n column : ℕ) → lines_of bs ≡ lines_of front ++ lines_of back → IsRead front ss → IsBadLine back n column → m ≡ length ss + n → IsBadLine bs m column
 bad-below bs front back ss m n column e h k q =

@@ -1,3 +1,4 @@
 mod Reading
 mod Faults
 mod Halves
+mod Pieces

@@ -36,3 +36,23 @@ pub record IsBadLine (bytes : List ℕ) (number column : ℕ) : Type 0 where
 abbrev pub HasBadLine : List ℕ → ReadFault → Type 0
 HasBadLine bytes (fault.BadLine n column) = IsBadLine bytes n column
 HasBadLine bytes fault.NoMemory = ⊤
+
+-- Lines that are read piece by piece.
+
+-- These lines are read so, and those of the bytes that are left come behind them.
+pub record IsReadTo (bytes rest : List ℕ) (ss : List Shown) : Type 0 where
+  pub heads : List (List ℕ)
+  pub parts : heads ++ lines_of rest ≡ lines_of bytes
+  pub lines : AreShown heads ss
+  pub bounded : T (list_all is_bounded_line ss)
+  pub few : length ss + length rest ≤ length bytes
+
+-- the number of the bad line
+abbrev pub line_of : ReadFault → ℕ
+line_of (fault.BadLine n column) = n
+line_of fault.NoMemory = 0
+
+-- the same fault of bytes with so many more lines above
+abbrev pub shifted : ℕ → ReadFault → ReadFault
+shifted m (fault.BadLine n column) = fault.BadLine (m + n) column
+shifted m fault.NoMemory = fault.NoMemory

@@ -1,22 +1,15 @@
 // Whether a transcript is legal.
-ghost use Rattle.std.specs.Prelude.{◌≤◌, ◌<◌, ◌^◌, T, length, IfOk, IfErr};
-ghost use Rattle.std.specs.List.{list_all};
-ghost use Rattle.ec_legal.specs.Bounded.{is_bounded_line};
-ghost use Rattle.ec_check.specs.Verdicts.{IsVerdict};
+ghost use Rattle.std.specs.Prelude.{◌≤◌, IfOk, IfErr};
 ghost use Rattle.ec_check.specs.Checked.{IsChecked, IsRefused};
 
+use crate::judged::judge_bytes;
 use crate::lines::{self, MAX_TRANSCRIPT_BYTES};
-use crate::parts::read_parts;
-use ec_base::{NoMemory, Source};
-use ec_history::{Rule, Shown};
-use ec_legal::{HistoryFault, judge};
+use ec_base::Source;
+use ec_history::Rule;
 use ec_streams::{ReadFault, read_whole};
 use std::alloc::Global;
 use std::thread::Threads;
 use thiserror::Error;
-
-/// The lines of a transcript are read in so many parts at once.
-const PARTS: u32 = 4;
 
 /// What a transcript is.
 #[derive(Clone, Copy, Debug, Drop, PartialEq, Eq)]
@@ -43,8 +36,8 @@ pub enum CheckFault {
 }
 
 /// Reads a transcript that began on a formatted volume, with at most so many objects, to its end,
-/// and judges it. First the bytes are counted, then all lines are read, then each is placed, and
-/// then the entries are judged in their order.
+/// and judges it. First the bytes are counted; a line outside the grammar comes before one that may
+/// not follow those above it, and that before an entry that breaks a rule.
 pub fn check_transcript<R: Threads + Sync, S: Source>(
     rt: &R,
     alloc: Global,
@@ -63,33 +56,9 @@ pub fn check_transcript<R: Threads + Sync, S: Source>(
         Err(ReadFault::Failed) => return Err(CheckFault::SourceFailed),
         Err(ReadFault::NoMemory) => return Err(CheckFault::NoMemory),
     };
-    let shown = match read_parts(rt, alloc, &bytes, PARTS, 0) {
-        Ok(shown) => shown,
-        Err(lines::ReadFault::BadLine(line, column)) => {
-            return Err(CheckFault::BadLine(line, column));
-        }
-        Err(lines::ReadFault::NoMemory) => return Err(CheckFault::NoMemory),
-    };
-    match verdict(rt, alloc, shown, max_objects) {
+    match judge_bytes(rt, alloc, &bytes, max_objects) {
         Ok(checked) => Ok(checked),
-        Err(NoMemory) => Err(CheckFault::NoMemory),
-    }
-}
-
-// What these lines are.
-fn verdict<R: Threads + Sync>(
-    rt: &R,
-    alloc: Global,
-    shown: Vec<Shown>,
-    most: u32,
-) -> Result<Checked, NoMemory>
-    requires few { length shown.items < 2 ^ 31 }
-    requires bounded { T (list_all is_bounded_line shown.items) }
-    ensures { IfOk result (IsVerdict most shown.items) }
-{
-    match judge(rt, alloc, shown, most) {
-        Ok(()) => Ok(Checked::Legal),
-        Err(HistoryFault::At(line, rule)) => Ok(Checked::Illegal(line, rule)),
-        Err(HistoryFault::NoMemory) => Err(NoMemory),
+        Err(lines::ReadFault::BadLine(line, column)) => Err(CheckFault::BadLine(line, column)),
+        Err(lines::ReadFault::NoMemory) => Err(CheckFault::NoMemory),
     }
 }

@@ -2,6 +2,7 @@
 #![tactic(auto)]
 
 mod checking;
+mod judged;
 mod lines;
 mod parts;
 

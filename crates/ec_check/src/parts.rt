@@ -1,5 +1,5 @@
 // The lines of a transcript, read in parts side by side.
-ghost use Rattle.std.specs.Prelude.{◌≡◌, ◌≤◌, ◌++◌, IfOk, IfErr, length};
+ghost use Rattle.std.specs.Prelude.{◌≡◌, ◌≢◌, ◌≤◌, ◌<◌, ◌++◌, [], IfOk, IfErr, length};
 ghost use Rattle.std.specs.Thread.{IsSync};
 ghost use Rattle.ec_script.specs.Lines.{lines_of};
 ghost use Rattle.ec_check.specs.Limits.{max_transcript_bytes};
@@ -29,7 +29,7 @@ pub(crate) fn read_parts<R: Threads + Sync>(
     if parts < 2 {
         return read_lines(alloc, bytes, room);
     }
-    let (front, back) = cut(bytes);
+    let (front, back) = cut(bytes, bytes.len() / 2);
     let front_room = count_about(back).saturating_add(room);
     let low = parts / 2;
     let high = parts - low;
@@ -62,12 +62,13 @@ fn append(mut lines: Vec<Shown>, mut more: Vec<Shown>) -> Result<Vec<Shown>, Rea
     Ok(lines)
 }
 
-// The lines of about half of the bytes, and those behind them.
-fn cut(bytes: &[u8]) -> (&[u8], &[u8])
+/// The lines of about so many of the bytes, and those behind them.
+pub(crate) fn cut(bytes: &[u8], near: usize) -> (&[u8], &[u8])
     ensures lines { lines_of bytes.now ≡ lines_of result.0.now ++ lines_of result.1.now }
     ensures bytes { bytes.now ≡ result.0.now ++ result.1.now }
+    ensures onward { bytes.now ≢ [] → length result.1.now < length bytes.now }
 {
-    for at in bytes.len() / 2..bytes.len() {
+    for at in near..bytes.len() {
         if bytes[at] == b'\n' {
             return bytes.split_at(at + 1);
         }

@@ -23,7 +23,7 @@ front-at ss i s g = above-at ss i s s (slice_get_within ss i s g) (sym (get_or_f
 pub rest-at : (ss : List Shown) (i : ℕ) (s : Shown) → slice_get ss i ≡ Some s → drop i ss ≡ s ∷ drop (i + 1) ss
 rest-at ss i s g = line-at ss i s s (slice_get_within ss i s g) (sym (get_or_from_slice_get ss i s s g))
 
-front-length : {A : Type 0} (ss : List A) (i : ℕ) → i ≤ length ss → length (take i ss) ≡ i
+pub front-length : {A : Type 0} (ss : List A) (i : ℕ) → i ≤ length ss → length (take i ss) ≡ i
 front-length ss zero l = refl
 front-length [] (suc i) l = absurd (omega (arith, l))
 front-length (s ∷ ss) (suc i) l = ap suc (front-length ss i (omega (arith, l)))

@@ -1,5 +1,5 @@
 -- Entries that are judged block by block.
-use Rattle.std.proofs.Common.{◌≡◌, refl, sym, ap, subst, ◌∙◌, arith, inl, inr, ◌≤◌, ◌<◌, ℕ, T, Bool, true, false, not, ◌||◌, ◌==◌, map, List, [], ◌∷◌, ◌++◌, length, take, drop, append_assoc, append-nil}
+use Rattle.std.proofs.Common.{◌≡◌, refl, sym, ap, subst, ◌∙◌, arith, inl, inr, ◌≤◌, ◌<◌, ℕ, T, Bool, true, false, not, ◌||◌, ◌==◌, map, List, [], ◌∷◌, ◌++◌, length, take, append_assoc, append-nil}
 use Rattle.std.specs.Prelude.{Result, Ok, Err, OnOk, IfErr}
 use Rattle.std.specs.List.{list_all}
 use Rattle.std.proofs.lemmas.List.{take_all, drop_all}
@@ -8,7 +8,7 @@ use Rattle.ec_laws.proofs.Numbers.{each-front, each-back}
 use Rattle.ec_laws.proofs.Removed.{both, left, right}
 use Rattle.ec_laws.specs.Bases.{AreAtLines, is_bounded_entry}
 use Rattle.ec_history.specs.History.{Base, History, Each}
-use Rattle.ec_history.specs.Legal.{IsLegal, from_formatted}
+use Rattle.ec_history.specs.Legal.{from_formatted}
 use Rattle.ec_history.specs.Placing.{place, place_from, ArePlaceable}
 use Rattle.ec_history.specs.declared.rule.Rule.{Rule}
 use Rattle.ec_history.specs.declared.shown.Shown.{Shown}
@@ -16,8 +16,9 @@ use Rattle.ec_judge.specs.Fault.{IsEntryFault}
 use Rattle.ec_judge.specs.Faults.{IsFirstEntry}
 use Rattle.ec_judge.specs.declared.fault.HistoryFault.{HistoryFault}
 use Rattle.ec_judge.specs.declared.fault.HistoryFault.TheVariants as fault
-use Rattle.ec_legal.specs.Ahead.{placed_from}
-use Rattle.ec_legal.specs.Bounded.{is_bounded_line, AreEntries}
+use Rattle.ec_legal.specs.Ahead.{IsSettled, is_left, placed_from}
+use Rattle.ec_legal.specs.declared.ahead.Ahead.{Ahead}
+use Rattle.ec_legal.specs.Bounded.{is_bounded_line}
 use Rattle.ec_legal.specs.Placed.{IsPlaceFault, IsJudgeFault}
 use Rattle.ec_legal.proofs.Bounded.{placed-entries}
 
@@ -84,6 +85,10 @@ last-block ss past next n l j =
 pub all-placeable : (ss : List Shown) (n : ℕ) → length ss ≤ n → ArePlaceable [] (take n ss) → ArePlaceable [] ss
 all-placeable ss n l p = subst (ArePlaceable []) (take_all n ss l) p
 
+-- no line of the last ones is left
+pub none-left : (a : Ahead) (ss : List Shown) (b : Bool) → b ≡ is_left a ss true → b ≡ false → length ss ≤ a.placed
+none-left a ss b e f = grind (arith, sym e ∙ f)
+
 -- Faults.
 
 first-longer : (base : Base) (most : ℕ) (h g : History) (p : ℕ) (r : Rule) → IsFirstEntry base most h p r → IsFirstEntry base most (h ++ g) p r
@@ -104,6 +109,22 @@ pub block-fault : (most : ℕ) (ss : List Shown) (past next : History) (n : ℕ)
 block-fault most ss past next n (fault.At p r) j a k =
     inr (a, subst (λ h. IsFirstEntry from_formatted most h p r) (sym (regroup ss past next n j)) (first-longer from_formatted most (past ++ next) (placed_from ss n) p r k))
 block-fault most ss past next n fault.NoMemory j a k = tt
+
+-- the same, of a transcript that goes on in whatever way
+pub entry-fault : (most : ℕ) (past next rest whole : History) (f : HistoryFault) → whole ≡ past ++ (next ++ rest) → IsEntryFault most (past ++ next) f → IsEntryFault most whole f
+entry-fault most past next rest whole (fault.At p r) e k =
+    subst (λ h. IsFirstEntry from_formatted most h p r) (sym (e ∙ sym (append_assoc past next rest))) (first-longer from_formatted most (past ++ next) rest p r k)
+entry-fault most past next rest whole fault.NoMemory e k = tt
+
+-- what was judged of lines, where nothing comes behind them
+pub judges-now : (ss : List Shown) (past next : History) (n : ℕ) → ((more : List Shown) → place (ss ++ more) ≡ past ++ (next ++ placed_from (ss ++ more) n)) → Judges ss past next n
+judges-now ss past next n f = record { whole = subst (λ ts. place ts ≡ past ++ (next ++ placed_from ts n)) (append-nil ss) (f []) }
+
+-- what a block gives, where nothing comes behind the lines
+pub placed-now : (ss : List Shown) (settled n m : ℕ) (next : History) → IsSettled ss settled → ((more : List Shown) → IsSettled (ss ++ more) settled → placed_from (ss ++ more) n ≡ next ++ placed_from (ss ++ more) m) → placed_from ss n ≡ next ++ placed_from ss m
+placed-now ss settled n m next h f =
+    let none = append-nil ss in
+    subst (λ ts. placed_from ts n ≡ next ++ placed_from ts m) none (f [] (subst (λ ts. IsSettled ts settled) (sym none) h))
 
 -- Answers, by what is known of a result.
 

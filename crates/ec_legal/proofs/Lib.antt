@@ -3,3 +3,5 @@ pub mod Entries
 mod Bounded
 mod Told
 mod Judged
+pub mod Begun
+pub mod Tried

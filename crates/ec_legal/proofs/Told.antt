@@ -1,19 +1,18 @@
 -- What lines give, by those up to a place where each loss is told.
-use Rattle.std.proofs.Common.{◌≡◌, refl, sym, ap, subst, ◌∙◌, arith, inl, inr, ◌⊎◌, ◌≤◌, ◌<◌, ◌+◌, ℕ, zero, suc, T, Bool, true, false, cond, List, [], ◌∷◌, ◌++◌, length, take, drop, get_or, Option, Some, None, append_assoc, append-nil, add-one}
+use Rattle.std.proofs.Common.{◌≡◌, refl, sym, ap, subst, ◌∙◌, arith, inl, inr, ◌≤◌, ◌<◌, ◌+◌, ℕ, zero, suc, T, Bool, true, false, cond, List, [], ◌∷◌, ◌++◌, length, take, drop, get_or, Option, Some, None, append_assoc, append-nil}
 use Rattle.std.specs.Prelude.{slice_get, is_some, is_none}
 use Rattle.std.proofs.lemmas.Bool.{false≢true}
-use Rattle.std.proofs.lemmas.List.{take-append-drop, take_all}
+use Rattle.std.proofs.lemmas.List.{take-append-drop, take-append-le, take_all}
 use Rattle.std.proofs.lemmas.Option.{get_or_from_slice_get, slice_get-get_or, slice_get_within}
 use Rattle.ec_base.specs.Limits.{clerk_count}
 use Rattle.ec_laws.proofs.More.{watch-step}
 use Rattle.ec_laws.proofs.Watching as laws
-use Rattle.ec_history.specs.History.{History}
 use Rattle.ec_history.specs.declared.entry.Entry.TheVariants as entry
 use Rattle.ec_history.specs.Placing.{watch, late, ops_in, or_zero, owner, is_running, is_end_of, is_call_of, call_entry, line_entries}
 use Rattle.ec_history.specs.declared.shown.Shown.{Shown}
 use Rattle.ec_history.specs.declared.shown.Shown.TheVariants.{Answered, Ended}
 use Rattle.ec_history.specs.declared.watch.Watch.{Watch}
-use Rattle.ec_legal.specs.Ahead.{IsSettled}
+use Rattle.ec_legal.specs.Ahead.{IsSettled, AreTold}
 use Rattle.ec_legal.specs.Watches.{IsHeld}
 use Rattle.ec_legal.proofs.Late.{to-laws, from-laws}
 
@@ -78,6 +77,26 @@ within-of (s ∷ ss) (suc i) (suc n) l m = omega (arith, within-of ss i n (omega
 pub line-of : (ss : List Shown) (i n : ℕ) (s : Shown) → i < n → slice_get ss i ≡ Some s → slice_get (take n ss) i ≡ Some s
 line-of ss i n s l g =
     slice_get-get_or (take n ss) i s (within-of ss i n l (slice_get_within ss i s g)) ∙ ap Some (get-of ss i n s l ∙ get_or_from_slice_get ss i s s g)
+
+-- Lines with more behind them.
+
+get-more : (ss more : List Shown) (i : ℕ) (d : Shown) → i < length ss → get_or (ss ++ more) i d ≡ get_or ss i d
+get-more [] more i d l = absurd (omega (arith, l))
+get-more (s ∷ ss) more zero d l = refl
+get-more (s ∷ ss) more (suc i) d l = get-more ss more i d (omega (arith, l))
+
+within-more : (ss more : List Shown) (i : ℕ) → i < length ss → i < length (ss ++ more)
+within-more [] more i l = absurd (omega (arith, l))
+within-more (s ∷ ss) more zero l = omega arith
+within-more (s ∷ ss) more (suc i) l = omega (arith, within-more ss more i (omega (arith, l)))
+
+pub line-more : (ss more : List Shown) (i : ℕ) (s : Shown) → slice_get ss i ≡ Some s → slice_get (ss ++ more) i ≡ Some s
+line-more ss more i s g =
+    let within = slice_get_within ss i s g in
+    slice_get-get_or (ss ++ more) i s (within-more ss more i within) ∙ ap Some (get-more ss more i s within ∙ get_or_from_slice_get ss i s s g)
+
+pub told-more : (ss more : List Shown) (n : ℕ) → n ≤ length ss → AreTold ss n → AreTold (ss ++ more) n
+told-more ss more n l t c k = subst (λ p. T (is_none (watch c p).untold)) (sym (take-append-le n ss more l)) (t c k)
 
 -- What a line gives, by those up to a place that is settled.
 pub settled-line : (ss : List Shown) (i n : ℕ) (s : Shown) → IsSettled ss n → i < n → slice_get ss i ≡ Some s → ((c : ℕ) (ns : List ℕ) → s ≡ Ended c ns → c < clerk_count) → take (i + 1) ss ≡ take i ss ++ s ∷ []

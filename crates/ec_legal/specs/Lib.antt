@@ -2,3 +2,4 @@ pub mod Watches
 pub mod Placed
 pub mod Bounded
 pub mod Ahead
+pub mod Tried

@@ -1,7 +1,8 @@
 // Histories, and the transcripts that they come from.
-ghost use Rattle.std.specs.Prelude.{◌≡◌, ◌≤◌, ◌<◌, ◌^◌, ◌++◌, [], ℕ, T, take, length, IfOk, OnOk, IfErr};
+ghost use Rattle.std.specs.Prelude.{◌≡◌, ◌≤◌, ◌<◌, ◌^◌, ◌++◌, [], ℕ, List as Listed, T, take, length, IfOk, OnOk, IfErr};
 ghost use Rattle.std.specs.List.{list_all};
 ghost use Rattle.ec_history.specs.History.{updates, kept, owed};
+ghost use Rattle.ec_history.specs.declared.shown.Shown.{Shown as Line};
 ghost use Rattle.ec_history.specs.Legal.{IsLegal, from_formatted};
 ghost use Rattle.ec_judge.specs.Fault.{IsEntryFault};
 ghost use Rattle.ec_legal.specs.Ahead.{IsSettled, placed_from};
@@ -136,10 +137,9 @@ pub fn place_lines(
     requires known { to ≤ followed }
     requires within { followed ≤ length shown.now }
     requires begins { AreBegins [] (take followed shown.now) begins.now }
-    requires settled { IsSettled shown.now followed }
     requires watched { AreWatched watches.old (take from shown.now) }
     ensures watched { OnOk result (AreWatched watches.new (take to shown.now)) }
-    ensures entries { OnOk result (entries.old.items ++ placed_from shown.now from ≡ entries.new.items ++ placed_from shown.now to) }
+    ensures entries { OnOk result ((more : Listed Line) → IsSettled (shown.now ++ more) followed → entries.old.items ++ placed_from (shown.now ++ more) from ≡ entries.new.items ++ placed_from (shown.now ++ more) to) }
 {
     let known = &shown[..followed];
     for at in from..to {

@@ -9,4 +9,4 @@ mod placing;
 pub use ec_judge::HistoryFault;
 pub use ec_lines::lines_at_fault_have_no_history;
 pub use history::{History, place};
-pub use judging::judge;
+pub use judging::{Stop, Trial};

@@ -1,6 +1,5 @@
-use Rattle.std.proofs.Common.{◌≡◌, ◌≤◌, ◌+◌, ◌++◌, ◌∷◌, [], refl, sym, ap, subst, ◌∙◌, arith, rules, length, length-append}
+use Rattle.std.proofs.Common.{◌≡◌, ◌+◌, ◌++◌, ◌∷◌, [], sym, ap, subst, ◌∙◌, arith, rules, length, length-append}
 use Rattle.ec_script.specs.Lines.{lines_of}
-use Rattle.ec_check.specs.Lines.{IsBadLine}
 use Rattle.ec_check.proofs.Reading.{Read, reads-on, bad-line}
 use Rattle.ec_check.proofs.lines.read_lines.Goals as goal
 

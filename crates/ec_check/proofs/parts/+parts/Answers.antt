@@ -1,8 +1,9 @@
-use Rattle.std.proofs.Common.{◌≡◌, ◌≤◌, ◌<◌, ◌+◌, ◌++◌, sym, ap, subst, ◌∙◌, arith, rules, length, length-append}
+use Rattle.std.proofs.Common.{◌≡◌, ◌+◌, ◌++◌, sym, ap, subst, ◌∙◌, arith, rules, length, length-append}
 use Rattle.std.specs.Prelude.{Err}
+use Rattle.std.proofs.lemmas.Result.{err_from_is_err_and}
 use Rattle.ec_check.specs.declared.lines.ReadFault.TheVariants as fault
 use Rattle.ec_check.specs.Lines.{IsRead, HasBadLine}
-use Rattle.ec_check.proofs.Halves.{read-both, bad-below, bad-few, if-ok, ok-of, err-of}
+use Rattle.ec_check.proofs.Halves.{read-both, above-fault, bad-below, bad-few, if-ok, ok-of, err-of}
 use Rattle.ec_check.proofs.parts.+parts.Goals as goal
 
 pub returns-in-Ok-clause-read : goal.returns-in-Ok-clause-read
@@ -15,6 +16,13 @@ returns-in-Ok-clause-read g t c =
     if-ok (λ v. v.items ≡ c.in_ok-lines.lines.items ++ c.in-Ok.more.items) (λ v. IsRead bs v.items) c.append.result
     (λ v e. subst (IsRead bs) (sym e) (read-both bs front back c.in_ok-lines.lines.items c.in-Ok.more.items c.cut.ensures.lines c.cut.ensures.bytes above below))
     c.append.ensures.items
+
+pub returns-in_err-lines-clause-fault : goal.returns-in_err-lines-clause-fault
+returns-in_err-lines-clause-fault g t c =
+    let front = c.cut.result.0.now in
+    let p = err_from_is_err_and c.from_residual.result c.from_residual.ensures.1 in
+    let bad = err-of (HasBadLine front) c.join-above.result.0 c.in_err-lines.field-0.0 c.in_err-lines.was c.join-above.ensures.first.1 in
+    rw (p.1, p.2) (above-fault c.args.bytes.now front c.cut.result.1.now c.in_err-lines.field-0.0 c.cut.ensures.lines bad)
 
 pub overflow_add-result : goal.overflow_add-result
 overflow_add-result g t c =

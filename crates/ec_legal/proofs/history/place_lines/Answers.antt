@@ -1,9 +1,11 @@
-use Rattle.std.proofs.Common.{◌≡◌, ◌<◌, ◌≤◌, ◌+◌, ◌++◌, sym, ap, subst, refl, ◌∙◌, arith, length, take, drop}
+use Rattle.std.proofs.Common.{◌≡◌, ◌<◌, ◌≤◌, ◌+◌, ◌++◌, sym, ap, subst, refl, ◌∙◌, arith, List, length, take, drop}
 use Rattle.std.proofs.lemmas.Option.{slice_get_read}
+use Rattle.std.proofs.lemmas.List.{take-append-le}
+use Rattle.ec_history.specs.declared.shown.Shown.{Shown}
 use Rattle.ec_history.specs.Placing.{line_entries}
 use Rattle.ec_watch.specs.Watches.{AreWatched}
 use Rattle.ec_legal.proofs.Entries.{starts-few, front-at, place-step}
-use Rattle.ec_legal.proofs.Told.{front-of, line-of, settled-line}
+use Rattle.ec_legal.proofs.Told.{front-of, line-of, line-more, settled-line}
 use Rattle.ec_legal.proofs.history.place_lines.Goals as goal
 
 pub push-requires-clause-line : goal.push-requires-clause-line
@@ -36,7 +38,13 @@ loop-at-preserved c =
     let near : i < n = omega (arith, c.loop-at-test.true, c.requires.known) in
     let within : i < length ss = omega (arith, near, c.requires.within) in
     let g = slice_get_read ss (length ss) i s refl within c.index-shown-at.is in
-    let gives = settled-line ss i n s c.requires.settled near g c.push.ensures.below (front-at ss i s g) in (
+    let known : (more : List Shown) → take n (ss ++ more) ≡ take n ss = λ more. take-append-le n ss more c.requires.within in (
       subst (AreWatched c.note.new.watches) (sym (front-at ss i s g)) (c.in_ok-note.ensures (take i ss) c.loop-at.invariant.0),
-      place-step ss i s _ c.loop-at.entries.items c.push.new.entries.items g c.loop-at.invariant.1 (c.in_ok-push.ensures.entries ∙ ap (λ h. c.loop-at.entries.items ++ h) gives),
+      λ more settled.
+          let ts = ss ++ more in
+          let there = line-more ss more i s g in
+          let gives = settled-line ts i n s settled near there c.push.ensures.below (front-at ts i s there) in
+          let same = subst (λ k. line_entries (take i k) s (drop (i + 1) k) ≡ line_entries (take i ts) s (drop (i + 1) ts)) (known more) gives in
+          place-step ts i s _ c.loop-at.entries.items c.push.new.entries.items there (c.loop-at.invariant.1 more settled)
+          (c.in_ok-push.ensures.entries ∙ ap (λ h. c.loop-at.entries.items ++ h) same),
     )
