@@ -11,6 +11,7 @@ use ec_pending::Asked;
 use ec_plain::{Call, Reply};
 
 /// What an answered call asks, that began at a place and touched these objects.
+#[inline(never)]
 pub fn wanted(begun: u32, call: &Call, touched: &[ObjId], answer: &Answer) -> Asked
     ensures { result ≡ asked_by_call touched.now begun call.now answer.now }
 {

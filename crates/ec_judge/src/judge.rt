@@ -69,6 +69,7 @@ impl Judge {
         }
     }
 
+    #[inline(never)]
     fn judge_call(
         &mut self,
         most: u32,
@@ -109,6 +110,7 @@ impl Judge {
         Ok(None)
     }
 
+    #[inline(never)]
     fn judge_loss(
         &mut self,
         clerk: ClerkId,
@@ -125,6 +127,7 @@ impl Judge {
     }
 
     // The same, by an index of the lost operations.
+    #[inline(never)]
     fn judge_lost(
         &mut self,
         clerk: ClerkId,

@@ -22,6 +22,7 @@ use std::alloc::Global;
 
 /// The first rule that a loss of these operations of the start at this index breaks, but for what is
 /// left of the others. None of them is kept before the index `from`.
+#[inline(never)]
 pub fn broken_at(
     alloc: Global,
     touches: &ObjTable<Touches>,
@@ -224,6 +225,7 @@ fn is_own(kept: &Kept, clerk: ClerkId, boot: u64) -> bool
 }
 
 /// Adds the pairs of the lost operations to what the start at this index owes.
+#[inline(never)]
 pub fn owe_at(
     alloc: Global,
     starts: &mut Vec<Start>,
@@ -281,6 +283,7 @@ fn push_pairs(owed: &mut Owes, op: OpNo, objs: &[ObjId]) -> Result<(), NoMemory>
 }
 
 /// Takes the lost operations out. None of them stands before the index.
+#[inline(never)]
 pub fn forget(
     alloc: Global,
     kept: &mut Vec<Kept>,

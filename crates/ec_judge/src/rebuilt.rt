@@ -36,6 +36,7 @@ pub fn nothing(alloc: Global) -> Result<Firm, NoMemory>
 
 /// Takes the lost operations out of the volume. None of them is kept before the index. It's false
 /// where the others don't fit.
+#[inline(never)]
 pub fn leave(
     alloc: Global,
     firm: &mut Firm,

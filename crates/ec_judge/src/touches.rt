@@ -11,6 +11,7 @@ use ec_volume::operands;
 use std::alloc::Global;
 
 /// A call of the clerk touched these objects at this turn.
+#[inline(never)]
 pub fn touch_all(
     touches: &mut ObjTable<Touches>,
     clerk: ClerkId,

@@ -4,3 +4,4 @@ pub mod Leaving
 pub mod Rising
 pub mod Walks
 pub mod Deferring
+pub mod Late

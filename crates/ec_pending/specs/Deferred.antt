@@ -1,5 +1,6 @@
 -- What happened to the operations of a start, from some pending ones on.
-use Rattle.std.specs.Prelude.{ℕ, ◌≤◌, ◌<◌, List, [], ◌∷◌, ◌++◌, ⊤}
+use Rattle.std.specs.Prelude.{ℕ, ◌==◌, ◌≤◌, ◌<◌, T, Bool, true, false, List, [], ◌∷◌, ◌++◌, drop, length, ⊤}
+use Rattle.std.specs.List.{list_all}
 use Rattle.ec_pending.specs.Pending.{is_asked, rest}
 use Rattle.ec_pending.specs.declared.issue.Issue.{Issue}
 use Rattle.ec_pending.specs.declared.note.Note.{Note}
@@ -14,6 +15,21 @@ next_of (note.Cover a) is = rest (is_asked a) is
 abbrev pub behind : List Note → List Issue → List Issue
 behind [] is = is
 behind (n ∷ ns) is = behind ns (next_of n is)
+
+-- the note is of an operation of this number
+abbrev pub is_issue : ℕ → Note → Bool
+is_issue n (note.Issue m p u) = n == m
+is_issue n (note.Cover a) = false
+
+-- the note asks nothing
+abbrev pub asks_nothing : Note → Bool
+asks_nothing (note.Issue n p u) = true
+asks_nothing (note.Cover a) = false
+
+-- the notes from this one on ask nothing
+pub record AreLate (late : ℕ) (ns : List Note) : Type 0 where
+  pub within : late ≤ length ns
+  pub issues : T (list_all asks_nothing (drop late ns))
 
 -- how many were issued behind the note
 abbrev pub above_next : ℕ → Note → ℕ

@@ -1,8 +1,9 @@
 // Pending operations that are followed up only where they are asked for.
-ghost use Rattle.std.specs.Prelude.{◌≡◌, ◌≤◌, ◌<◌, ◌++◌, [], Some, reverse, IfOk, OnOk};
+ghost use Rattle.std.specs.Prelude.{◌≡◌, ◌≤◌, ◌<◌, ◌++◌, [], true, drop, Some, reverse, IfOk, OnOk};
+ghost use Rattle.std.specs.List.{list_any};
 ghost use Rattle.ec_volume.specs.Update.{member};
 ghost use Rattle.ec_pending.specs.Pending.{is_asked, issues_of, numbers_in, rest};
-ghost use Rattle.ec_pending.specs.Deferred.{behind, next_of, above_next, AreAbove, IsAbove};
+ghost use Rattle.ec_pending.specs.Deferred.{behind, next_of, above_next, is_issue, AreAbove, IsAbove};
 
 use crate::asked::Asked;
 use crate::note::Note;
@@ -22,6 +23,8 @@ pub struct Deferred {
     pending: Pending,
     // what happened since, in its order
     notes: Vec<Note>,
+    // the notes from this one on are of operations that were issued
+    late: usize,
 }
 
 impl Model for Deferred {
@@ -29,7 +32,7 @@ impl Model for Deferred {
     ghost use Rattle.std.specs.Coded.{coded_list, coded×, coded_ℕ};
     ghost use Rattle.ec_pending.specs.contracts.issue.Issue as issue;
     ghost use Rattle.ec_pending.specs.declared.issue.Issue.{Issue};
-    ghost use Rattle.ec_pending.specs.Deferred.{behind, AreAbove};
+    ghost use Rattle.ec_pending.specs.Deferred.{behind, AreAbove, AreLate};
 
     ghost Value = { ℕ × List Issue };
 
@@ -37,7 +40,7 @@ impl Model for Deferred {
 
     ghost view = { λ d. (d.count, behind d.notes.items d.pending.1) };
 
-    ghost invariant = { λ d. AreAbove d.count d.pending.0 d.notes.items };
+    ghost invariant = { λ d. AreAbove d.count d.pending.0 d.notes.items × AreLate d.late d.notes.items };
 }
 
 impl Deferred {
@@ -50,6 +53,7 @@ impl Deferred {
             count: 0,
             pending: Pending::new(alloc)?,
             notes: Vec::new(alloc),
+            late: 0,
         })
     }
 
@@ -65,7 +69,11 @@ impl Deferred {
         ensures has { IfOk result (λ has. has ≡ member op (numbers_in self.old.1)) }
         ensures same { OnOk result (self.new ≡ self.old) }
     {
+        if is_late(&self.notes, self.late, self.count, op) {
+            return Ok(true);
+        }
         if !self.notes.is_empty() {
+            self.late = 0;
             let notes = mem::replace(&mut self.notes, Vec::new(self.alloc));
             follow_all(&mut self.pending, notes, self.count)?;
         }
@@ -95,7 +103,26 @@ impl Deferred {
             return Ok(());
         }
         self.notes.push(Note::Cover(*asked))?;
+        self.late = self.notes.len();
         Ok(())
+    }
+}
+
+// Whether the operation was issued behind what was asked last. It's looked for where it stands if
+// those behind it have the next numbers.
+fn is_late(notes: &[Note], late: usize, count: u64, op: OpNo) -> bool
+    ensures { result ≡ true → list_any (is_issue op) (drop late notes.now) ≡ true }
+{
+    if count < op.0 || count - op.0 >= notes.len() as u64 {
+        return false;
+    }
+    let at = notes.len() - 1 - (count - op.0) as usize;
+    if at < late {
+        return false;
+    }
+    match &notes[at] {
+        Note::Issue(number, _, _) => *number == op,
+        Note::Cover(_) => false,
     }
 }
 

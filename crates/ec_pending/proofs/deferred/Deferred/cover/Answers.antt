@@ -1,8 +1,9 @@
-use Rattle.std.proofs.Common.{◌∙◌, ◌++◌, ◌∷◌, [], ℕ, List, sym, ap, subst}
+use Rattle.std.proofs.Common.{rules, ◌∙◌, ℕ, List, sym, ap, subst}
 use Rattle.ec_pending.specs.Deferred.{behind, AreAbove}
 use Rattle.ec_pending.specs.Pending.{is_asked, rest}
 use Rattle.ec_pending.specs.declared.issue.Issue.{Issue}
 use Rattle.ec_pending.specs.declared.note.Note.TheVariants as note
+use Rattle.ec_pending.proofs.Late.{late-end}
 use Rattle.ec_pending.proofs.Deferring.{above-asked, all-stay, behind-more, pair, with-rest}
 use Rattle.ec_pending.proofs.deferred.Deferred.cover.Goals as goal
 
@@ -11,7 +12,7 @@ returns-in-Nothing c = with-rest c.args.self.now (rest (is_asked c.args.asked.no
 
 pub invariant_of-self-2 : goal.invariant_of-self-2
 invariant_of-self-2 c =
-    subst (AreAbove c.self.inside.count c.self.inside.pending.0) (sym c.in_ok-push.ensures.items) (above-asked c.self.inside.count c.self.inside.pending.0 c.args.asked.now c.self.inside.notes.items c.self.invariant)
+    (subst (AreAbove c.self.inside.count c.self.inside.pending.0) (sym c.in_ok-push.ensures.items) (above-asked c.self.inside.count c.self.inside.pending.0 c.args.asked.now c.self.inside.notes.items c.self.invariant.0), late-end c.len-self-inside.result c.push.new.self.items (search rules))
 
 pub returns : goal.returns
 returns c =

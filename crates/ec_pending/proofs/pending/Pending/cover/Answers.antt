@@ -1,8 +1,6 @@
 use Rattle.std.proofs.Common.{◌∙◌, ◌+◌, sym, subst, not}
-use Rattle.std.proofs.lemmas.Result.{on_ok_weaker}
 use Rattle.ec_volume.specs.Update.{member}
 use Rattle.ec_pending.specs.Pending.{is_asked, AreEarly, AreRising, AreUpTo, IsPart}
-use Rattle.ec_pending.proofs.Covering.{early-view}
 use Rattle.ec_pending.proofs.Holding.{behind-filter, early-part}
 use Rattle.ec_pending.proofs.Leaving.{left-view}
 use Rattle.ec_pending.proofs.Rising.{rising-part}
