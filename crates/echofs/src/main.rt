@@ -3,10 +3,9 @@
 //! what was lost. It also judges whether such a transcript is legal.
 #![tactic(auto)]
 
-ghost use Rattle.std.specs.Prelude.{◌≡◌, ◌≢◌, ◌↔◌, ◌≤◌, ◌⊎◌, None, Some, map, IsSome, IfOk, IfErr};
+ghost use Rattle.std.specs.Prelude.{◌≡◌, ◌↔◌, ◌≤◌, ◌⊎◌, None, Some, map, IfOk, IfErr};
 ghost use Rattle.std.specs.Process.{exit_status};
 ghost use Rattle.std.specs.String.{string_bytes};
-ghost use Rattle.ec_disk.specs.Turns.{counts_of};
 ghost use Rattle.ec_link.specs.Spawns.{faults_of};
 ghost use Rattle.ec_echo.specs.Echo.{Echoes};
 ghost use Rattle.ec_echo.specs.Statuses.{code};
@@ -16,47 +15,24 @@ ghost use Rattle.ec_echo.specs.declared.status.Status.{Status};
 ghost use Rattle.ec_echo.specs.declared.status.Status.TheVariants as status;
 ghost use Rattle.echofs.specs.Arguments.{words_of};
 
+mod boot;
+mod disk;
+mod streams;
+mod words;
+
+use boot::boot_of;
+use disk::{open_disk, tell_no_disk};
 use ec_base::{Sink, Source, StdSink, StdSource};
-use ec_disk::{CrashDisk, FileDisk, MemDisk};
+use ec_disk::{CrashDisk, MemDisk};
 use ec_echo::{Command, Status, command_of, echo_main};
 use ec_link::{Around, Net, Spawner, TcpNet, ThreadSpawner};
 use std::alloc::Global;
 use std::env::Args;
-use std::fs::File;
 use std::io::Eprint;
 use std::process::ExitCode;
-use std::time::{SystemTime, UNIX_EPOCH};
 use std::{env, io};
-
-/// The file that has the disk, in the current folder.
-const DISK_FILE: &str = "echofs.disk";
-
-const USAGE: &str =
-    "usage: echofs drill [N] < SCRIPT, echofs check [N] < TRANSCRIPT, echofs make N, echofs soak N, echofs serve ADDR COUNT, or echofs mount ADDR CLERK < LANES";
-
-// What the program says of a status on standard error.
-fn reason(status: u8) -> Option<&'static str>
-    ensures { IsSome result ↔ (status ≢ 0) }
-{
-    match status {
-        0 => None,
-        2 => Some(USAGE),
-        3 => Some("echofs: a line can't be read or carried out; the last line names it"),
-        4 => Some("echofs: the input can't be read"),
-        5 => Some("echofs: the output can't be written"),
-        6 => Some("echofs: the disk failed"),
-        7 => Some("echofs: the disk is bad; the last line tells where"),
-        8 => Some("echofs: the net failed"),
-        9 => Some("echofs: out of memory"),
-        10 => Some("echofs: a thread can't be started"),
-        11 => Some("echofs: too much; the last line tells the limit"),
-        12 => Some("echofs: the transcript isn't legal; the last line names its first fault"),
-        13 => Some("echofs: the server knows a later start of this clerk; the last line tells it"),
-        14 => Some("echofs: the server sent what is no message; the last line tells where"),
-        15 => Some("echofs: a counter is spent; the last line names it"),
-        _ => Some("echofs: stopped"),
-    }
-}
+use streams::open_streams;
+use words::reason;
 
 /// All that the process does with words and a disk: it answers the words, with these streams, and
 /// says on standard error why it ends otherwise than well. What can't be said on standard error is no
@@ -133,44 +109,41 @@ fn own_words(alloc: Global, args: io::Result<Args>) -> Result<Vec<String>, Statu
     Ok(words)
 }
 
-// The disk over the program's file, which is made with length 0 where it isn't there.
-fn open_disk(rt: HostRuntime) -> Result<FileDisk<File>, Status>
-    ensures { IfOk result (λ disk. (counts_of disk.turns).armed ≡ None) }
-{
-    let mut options = File::options();
-    options.read(true).write(true).create(true);
-    let Ok(file) = options.open(&rt, DISK_FILE) else {
-        return Err(Status::DiskFault);
-    };
-    match FileDisk::new(rt.alloc(), file) {
-        Ok(disk) => Ok(disk),
-        Err(_) => Err(Status::NoMemory),
+// The number of objects that a drill was asked for by a word.
+fn asked_objects(words: &[String]) -> Option<u32> {
+    match command_of(words) {
+        Some(Command::Drill(most)) if words.len() == 2 => Some(most),
+        _ => None,
     }
 }
 
-// The number of this start of the process: the seconds of the clock.
-fn boot_of(rt: HostRuntime) -> u64 {
-    match SystemTime::now(&rt) {
-        Ok(time) => time
-            .duration_since(UNIX_EPOCH)
-            .map_or(1, |since| since.as_secs()),
-        Err(_) => 1,
+// The number of this start, for which a mount waits. The others use none.
+fn start_of(rt: HostRuntime, words: &[String]) -> u64 {
+    match command_of(words) {
+        Some(Command::Mount(_)) => boot_of(&rt),
+        _ => 0,
     }
 }
 
 fn main(rt: HostRuntime) -> ExitCode {
+    if let Err(error) = open_streams(rt) {
+        let _ = eprintln!(rt;
+            "echofs: the null device can't be opened for a closed stream: {error}"
+        );
+        return ExitCode::from(Status::DiskFault.code());
+    }
     let mut source = StdSource::new(rt.reader());
     let mut sink = StdSink::new(io::writer(&rt));
     let words = match own_words(rt.alloc(), env::args(&rt)) {
         Ok(words) => words,
         Err(fault) => return end(&rt, fault.code()),
     };
-    let boot = boot_of(rt);
+    let boot = start_of(rt, &words);
     let mut net = TcpNet::new();
     let mut spawner = Spawner::Threads(ThreadSpawner::new());
     let asks_for_disk = command_of(&words).is_some_and(|command| command.uses_disk());
     if asks_for_disk {
-        match open_disk(rt) {
+        match open_disk(rt, asked_objects(&words)) {
             Ok(mut disk) => {
                 process(
                     &rt,
@@ -183,7 +156,10 @@ fn main(rt: HostRuntime) -> ExitCode {
                     boot,
                 )
             },
-            Err(fault) => end(&rt, fault.code()),
+            Err(why) => {
+                tell_no_disk(rt, &why);
+                ExitCode::from(why.status().code())
+            },
         }
     } else {
         match MemDisk::new(rt.alloc(), Vec::new(rt.alloc())) {
