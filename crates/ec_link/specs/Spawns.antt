@@ -16,6 +16,10 @@ refused spawned.All = 0
 refused spawned.Failed = 1
 refused spawned.NoMemory = 0
 
+abbrev pub refused_by : Option Spawned → ℕ
+refused_by None = 0
+refused_by (Some s) = refused s
+
 -- how often a job couldn't be started
 abbrev pub faults_of : Spawner → ℕ
 faults_of (by.Threads s) = faults_in s.happened

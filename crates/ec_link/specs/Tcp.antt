@@ -1,11 +1,11 @@
 -- A link over TCP.
-use Rattle.std.specs.Prelude.{◌≡◌, ◌==◌, Bool, [], length}
+use Rattle.std.specs.Prelude.{◌≡◌, ◌==◌, ◌&&◌, Bool, [], length}
 use Rattle.ec_link.specs.declared.tcp.TcpLink.{TcpLink}
 use Rattle.ec_link.specs.Happenings.{faults_in, closes_in, given_in, got_in}
 
--- the socket has taken all that the link got
+-- the socket has taken all that the link got, and nothing rests
 abbrev pub has_sent_all : TcpLink → Bool
-has_sent_all link = length link.unsent.items == 0
+has_sent_all link = (length link.unsent.items == 0) && (length link.rests.frames.items == 0)
 
 -- nothing has happened at this end, and it holds no bytes
 pub record IsNewOver (link : TcpLink) : Type 0 where

@@ -34,7 +34,7 @@ pub enum Got {
     NoMemory,
 }
 
-/// One end of a link. Neither call waits for the other end.
+/// One end of a link. No call but `leave` waits for the other end.
 pub trait Link {
     type Bell: Bell + Send + Sync + Drop;
 
@@ -65,6 +65,16 @@ pub trait Link {
         ensures held { held self.new ≡ held self.old }
         ensures long { (IsBody body.now → ⊥) → result ≡ sent.Failed };
 
+    /// The same for a body that may rest for so many milliseconds, while later ones pass it. It goes with a `recv` behind that time, and who
+    /// waits on the bell meanwhile returns by then.
+    fn send_late<R: Wait + Clock>(&mut self, rt: &R, body: &[u8], rest: u64) -> Sent
+        ensures faults { faults self.old + failed result ≤ faults self.new }
+        ensures closes { closes self.old ≤ closes self.new }
+        ensures given { given self.new ≡ given self.old }
+        ensures got { got self.new ≡ added (got self.old) (carried result body.now) }
+        ensures held { held self.new ≡ held self.old }
+        ensures long { (IsBody body.now → ⊥) → result ≡ sent.Failed };
+
     /// Gives the next body, where a whole frame is there.
     fn recv<R: Wait + Clock>(&mut self, rt: &R) -> Got
         ensures faults { faults self.old + fault_of result ≤ faults self.new }
@@ -74,12 +84,17 @@ pub trait Link {
         ensures read { Reads (held self.old) (held self.new) result };
 
     /// Whether it keeps back nothing of what it got, so that a further body has room. Where the other end takes nothing, a link may keep back
-    /// what it gets, and a `recv` hands on what is taken then.
+    /// what it gets, and a `recv` hands on what is taken then. What rests is kept back too.
     fn is_clear(&self) -> bool
         ensures { result ≡ clear self.now };
 
     /// Ends the link for the other end, which finds it closed behind what it gets still. Nothing more goes to it.
     fn hang_up(&mut self)
+        ensures counts { (faults self.new ≡ faults self.old) × (closes self.new ≡ closes self.old) }
+        ensures bodies { (given self.new ≡ given self.old) × (got self.new ≡ got self.old) × (held self.new ≡ held self.old) };
+
+    /// Ends the sending side behind what the link got, and drops what comes still, until the other end is gone too. It waits for a second at most.
+    fn leave<R: Wait + Clock>(&mut self, rt: &R)
         ensures counts { (faults self.new ≡ faults self.old) × (closes self.new ≡ closes self.old) }
         ensures bodies { (given self.new ≡ given self.old) × (got self.new ≡ got self.old) × (held self.new ≡ held self.old) };
 

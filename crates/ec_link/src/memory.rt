@@ -10,6 +10,7 @@ ghost use Rattle.ec_link.specs.Memory.{is_due, IsNew};
 use crate::around::Around;
 use crate::bell::{Knocker, MemBell};
 use crate::happenings::Happenings;
+use crate::leaving::Leaving;
 use crate::link::{Got, Link, Sent};
 use crate::net::NetFault;
 use crossbeam_channel::{Receiver, Sender, TryRecvError, unbounded};
@@ -234,6 +235,11 @@ impl Link for MemLink {
         }
     }
 
+    // What is in memory is there at once.
+    fn send_late<R: Wait + Clock>(&mut self, rt: &R, body: &[u8], _rest: u64) -> Sent {
+        self.send(rt, body)
+    }
+
     fn recv<R: Wait + Clock>(&mut self, rt: &R) -> Got {
         if self.fails_now() {
             self.happened.fault();
@@ -255,6 +261,21 @@ impl Link for MemLink {
     fn hang_up(&mut self) {
         self.line.to = None;
         self.line.there.knock();
+    }
+
+    fn leave<R: Wait + Clock>(&mut self, rt: &R) {
+        self.hang_up();
+        let Some(leaving) = Leaving::begin(rt) else {
+            return;
+        };
+        for _ in rt.forever() {
+            let Some(left) = leaving.left(rt) else {
+                return;
+            };
+            if self.line.from.recv_timeout(rt, left).is_err() {
+                return;
+            }
+        }
     }
 
     fn bell<R: Around>(&mut self, _rt: &R) -> Result<MemBell, NetFault> {

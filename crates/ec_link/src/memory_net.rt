@@ -1,5 +1,5 @@
 // A net in memory, which hands out memory pairs by address.
-ghost use Rattle.std.specs.Prelude.{◌≡◌, ◌+◌, [], IfOk, nat_eq};
+ghost use Rattle.std.specs.Prelude.{◌≡◌, ◌+◌, [], IfOk, IfSome, nat_eq};
 ghost use Rattle.std.specs.List.{list_any};
 ghost use Rattle.ec_base.specs.Outside.{one_more};
 ghost use Rattle.ec_link.specs.Happenings.{faults_in};
@@ -7,28 +7,37 @@ ghost use Rattle.ec_link.specs.Memory.{IsNew};
 ghost use Rattle.ec_link.specs.Nets.{faulted};
 
 use crate::around::Around;
+use crate::bell::{Bell, MemBell};
 use crate::happenings::Happenings;
 use crate::memory::{Line, MemLink, lines};
 use crate::net::{Net, NetFault};
-use crossbeam_channel::{Receiver, Sender, unbounded};
+use crossbeam_channel::{Receiver, Sender, TryRecvError, unbounded};
 use ec_base::NoMemory;
 use ec_trace::Trace;
 use std::alloc::Global;
+use std::io;
+use std::net::SocketAddr;
 use std::snapshot::Snapshot;
-use std::sync::atomic::{AtomicBool, Ordering};
+use std::sync::atomic::{AtomicBool, AtomicU64, Ordering};
 use std::sync::{Arc, Mutex, Wait};
 
 /// Where links that were called are waiting. It's open until it is dropped.
 pub struct MemDoor {
     links: Receiver<Line>,
+    rings: Arc<AtomicU64>,
     is_open: Arc<AtomicBool>,
 }
 
 impl Drop for MemDoor {
     fn drop(self) {
-        let MemDoor { links, is_open } = self;
+        let MemDoor {
+            links,
+            rings,
+            is_open,
+        } = self;
         is_open.store(false, Ordering::SeqCst);
         drop(is_open);
+        drop(rings);
         drop(links);
     }
 }
@@ -38,6 +47,7 @@ impl Drop for MemDoor {
 struct Listener {
     addr: String,
     links: Sender<Line>,
+    bell: MemBell,
     is_open: Arc<AtomicBool>,
 }
 
@@ -136,15 +146,23 @@ impl MemNet {
             .ok()
             .ok_or(NetFault::NoMemory)?;
         let is_open = Arc::try_clone(&open)?;
+        let rings = Arc::new(self.alloc, AtomicU64::new(0))
+            .ok()
+            .ok_or(NetFault::NoMemory)?;
         let listener = Listener {
             addr: String::from_str(self.alloc, addr)?,
             links: to_door,
+            bell: MemBell::new(Arc::try_clone(&rings)?),
             is_open: open,
         };
         if listeners.push(listener).is_err() {
             return Err(NetFault::NoMemory);
         }
-        Ok(MemDoor { links, is_open })
+        Ok(MemDoor {
+            links,
+            rings,
+            is_open,
+        })
     }
 
     // Hands one end of a pair to who listens at the address.
@@ -158,18 +176,24 @@ impl MemNet {
             return Err(NetFault::Failed);
         };
         match listener.links.send(rt, theirs) {
-            Ok(()) => Ok(link),
+            Ok(()) => {
+                listener.bell.ring();
+                Ok(link)
+            }
             Err(refused) if refused.is_out_of_memory() => Err(NetFault::NoMemory),
             Err(_) => Err(NetFault::Failed),
         }
     }
 
-    // Waits for a line at the door.
-    fn take<R: Wait>(&self, rt: &R, door: &MemDoor) -> Result<MemLink, NetFault>
-        ensures { IfOk result (λ link. IsNew link) }
+    // The next line at the door, where one is there.
+    fn take<R: Wait>(&self, rt: &R, door: &MemDoor) -> Result<Option<MemLink>, NetFault>
+        ensures { IfOk result (λ found. IfSome found (λ link. IsNew link)) }
     {
-        let line = door.links.recv(rt).ok().ok_or(NetFault::Failed)?;
-        Ok(MemLink::on(self.alloc, line)?)
+        match door.links.try_recv(rt) {
+            Ok(line) => Ok(Some(MemLink::on(self.alloc, line)?)),
+            Err(TryRecvError::Empty) => Ok(None),
+            Err(TryRecvError::Disconnected) => Err(NetFault::Failed),
+        }
     }
 }
 
@@ -181,6 +205,8 @@ impl Net for MemNet {
     type Link = MemLink;
 
     type Door = MemDoor;
+
+    type DoorBell = MemBell;
 
     ghost faults = { λ net. faults_in net.happened };
 
@@ -196,7 +222,15 @@ impl Net for MemNet {
         self.counted(opened)
     }
 
-    fn accept<R: Around>(&mut self, rt: &R, door: &mut MemDoor) -> Result<MemLink, NetFault> {
+    fn place(&self, _door: &MemDoor) -> Option<SocketAddr> {
+        None
+    }
+
+    fn door_bell<R: Around>(&mut self, _rt: &R, door: &mut MemDoor) -> Result<MemBell, NetFault> {
+        Ok(MemBell::new(Arc::try_clone(&door.rings)?))
+    }
+
+    fn next<R: Around>(&mut self, rt: &R, door: &mut MemDoor) -> Result<Option<MemLink>, NetFault> {
         let taken = self.take(rt, door);
         self.counted(taken)
     }
@@ -207,6 +241,10 @@ impl Net for MemNet {
         }
         let reached = self.reach(rt, addr);
         self.counted(reached)
+    }
+
+    fn reason(&self) -> Option<io::Error> {
+        None
     }
 
     fn back(&mut self, link: MemLink) -> Result<(), NoMemory> {

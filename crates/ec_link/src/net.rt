@@ -1,11 +1,14 @@
 // Nets, which hand out links by address and take them back.
-ghost use Rattle.std.specs.Prelude.{◌≡◌, ℕ, ◌+◌, ◌≤◌, ◌++◌, [], ◌∷◌, List, IfOk, OnOk};
+ghost use Rattle.std.specs.Prelude.{◌≡◌, ℕ, ◌+◌, ◌≤◌, ◌++◌, [], ◌∷◌, List, IfOk, IfSome, OnOk};
 ghost use Rattle.ec_link.specs.Nets.{Ended, is_bad, IsEmpty, faulted};
 
 use crate::around::Around;
+use crate::bell::Bell;
 use crate::link::Link;
 use ec_base::NoMemory;
 use std::alloc::AllocError;
+use std::io;
+use std::net::SocketAddr;
 
 #[derive(Clone, Copy, Debug, Drop, PartialEq, Eq)]
 pub enum NetFault {
@@ -42,6 +45,9 @@ pub trait Net {
     /// An address at which links are accepted.
     type Door: Drop;
 
+    /// What who accepts at a door waits on.
+    type DoorBell: Bell + Send + Sync + Drop;
+
     // How often it failed.
     ghost faults: { Self → ℕ };
 
@@ -56,17 +62,54 @@ pub trait Net {
         ensures faults { faults self.old + faulted result ≤ faults self.new }
         ensures same { (bad self.new ≡ bad self.old) × (ended self.new ≡ ended self.old) };
 
+    /// Where the door is, if it has an address of the system's.
+    fn place(&self, door: &Self::Door) -> Option<SocketAddr>;
+
+    /// The bell of a door. It rings whenever a link comes there.
+    fn door_bell<R: Around>(
+        &mut self,
+        rt: &R,
+        door: &mut Self::Door,
+    ) -> Result<Self::DoorBell, NetFault>
+        ensures faults { faults self.old + faulted result ≤ faults self.new }
+        ensures same { (bad self.new ≡ bad self.old) × (ended self.new ≡ ended self.old) };
+
+    /// The next link at the door, where one is there, with no faults and no closes, which gave and got nothing. It waits for nobody. Where
+    /// there is no room for a link, it's as if none were there, though the bell doesn't ring once there is: who waits looks again in time.
+    fn next<R: Around>(
+        &mut self,
+        rt: &R,
+        door: &mut Self::Door,
+    ) -> Result<Option<Self::Link>, NetFault>
+        ensures faults { faults self.old + faulted result ≤ faults self.new }
+        ensures same { (bad self.new ≡ bad self.old) × (ended self.new ≡ ended self.old) }
+        ensures link { IfOk result (λ found. IfSome found (λ link. (Self.Link.faults link ≡ 0) × (Self.Link.closes link ≡ 0) × IsEmpty (Self.Link.given link) × IsEmpty (Self.Link.got link))) };
+
     /// Waits for the next link at the door. It has no faults and no closes, and gave and got nothing.
     fn accept<R: Around>(&mut self, rt: &R, door: &mut Self::Door) -> Result<Self::Link, NetFault>
         ensures faults { faults self.old + faulted result ≤ faults self.new }
         ensures same { (bad self.new ≡ bad self.old) × (ended self.new ≡ ended self.old) }
-        ensures link { IfOk result (λ link. (Self.Link.faults link ≡ 0) × (Self.Link.closes link ≡ 0) × IsEmpty (Self.Link.given link) × IsEmpty (Self.Link.got link)) };
+        ensures link { IfOk result (λ link. (Self.Link.faults link ≡ 0) × (Self.Link.closes link ≡ 0) × IsEmpty (Self.Link.given link) × IsEmpty (Self.Link.got link)) }
+    {
+        let bell = self.door_bell(rt, door)?;
+        for _ in rt.forever() {
+            let seen = bell.rings();
+            if let Some(link) = self.next(rt, door)? {
+                return Ok(link);
+            }
+            bell.wait(rt, seen);
+        }
+        unreachable!()
+    }
 
     /// A link to whoever listens at the address. It has no faults and no closes, and gave and got nothing.
     fn call<R: Around>(&mut self, rt: &R, addr: &str) -> Result<Self::Link, NetFault>
         ensures faults { faults self.old + faulted result ≤ faults self.new }
         ensures same { (bad self.new ≡ bad self.old) × (ended self.new ≡ ended self.old) }
         ensures link { IfOk result (λ link. (Self.Link.faults link ≡ 0) × (Self.Link.closes link ≡ 0) × IsEmpty (Self.Link.given link) × IsEmpty (Self.Link.got link)) };
+
+    /// Why the last call that failed did, where the system told it. Its text is for people.
+    fn reason(&self) -> Option<io::Error>;
 
     /// Takes back a link of this net whose use has ended.
     fn back(&mut self, link: Self::Link) -> Result<(), NoMemory>

@@ -8,20 +8,21 @@ ghost use Rattle.ec_link.specs.Tcp.{IsNewOver};
 
 use crate::around::Around;
 use crate::happenings::Happenings;
+use crate::leaving::Leaving;
 use crate::link::{Got, Link, Sent};
 use crate::lull::Lull;
 use crate::net::NetFault;
-use crate::tcp_bell::TcpBell;
+use crate::rest::Rests;
+use crate::tcp_bell::{Parts, TcpBell};
 use ec_frame::{FrameFault, Frames, frame};
-use mio::Poll;
 use std::alloc::Global;
 use std::io::{self, ErrorKind, Read, Write};
-use std::net::{Shutdown, TcpStream};
+use std::net::{Net, Shutdown, TcpStream};
 use std::snapshot::Snapshot;
 use std::sync::Wait;
 use std::time::{Clock, Duration, Instant};
 
-// A link keeps at most this many bytes that the socket hasn't taken: two frames.
+// A link keeps at most this many bytes that the socket hasn't taken: two frames. Those that have rested come on top.
 const MAX_UNSENT: usize = 2 * (4 + 1_048_576);
 
 // A peer that has taken nothing for so many seconds has failed.
@@ -42,13 +43,21 @@ pub struct TcpLink {
     lull: Lull,
     // What the socket hasn't taken yet, and since when it takes nothing.
     unsent: Vec<u8>,
+    // What goes behind that once it has rested.
+    rests: Rests,
     stuck: Option<Instant>,
+    // What its bell needs, where that was made before the link.
+    parts: Option<Parts>,
     happened: Happenings,
 }
 
 impl TcpLink {
-    // Takes a connected socket.
-    pub(crate) fn over(alloc: Global, stream: TcpStream) -> Result<TcpLink, NetFault>
+    // Takes a connected socket, and what its bell needs where that is there.
+    pub(crate) fn over(
+        alloc: Global,
+        stream: TcpStream,
+        parts: Option<Parts>,
+    ) -> Result<TcpLink, NetFault>
         ensures { IfOk result (λ link. IsNewOver link) }
     {
         if stream.set_nonblocking(true).is_err() || stream.set_nodelay(true).is_err() {
@@ -62,7 +71,9 @@ impl TcpLink {
             late: Vec::new(alloc),
             lull: Lull::new(alloc)?,
             unsent: Vec::new(alloc),
+            rests: Rests::new(alloc)?,
             stuck: None,
+            parts,
             happened: Happenings::new(),
         })
     }
@@ -82,6 +93,23 @@ impl TcpLink {
             return self.fail();
         }
         self.happened.got(Snapshot::of(&bytes));
+        Sent::Done
+    }
+
+    // Lets a frame rest for so many milliseconds, where one more may.
+    fn let_rest<R: Wait + Clock>(&mut self, rt: &R, bytes: Vec<u8>, rest: u64) -> Sent
+        ensures happened { More self.old.happened self.new.happened (failed result) 0 [] (carried result (drop 4 bytes.items)) }
+        ensures held { self.new.frames.left ≡ self.old.frames.left }
+    {
+        let now = match Instant::now(rt) {
+            Ok(now) if !self.rests.is_full() => now,
+            _ => return self.carry(rt, bytes),
+        };
+        let copy = Snapshot::of(&bytes);
+        if self.rests.add(now, bytes, rest).is_err() {
+            return Sent::NoMemory;
+        }
+        self.happened.got(copy);
         Sent::Done
     }
 
@@ -240,13 +268,34 @@ fn keep_piece(into: &mut Vec<u8>, piece: &[u8]) -> Piece {
     }
 }
 
-fn bell_of(
+// Drops what comes, until the other end sends no more or the time is over.
+fn drain<R: Wait + Clock>(rt: &R, stream: &mut TcpStream, leaving: &Leaving) {
+    let mut buffer = [0u8; PIECE];
+    for _ in rt.forever() {
+        let left = leaving.left(rt);
+        if left.is_none() || stream.set_read_timeout(left).is_err() {
+            return;
+        }
+        match stream.read(&mut buffer) {
+            Ok(0) | Err(_) => return,
+            Ok(_) => {}
+        }
+    }
+}
+
+fn bell_of<R: Net>(
+    rt: &R,
     alloc: Global,
-    poll: io::Result<Poll>,
+    parts: Option<Parts>,
     stream: &TcpStream,
     lull: &Lull,
+    rests: &Rests,
 ) -> io::Result<TcpBell> {
-    TcpBell::new(alloc, poll?, stream, lull.share()?)
+    let parts = match parts {
+        Some(parts) => parts,
+        None => Parts::new(rt, alloc)?,
+    };
+    TcpBell::new(parts, stream, lull.share()?, rests.alarm()?)
 }
 
 impl Link for TcpLink {
@@ -276,7 +325,18 @@ impl Link for TcpLink {
         }
     }
 
+    fn send_late<R: Wait + Clock>(&mut self, rt: &R, body: &[u8], rest: u64) -> Sent {
+        match frame(self.alloc, body) {
+            Ok(bytes) => self.let_rest(rt, bytes, rest),
+            Err(FrameFault::LongFrame(_)) => self.fail(),
+            Err(FrameFault::NoMemory) => Sent::NoMemory,
+        }
+    }
+
     fn recv<R: Wait + Clock>(&mut self, rt: &R) -> Got {
+        if self.rests.wake(rt, &mut self.unsent).is_err() {
+            return Got::NoMemory;
+        }
         if !self.flush(rt) || self.is_silent(rt) {
             self.happened.fault();
             return Got::Failed;
@@ -290,15 +350,36 @@ impl Link for TcpLink {
     }
 
     fn is_clear(&self) -> bool {
-        self.unsent.is_empty()
+        self.unsent.is_empty() && self.rests.is_empty()
     }
 
     fn hang_up(&mut self) {
         let _ = self.stream.shutdown(Shutdown::Both);
     }
 
+    fn leave<R: Wait + Clock>(&mut self, rt: &R) {
+        let Some(leaving) = Leaving::begin(rt) else {
+            return;
+        };
+        let longest = leaving.left(rt);
+        if self.stream.set_nonblocking(false).is_ok()
+            && self.stream.set_write_timeout(longest).is_ok()
+            && self.flush(rt)
+            && self.stream.shutdown(Shutdown::Write).is_ok()
+        {
+            drain(rt, &mut self.stream, &leaving);
+        }
+    }
+
     fn bell<R: Around>(&mut self, rt: &R) -> Result<TcpBell, NetFault> {
-        match bell_of(rt.alloc(), Poll::new(rt), &self.stream, &self.lull) {
+        match bell_of(
+            rt,
+            rt.alloc(),
+            self.parts.take(),
+            &self.stream,
+            &self.lull,
+            &self.rests,
+        ) {
             Ok(bell) => Ok(bell),
             Err(_) => {
                 self.happened.fault();

@@ -1,12 +1,13 @@
-// The bell of a link over TCP.
+// The bell of a socket.
 use crate::bell::Bell;
 use crate::looks::Looks;
 use crate::lull::Lull;
+use crate::rest::Alarm;
 use mio::unix::SourceFd;
 use mio::{Events, Interest, Poll, Token, Waker};
 use std::alloc::Global;
 use std::io;
-use std::net::TcpStream;
+use std::net::Net;
 use std::os::fd::AsRawFd;
 use std::sync::atomic::{AtomicBool, AtomicU64, Ordering};
 use std::sync::{Condvar, Mutex, Wait};
@@ -31,6 +32,23 @@ struct Waiting {
     events: Events,
 }
 
+/// What a bell needs of the system. It's made before there is a socket, so that one that comes has its bell.
+#[derive(Drop)]
+pub struct Parts {
+    waiting: Waiting,
+    waker: Waker,
+}
+
+impl Parts {
+    pub fn new<R: Net>(rt: &R, alloc: Global) -> io::Result<Parts> {
+        let poll = Poll::new(rt)?;
+        let events = Events::with_capacity(alloc, EVENTS)?;
+        let waker = Waker::new(poll.registry(), RING)?;
+        let waiting = Waiting { poll, events };
+        Ok(Parts { waiting, waker })
+    }
+}
+
 /// One thread at a time takes `waiting` out and waits for the socket, outside of the lock. The others wait until it's
 /// back. A thread that found the socket ready counts a ring. One that has time gives way to those that wait or make
 /// calls.
@@ -49,30 +67,36 @@ pub struct TcpBell {
     // What one that has time sleeps on for a little. Nobody wakes it.
     rest: AtomicU64,
     lull: Lull,
+    alarm: Alarm,
     waker: Waker,
 }
 
 impl TcpBell {
     // The bell of this socket.
-    pub fn new(alloc: Global, poll: Poll, stream: &TcpStream, lull: Lull) -> io::Result<TcpBell> {
-        let events = Events::with_capacity(alloc, EVENTS)?;
-        let fd = stream.as_raw_fd();
-        poll.registry().register(
+    pub fn new<S: AsRawFd>(
+        parts: Parts,
+        socket: &S,
+        lull: Lull,
+        alarm: Alarm,
+    ) -> io::Result<TcpBell> {
+        let Parts { waiting, waker } = parts;
+        let fd = socket.as_raw_fd();
+        waiting.poll.registry().register(
             &mut SourceFd(&fd),
             SOCKET,
             Interest::READABLE | Interest::WRITABLE,
         )?;
-        let waker = Waker::new(poll.registry(), RING)?;
         Ok(TcpBell {
             rings: AtomicU64::new(0),
             waits: AtomicU64::new(0),
             is_out: AtomicBool::new(false),
             is_idle: AtomicBool::new(false),
-            waiting: Mutex::new(Some(Waiting { poll, events })),
+            waiting: Mutex::new(Some(waiting)),
             returned: Condvar::new(),
             looks: Looks::new(),
             rest: AtomicU64::new(0),
             lull,
+            alarm,
             waker,
         })
     }
@@ -92,7 +116,7 @@ impl TcpBell {
 
     // Waits for the socket or a ring, and says whether it was the socket.
     fn is_ready(&self, waiting: &mut Waiting) -> bool {
-        let longest = Some(Duration::from_secs(LONGEST_WAIT));
+        let longest = Some(self.alarm.no_later(Duration::from_secs(LONGEST_WAIT)));
         let _ = waiting.poll.poll(&mut waiting.events, longest);
         let mut is_ready = false;
         for event in waiting.events.iter() {

@@ -1,5 +1,5 @@
 // The net over TCP.
-ghost use Rattle.std.specs.Prelude.{◌≡◌, ◌+◌, [], IfOk};
+ghost use Rattle.std.specs.Prelude.{◌≡◌, ◌+◌, [], IfOk, IfSome};
 ghost use Rattle.ec_link.specs.Happenings.{faults_in};
 ghost use Rattle.ec_link.specs.Nets.{faulted};
 ghost use Rattle.ec_link.specs.Tcp.{IsNewOver};
@@ -8,11 +8,13 @@ use crate::around::Around;
 use crate::happenings::Happenings;
 use crate::net::{Net, NetFault};
 use crate::tcp::TcpLink;
+use crate::tcp_bell::TcpBell;
+use crate::tcp_door::{TcpDoor, take_socket};
 use ec_base::NoMemory;
 use ec_trace::Trace;
 use std::alloc::Global;
 use std::io;
-use std::net::{TcpListener, TcpStream};
+use std::net::{SocketAddr, TcpListener, TcpStream};
 use std::snapshot::Snapshot;
 
 /// The net over TCP. An address is an IP address or a host's name, and a port, as `127.0.0.1:4711`.
@@ -20,6 +22,8 @@ use std::snapshot::Snapshot;
 pub struct TcpNet {
     happened: Happenings,
     came_back: Trace<Snapshot<TcpLink>>,
+    // Why the last call that failed did.
+    why: Option<io::Error>,
 }
 
 impl TcpNet {
@@ -30,6 +34,7 @@ impl TcpNet {
         TcpNet {
             happened: Happenings::new(),
             came_back: Trace::new(),
+            why: None,
         }
     }
 
@@ -44,21 +49,70 @@ impl TcpNet {
         }
         answer
     }
+
+    // What the system answered, and where it's a fault, why.
+    fn heard<T>(&mut self, answer: io::Result<T>) -> Result<T, NetFault>
+        ensures others { self.new ≡ record self.old { why = self.new.why } }
+    {
+        match answer {
+            Ok(given) => Ok(given),
+            Err(why) => {
+                self.why = Some(why);
+                Err(NetFault::Failed)
+            }
+        }
+    }
+
+    // A link over the socket, where there is one.
+    fn linked(&mut self, alloc: Global, stream: io::Result<TcpStream>) -> Result<TcpLink, NetFault>
+        ensures link { IfOk result (λ link. IsNewOver link) }
+        ensures faults { faults_in self.new.happened ≡ faults_in self.old.happened + faulted result }
+        ensures same { self.new.came_back ≡ self.old.came_back }
+    {
+        let link = match self.heard(stream) {
+            Ok(stream) => TcpLink::over(alloc, stream, None),
+            Err(fault) => Err(fault),
+        };
+        self.counted(link)
+    }
+
+    // The next link at the door, where one is there. Each link that comes has what its bell needs.
+    fn taken<R: std::net::Net>(
+        &mut self,
+        rt: &R,
+        alloc: Global,
+        door: &mut TcpDoor,
+    ) -> Result<Option<TcpLink>, NetFault>
+        ensures link { IfOk result (λ found. IfSome found (λ link. IsNewOver link)) }
+        ensures others { self.new ≡ record self.old { why = self.new.why } }
+    {
+        let Some(parts) = door.take_spare(rt, alloc) else {
+            return Ok(None);
+        };
+        match self.heard(take_socket(&door.listener))? {
+            Some(stream) => over_or_gone(TcpLink::over(alloc, stream, Some(parts))),
+            None => {
+                door.keep_spare(parts);
+                Ok(None)
+            }
+        }
+    }
 }
 
-// The next link at the door.
-fn accepted(alloc: Global, door: &TcpListener) -> Result<TcpLink, NetFault>
-    ensures { IfOk result (λ link. IsNewOver link) }
-{
-    let (stream, _) = door.accept().ok().ok_or(NetFault::Failed)?;
-    TcpLink::over(alloc, stream)
+fn opened(listener: io::Result<TcpListener>) -> io::Result<TcpDoor> {
+    TcpDoor::over(listener?)
 }
 
-// A link over the socket, where there is one.
-fn connected(alloc: Global, stream: io::Result<TcpStream>) -> Result<TcpLink, NetFault>
-    ensures { IfOk result (λ link. IsNewOver link) }
+// A socket that can't be used is one whose other end has gone.
+fn over_or_gone(link: Result<TcpLink, NetFault>) -> Result<Option<TcpLink>, NetFault>
+    requires { IfOk link (λ link. IsNewOver link) }
+    ensures { IfOk result (λ found. IfSome found (λ link. IsNewOver link)) }
 {
-    TcpLink::over(alloc, stream.ok().ok_or(NetFault::Failed)?)
+    match link {
+        Ok(link) => Ok(Some(link)),
+        Err(NetFault::Failed) => Ok(None),
+        Err(NetFault::NoMemory) => Err(NetFault::NoMemory),
+    }
 }
 
 impl Net for TcpNet {
@@ -68,7 +122,9 @@ impl Net for TcpNet {
 
     type Link = TcpLink;
 
-    type Door = TcpListener;
+    type Door = TcpDoor;
+
+    type DoorBell = TcpBell;
 
     ghost faults = { λ net. faults_in net.happened };
 
@@ -76,19 +132,31 @@ impl Net for TcpNet {
 
     ghost ended = { λ net. map (λ link. (Some (given_in link.value.happened), Some (got_in link.value.happened))) net.came_back.items };
 
-    fn listen<R: Around>(&mut self, rt: &R, addr: &str) -> Result<TcpListener, NetFault> {
-        let door = TcpListener::bind(rt, addr).ok().ok_or(NetFault::Failed);
+    fn listen<R: Around>(&mut self, rt: &R, addr: &str) -> Result<TcpDoor, NetFault> {
+        let door = self.heard(opened(TcpListener::bind(rt, addr)));
         self.counted(door)
     }
 
-    fn accept<R: Around>(&mut self, rt: &R, door: &mut TcpListener) -> Result<TcpLink, NetFault> {
-        let link = accepted(rt.alloc(), door);
-        self.counted(link)
+    fn place(&self, door: &TcpDoor) -> Option<SocketAddr> {
+        door.listener.local_addr().ok()
+    }
+
+    fn door_bell<R: Around>(&mut self, rt: &R, door: &mut TcpDoor) -> Result<TcpBell, NetFault> {
+        let bell = self.heard(door.bell(rt, rt.alloc()));
+        self.counted(bell)
+    }
+
+    fn next<R: Around>(&mut self, rt: &R, door: &mut TcpDoor) -> Result<Option<TcpLink>, NetFault> {
+        let taken = self.taken(rt, rt.alloc(), door);
+        self.counted(taken)
     }
 
     fn call<R: Around>(&mut self, rt: &R, addr: &str) -> Result<TcpLink, NetFault> {
-        let link = connected(rt.alloc(), TcpStream::connect(rt, addr));
-        self.counted(link)
+        self.linked(rt.alloc(), TcpStream::connect(rt, addr))
+    }
+
+    fn reason(&self) -> Option<io::Error> {
+        self.why
     }
 
     fn back(&mut self, link: TcpLink) -> Result<(), NoMemory> {
