@@ -14,7 +14,7 @@ use Rattle.ec_clerknode.specs.Closed.{Caused}
 use Rattle.ec_clerknode.specs.Node.{AnsweredAt}
 use Rattle.ec_clerknode.specs.Run.{Reply, old_boot}
 use Rattle.ec_clerknode.specs.Turns.{number_of, calls_by, BeganAt, Failed, Called, Stays, Turned}
-use Rattle.ec_clerknode.specs.Lanes.{AreReplied, LaneDone, LaneRan}
+use Rattle.ec_clerknode.specs.Lanes.{AreReplied, IsFront, LaneDone, LaneRan}
 use Rattle.ec_clerknode.proofs.Lists.{prefix_self, prefix_get, prefix_trans, prefix_length, of-append}
 use Rattle.ec_clerknode.proofs.Turns.{caused-right}
 
@@ -66,12 +66,22 @@ module _ (pass mine : ℕ) (all done rest : List Call) (c : Call) (before now af
             (one.0, one.1, one.2, one.3, one.4, subst (λ n. BeganAt n after one.1 c one.0) same one.5, one.6, tt),
       )
 
-  lane_fails : (f : NodeFault) → Failed mine (c ∷ []) now after f → LaneDone pass all before after (Err f)
-  lane_fails f w =
+  lane_fails : (replies : List Reply) (f : NodeFault) → AreReplied pass now (length before) done replies → Failed mine (c ∷ []) now after f → LaneDone pass all before after replies (Err f)
+  lane_fails replies f had w =
       let m = w.1 in
-      let begun : (d : List Call) × IsPrefix d all × (calls_by pass after ≡ calls_by pass before ++ d) =
-      ⊎_elim (λ (e : calls_by mine after ≡ calls_by mine now). (done, (c ∷ rest, whole), ap (λ n. calls_by n after) (sym same) ∙ (e ∙ (ap (λ n. calls_by n now) same ∙ said))))
-      (λ (e : calls_by mine after ≡ calls_by mine now ++ c ∷ []). (done ++ c ∷ [], (rest, append_assoc done (c ∷ []) rest ∙ whole), longer e))
+      let had_after = are_longer pass now after goes (length before) done replies had in
+      let begun : IsFront pass (calls_by pass before) all before after replies =
+      ⊎_elim
+      (λ (e : calls_by mine after ≡ calls_by mine now). record {
+        answered = done;
+        last = [];
+        rest = c ∷ rest;
+        whole = whole;
+        few = omega arith;
+        begun = ap (λ n. calls_by n after) (sym same) ∙ (e ∙ (ap (λ n. calls_by n now) same ∙ (said ∙ ap (λ l. calls_by pass before ++ l) (sym (append-nil done)))));
+        replied = had_after;
+      })
+      (λ (e : calls_by mine after ≡ calls_by mine now ++ c ∷ []). record { answered = done; last = c ∷ []; rest = rest; whole = whole; few = omega arith; begun = longer e; replied = had_after })
       w.0 in (
         begun,
         (
@@ -82,9 +92,27 @@ module _ (pass mine : ℕ) (all done rest : List Call) (c : Call) (before now af
         ),
       )
 
--- memory is wanting between two calls
-lane_wants : (pass : ℕ) (all done rest : List Call) (before now : List Step) → done ++ rest ≡ all → IsPrefix before now → calls_by pass now ≡ calls_by pass before ++ done → LaneDone pass all before now (Err fault.NoMemory)
-lane_wants pass all done rest before now whole begins said = ((done, (rest, whole), said), (begins.0, begins.1, tt))
+  -- memory is wanting for the answer
+  lane_lacks : (replies : List Reply) (r : Reply) → AreReplied pass now (length before) done replies → Called mine c now after (Ok r) → LaneDone pass all before after replies (Err fault.NoMemory)
+  lane_lacks replies r had called = (
+    record { answered = done; last = c ∷ []; rest = rest; whole = whole; few = omega arith; begun = longer called.0; replied = are_longer pass now after goes (length before) done replies had },
+    (begins.0 ++ goes.0, sym (append_assoc before begins.0 goes.0) ∙ (ap (λ l. l ++ goes.0) begins.1 ∙ goes.1), tt),
+  )
+
+-- memory is wanting before the first call
+lane_wants : (pass : ℕ) (all : List Call) (before : List Step) (replies : List Reply) → replies ≡ [] → LaneDone pass all before before replies (Err fault.NoMemory)
+lane_wants pass all before replies none = (
+  record {
+    answered = [];
+    last = [];
+    rest = all;
+    whole = refl;
+    few = omega arith;
+    begun = sym (append-nil (calls_by pass before));
+    replied = subst (AreReplied pass before (length before) []) (sym none) tt;
+  },
+  ([], append-nil before, tt),
+)
 
 module _ {L : Type 0} (lock : TracedLock (Node L) Step) (old : Pass (Node L) Step) (all : List Call) where
   -- the lane's pass has made some of its calls, and `rest` are still to be made
@@ -110,20 +138,30 @@ module _ {L : Type 0} (lock : TracedLock (Node L) Step) (old : Pass (Node L) Ste
           (d.0 ++ c ∷ [], append_assoc d.0 (c ∷ []) rest ∙ d.1, step.0, step.1),
         )
 
-    pub sofar_fails : (f : NodeFault) → Failed now.number (c ∷ []) (front now) (front next) f → LaneRan lock old all next (Err f)
+    pub sofar_fails : (f : NodeFault) → Failed now.number (c ∷ []) (front now) (front next) f → LaneRan lock old all next replies (Err f)
     sofar_fails f failed =
         let d = s.3 in
         record {
           is_pass = t.is_pass;
           stays = stays_both now next s.1 t.stays;
           later = prefix_trans (front old) (front now) (front next) s.2 t.goes.1;
-          done = lane_fails old.number now.number all d.0 rest c (front old) (front now) (front next) s.1.0 d.1 s.2 t.goes.1 d.2 f failed;
+          done = lane_fails old.number now.number all d.0 rest c (front old) (front now) (front next) s.1.0 d.1 s.2 t.goes.1 d.2 replies f d.3 failed;
         }
 
-  pub sofar_wants : (now : Pass (Node L) Step) (rest : List Call) (replies : List Reply) → Sofar now rest replies → LaneRan lock old all now (Err fault.NoMemory)
-  sofar_wants now rest replies s = let d = s.3 in record { is_pass = s.0; stays = s.1; later = s.2; done = lane_wants old.number all d.0 rest (front old) (front now) d.1 s.2 d.2 }
+    pub sofar_lacks : (r : Reply) → Called now.number c (front now) (front next) (Ok r) → LaneRan lock old all next replies (Err fault.NoMemory)
+    sofar_lacks r called =
+        let d = s.3 in
+        record {
+          is_pass = t.is_pass;
+          stays = stays_both now next s.1 t.stays;
+          later = prefix_trans (front old) (front now) (front next) s.2 t.goes.1;
+          done = lane_lacks old.number now.number all d.0 rest c (front old) (front now) (front next) s.1.0 d.1 s.2 t.goes.1 d.2 replies r d.3 called;
+        }
 
-  pub sofar_ends : (now : Pass (Node L) Step) (rest : List Call) (replies : List Reply) → rest ≡ [] → Sofar now rest replies → LaneRan lock old all now (Ok replies)
+  pub sofar_wants : (replies : List Reply) → replies ≡ [] → IsPassOf lock old → LaneRan lock old all old replies (Err fault.NoMemory)
+  sofar_wants replies none is = record { is_pass = is; stays = (refl, refl, refl, omega arith); later = prefix_self (front old); done = lane_wants old.number all (front old) replies none }
+
+  pub sofar_ends : (now : Pass (Node L) Step) (rest : List Call) (replies : List Reply) → rest ≡ [] → Sofar now rest replies → LaneRan lock old all now replies (Ok tt)
   sofar_ends now rest replies e s =
       let d = s.3 in
       let whole : d.0 ≡ all = sym (append-nil d.0) ∙ (ap (λ l. d.0 ++ l) (sym e) ∙ d.1) in

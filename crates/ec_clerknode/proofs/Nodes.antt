@@ -6,7 +6,9 @@ use Rattle.ec_base.specs.declared.ids.Age.{Age}
 use Rattle.ec_plain.specs.declared.call.Call.{Call}
 use Rattle.ec_protocol.specs.declared.clerk.Clerk.{Clerk}
 use Rattle.ec_protocol.specs.declared.clerk.Out.{Out}
-use Rattle.ec_link.specs.Links.{Heard, added, failed}
+use Rattle.ec_link.specs.declared.link.Got.{Got}
+use Rattle.ec_link.specs.declared.link.Got.TheVariants as gave
+use Rattle.ec_link.specs.Links.{Heard, heard, added, failed}
 use Rattle.ec_clerknode.specs.declared.act.Act.{Act}
 use Rattle.ec_clerknode.specs.declared.fault.NodeFault.{NodeFault}
 use Rattle.ec_clerknode.specs.declared.step.Deed.{Deed}
@@ -14,7 +16,7 @@ use Rattle.ec_clerknode.specs.declared.step.Step.{Step}
 use Rattle.ec_clerknode.specs.declared.state.Kept.{Kept}
 use Rattle.ec_clerknode.specs.declared.state.Node.{Node}
 use Rattle.ec_clerknode.specs.Folded.{floor_of}
-use Rattle.ec_clerknode.specs.Run.{Reply, highest, each, after, outs_of, IsDeed, IsStep, leads, IsRun, heard_of, heard_by, said_in, said_by, told, told_in, told_by, net_of, nets, sends, old_boots, old_boots_in, first_of, old_boot, answers, Among}
+use Rattle.ec_clerknode.specs.Run.{Reply, highest, each, after, outs_of, IsDeed, IsStep, leads, IsRun, heard_of, heard_by, IsSaid, AreSaid, Came, said_in, said_by, told, told_in, told_by, net_of, nets, sends, old_boots, old_boots_in, first_of, old_boot, answers, Among}
 use Rattle.ec_clerknode.specs.Node.{AnsweredAt, AnsweredFrom, kept_at, Since, Keeps}
 use Rattle.ec_clerknode.specs.Closed.{Acts, IsOwn, Closed, Moved, Breaks, Begun, Works, Waited, first_known}
 use Rattle.ec_clerknode.proofs.Lists.{get_longer, get_last}
@@ -28,6 +30,22 @@ leads-push c (x ∷ xs) s = leads-push (after c x.deed) xs s
 pub run-push : (c : Clerk) (xs : List Step) (s : Step) → IsRun c xs → IsStep (leads c xs) s → IsRun c (xs ++ s ∷ [])
 run-push c [] s r h = (h, tt)
 run-push c (x ∷ xs) s r h = (r.0, run-push (after c x.deed) xs s r.1 h)
+
+pub said-push : (xs : List Step) (s : Step) → AreSaid xs → IsSaid s.end → AreSaid (xs ++ s ∷ [])
+said-push [] s r h = (h, tt)
+said-push (x ∷ xs) s r h = (r.0, said-push xs s r.1 h)
+
+pub heard_short : (got : Got) → length (heard got) ≤ 1
+heard_short (gave.Body bytes) = omega arith
+heard_short gave.Nothing = omega arith
+heard_short (gave.Long n) = omega arith
+heard_short gave.Closed = omega arith
+heard_short gave.Failed = omega arith
+heard_short gave.NoMemory = omega arith
+
+-- nothing was lost
+came_all : (before now : Option (List Heard)) (heard : List Heard) → now ≡ added before heard → Came before heard now
+came_all before now heard e = ([], omega arith, e ∙ ap (added before) (sym (append-nil heard)))
 
 pub highest-push : (xs : List Step) (s : Step) → highest (xs ++ s ∷ []) ≡ max (highest xs) s.floor
 highest-push [] s = omega arith
@@ -91,6 +109,8 @@ module _ {L : Type 0} (counts : L → ℕ) (given : L → Option (List Heard)) (
       let net_before = s.net in
       let net_after = c.counted in
       let net_same : net_of step.deed ≡ net_of deed = ap net_of c.deed_is in
+      let heard_all : given new.link ≡ added (given first.link) (heard_by new.trace.items) = c.given_same ∙ (m.heard ∙ (ap (λ o. added o (heard_of deed)) (s.heard m.up) ∙ (added-added (given first.link) (heard_by xs) (heard_of deed)
+      ∙ ap (added (given first.link)) (ap (λ d. heard_by xs ++ heard_of d) (sym c.deed_is) ∙ sym (ap heard_by grown ∙ each-push (λ (x : Step). heard_of x.deed) xs step))))) in
       record {
         run = subst (IsRun first.clerk) (sym grown) (run-push first.clerk xs step s.run (subst (λ x. IsStep x step) (sym lead) is_step));
         counted = c.steps ∙ (ap (λ n. n + 1) place ∙ sym (ap length grown ∙ length-append xs (step ∷ [])));
@@ -110,8 +130,9 @@ module _ {L : Type 0} (counts : L → ℕ) (given : L → Option (List Heard)) (
             ∙ (ap (λ l. first_of (each old_boots_in xs ++ old_boots l)) (sym c.outs_are) ∙ sym (ap old_boot grown ∙ ap first_of (each-push old_boots_in xs step)))));
         top = c.top ∙ (ap (λ (n : ℕ). max n step.floor) (m.top ∙ s.top) ∙ sym (ap highest grown ∙ highest-push xs step));
         net = omega (arith, ap nets grown, nets-push xs step);
-        heard = λ up. c.given_same ∙ (m.heard ∙ (ap (λ o. added o (heard_of deed)) (s.heard m.up) ∙ (added-added (given first.link) (heard_by xs) (heard_of deed)
-            ∙ ap (added (given first.link)) (ap (λ d. heard_by xs ++ heard_of d) (sym c.deed_is) ∙ sym (ap heard_by grown ∙ each-push (λ (x : Step). heard_of x.deed) xs step)))));
+        heard = λ up. heard_all;
+        said = λ up. subst AreSaid (sym grown) (said-push xs step (s.said m.up) (c.said up));
+        came = came_all (given first.link) (given new.link) (heard_by new.trace.items) heard_all;
         sent = c.got_more ∙ (ap (λ o. added o (said_in step)) (m.sent ∙ s.sent) ∙ (added-added (got first.link) (said_by xs) (said_in step) ∙ ap (added (got first.link)) (sym (ap said_by grown ∙ each-push said_in xs step))));
       }
 
@@ -130,6 +151,9 @@ module _ {L : Type 0} (counts : L → ℕ) (given : L → Option (List Heard)) (
       (a.at, some.4, (there.0, there.1, subst (λ (n : ℕ). Among (n, answer) (answers there.0.outs.value.items)) some.3 (subst (λ x. Among (a.number, x) (answers there.0.outs.value.items)) some.5 there.2)))
   answer_kept steps None old new number place some h = tt
 
+  pub nothing_came : (link : L) → Came (given link) [] (given link)
+  nothing_came link = came_all (given link) (given link) [] (sym (added-nil (given link)))
+
   -- nothing was added, and the clerk is not followed any more
   pub breaks : (old new : Node L) → Breaks counts given got old new → Keeps counts given got old new
   breaks old new b first s =
@@ -146,6 +170,13 @@ module _ {L : Type 0} (counts : L → ℕ) (given : L → Option (List Heard)) (
         net = omega (arith, ap (λ t. nets t.items) b.list);
         heard = λ up. absurd (two (sym b.down ∙ up));
         sent = b.sent ∙ (s.sent ∙ ap (λ t. added (got first.link) (said_by t.items)) (sym b.list));
+        said = λ up. absurd (two (sym b.down ∙ up));
+        came =
+            let lost = b.came in (
+              lost.0,
+              lost.1,
+              lost.2 ∙ (ap (λ o. added o lost.0) (s.heard b.up) ∙ (added-added (given first.link) (heard_by old.trace.items) lost.0 ∙ ap (λ t. added (given first.link) (heard_by t.items ++ lost.0)) (sym b.list))),
+            );
       }
     where
       two : true ≡ false → ⊥
@@ -184,11 +215,15 @@ module _ {L : Type 0} (counts : L → ℕ) (given : L → Option (List Heard)) (
         net = omega arith;
         heard = λ up. heard ∙ (added-nil (given old.link) ∙ s.heard up);
         sent = sent ∙ s.sent;
+        said = s.said;
+        came = (s.came.0, s.came.1, heard ∙ (added-nil (given old.link) ∙ s.came.2));
       }
 
   -- memory was wanting
-  pub down : (old new : Node L) (c : Clerk) (link : L) → got link ≡ got old.link → counts old.link ≤ counts link → new ≡ record old { clerk = c; link = link; broken = true } → Keeps counts given got old new
-  down old new c link sent more e = breaks old new record {
+  pub down : (old new : Node L) (c : Clerk) (link : L) → old.broken ≡ false → Came (given old.link) [] (given link) → got link ≡ got old.link → counts old.link ≤ counts link → new ≡ record old { clerk = c; link = link; broken = true } → Keeps counts given got old new
+  down old new c link up came sent more e = breaks old new record {
+    up = up;
+    came = (came.0, came.1, ap (λ (n : Node L). given n.link) e ∙ came.2);
     down = ap (λ (n : Node L). n.broken) e;
     list = ap (λ (n : Node L). n.trace) e;
     kept = ap (λ (n : Node L). n.kept) e;

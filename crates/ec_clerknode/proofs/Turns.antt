@@ -1,6 +1,6 @@
 -- From one turn at the lock to what the pass knows.
 use Rattle.std.proofs.Common.{◌≡◌, ℕ, ◌+◌, ◌≤◌, ◌⊎◌, false, cond, IfOk, List, [], ◌∷◌, ◌++◌, length, Option, Some, None, Result, Ok, Err, IfSome, slice_get, sym, refl, ap, ◌∙◌, subst, inl, inr, ⊎_elim, arith, eq-eqb, ne_eqb, append_assoc, append-nil}
-use Rattle.std.specs.Prelude.{Bool, true, if◌then◌else◌}
+use Rattle.std.specs.Prelude.{Bool, true, OnOk, if◌then◌else◌}
 use mathlib.Core.List.{IsPrefix}
 use Rattle.ec_protocol.specs.declared.clerk.Clerk.{Clerk}
 use Rattle.std.specs.List.{All}
@@ -20,7 +20,7 @@ use Rattle.ec_clerknode.specs.declared.step.Step.{Step}
 use Rattle.ec_clerknode.specs.declared.state.Node.{Node}
 use Rattle.ec_clerknode.specs.Floors.{highest_grows}
 use Rattle.ec_clerknode.specs.Folded.{answer_to}
-use Rattle.ec_clerknode.specs.Run.{Reply, told_by, heard_by, said_by, nets, call_of, calls, marks, mark_of_deed, mark_of_end, Among, IsRun, leads, highest, old_boot}
+use Rattle.ec_clerknode.specs.Run.{Reply, told_by, heard_by, said_by, nets, AreSaid, Came, call_of, calls, marks, mark_of_deed, mark_of_end, Among, IsRun, leads, highest, old_boot}
 use Rattle.ec_clerknode.specs.Node.{Since, By, AnsweredAt, AnsweredFrom}
 use Rattle.ec_clerknode.specs.Closed.{More, Caused, Fails, Begun, Works, Flushes, ReadsFlushes, Started, Waited}
 use Rattle.ec_clerknode.specs.Turns.{number_of, calls_by, Replied, Failed, Called, Worked, Stays, Turned, Pending, Starts, Waits, PickedLast, Asks, FlushTurned, Finished}
@@ -221,6 +221,11 @@ module _ {L : Type 0} where
       asks asked (Ok r) b = flushes asked r b
       asks asked (Err f) b = fails [] f b
 
+    -- where a turn ended well, memory was wanting for no message before
+    pub said_if : {A : Type 0} (start w : Node L) (after : List Step) → Since counts given got start w → after ≡ w.trace.items → (r : Result A NodeFault) → OnOk r (w.broken ≡ false) → OnOk r (AreSaid after)
+    said_if start w after s e (Ok x) up = subst AreSaid (sym e) (s.said up)
+    said_if start w after s e (Err f) up = tt
+
     -- the value that a lock is made with
     pub begins : (n : Node L) → n.trace.items ≡ [] → n.kept.items ≡ [] → n.told.items ≡ [] → n.boot ≡ None → n.steps ≡ 0 → n.top ≡ 0 → Since counts given got n n
     begins n list kept told boot steps top = record {
@@ -234,6 +239,8 @@ module _ {L : Type 0} where
       net = omega (arith, ap nets list);
       heard = λ up. sym (ap (λ l. added (given n.link) (heard_by l)) list ∙ added-nil (given n.link));
       sent = sym (ap (λ l. added (got n.link) (said_by l)) list ∙ added-nil (got n.link));
+      said = λ up. subst AreSaid (sym list) tt;
+      came = ([], omega arith, sym (ap (λ l. added (given n.link) (heard_by l ++ [])) list ∙ added-nil (given n.link)));
     }
 
     module _ (start v : Node L) (steps : List Step) (is : steps ≡ v.trace.items) (s : Since counts given got start v) where
@@ -258,6 +265,16 @@ module _ {L : Type 0} where
       -- there is no clerk where memory was wanting
       pub finished : (c : Option Clerk) → c ≡ (if v.broken then None else Some v.clerk) → Finished counts given got start steps c v.link
       finished c e = subst (λ o. Finished counts given got start steps o v.link) (sym e) (finished_by v.broken refl)
+
+      said_where : (b : Bool) → v.broken ≡ b → IfSome (if b then None else Some v.clerk) (λ _. AreSaid steps)
+      said_where true e = tt
+      said_where false e = subst AreSaid (sym is) (s.said e)
+
+      pub said_then : (c : Option Clerk) → c ≡ (if v.broken then None else Some v.clerk) → IfSome c (λ _. AreSaid steps)
+      said_then c e = subst (λ o. IfSome o (λ _. AreSaid steps)) (sym e) (said_where v.broken refl)
+
+      pub came_all : Came (given start.link) (heard_by steps) (given v.link)
+      came_all = subst (λ l. Came (given start.link) (heard_by l) (given v.link)) (sym is) s.came
 
       told_if : (b : Bool) → v.broken ≡ b → IfSome (if b then None else Some v.clerk) (λ _. v.told.items ≡ told_by steps)
       told_if true e = tt

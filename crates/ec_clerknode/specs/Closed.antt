@@ -20,7 +20,7 @@ use Rattle.ec_clerknode.specs.declared.step.Deed.TheVariants.{Began, Picked}
 use Rattle.ec_clerknode.specs.declared.step.Step.{Step}
 use Rattle.ec_clerknode.specs.declared.state.Node.{Node}
 use Rattle.ec_clerknode.specs.Folded.{floor_of, answer_to}
-use Rattle.ec_clerknode.specs.Run.{Reply, after, outs_of, IsDeed, heard_of, net_of, call_of, mark_of_deed, calls, marks, Among, said_in, told, answers, sends, old_boots, first_of}
+use Rattle.ec_clerknode.specs.Run.{Reply, after, outs_of, IsDeed, heard_of, net_of, call_of, mark_of_deed, calls, marks, Among, said_in, told, answers, sends, old_boots, first_of, IsSaid, Came}
 use Rattle.ec_clerknode.specs.Node.{kept_at, AnsweredFrom, Since, By}
 
 abbrev pub first_known : Option Age → List Age → Option Age
@@ -45,6 +45,7 @@ module _ {L : Type 0} (counts : L → ℕ) (given : L → Option (List Heard)) (
     pub given_same : given new.link ≡ given old.link
     pub got_more : got new.link ≡ added (got old.link) (said_in step)
     pub counted : failed step.end + counts old.link ≤ counts new.link
+    pub said : new.broken ≡ false → IsSaid step.end
 
   -- `mid` is `old` with the clerk after the deed, and with what was received for it
   pub record Moved (deed : Deed) (outs : List Out) (old mid : Node L) : Type 0 where
@@ -64,6 +65,7 @@ module _ {L : Type 0} (counts : L → ℕ) (given : L → Option (List Heard)) (
 
   -- nothing is added, and the clerk is followed no more
   pub record Breaks (old new : Node L) : Type 0 where
+    pub up : old.broken ≡ false
     pub down : new.broken ≡ true
     pub list : new.trace ≡ old.trace
     pub kept : new.kept ≡ old.kept
@@ -72,6 +74,7 @@ module _ {L : Type 0} (counts : L → ℕ) (given : L → Option (List Heard)) (
     pub top : new.top ≡ old.top
     pub sent : got new.link ≡ got old.link
     pub net : counts old.link ≤ counts new.link
+    pub came : Came (given old.link) [] (given new.link)
 
 -- What a turn of the clerk made of it, and the fault that its mark is the cause of.
 abbrev pub Acts : Clerk → Act → Clerk → Type 0

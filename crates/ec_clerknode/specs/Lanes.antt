@@ -27,33 +27,59 @@ AreReplied pass steps least (call ∷ calls) (reply ∷ replies) = (number : ℕ
 AreReplied pass steps least [] (reply ∷ replies) = ⊥
 AreReplied pass steps least (call ∷ calls) [] = ⊥
 
--- The pass has begun just these calls since the front before, each once and in order, with these answers. With a fault it has begun the first ones of
--- them, and the fault has its cause in its own steps behind the front before.
-abbrev pub LaneDone : ℕ → List Call → List Step → List Step → Result (List Reply) NodeFault → Type 0
-LaneDone pass calls before after (Ok replies) = (calls_by pass after ≡ calls_by pass before ++ calls) × AreReplied pass after (length before) calls replies
-LaneDone pass calls before after (Err f) = ((done : List Call) × IsPrefix done calls × (calls_by pass after ≡ calls_by pass before ++ done))
+-- The pass has begun a front of these calls behind the list before, each once and in order, beside those that it had begun. They have these answers, but
+-- the one begun last may have none.
+pub record IsFront (pass : ℕ) (had calls : List Call) (before after : List Step) (replies : List Reply) : Type 0 where
+  pub answered : List Call
+  pub last : List Call
+  pub rest : List Call
+  pub whole : answered ++ (last ++ rest) ≡ calls
+  pub few : length last ≤ 1
+  pub begun : calls_by pass after ≡ had ++ (answered ++ last)
+  pub replied : AreReplied pass after (length before) answered replies
+
+-- The pass has begun just these calls since the front before, each once and in order, with these answers. With a fault it has begun a front of them, and
+-- the fault has its cause in its own steps behind the front before.
+abbrev pub LaneDone : ℕ → List Call → List Step → List Step → List Reply → Result (Unit {0}) NodeFault → Type 0
+LaneDone pass calls before after replies (Ok u) = (calls_by pass after ≡ calls_by pass before ++ calls) × AreReplied pass after (length before) calls replies
+LaneDone pass calls before after replies (Err f) = IsFront pass (calls_by pass before) calls before after replies
     × ((more : List Step) × (before ++ more ≡ after) × Caused (old_boot after) f (of number_of pass more))
 
-abbrev pub items_of : {A : Type 0} → Result (Vec A Global) NodeFault → Result (List A) NodeFault
-items_of (Ok v) = Ok v.items
-items_of (Err f) = Err f
+abbrev pub lists_of : {A : Type 0} → Vec (Vec A Global) Global → List (List A)
+lists_of v = map (λ w. w.items) v.items
 
 abbrev pub all_items : {A : Type 0} → Result (Vec (Vec A Global) Global) NodeFault → Result (List (List A)) NodeFault
 all_items (Ok v) = Ok (map (λ w. w.items) v.items)
 all_items (Err f) = Err f
 
 -- a lane was run by this pass
-pub record LaneRan {L : Type 0} (lock : TracedLock (Node L) Step) (old : Pass (Node L) Step) (calls : List Call) (new : Pass (Node L) Step) (result : Result (List Reply) NodeFault) : Type 0 where
+pub record LaneRan {L : Type 0} (lock : TracedLock (Node L) Step) (old : Pass (Node L) Step) (calls : List Call) (new : Pass (Node L) Step) (replies : List Reply) (end : Result (Unit {0}) NodeFault) : Type 0 where
   pub is_pass : IsPassOf lock new
   pub stays : Stays old new
   pub later : IsPrefix (front old) (front new)
-  pub done : LaneDone old.number calls (front old) (front new) result
+  pub done : LaneDone old.number calls (front old) (front new) replies end
 
 -- Each pass of these has begun just the calls of its lane, each once and in order behind the list before, with these answers.
 abbrev pub AreLanes : List Step → List Step → List ℕ → List (List Call) → List (List Reply) → Type 0
 AreLanes before after [] [] [] = Unit {0}
 AreLanes before after (pass ∷ passes) (calls ∷ lanes) (replies ∷ all) = (calls_by pass after ≡ calls) × AreReplied pass after (length before) calls replies × AreLanes before after passes lanes all
 AreLanes before after _ _ _ = ⊥
+
+-- each of these passes has begun nothing but a front of the calls of its lane, with these answers
+abbrev pub AreFronts : List Step → List Step → List ℕ → List (List Call) → List (List Reply) → Type 0
+AreFronts before after [] [] [] = Unit {0}
+AreFronts before after (pass ∷ passes) (calls ∷ lanes) (replies ∷ all) = IsFront pass [] calls before after replies × AreFronts before after passes lanes all
+AreFronts before after _ _ _ = ⊥
+
+-- where memory was wanting or no pass is left, and where the server knows a greater age, nothing is said
+abbrev pub IfTold : Result (Unit {0}) NodeFault → Type 0 → Type 0
+IfTold (Ok u) P = P
+IfTold (Err fault.Net) P = P
+IfTold (Err (fault.Peer place)) P = P
+IfTold (Err (fault.Long n)) P = P
+IfTold (Err (fault.OldBoot age)) P = Unit {0}
+IfTold (Err (fault.Spent c)) P = (c ≡ counter.Pass) ⊎ P
+IfTold (Err fault.NoMemory) P = Unit {0}
 
 -- a step of one of these passes behind the list before is the cause of the fault
 abbrev pub IsMarked : List ℕ → List Step → List Step → NodeFault → Type 0
@@ -82,6 +108,20 @@ pub record LanesRan {L : Type 0} (lock : TracedLock (Node L) Step) (before : Lis
   pub own : (n : ℕ) → Member n (numbers old) → of number_of n (front old) ≡ of number_of n (front new)
   pub done : (passes : List ℕ) × (numbers new ≡ numbers old ++ passes) × Distinct passes × ((n : ℕ) → Member n (numbers old) → Member n passes → ⊥) × LanesDone passes lanes before (front new) result
 
+-- the lanes made all their calls, or each a front of them up to the fault
+abbrev pub LanesMade : List ℕ → List (List Call) → List Step → List Step → List (List Reply) → Result (Unit {0}) NodeFault → Type 0
+LanesMade passes lanes before after all (Ok u) = AreLanes before after passes lanes all
+LanesMade passes lanes before after all (Err f) = LaneFault passes before after f × IfTold (Err f) (AreFronts before after passes lanes all)
+
+-- the same with the answers that came where a lane met a fault
+pub record LanesCame {L : Type 0} (lock : TracedLock (Node L) Step) (before : List Step) (old : Pass (Node L) Step) (lanes : List (List Call)) (new : Pass (Node L) Step) (all : List (List Reply)) (end : Result (Unit {0}) NodeFault) : Type 0 where
+  pub is_pass : IsPassOf lock new
+  pub number : new.number ≡ old.number
+  pub up : (raised old ≤ raised new) × (answered old ≤ answered new)
+  pub later : IsPrefix (front old) (front new)
+  pub own : (n : ℕ) → Member n (numbers old) → of number_of n (front old) ≡ of number_of n (front new)
+  pub done : (passes : List ℕ) × (numbers new ≡ numbers old ++ passes) × Distinct passes × ((n : ℕ) → Member n (numbers old) → Member n passes → ⊥) × LanesMade passes lanes before (front new) all end
+
 -- the answers alone
 abbrev pub answers_in : Result (List (List Reply)) NodeFault → Result (List (List Answer)) NodeFault
 answers_in (Ok all) = Ok (map (map (λ reply. reply.0)) all)
@@ -101,8 +141,3 @@ pub record Looked {L : Type 0} (lock : TracedLock (Node L) Step) (old new : Pass
   pub goes : Goes (first lock).clerk (front old) (front new)
   pub marked : Marked old (highest (front new))
   pub raises : highest (front new) ≤ raised new
-
--- what one lane gave, behind what those before it gave
-abbrev pub Puts : {A : Type 0} → Result (List (List A)) NodeFault → Result (List A) NodeFault → Result (List (List A)) NodeFault → Type 0
-Puts {A} all one (Ok more) = (xs : List (List A)) × (x : List A) × (all ≡ Ok xs) × (one ≡ Ok x) × (more ≡ xs ++ x ∷ [])
-Puts all one (Err f) = (all ≡ Err f) ⊎ ((one ≡ Err f) ⊎ (f ≡ fault.NoMemory))

@@ -6,3 +6,4 @@ pub mod Floors
 pub mod Turns
 pub mod Lanes
 pub mod Jobs
+pub mod Patience

@@ -5,7 +5,7 @@ use Rattle.ec_link.specs.Links.{Heard, added}
 use Rattle.ec_clerknode.specs.declared.step.Step.{Step}
 use Rattle.ec_clerknode.specs.declared.state.Kept.{Kept}
 use Rattle.ec_clerknode.specs.declared.state.Node.{Node}
-use Rattle.ec_clerknode.specs.Run.{Reply, highest, IsRun, leads, heard_by, said_by, told_by, nets, old_boot, answers, Among}
+use Rattle.ec_clerknode.specs.Run.{Reply, highest, IsRun, leads, heard_by, said_by, told_by, nets, old_boot, answers, Among, AreSaid, Came}
 
 -- the step at this place answers the call of this number
 abbrev pub AnsweredAt : List Step → ℕ → ℕ → Reply → Type 0
@@ -31,6 +31,8 @@ module _ {L : Type 0} (counts : L → ℕ) (given : L → Option (List Heard)) (
     pub net : nets now.trace.items + counts first.link ≤ counts now.link
     pub heard : now.broken ≡ false → given now.link ≡ added (given first.link) (heard_by now.trace.items)
     pub sent : got now.link ≡ added (got first.link) (said_by now.trace.items)
+    pub said : now.broken ≡ false → AreSaid now.trace.items
+    pub came : Came (given first.link) (heard_by now.trace.items) (given now.link)
 
   abbrev pub Keeps : Node L → Node L → Type 0
   Keeps old new = (first : Node L) → Since first old → Since first new

@@ -1,5 +1,5 @@
 -- A clerk run: a list of steps from a clerk, each with what came out.
-use Rattle.std.specs.Prelude.{◌≡◌, ℕ, ◌+◌, List, [], ◌∷◌, ◌++◌, length, map, take, max, Option, Some, None, Ok, Err, ◌⊎◌}
+use Rattle.std.specs.Prelude.{◌≡◌, ℕ, ◌+◌, ◌≤◌, List, [], ◌∷◌, ◌++◌, length, map, take, max, Option, Some, None, Ok, Err, ◌⊎◌}
 use Rattle.ec_base.specs.declared.ids.Age.{Age}
 use Rattle.ec_history.specs.declared.entry.Answer.{Answer}
 use Rattle.ec_plain.specs.declared.call.Call.{Call}
@@ -11,7 +11,7 @@ use Rattle.ec_protocol.specs.declared.clerk.Out.TheVariants as out
 use Rattle.ec_protocol.specs.Clerk.{Doing}
 use Rattle.ec_link.specs.declared.link.Sent.{Sent}
 use Rattle.ec_link.specs.declared.link.Sent.TheVariants as sent
-use Rattle.ec_link.specs.Links.{Heard, body, long, failed}
+use Rattle.ec_link.specs.Links.{Heard, body, long, failed, added}
 use Rattle.ec_clerknode.specs.declared.step.Deed.{Deed}
 use Rattle.ec_clerknode.specs.declared.step.Deed.TheVariants.{Began, Took, Picked, Parted, Net, Peer, Long, NotBegun, NotTaken, NotPicked}
 use Rattle.ec_clerknode.specs.declared.step.Step.{Step}
@@ -157,6 +157,10 @@ heard_of (NotPicked asked counter) = []
 abbrev pub heard_by : List Step → List Heard
 heard_by = each (λ s. heard_of s.deed)
 
+-- what the link gave is what the steps heard, and at most one more, for which memory was wanting
+abbrev pub Came : Option (List Heard) → List Heard → Option (List Heard) → Type 0
+Came before heard now = (lost : List Heard) × (length lost ≤ 1) × (now ≡ added before (heard ++ lost))
+
 -- the bytes of a message
 abbrev pub encoded : Msg → List ℕ
 encoded msg = msg_code.spell msg
@@ -170,6 +174,17 @@ said_by = each said_in
 
 abbrev pub told_in : Step → List (List ℕ)
 told_in s = told s.outs.value.items
+
+-- the sending went well, or the link failed
+abbrev pub IsSaid : Sent → Type 0
+IsSaid sent.Done = Unit {0}
+IsSaid sent.Failed = Unit {0}
+IsSaid sent.NoMemory = ⊥
+
+-- memory was wanting for no message of these steps
+abbrev pub AreSaid : List Step → Type 0
+AreSaid [] = Unit {0}
+AreSaid (s ∷ ss) = IsSaid s.end × AreSaid ss
 
 -- the lists that were told lost
 abbrev pub told_by : List Step → List (List ℕ)

@@ -1,5 +1,5 @@
 // Lanes in threads of their own, each with a pass that is drawn for it.
-ghost use Rattle.std.specs.Prelude.{◌≡◌, ℕ, ◌<◌, ◌⊎◌, List as Listed, length, map, slice_index_or, vec_len, IfOk, IfErr};
+ghost use Rattle.std.specs.Prelude.{◌≡◌, ℕ, ◌<◌, ◌⊎◌, List as Listed, [], length, map, slice_index_or, vec_len, Err, IfOk, IfErr};
 ghost use Rattle.std.specs.List.{All};
 ghost use Rattle.std.specs.Thread.{IsSync};
 ghost use Rattle.ec_base.specs.declared.counter.Counter.TheVariants as counter;
@@ -7,22 +7,29 @@ ghost use Rattle.ec_plain.specs.declared.call.Call.{Call as Asking};
 ghost use Rattle.ec_lock.specs.Passes.{front, IsPassOf};
 ghost use Rattle.ec_clerknode.specs.declared.fault.NodeFault.TheVariants as fault;
 ghost use Rattle.ec_clerknode.specs.declared.step.Step.{Step as Deeds};
-ghost use Rattle.ec_clerknode.specs.Lanes.{LaneRan, LanesRan, Puts, items_of, all_items};
-ghost use Rattle.ec_clerknode.specs.Jobs.{Drew, IsNewPass, AreBack};
+ghost use Rattle.ec_clerknode.specs.Lanes.{LaneRan, LanesCame, lists_of};
+ghost use Rattle.ec_clerknode.specs.Jobs.{Drew, IsNewPass, AreBack, Puts};
 
 use crate::fault::NodeFault;
-use crate::lane::{Gate, Reply, run_lane};
+use crate::lane::{Gate, Replied, Reply, run_lane};
 use crate::shared::SharedClerk;
 use crate::state::Node;
 use ec_base::{Counter, List};
 use ec_link::Link;
 use ec_lock::Pass;
 use ec_plain::Call;
-use std::alloc::AllocError;
+use std::alloc::{AllocError, Global};
 use std::sync::Wait;
 use std::thread;
 use std::thread::Threads;
 use std::time::Clock;
+
+/// What lanes were answered, lane by lane, and the fault of the first lane that met one.
+#[derive(Drop)]
+pub struct AllReplied {
+    pub lanes: Vec<Vec<Reply>>,
+    pub end: Result<(), NodeFault>,
+}
 
 // A lane, with the pass that makes its calls.
 #[derive(Drop)]
@@ -67,17 +74,17 @@ fn run_job<L: Link, G: Gate, R: Wait + Clock>(
     clerk: &SharedClerk<L>,
     gate: &G,
     job: Job<L>,
-) -> (Pass<Node<L>>, Result<Vec<Reply>, NodeFault>)
+) -> (Pass<Node<L>>, Replied)
     requires { IsPassOf clerk.now.lock job.pass }
-    ensures { LaneRan clerk.now.lock job.pass job.calls.items result.0 (items_of result.1) }
+    ensures { LaneRan clerk.now.lock job.pass job.calls.items result.0 result.1.replies.items result.1.end }
 {
     let Job {
         mut pass,
         lane,
         calls,
     } = job;
-    let replies = run_lane(rt, clerk, &mut pass, gate, lane, calls);
-    (pass, replies)
+    let replied = run_lane(rt, clerk, &mut pass, gate, lane, calls);
+    (pass, replied)
 }
 
 // Runs the lanes at the same time. Their passes come back in the order of the lanes.
@@ -86,50 +93,73 @@ fn run_all<L: Link + Send, G: Gate + Sync, R: Threads + Wait + Clock + Sync>(
     clerk: &SharedClerk<L>,
     gate: &G,
     jobs: Vec<Job<L>>,
-) -> Result<Vec<(Pass<Node<L>>, Result<Vec<Reply>, NodeFault>)>, AllocError>
+) -> Result<Vec<(Pass<Node<L>>, Replied)>, AllocError>
     requires { All (λ job. IsPassOf clerk.now.lock job.pass) jobs.items }
     ensures len { IfOk result (λ ran. vec_len ran ≡ vec_len jobs) }
     ensures each { IfOk result (λ ran. (i : ℕ) (d : _) (e : _) → i < vec_len jobs
-        → LaneRan clerk.now.lock (slice_index_or jobs.items i e).pass (slice_index_or jobs.items i e).calls.items (slice_index_or ran.items i d).0 (items_of (slice_index_or ran.items i d).1)) }
+        → LaneRan clerk.now.lock (slice_index_or jobs.items i e).pass (slice_index_or jobs.items i e).calls.items (slice_index_or ran.items i d).0 (slice_index_or ran.items i d).1.replies.items (slice_index_or ran.items i d).1.end) }
 {
-    let one = |job: Job<L>| -> (Pass<Node<L>>, Result<Vec<Reply>, NodeFault>)
+    let one = |job: Job<L>| -> (Pass<Node<L>>, Replied)
         requires { IsSync R.row × IsPassOf clerk.now.lock job.pass }
-        ensures { LaneRan clerk.entry.now.lock job.pass job.calls.items result.0 (items_of result.1) }
+        ensures { LaneRan clerk.entry.now.lock job.pass job.calls.items result.0 result.1.replies.items result.1.end }
     { run_job(rt, clerk, gate, job) };
     thread::map_vec(rt, jobs, &one)
 }
 
-// What one lane gave goes behind what those before it gave.
-fn put(
-    all: Result<Vec<Vec<Reply>>, NodeFault>,
-    one: Result<Vec<Reply>, NodeFault>,
-) -> Result<Vec<Vec<Reply>>, NodeFault>
-    ensures { Puts (all_items all) (items_of one) (all_items result) }
+// What one lane gave goes behind what those before it gave, and the first fault stays.
+fn put(all: AllReplied, one: Replied) -> AllReplied
+    ensures { Puts all one result }
 {
-    let mut all = all?;
-    let one = one?;
-    all.push(one)?;
-    Ok(all)
+    let AllReplied { mut lanes, end } = all;
+    if lanes.push(one.replies).is_err() {
+        return AllReplied {
+            lanes,
+            end: Err(NodeFault::NoMemory),
+        };
+    }
+    match end {
+        Ok(()) => AllReplied {
+            lanes,
+            end: one.end,
+        },
+        Err(fault) => AllReplied {
+            lanes,
+            end: Err(fault),
+        },
+    }
 }
 
 // The passes of lanes come back, and what the lanes gave goes together.
 fn gather<L: Link>(
     clerk: &SharedClerk<L>,
     pass: &mut Pass<Node<L>>,
-    ran: Vec<(Pass<Node<L>>, Result<Vec<Reply>, NodeFault>)>,
-) -> Result<Vec<Vec<Reply>>, NodeFault>
+    ran: Vec<(Pass<Node<L>>, Replied)>,
+) -> AllReplied
     requires pass { IsPassOf clerk.now.lock pass.old }
     requires others { All (λ one. IsPassOf clerk.now.lock one.0) ran.items }
     ensures { (before : Listed Deeds) (lanes : Listed (Listed Asking)) → AreBack clerk.now.lock before lanes ran.items
-        → LanesRan clerk.now.lock before pass.old lanes pass.new (all_items result) }
+        → LanesCame clerk.now.lock before pass.old lanes pass.new (lists_of result.lanes) result.end }
 {
-    let mut all = Ok(Vec::new(clerk.alloc));
+    let mut all = AllReplied {
+        lanes: Vec::new(clerk.alloc),
+        end: Ok(()),
+    };
     'ran: for one in ran {
-        let (other, replies) = one;
+        let (other, replied) = one;
         clerk.join(pass, other);
-        all = put(all, replies);
+        all = put(all, replied);
     }
     all
+}
+
+// No lane was run.
+fn none(alloc: Global, fault: NodeFault) -> AllReplied
+    ensures { (result.lanes.items ≡ []) × (result.end ≡ Err fault) }
+{
+    AllReplied {
+        lanes: Vec::new(alloc),
+        end: Err(fault),
+    }
 }
 
 /// Runs the lanes by passes of their own, without a last look at the list.
@@ -139,11 +169,16 @@ pub fn run_apart<L: Link + Send, G: Gate + Sync, R: Threads + Wait + Clock + Syn
     pass: &mut Pass<Node<L>>,
     gate: &G,
     lanes: Vec<List<Call>>,
-) -> Result<Vec<Vec<Reply>>, NodeFault>
+) -> AllReplied
     requires { IsPassOf clerk.now.lock pass.old }
-    ensures { LanesRan clerk.now.lock (front pass.old) pass.old lanes.items pass.new (all_items result) }
+    ensures { LanesCame clerk.now.lock (front pass.old) pass.old lanes.items pass.new (lists_of result.lanes) result.end }
 {
-    let jobs = draw_all(rt, clerk, pass, lanes)?;
-    let ran = run_all(rt, clerk, gate, jobs)?;
-    gather(clerk, pass, ran)
+    let jobs = match draw_all(rt, clerk, pass, lanes) {
+        Ok(jobs) => jobs,
+        Err(fault) => return none(clerk.alloc, fault),
+    };
+    match run_all(rt, clerk, gate, jobs) {
+        Ok(ran) => gather(clerk, pass, ran),
+        Err(_) => none(clerk.alloc, NodeFault::NoMemory),
+    }
 }

@@ -1,12 +1,14 @@
 // What is done with what came out of one step, and with the answers that are kept.
-ghost use Rattle.std.specs.Prelude.{◌≡◌, ℕ, ◌+◌, ◌≤◌, List, [], ◌++◌, length, map, take, drop, IfSome, IfNone, IsTrue, MatchBool, slice_get};
+ghost use Rattle.std.specs.Prelude.{◌≡◌, ℕ, ◌+◌, ◌≤◌, List, [], ◌++◌, length, map, take, drop, IfSome, IfNone, IsTrue, MatchBool, slice_get, if◌then◌else◌};
 ghost use Rattle.ec_link.specs.declared.link.Sent.TheVariants as sent;
 ghost use Rattle.ec_link.specs.Links.{added, carried, failed};
 ghost use Rattle.ec_clerknode.specs.Closed.{first_known};
 ghost use Rattle.ec_clerknode.specs.Node.{kept_at};
+ghost use Rattle.ec_clerknode.specs.Patience.{is_again as is_again_in};
 ghost use Rattle.ec_clerknode.specs.Run.{encoded, sends, answers, answer_of, told as told_in_all, told_of, old_boots, first_of};
 ghost use Rattle.ec_clerknode.specs.declared.state.Kept.{Kept as Row};
 
+use crate::patience::is_again;
 use crate::state::Kept;
 use ec_base::{Age, List, OpNo};
 use ec_history::Answer;
@@ -17,8 +19,14 @@ use std::alloc::Global;
 use std::sync::Wait;
 use std::time::Clock;
 
-// Sends one message. The clerk makes no message that isn't sound.
-fn send_one<L: Link, R: Wait + Clock>(rt: &R, alloc: Global, link: &mut L, msg: &Msg) -> Sent
+// Sends one message, which may rest for so many milliseconds. The clerk makes no message that isn't sound.
+fn send_one<L: Link, R: Wait + Clock>(
+    rt: &R,
+    alloc: Global,
+    link: &mut L,
+    msg: &Msg,
+    rest: u64,
+) -> Sent
     ensures sent { L.got link.new ≡ added (L.got link.old) (carried result (encoded msg.now)) }
     ensures given { L.given link.new ≡ L.given link.old }
     ensures counts { failed result + (L.faults link.old + L.closes link.old) ≤ L.faults link.new + L.closes link.new }
@@ -27,6 +35,7 @@ fn send_one<L: Link, R: Wait + Clock>(rt: &R, alloc: Global, link: &mut L, msg: 
         return Sent::NoMemory;
     }
     match encode(alloc, msg) {
+        Ok(body) if rest > 0 => link.send_late(rt, &body, rest),
         Ok(body) => link.send(rt, &body),
         Err(_) => Sent::NoMemory,
     }
@@ -44,10 +53,27 @@ pub fn send_all<L: Link, R: Wait + Clock>(
     ensures given { L.given link.new ≡ L.given link.old }
     ensures counts { failed result.1 + (L.faults link.old + L.closes link.old) ≤ L.faults link.new + L.closes link.new }
 {
+    send_resting(rt, alloc, link, outs, 0)
+}
+
+/// The same, where a want of what went back in the same step may rest for so many milliseconds.
+pub fn send_resting<L: Link, R: Wait + Clock>(
+    rt: &R,
+    alloc: Global,
+    link: &mut L,
+    outs: &[Out],
+    rest: u64,
+) -> (u64, Sent)
+    ensures sent { L.got link.new ≡ added (L.got link.old) (map encoded (take result.0 (sends outs.now))) }
+    ensures whole { result.1 ≡ sent.Done → result.0 ≡ length (sends outs.now) }
+    ensures given { L.given link.new ≡ L.given link.old }
+    ensures counts { failed result.1 + (L.faults link.old + L.closes link.old) ≤ L.faults link.new + L.closes link.new }
+{
     let mut sent = 0;
     for out in outs {
         if let Out::Send(msg) = out {
-            match send_one(rt, alloc, link, msg) {
+            let rest = rest_of(msg, outs, rest);
+            match send_one(rt, alloc, link, msg, rest) {
                 Sent::Done => sent += 1,
                 Sent::Failed => return (sent, Sent::Failed),
                 Sent::NoMemory => return (sent, Sent::NoMemory),
@@ -55,6 +81,17 @@ pub fn send_all<L: Link, R: Wait + Clock>(
         }
     }
     (sent, Sent::Done)
+}
+
+// So many milliseconds this message of the step rests, where such a want is to rest for so many.
+fn rest_of(msg: &Msg, outs: &[Out], rest: u64) -> u64
+    ensures { result ≡ (if is_again_in (sends outs.now) msg.now then rest else 0) }
+{
+    if rest > 0 && is_again(msg, outs) {
+        rest
+    } else {
+        0
+    }
 }
 
 /// Keeps the answers, and what was told lost. For want of memory it's false, and no answers are kept.

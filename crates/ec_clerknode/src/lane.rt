@@ -1,6 +1,7 @@
 // One lane of calls.
+ghost use Rattle.std.specs.Prelude.{◌≡◌, []};
 ghost use Rattle.ec_lock.specs.Passes.{IsPassOf};
-ghost use Rattle.ec_clerknode.specs.Lanes.{LaneRan, items_of};
+ghost use Rattle.ec_clerknode.specs.Lanes.{LaneRan};
 
 use crate::fault::NodeFault;
 use crate::shared::SharedClerk;
@@ -21,19 +22,28 @@ pub trait Gate {
     fn pass(&self, lane: u8, place: u32);
 }
 
-/// Makes the calls of one lane, one after another.
-pub fn run_lane<L: Link, G: Gate, R: Wait + Clock>(
+/// What a lane was answered: all of it, or what came before its first fault.
+#[derive(Drop)]
+pub struct Replied {
+    pub replies: Vec<Reply>,
+    pub end: Result<(), NodeFault>,
+}
+
+// Makes the calls up to the first fault. Each answer goes behind those before it.
+fn make_calls<L: Link, G: Gate, R: Wait + Clock>(
     rt: &R,
     clerk: &SharedClerk<L>,
     pass: &mut Pass<Node<L>>,
     gate: &G,
     lane: u8,
     calls: Vec<Call>,
-) -> Result<Vec<Reply>, NodeFault>
-    requires { IsPassOf clerk.now.lock pass.old }
-    ensures { LaneRan clerk.now.lock pass.old calls.items pass.new (items_of result) }
+    replies: &mut Vec<Reply>,
+) -> Result<(), NodeFault>
+    requires pass { IsPassOf clerk.now.lock pass.old }
+    requires none { replies.old.items ≡ [] }
+    ensures { LaneRan clerk.now.lock pass.old calls.items pass.new replies.new.items result }
 {
-    let mut replies = Vec::with_capacity(clerk.alloc, calls.len())?;
+    replies.reserve(calls.len())?;
     let mut place = 1u32;
     'calls: for call in calls {
         gate.pass(lane, place);
@@ -42,5 +52,22 @@ pub fn run_lane<L: Link, G: Gate, R: Wait + Clock>(
         place = place.saturating_add(1);
     }
     gate.pass(lane, place);
-    Ok(replies)
+    Ok(())
+}
+
+/// Makes the calls of one lane, one after another, up to its first fault.
+pub fn run_lane<L: Link, G: Gate, R: Wait + Clock>(
+    rt: &R,
+    clerk: &SharedClerk<L>,
+    pass: &mut Pass<Node<L>>,
+    gate: &G,
+    lane: u8,
+    calls: Vec<Call>,
+) -> Replied
+    requires { IsPassOf clerk.now.lock pass.old }
+    ensures { LaneRan clerk.now.lock pass.old calls.items pass.new result.replies.items result.end }
+{
+    let mut replies = Vec::new(clerk.alloc);
+    let end = make_calls(rt, clerk, pass, gate, lane, calls, &mut replies);
+    Replied { replies, end }
 }

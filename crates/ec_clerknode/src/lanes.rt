@@ -1,11 +1,11 @@
 // Lanes of calls, which run at the same time.
 ghost use Rattle.std.specs.Prelude.{◌≡◌, map, IfOk};
 ghost use Rattle.ec_lock.specs.Passes.{front, IsPassOf};
-ghost use Rattle.ec_clerknode.specs.Lanes.{LanesRan, LanesRanPlain, Looked, TellsOldBoot, all_items};
+ghost use Rattle.ec_clerknode.specs.Lanes.{LanesCame, LanesRan, LanesRanPlain, Looked, TellsOldBoot, all_items, lists_of};
 ghost use Rattle.ec_clerknode.specs.Run.{old_boot};
 
 use crate::fault::NodeFault;
-use crate::jobs::run_apart;
+use crate::jobs::{AllReplied, run_apart};
 use crate::lane::{Gate, Reply};
 use crate::shared::SharedClerk;
 use crate::state::Node;
@@ -19,8 +19,31 @@ use std::sync::Wait;
 use std::thread::Threads;
 use std::time::Clock;
 
-/// Runs lanes of calls at the same time, each by a pass that is drawn for it, and gives their answers with the numbers of
-/// their operations. The first lane is 1.
+/// Runs lanes of calls at the same time, each by a pass that is drawn for it and up to its first fault, and gives their
+/// answers with the numbers of their operations. The first lane is 1.
+pub fn run_lane_calls<L: Link + Send, G: Gate + Sync, R: Threads + Wait + Clock + Sync>(
+    rt: &R,
+    clerk: &SharedClerk<L>,
+    pass: &mut Pass<Node<L>>,
+    gate: &G,
+    lanes: Vec<List<Call>>,
+) -> AllReplied
+    requires pass { IsPassOf clerk.now.lock pass.old }
+    ensures looked { Looked clerk.now.lock pass.old pass.new }
+    ensures lanes { LanesCame clerk.now.lock (front pass.old) pass.old lanes.items pass.new (lists_of result.lanes) result.end }
+    ensures old_boot { TellsOldBoot (old_boot (front pass.new)) result.end }
+{
+    let all = run_apart(rt, clerk, pass, gate, lanes);
+    match clerk.look(rt, pass) {
+        Some(age) => AllReplied {
+            lanes: all.lanes,
+            end: Err(NodeFault::OldBoot(age)),
+        },
+        None => all,
+    }
+}
+
+/// The same, with the answers only where no lane met a fault.
 pub fn run_lane_ops<L: Link + Send, G: Gate + Sync, R: Threads + Wait + Clock + Sync>(
     rt: &R,
     clerk: &SharedClerk<L>,
@@ -33,10 +56,13 @@ pub fn run_lane_ops<L: Link + Send, G: Gate + Sync, R: Threads + Wait + Clock + 
     ensures lanes { LanesRan clerk.now.lock (front pass.old) pass.old lanes.items pass.new (all_items result) }
     ensures old_boot { TellsOldBoot (old_boot (front pass.new)) result }
 {
-    let all = run_apart(rt, clerk, pass, gate, lanes);
-    match clerk.look(rt, pass) {
-        Some(age) => Err(NodeFault::OldBoot(age)),
-        None => all,
+    let AllReplied { lanes, end } = run_lane_calls(rt, clerk, pass, gate, lanes);
+    match end {
+        Ok(()) => Ok(lanes),
+        Err(fault) => {
+            drop(lanes);
+            Err(fault)
+        }
     }
 }
 

@@ -11,14 +11,16 @@ mod lane;
 mod lanes;
 mod node;
 mod passes;
+mod patience;
 mod shared;
 mod state;
 mod step;
 
 pub use fault::NodeFault;
+pub use jobs::AllReplied;
 pub use kept::send_all;
 pub use lane::{Gate, Reply};
-pub use lanes::{run_lane_ops, run_lanes};
+pub use lanes::{run_lane_calls, run_lane_ops, run_lanes};
 pub use shared::SharedClerk;
 pub use state::{Closing, Node};
 pub use step::{Deed, Step};

@@ -1,5 +1,5 @@
 // What is done in one turn at the lock.
-ghost use Rattle.std.specs.Prelude.{◌≡◌, ℕ, ◌+◌, ◌≤◌, ◌<◌, ◌⊎◌, true, false, [], ◌∷◌, ◌++◌, length, map, Option, Some, None, IfOk, IfErr, IfSome, IfNone};
+ghost use Rattle.std.specs.Prelude.{◌≡◌, ℕ, ◌+◌, ◌≤◌, ◌<◌, ◌⊎◌, true, false, [], ◌∷◌, ◌++◌, length, map, Option, Some, None, IfOk, IfErr, OnOk, IfSome, IfNone};
 ghost use Rattle.ec_base.specs.Limits.{last_counter};
 ghost use Rattle.ec_base.specs.declared.ids.Age.{Age as Years};
 ghost use Rattle.ec_clerknode.specs.Closed.{Acts, Closed, EndsAs, IsMark, Begun, Works, Flushes, ReadsFlushes, Started, Waited};
@@ -13,7 +13,7 @@ use crate::act::Act;
 use crate::clerk::{self, Refused};
 use crate::fault::NodeFault;
 use crate::hear::hear;
-use crate::kept::{keep_all, known_old, send_all, take_kept};
+use crate::kept::{keep_all, known_old, send_resting, take_kept};
 use crate::state::State;
 use crate::step::{Deed, Step};
 use ec_base::{Duplicate, LAST_COUNTER, List, NoMemory, OpNo};
@@ -73,7 +73,8 @@ impl<L: Link> State<L> {
         ensures { (step : Step) × Closed (λ l. L.faults l + L.closes l) L.given L.got pass deed outs.items step self.old self.new × (step.end ≡ result) }
     {
         let shot = Snapshot::of(&outs);
-        let (sent, end) = send_all(rt, alloc, &mut self.link, &outs);
+        let rest = self.patience.rest(rt, &outs);
+        let (sent, end) = send_resting(rt, alloc, &mut self.link, &outs, rest);
         let floor = clerk::floor(&self.clerk);
         self.boot = known_old(self.boot, &outs);
         let kept = keep_all(&mut self.kept, &mut self.told, outs, self.steps);
@@ -95,7 +96,8 @@ impl<L: Link> State<L> {
     // How the turn ends.
     fn ended(&self, end: Sent, marked: Option<NodeFault>) -> Result<(), NodeFault>
         requires { IfSome marked IsMark }
-        ensures { EndsAs self.now.boot end marked result }
+        ensures ends { EndsAs self.now.boot end marked result }
+        ensures up { OnOk result (self.now.broken ≡ false) }
     {
         if let Some(age) = self.boot {
             return Err(NodeFault::OldBoot(age));
@@ -123,6 +125,7 @@ impl<L: Link> State<L> {
         requires steps { self.old.steps < last_counter }
         requires marked { IfSome act.fault IsMark }
         ensures grown { (step : Step) × Closed (λ l. L.faults l + L.closes l) L.given L.got pass act.deed act.outs.items step self.old self.new × EndsAs self.new.boot step.end act.fault result }
+        ensures up { OnOk result (self.new.broken ≡ false) }
     {
         let Act { deed, outs, fault } = act;
         let end = self.add_step(rt, alloc, pass, deed, outs);
@@ -132,6 +135,7 @@ impl<L: Link> State<L> {
     fn take_answer(&mut self, number: u64, place: u64) -> Option<(Answer, Option<OpNo>)>
         ensures keeps { Keeps (λ l. L.faults l + L.closes l) L.given L.got self.old self.new }
         ensures same { (self.new.trace.items ≡ self.old.trace.items) × (self.new.boot ≡ self.old.boot) }
+        ensures up { self.new.broken ≡ self.old.broken }
         ensures answer { (first : State L) → Since (λ l. L.faults l + L.closes l) L.given L.got first self.old → IfSome result (λ reply. AnsweredFrom self.old.trace.items place number reply) }
     {
         take_kept(&mut self.kept, number, place)
@@ -146,6 +150,7 @@ impl<L: Link> State<L> {
     ) -> Result<u64, NodeFault>
         ensures keeps { Keeps (λ l. L.faults l + L.closes l) L.given L.got self.old self.new }
         ensures begun { Begun pass call self.old self.new result }
+        ensures up { OnOk result (self.new.broken ≡ false) }
     {
         self.check()?;
         let shot = Snapshot::of(&call);
@@ -174,6 +179,7 @@ impl<L: Link> State<L> {
     ) -> Result<bool, NodeFault>
         ensures keeps { Keeps (λ l. L.faults l + L.closes l) L.given L.got self.old self.new }
         ensures works { Works pass self.old self.new result }
+        ensures up { OnOk result (self.new.broken ≡ false) }
     {
         self.check()?;
         let got = self.link.recv(rt);
@@ -197,6 +203,7 @@ impl<L: Link> State<L> {
     ) -> Result<Flushed, NodeFault>
         ensures keeps { Keeps (λ l. L.faults l + L.closes l) L.given L.got self.old self.new }
         ensures flushes { Flushes pass asked self.old self.new result }
+        ensures up { OnOk result (self.new.broken ≡ false) }
     {
         self.check()?;
         let shot = Snapshot::of(&asked);
@@ -225,6 +232,7 @@ impl<L: Link> State<L> {
     ) -> Result<(), NodeFault>
         ensures keeps { Keeps (λ l. L.faults l + L.closes l) L.given L.got self.old self.new }
         ensures works { Works pass self.old self.new result }
+        ensures up { OnOk result (self.new.broken ≡ false) }
     {
         self.check()?;
         match clerk::bye(&mut self.clerk) {
@@ -243,6 +251,7 @@ impl<L: Link> State<L> {
     ) -> Result<(u64, u64, Option<(Answer, Option<OpNo>)>), NodeFault>
         ensures keeps { Keeps (λ l. L.faults l + L.closes l) L.given L.got self.old self.new }
         ensures started { Started (λ l. L.faults l + L.closes l) L.given L.got pass call self.old self.new result }
+        ensures up { OnOk result (self.new.broken ≡ false) }
     {
         let place = self.steps;
         let number = self.begin(rt, alloc, pass, call)?;
@@ -262,6 +271,7 @@ impl<L: Link> State<L> {
     ) -> Result<(bool, Option<(Answer, Option<OpNo>)>), NodeFault>
         ensures keeps { Keeps (λ l. L.faults l + L.closes l) L.given L.got self.old self.new }
         ensures works { Works pass self.old self.new result }
+        ensures up { OnOk result (self.new.broken ≡ false) }
         ensures answered { Waited (λ l. L.faults l + L.closes l) L.given L.got number place self.old self.new result }
     {
         self.check()?;
@@ -282,6 +292,7 @@ impl<L: Link> State<L> {
     ) -> Result<(bool, Option<(Answer, Option<OpNo>)>), NodeFault>
         ensures keeps { Keeps (λ l. L.faults l + L.closes l) L.given L.got self.old self.new }
         ensures works { Works pass self.old self.new result }
+        ensures up { OnOk result (self.new.broken ≡ false) }
         ensures answered { Waited (λ l. L.faults l + L.closes l) L.given L.got number place self.old self.new result }
     {
         let heard = self.read(rt, alloc, pass)?;
@@ -299,6 +310,7 @@ impl<L: Link> State<L> {
     ) -> Result<(bool, Flushed), NodeFault>
         ensures keeps { Keeps (λ l. L.faults l + L.closes l) L.given L.got self.old self.new }
         ensures flushes { ReadsFlushes (λ l. L.faults l + L.closes l) L.given L.got pass asked self.old self.new result }
+        ensures up { OnOk result (self.new.broken ≡ false) }
     {
         let heard = self.read(rt, alloc, pass)?;
         let flushed = self.flush(rt, alloc, pass, asked)?;

@@ -1,5 +1,5 @@
 // The clerk that several threads share.
-ghost use Rattle.std.specs.Prelude.{◌≡◌, ℕ, ◌+◌, ◌<◌, ◌≤◌, ◌⊎◌, max, List, [], ◌∷◌, ◌++◌, length, Some, None, Err, if◌then◌else◌, IfOk, IfErr, IfSome, IfNone, Option};
+ghost use Rattle.std.specs.Prelude.{◌≡◌, ℕ, ◌+◌, ◌<◌, ◌≤◌, ◌⊎◌, max, List, [], ◌∷◌, ◌++◌, length, Some, None, Err, if◌then◌else◌, IfOk, IfErr, OnOk, IfSome, IfNone, Option};
 ghost use mathlib.Core.List.{IsPrefix};
 ghost use Rattle.ec_base.specs.Limits.{last_counter};
 ghost use Rattle.ec_lock.specs.Passes.{first, front, numbers, next_number, raised, answered, note_view, HasTurn, IsPassOf, IsNoteOf, Same};
@@ -8,10 +8,11 @@ ghost use Rattle.ec_clerknode.specs.declared.fault.NodeFault.TheVariants as faul
 ghost use Rattle.ec_clerknode.specs.Closed.{Started, Waited, Works};
 ghost use Rattle.ec_clerknode.specs.Floors.{highest_grows};
 ghost use Rattle.ec_clerknode.specs.Node.{Since};
-ghost use Rattle.ec_clerknode.specs.Run.{highest, old_boot, told_by};
+ghost use Rattle.ec_clerknode.specs.Run.{highest, old_boot, told_by, heard_by, AreSaid, Came};
 ghost use Rattle.ec_clerknode.specs.Turns.{number_of, Stays, Turned, Starts, Waits, Called, CalledPlain, Worked, Asks, FlushTurned, Finished};
 
 use crate::fault::NodeFault;
+use crate::patience::Patience;
 use crate::state::{Closing, Node, State};
 use crate::step::Step;
 use ec_base::{Age, Counter, List, OpNo};
@@ -92,6 +93,7 @@ impl<L: Link> SharedClerk<L> {
         requires pass { IsPassOf self.now.lock pass.old }
         ensures turned { Turned self.now.lock pass.old pass.new }
         ensures starts { Starts pass.old.number call (front pass.old) (front pass.new) result }
+        ensures said { OnOk result (AreSaid (front pass.new)) }
     {
         let number = pass.number();
         let mut turn = self.lock.enter(rt, pass);
@@ -115,6 +117,7 @@ impl<L: Link> SharedClerk<L> {
         requires pass { IsPassOf self.now.lock pass.old }
         ensures turned { Turned self.now.lock pass.old pass.new }
         ensures waits { Waits pass.old.number (front pass.old) (front pass.new) number place result }
+        ensures said { OnOk result (AreSaid (front pass.new)) }
     {
         let mine = pass.number();
         let mut turn = self.lock.enter(rt, pass);
@@ -134,6 +137,7 @@ impl<L: Link> SharedClerk<L> {
         requires pass { IsPassOf self.now.lock pass.old }
         ensures turned { Turned self.now.lock pass.old pass.new }
         ensures worked { Worked pass.old.number (front pass.old) (front pass.new) result }
+        ensures said { OnOk result (AreSaid (front pass.new)) }
     {
         let number = pass.number();
         let mut turn = self.lock.enter(rt, pass);
@@ -158,6 +162,7 @@ impl<L: Link> SharedClerk<L> {
         requires pass { IsPassOf self.now.lock pass.old }
         ensures turned { Turned self.now.lock pass.old pass.new }
         ensures called { Called pass.old.number call (front pass.old) (front pass.new) result }
+        ensures said { OnOk result (AreSaid (front pass.new)) }
     {
         let (number, place, reply) = self.start(rt, pass, call)?;
         if let Some(reply) = reply {
@@ -186,6 +191,7 @@ impl<L: Link> SharedClerk<L> {
         requires pass { IsPassOf self.now.lock pass.old }
         ensures turned { Turned self.now.lock pass.old pass.new }
         ensures called { Called pass.old.number call (front pass.old) (front pass.new) result }
+        ensures said { OnOk result (AreSaid (front pass.new)) }
     {
         let heard = self.listen(rt, pass);
         if let Some(counter) = spent_in(&heard) {
@@ -206,6 +212,7 @@ impl<L: Link> SharedClerk<L> {
         requires pass { IsPassOf self.now.lock pass.old }
         ensures turned { Turned self.now.lock pass.old pass.new }
         ensures called { Called pass.old.number call (front pass.old) (front pass.new) result }
+        ensures said { OnOk result (AreSaid (front pass.new)) }
     {
         if self.bell.called() {
             return self.listen_and_call(rt, pass, call);
@@ -223,6 +230,7 @@ impl<L: Link> SharedClerk<L> {
         requires pass { IsPassOf self.now.lock pass.old }
         ensures turned { Turned self.now.lock pass.old pass.new }
         ensures called { CalledPlain pass.old.number call (front pass.old) (front pass.new) result }
+        ensures said { OnOk result (AreSaid (front pass.new)) }
     {
         let (answer, _) = self.call_op(rt, pass, call)?;
         Ok(answer)
@@ -238,6 +246,7 @@ impl<L: Link> SharedClerk<L> {
         requires pass { IsPassOf self.now.lock pass.old }
         ensures turned { Turned self.now.lock pass.old pass.new }
         ensures asks { Asks (first self.now.lock).clerk pass.old.number asked (front pass.old) (front pass.new) result }
+        ensures said { OnOk result (AreSaid (front pass.new)) }
     {
         let number = pass.number();
         let mut turn = self.lock.enter(rt, pass);
@@ -262,6 +271,7 @@ impl<L: Link> SharedClerk<L> {
         requires pass { IsPassOf self.now.lock pass.old }
         ensures turned { Turned self.now.lock pass.old pass.new }
         ensures flushed { FlushTurned (first self.now.lock).clerk pass.old.number asked (front pass.old) (front pass.new) result }
+        ensures said { OnOk result (AreSaid (front pass.new)) }
     {
         let (_, flushed) = self.ask(rt, pass, asked)?;
         Ok(flushed)
@@ -272,6 +282,7 @@ impl<L: Link> SharedClerk<L> {
         requires pass { IsPassOf self.now.lock pass.old }
         ensures turned { Turned self.now.lock pass.old pass.new }
         ensures worked { Worked pass.old.number (front pass.old) (front pass.new) result }
+        ensures said { OnOk result (AreSaid (front pass.new)) }
     {
         let number = pass.number();
         let mut turn = self.lock.enter(rt, pass);
@@ -345,6 +356,7 @@ impl<L: Link + Drop> SharedClerk<L> {
             steps: 0,
             broken: false,
             top: 0,
+            patience: Patience::new(),
             trace: Trace::new(),
         };
         let state = Box::new(alloc, state)?;
@@ -361,6 +373,8 @@ impl<L: Link + Drop> SharedClerk<L> {
         ensures same { Same pass.old pass.new }
         ensures later { IsPrefix (front pass.old) (front pass.new) }
         ensures finished { Finished (λ l. L.faults l + L.closes l) L.given L.got (first self.lock) (front pass.new) result.0 result.1 }
+        ensures said { IfSome result.0 (λ _. AreSaid (front pass.new)) }
+        ensures heard { Came (L.given (first self.lock).link) (heard_by (front pass.new)) (L.given result.1) }
     {
         let Closing { clerk, link, .. } = self.close(rt, pass);
         (clerk, link)
@@ -373,6 +387,8 @@ impl<L: Link + Drop> SharedClerk<L> {
         ensures later { IsPrefix (front pass.old) (front pass.new) }
         ensures own { (n : ℕ) → Member n (numbers pass.old) → of number_of n (front pass.old) ≡ of number_of n (front pass.new) }
         ensures finished { Finished (λ l. L.faults l + L.closes l) L.given L.got (first self.lock) (front pass.new) result.clerk result.link }
+        ensures said { IfSome result.clerk (λ _. AreSaid (front pass.new)) }
+        ensures heard { Came (L.given (first self.lock).link) (heard_by (front pass.new)) (L.given result.link) }
         ensures told { IfSome result.clerk (λ _. result.told.items ≡ told_by (front pass.new)) }
         ensures boot { result.boot ≡ old_boot (front pass.new) }
     {

@@ -1,4 +1,5 @@
 // The value behind the lock.
+use crate::patience::Patience;
 use crate::step::Step;
 use ec_base::{Age, List, OpNo};
 use ec_clerk::Clerk;
@@ -30,6 +31,8 @@ pub struct State<L> {
     pub broken: bool,
     /// The highest floor that a step left.
     pub top: u64,
+    /// How long a want rests.
+    pub patience: Patience,
     pub trace: Trace<Step>,
 }
 

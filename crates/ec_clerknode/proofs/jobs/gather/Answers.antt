@@ -1,9 +1,9 @@
-use Rattle.std.proofs.Common.{◌++◌, [], ◌∷◌, length, Ok, sym, ap, ◌∙◌, subst, arith, append_assoc, append-nil}
+use Rattle.std.proofs.Common.{◌++◌, [], ◌∷◌, length, sym, ap, ◌∙◌, subst, arith, append_assoc, append-nil}
 use Rattle.std.specs.Vec.Iter.{into_iter_items, into_iter_len}
 use Rattle.ec_clerknode.specs.Jobs.{AreBack}
-use Rattle.ec_clerknode.specs.Lanes.{all_items}
+use Rattle.ec_clerknode.specs.Lanes.{lists_of}
 use Rattle.ec_clerknode.proofs.LaneCalls.{none_left}
-use Rattle.ec_clerknode.proofs.LanePasses.{none_back, nothing_put, same_passes, next_pass, rest_passes, gathered}
+use Rattle.ec_clerknode.proofs.LanePasses.{none_back, no_lists, same_passes, next_pass, rest_passes, gathered}
 use Rattle.ec_clerknode.proofs.jobs.gather.Goals as goal
 
 pub ran-init : goal.ran-init
@@ -14,7 +14,7 @@ ran-init g c =
       gives.0,
       gives.1 ∙ (c.args.ran.ok.0 ∙ ap length (sym gives.0)),
       same_passes c.args.clerk.now.lock (into_iter_items it) c.args.ran.items gives.0 c.requires.others,
-      (λ before lanes back. none_back c.args.clerk.now.lock before lanes c.args.pass.now (all_items (Ok c.new.result)) c.requires.pass (nothing_put c.new.result c.new.ensures.items) back),
+      (λ before lanes back. none_back c.args.clerk.now.lock before lanes c.args.pass.now (lists_of c.new.result) (tt {0}) c.requires.pass (no_lists c.new.result c.new.ensures.items) back),
     )
 
 pub ran-preserved : goal.ran-preserved
@@ -30,7 +30,7 @@ ran-preserved g c =
       append_assoc c.ran.yielded (one ∷ []) rest ∙ (ap (λ l. c.ran.yielded ++ l) (sym steps.0) ∙ inv.1),
       (let was = inv.2 in let gone = steps.1 in let short = ap length steps.0 in omega arith),
       rest_passes lock now rest one steps.0 inv.3,
-      (λ before lanes back. gathered lock before c.args.pass.now c.ran.pass c.join.new.pass lanes c.ran.yielded one (all_items c.ran.all) (all_items c.put-all.result) (inv.4 before)
+      (λ before lanes back. gathered lock before c.args.pass.now c.ran.pass c.join.new.pass lanes c.ran.yielded one c.ran.all c.put-all.result (inv.4 before)
           (record { is_pass = j.pass; number = j.number; later = j.later; other_later = j.other; own = j.own; others = j.others; apart = j.apart; both = j.same }) c.put-all.ensures back),
     )
 

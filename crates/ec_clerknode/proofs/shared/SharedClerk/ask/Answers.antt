@@ -1,7 +1,7 @@
 use Rattle.std.proofs.Common.{◌+◌, sym, ◌∙◌, subst}
 use Rattle.ec_lock.specs.Passes.{first, front}
 use Rattle.ec_clerknode.specs.Closed.{ReadsFlushes}
-use Rattle.ec_clerknode.proofs.Turns.{own_only, grown, later_front, flushed_more, turned, asks}
+use Rattle.ec_clerknode.proofs.Turns.{own_only, grown, later_front, flushed_more, turned, asks, said_if}
 use Rattle.ec_clerknode.proofs.shared.SharedClerk.ask.Goals as goal
 
 pub end-requires-clause-own : goal.end-requires-clause-own
@@ -37,3 +37,8 @@ end-requires-clause-later g c κs within =
 
 pub end-requires-clause-since : goal.end-requires-clause-since
 end-requires-clause-since g c κs within = (rw (c.deref_mut.ensures.value ∙ c.node.view_is) at c.read_and_flush-result.ensures.keeps) (first c.args.self.now.lock) c.enter-turn.ensures.since
+
+pub returns-clause-said : goal.returns-clause-said
+returns-clause-said g c =
+    said_if (λ l. g.L.Link.faults l + g.L.Link.closes l) g.L.Link.given g.L.Link.got (first c.args.self.now.lock) c.read_and_flush-result.new.self (front c.end.new.pass) ((rw (c.deref_mut.ensures.value ∙ c.node.view_is) at c.read_and_flush-result.ensures.keeps) (first c.args.self.now.lock) c.enter-turn.ensures.since) c.end.ensures.front c.read_and_flush-result.result
+    c.read_and_flush-result.ensures.up

@@ -5,7 +5,7 @@ use Rattle.ec_lock.specs.Steps.{of}
 use Rattle.ec_clerknode.specs.Node.{Since}
 use Rattle.ec_clerknode.specs.Run.{old_boot}
 use Rattle.ec_clerknode.specs.Turns.{number_of}
-use Rattle.ec_clerknode.proofs.Turns.{finished, told_then}
+use Rattle.ec_clerknode.proofs.Turns.{finished, told_then, said_then, came_all}
 use Rattle.ec_clerknode.proofs.shared.SharedClerk.close.Goals as goal
 
 pub returns-clause-later : goal.returns-clause-later
@@ -33,3 +33,17 @@ returns-clause-boot g c =
     let same = c.into_inner-state.ensures ∙ (c.node.view_is ∙ c.into_value-node.ensures) in
     let since = c.enter-turn.ensures.since in
     ap (λ n. n.boot) same ∙ (since.old ∙ ap old_boot (sym c.enter-turn.ensures.front))
+
+pub returns-clause-said : goal.returns-clause-said
+returns-clause-said g c =
+    let same = c.into_inner-state.ensures ∙ (c.node.view_is ∙ c.into_value-node.ensures) in
+    let start = first c.args.self.lock in
+    let since = subst (Since (λ l. g.L.Link.faults l + g.L.Link.closes l) g.L.Link.given g.L.Link.got start) (sym same) c.enter-turn.ensures.since in
+    said_then (λ l. g.L.Link.faults l + g.L.Link.closes l) g.L.Link.given g.L.Link.got start c.into_inner-state.result (front c.enter-turn.new.pass) (c.enter-turn.ensures.front ∙ ap (λ n. n.trace.items) (sym same)) since c.unless_broken.result c.unless_broken.ensures
+
+pub returns-clause-heard : goal.returns-clause-heard
+returns-clause-heard g c =
+    let same = c.into_inner-state.ensures ∙ (c.node.view_is ∙ c.into_value-node.ensures) in
+    let start = first c.args.self.lock in
+    let since = subst (Since (λ l. g.L.Link.faults l + g.L.Link.closes l) g.L.Link.given g.L.Link.got start) (sym same) c.enter-turn.ensures.since in
+    came_all (λ l. g.L.Link.faults l + g.L.Link.closes l) g.L.Link.given g.L.Link.got start c.into_inner-state.result (front c.enter-turn.new.pass) (c.enter-turn.ensures.front ∙ ap (λ n. n.trace.items) (sym same)) since

@@ -1,7 +1,7 @@
 use Rattle.std.proofs.Common.{◌+◌, sym, ◌∙◌, subst}
 use Rattle.ec_lock.specs.Passes.{first, front}
 use Rattle.ec_clerknode.specs.Closed.{Started}
-use Rattle.ec_clerknode.proofs.Turns.{own_only, grown, later_front, started_more, turned, starts}
+use Rattle.ec_clerknode.proofs.Turns.{own_only, grown, later_front, started_more, turned, starts, said_if}
 use Rattle.ec_clerknode.proofs.shared.SharedClerk.start.Goals as goal
 
 pub end-requires-clause-own : goal.end-requires-clause-own
@@ -37,3 +37,8 @@ end-requires-clause-later g c κs within =
 
 pub end-requires-clause-since : goal.end-requires-clause-since
 end-requires-clause-since g c κs within = (rw (c.deref_mut.ensures.value ∙ c.node.view_is) at c.start_call-result.ensures.keeps) (first c.args.self.now.lock) c.enter-turn.ensures.since
+
+pub returns-clause-said : goal.returns-clause-said
+returns-clause-said g c =
+    said_if (λ l. g.L.Link.faults l + g.L.Link.closes l) g.L.Link.given g.L.Link.got (first c.args.self.now.lock) c.start_call-result.new.self (front c.end.new.pass) ((rw (c.deref_mut.ensures.value ∙ c.node.view_is) at c.start_call-result.ensures.keeps) (first c.args.self.now.lock) c.enter-turn.ensures.since) c.end.ensures.front c.start_call-result.result
+    c.start_call-result.ensures.up

@@ -4,7 +4,7 @@ use Rattle.ec_clerknode.proofs.state.State.add_step.Goals as goal
 
 pub returns : goal.returns
 returns g c =
-    let step : Step = record { pass = c.args.pass; deed = c.args.deed; outs = c.of-shot.result; sent = c.send_all-sent.result.0; end = c.send_all-sent.result.1; floor = c.floor-floor.result } in (
+    let step : Step = record { pass = c.args.pass; deed = c.args.deed; outs = c.of-shot.result; sent = c.send_resting-sent.result.0; end = c.send_resting-sent.result.1; floor = c.floor-floor.result } in (
       step,
       record {
         list = c.and-self.ensures;
@@ -21,7 +21,8 @@ returns g c =
         old_boot = search rules;
         given_same = search rules;
         got_more = search rules;
-        counted = c.send_all-sent.ensures.counts;
+        counted = c.send_resting-sent.ensures.counts;
+        said = search rules;
       },
       refl,
     )

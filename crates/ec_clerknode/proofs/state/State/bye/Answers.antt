@@ -1,6 +1,6 @@
 use Rattle.std.proofs.Common.{◌+◌, refl, arith}
 use Rattle.ec_clerknode.proofs.Acts.{left}
-use Rattle.ec_clerknode.proofs.Nodes.{follows_alone, down}
+use Rattle.ec_clerknode.proofs.Nodes.{follows_alone, down, nothing_came}
 use Rattle.ec_clerknode.proofs.state.State.bye.Goals as goal
 
 pub returns-in-Ok-clause-keeps : goal.returns-in-Ok-clause-keeps
@@ -9,4 +9,4 @@ returns-in-Ok-clause-keeps g c =
     follows_alone (λ l. g.L.Link.faults l + g.L.Link.closes l) g.L.Link.given g.L.Link.got c.args.pass c.step.result c.close.ensures.grown.0 c.args.self.now c.close.new.self c.bye.new.clerk c.in_ok-check.ensures.ok.0 a.0 a.1 c.close.ensures.grown.1
 
 pub returns-in-Err-clause-keeps : goal.returns-in-Err-clause-keeps
-returns-in-Err-clause-keeps g c = down (λ l. g.L.Link.faults l + g.L.Link.closes l) g.L.Link.given g.L.Link.got c.args.self.now c.breaks.new.self c.bye.new.clerk c.args.self.now.link refl (omega arith) c.breaks.ensures.1
+returns-in-Err-clause-keeps g c = down (λ l. g.L.Link.faults l + g.L.Link.closes l) g.L.Link.given g.L.Link.got c.args.self.now c.breaks.new.self c.bye.new.clerk c.args.self.now.link c.in_ok-check.ensures.ok.0 (nothing_came (λ l. g.L.Link.faults l + g.L.Link.closes l) g.L.Link.given g.L.Link.got c.args.self.now.link) refl (omega arith) c.breaks.ensures.1

@@ -2,7 +2,7 @@ use Rattle.std.proofs.Common.{sym, subst}
 use Rattle.ec_clerknode.specs.Closed.{EndsAs}
 use Rattle.ec_clerknode.proofs.state.State.close.Goals as goal
 
-pub returns : goal.returns
-returns g c =
+pub returns-clause-grown : goal.returns-clause-grown
+returns-clause-grown g c =
     let end = c.add_step-end.ensures in
-    record { grown = (end.0, end.1, subst (λ e. EndsAs c.add_step-end.new.self.boot e c.args.act.fault c.ended.result) (sym end.2) c.ended.ensures) }
+    (end.0, end.1, subst (λ e. EndsAs c.add_step-end.new.self.boot e c.args.act.fault c.ended.result) (sym end.2) c.ended.ensures.ends)

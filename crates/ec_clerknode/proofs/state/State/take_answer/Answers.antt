@@ -15,6 +15,8 @@ returns-clause-keeps g c first s = record {
   net = s.net;
   heard = s.heard;
   sent = s.sent;
+  said = s.said;
+  came = s.came;
 }
 
 pub returns-clause-answer : goal.returns-clause-answer

@@ -1,7 +1,7 @@
 use Rattle.std.proofs.Common.{◌≡◌, length}
 use Rattle.std.specs.Vec.Iter.{into_iter_items, into_iter_len}
 use Rattle.ec_clerknode.proofs.LaneCalls.{Sofar}
-use Rattle.ec_clerknode.proofs.lane.run_lane.Given as goal
+use Rattle.ec_clerknode.proofs.lane.make_calls.Given as goal
 
 abbrev pub invariant-calls : goal.invariant-calls
 invariant-calls g l =

@@ -1,13 +1,13 @@
 use Rattle.std.proofs.Common.{◌++◌, [], ◌∷◌, length, sym, refl, ap, ◌∙◌, subst, arith, rules}
 use Rattle.std.specs.Vec.Iter.{into_iter_items, into_iter_len}
-use Rattle.ec_clerknode.proofs.LaneCalls.{Sofar, sofar_none, sofar_next, sofar_fails, sofar_wants, sofar_ends, none_left}
-use Rattle.ec_clerknode.proofs.lane.run_lane.Goals as goal
+use Rattle.ec_clerknode.proofs.LaneCalls.{Sofar, sofar_none, sofar_next, sofar_fails, sofar_lacks, sofar_wants, sofar_ends, none_left}
+use Rattle.ec_clerknode.proofs.lane.make_calls.Goals as goal
 
 pub calls-init : goal.calls-init
 calls-init g c =
     let it = c.into_iter-call-iterator.result in
     let gives = c.into_iter-call-iterator.ensures.into_iter_gives in (
-      sofar_none c.args.clerk.now.lock c.args.pass.now c.args.calls.items (into_iter_items it) c.in_ok-replies.replies.items gives.0 c.in_ok-replies.ensures.items c.requires,
+      sofar_none c.args.clerk.now.lock c.args.pass.now c.args.calls.items (into_iter_items it) c.reserve.new.self.items gives.0 (c.reserve.ensures.items ∙ c.requires.none) c.requires.pass,
       gives.1 ∙ (c.args.calls.ok.0 ∙ ap length (sym gives.0)),
     )
 
@@ -24,11 +24,9 @@ calls-preserved g c =
       (let was = inv.1 in let gone = steps.1 in let short = ap length steps.0 in omega arith),
     )
 
-pub returns-in_err-replies : goal.returns-in_err-replies
-returns-in_err-replies g c =
-    let lock = c.args.clerk.now.lock in
-    let all = c.args.calls.items in
-    let wants = sofar_wants lock c.args.pass.now all c.args.pass.now all [] (sofar_none lock c.args.pass.now all all [] refl refl c.requires) in
+pub returns-in_err-reserve : goal.returns-in_err-reserve
+returns-in_err-reserve g c =
+    let wants = sofar_wants c.args.clerk.now.lock c.args.pass.now c.args.calls.items c.reserve.new.self.items (c.reserve.ensures.items ∙ c.requires.none) c.requires.pass in
     search (rules, wants)
 
 pub returns-in_err-reply : goal.returns-in_err-reply
@@ -48,10 +46,8 @@ returns-in_err-push g c =
     let steps = c.in-Some.ensures.steps in
     let rest = into_iter_items c.next.new.self in
     let s = subst (λ l. Sofar lock c.args.pass.now all c.calls.pass l c.calls.replies.items) steps.0 c.calls.invariant.0 in
-    let reply = c.in_ok-reply.reply in
-    let next = sofar_next lock c.args.pass.now all c.calls.pass c.call_op.new.pass c.in-Some.call rest c.calls.replies.items s c.call_op.ensures.turned reply c.in_ok-reply.ensures.called in
-    let wants = sofar_wants lock c.args.pass.now all c.call_op.new.pass rest (c.calls.replies.items ++ reply ∷ []) next in
-    search (rules, wants)
+    let lacks = sofar_lacks lock c.args.pass.now all c.calls.pass c.call_op.new.pass c.in-Some.call rest c.calls.replies.items s c.call_op.ensures.turned c.in_ok-reply.reply c.in_ok-reply.ensures.called in
+    search (rules, lacks)
 
 pub returns : goal.returns
 returns g c =
