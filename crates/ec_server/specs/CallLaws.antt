@@ -15,14 +15,18 @@ use Rattle.ec_volume.specs.declared.update.Update.{Update}
 use Rattle.ec_wire.specs.Messages.{is_sound, rises, is_held_mode}
 use Rattle.ec_wire.specs.declared.msg.Msg.{Msg}
 use Rattle.ec_wire.specs.declared.msg.Msg.TheVariants as msg
-use Rattle.ec_durable.specs.Durable.{slot}
+use Rattle.ec_durable.specs.Durable.{slot, steps}
+use Rattle.ec_durable.specs.WellFormed.{IsInOrder}
 use Rattle.ec_durable.specs.Codes.{is_sound_record}
 use Rattle.ec_durable.specs.declared.state.Durable.{Durable}
 use Rattle.ec_durable.specs.declared.record.Record.{Record}
 use Rattle.ec_durable.specs.declared.record.Record.TheVariants.{Batch}
+use Rattle.ec_durable.specs.declared.record.RecordFault.{RecordFault}
 use Rattle.ec_protocol.specs.Server.{Serving, serving, taken, in_session, end_open, serve, end}
 use Rattle.ec_protocol.specs.declared.server.Server.{Server}
 use Rattle.ec_protocol.specs.declared.server.Served.{Served}
+use Rattle.ec_once.specs.Once.{record_list, NoneAgain, AllPast}
+use Rattle.ec_once.proofs.Once.{again, past}
 use Rattle.ec_server.specs.Clerks.{HaveClerks, Records, Goes}
 use Rattle.ec_server.specs.ClerkLaws.{taken_goes}
 use Rattle.ec_server.specs.ServeLaws.{serve_serves, ended_goes, end_rec}
@@ -84,13 +88,14 @@ answers_err U done (Err f) a b m e old core after p r q =
 both : (x : Bool) → x ≡ true → x ≡ false → ⊥
 both x p q = absurd cc
 
-pub answers_stand : (res : Result Served ServerFault) (down now : Bool) (a b : Counts) (m : Serving) (old new : Server) → GoesDown res down now → IfOk res (λ served. m ≡ answer_of new served)
-    → IfErr res (λ fault. Leaves fault a b m old new) → HaveClerks m.server → HaveClerks old → now ≡ false → HaveClerks new
-answers_stand (Ok served) down now a b m old new g p r h k q = subst (λ (v : Serving). HaveClerks v.server) p h
-answers_stand (Err (Spent n)) down now a b m old new g p r h k q = subst HaveClerks (sym r.1) k
-answers_stand (Err DiskFailed) down now a b m old new g p r h k q = absurd (both now g.1 q)
-answers_stand (Err DiskStopped) down now a b m old new g p r h k q = absurd (both now g.1 q)
-answers_stand (Err NoMemory) down now a b m old new g p r h k q = absurd (both now g q)
+-- what the machine's step keeps stays, unless the server is down
+pub answers_stand : (P : Server → Type 0) (res : Result Served ServerFault) (down now : Bool) (a b : Counts) (m : Serving) (old new : Server) → GoesDown res down now → IfOk res (λ served. m ≡ answer_of new served)
+    → IfErr res (λ fault. Leaves fault a b m old new) → P m.server → P old → now ≡ false → P new
+answers_stand P (Ok served) down now a b m old new g p r h k q = subst (λ (v : Serving). P v.server) p h
+answers_stand P (Err (Spent n)) down now a b m old new g p r h k q = subst P (sym r.1) k
+answers_stand P (Err DiskFailed) down now a b m old new g p r h k q = absurd (both now g.1 q)
+answers_stand P (Err DiskStopped) down now a b m old new g p r h k q = absurd (both now g.1 q)
+answers_stand P (Err NoMemory) down now a b m old new g p r h k q = absurd (both now g q)
 
 pub record_by : (m : Serving) (d : Durable) (new : Server) (served : Served) → m ≡ answer_of new served → Goes d m → Records served.rec d new.durable
 record_by m d new served p g = subst (λ (v : Serving). Records v.rec d v.server.durable) p g.record_of
@@ -98,6 +103,21 @@ record_by m d new served p g = subst (λ (v : Serving). Records v.rec d v.server
 pub answers_record : (res : Result Served ServerFault) (m : Serving) (d : Durable) (new : Server) → IfOk res (λ served. m ≡ answer_of new served) → Goes d m → IfOk res (λ served. Records served.rec d new.durable)
 answers_record (Ok served) m d new p g = record_by m d new served p g
 answers_record (Err f) m d new p g = tt
+
+led_by : (o : Option Record) (d e : Durable) → Records o d e → steps (record_list o) d ≡ Ok e
+led_by None d e r = ap (λ (z : Durable). Ok z) (sym r)
+led_by (Some k) d e r = ap (λ (z : Result Durable RecordFault). elim z as (λ y. Result Durable RecordFault) [ Err fault ↦ Err fault | Ok m ↦ Ok m ]) r
+
+pub once_by : (o : Option Record) (d e : Durable) → Records o d e → NoneAgain (record_list o) d e
+once_by o d e r = again (record_list o) d e (led_by o d e r)
+
+pub answers_once : (res : Result Served ServerFault) (d e : Durable) → IfOk res (λ served. Records served.rec d e) → IfOk res (λ served. NoneAgain (record_list served.rec) d e)
+answers_once (Ok served) d e r = once_by served.rec d e r
+answers_once (Err f) d e r = tt
+
+pub answers_now : (res : Result Served ServerFault) (d e : Durable) → IfOk res (λ served. Records served.rec d e) → IfOk res (λ served. IsInOrder d → AllPast (record_list served.rec) e)
+answers_now (Ok served) d e r = λ order. past (record_list served.rec) d e order (led_by served.rec d e r)
+answers_now (Err f) d e r = tt
 
 pub answers_none : (res : Result Served ServerFault) (c : ℕ) (s new : Server) → IfOk res (λ served. end c s ≡ answer_of new served) → IfOk res (λ served. (served.rec ≡ None) ↔ (slots.is_open (slot s.durable c) ≡ false))
 answers_none (Ok served) c s new p = subst (λ (v : Serving). (v.rec ≡ None) ↔ (slots.is_open (slot s.durable c) ≡ false)) p (end_rec c s)

@@ -2,7 +2,11 @@
 ghost use Rattle.std.specs.Prelude.{◌≡◌, ◌↔◌, IfOk, IfErr, OnOk, IsOk, IsTrue, Err, None, true, false};
 ghost use Rattle.ec_disk.specs.Disk.{Counted};
 ghost use Rattle.ec_durable.specs.Durable.{slot};
+ghost use Rattle.ec_durable.specs.WellFormed.{IsInOrder, WellFormed};
+ghost use Rattle.ec_once.specs.Once.{record_list, NoneAgain, AllPast};
+ghost use Rattle.ec_once.specs.Safe.{IsSafe};
 ghost use Rattle.ec_sessions.specs.Slots.{is_open};
+ghost use Rattle.ec_tokens.specs.Tokens.{AllApart};
 ghost use Rattle.ec_wire.specs.Messages.{is_sound};
 ghost use Rattle.ec_protocol.specs.Server as machine;
 ghost use Rattle.ec_server.specs.Clerks.{Records};
@@ -15,6 +19,7 @@ ghost use Rattle.ec_server.specs.declared.fault.ServerFault.TheVariants as fault
 use crate::fault::ServerFault;
 use crate::keeper::Keeper;
 use crate::state::Core;
+use crate::wants::read_tokens;
 use ec_base::ClerkId;
 use ec_durable::Durable;
 use ec_protocol::Served;
@@ -50,6 +55,8 @@ impl Server {
         ensures keeper { IfErr result (λ fault. Hurts SpendsNothing K.did K.broke fault (machine.start (K.kept keeper.old)) keeper.old keeper.new) }
         ensures stands { IfOk result (λ made. StandsOn (K.kept keeper.new) made.0) }
         ensures record { IfOk result (λ made. Records made.1.rec (K.kept keeper.old) (K.kept keeper.new)) }
+        ensures safe { IfOk result (λ made. WellFormed (K.kept keeper.old) → IsSafe (standing (K.kept keeper.new) made.0)) }
+        ensures once { IfOk result (λ made. NoneAgain (record_list made.1.rec) (K.kept keeper.old) (K.kept keeper.new)) }
     {
         let mut core = Core::new(alloc)?;
         core.start(keeper)?;
@@ -94,7 +101,12 @@ impl Server {
         ensures down { GoesDown result self.old.is_down self.new.is_down }
         ensures stands { StandsOn (K.kept keeper.new) self.new }
         ensures record { IfOk result (λ served. Records served.rec (K.kept keeper.old) (K.kept keeper.new)) }
+        ensures apart { AllApart (standing (K.kept keeper.new) self.new).tokens }
+        ensures safe { self.new.is_down ≡ false → IsSafe (standing (K.kept keeper.old) self.old) → IsSafe (standing (K.kept keeper.new) self.new) }
+        ensures once { IfOk result (λ served. NoneAgain (record_list served.rec) (K.kept keeper.old) (K.kept keeper.new)) }
+        ensures now { IfOk result (λ served. IsInOrder (K.kept keeper.old) → AllPast (record_list served.rec) (K.kept keeper.new)) }
     {
+        read_tokens(&self.core.tokens);
         if self.is_down {
             return Err(ServerFault::NoMemory);
         }
@@ -117,7 +129,12 @@ impl Server {
         ensures down { GoesDown result self.old.is_down self.new.is_down }
         ensures stands { StandsOn (K.kept keeper.new) self.new }
         ensures record { IfOk result (λ served. Records served.rec (K.kept keeper.old) (K.kept keeper.new)) }
+        ensures apart { AllApart (standing (K.kept keeper.new) self.new).tokens }
+        ensures safe { self.new.is_down ≡ false → IsSafe (standing (K.kept keeper.old) self.old) → IsSafe (standing (K.kept keeper.new) self.new) }
+        ensures once { IfOk result (λ served. NoneAgain (record_list served.rec) (K.kept keeper.old) (K.kept keeper.new)) }
+        ensures now { IfOk result (λ served. IsInOrder (K.kept keeper.old) → AllPast (record_list served.rec) (K.kept keeper.new)) }
     {
+        read_tokens(&self.core.tokens);
         if self.is_down {
             return Err(ServerFault::NoMemory);
         }
@@ -132,7 +149,9 @@ impl Server {
         ensures err { IfErr result (λ fault. done ≡ Err fault) }
         ensures same { (d : Kept) → standing d self.new ≡ standing d self.old }
         ensures down { GoesDown result self.old.is_down self.new.is_down }
+        ensures apart { AllApart self.old.core.tokens }
     {
+        read_tokens(&self.core.tokens);
         match done {
             Ok(()) => Ok(self.core.served()),
             Err(ServerFault::Spent(counter)) => Err(ServerFault::Spent(counter)),

@@ -62,7 +62,7 @@ pub(crate) fn read_slots(sessions: &Sessions)
 }
 
 // A proof knows that no two tokens conflict. No code is left of this.
-fn read_tokens(tokens: &Tokens)
+pub(crate) fn read_tokens(tokens: &Tokens)
     ensures { IsSound tokens.now }
 {
     let _token = tokens.token(SessionNo(0), ObjId::root());

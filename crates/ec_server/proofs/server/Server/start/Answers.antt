@@ -1,6 +1,8 @@
 use Rattle.std.proofs.Common.{subst}
 use Rattle.ec_protocol.specs.Server as machine
-use Rattle.ec_server.specs.CallLaws.{answered, record_by}
+use Rattle.ec_once.specs.Safe.{IsSafe}
+use Rattle.ec_once.proofs.Steps.{start-safe}
+use Rattle.ec_server.specs.CallLaws.{answered, record_by, once_by}
 use Rattle.ec_server.specs.Clerks.{HaveClerks}
 use Rattle.ec_server.specs.ServeLaws.{start_goes}
 use Rattle.ec_server.specs.Steps.{server}
@@ -18,3 +20,9 @@ pub returns-clause-record : goal.returns-clause-record
 returns-clause-record g c =
     let d = g.K.Keeper.kept c.args.keeper.now in
     record_by (machine.start d) d (server (g.K.Keeper.kept c.start.new.keeper) c.served-served.new.self) c.served-served.result (returns-clause-ok g c) (start_goes d)
+
+pub returns-clause-safe : goal.returns-clause-safe
+returns-clause-safe g c = λ formed. subst (λ (t : machine.Serving). IsSafe t.server) (returns-clause-ok g c) (start-safe (g.K.Keeper.kept c.args.keeper.now) formed)
+
+pub returns-clause-once : goal.returns-clause-once
+returns-clause-once g c = once_by c.served-served.result.rec (g.K.Keeper.kept c.args.keeper.now) (g.K.Keeper.kept c.start.new.keeper) (returns-clause-record g c)

@@ -1,0 +1,4 @@
+pub mod Moves
+pub mod Once
+pub mod Walk
+pub mod Steps
