@@ -1,5 +1,5 @@
 -- What the next link makes of a server's links.
-use Rattle.std.proofs.Common.{◌≡◌, ◌⊎◌, ◌+◌, ◌<◌, ◌≤◌, ℕ, Bool, true, false, List, length, Err, sym, ◌∙◌, subst, inl, inr, ⊎_elim, arith}
+use Rattle.std.proofs.Common.{◌≡◌, ◌⊎◌, ◌+◌, ◌<◌, ◌≤◌, ℕ, Bool, true, false, List, length, Err, refl, sym, ap, ◌∙◌, subst, inl, inr, ⊎_elim, arith}
 use Rattle.std.specs.declared.snapshot.Snapshot.{Snapshot}
 use Rattle.ec_link.specs.Nets.{Ended, faulted}
 use Rattle.ec_link.specs.declared.net.NetFault.{NetFault}
@@ -41,3 +41,11 @@ module _ {N L : Type 0} (faults_of bad_of : N → ℕ) (ended_of : N → List En
       subst (λ x. GoesOn faults_of bad_of ended_of back_of (moment net left begun back failed wants pass) (moment x left_later begun_later back_later failed_later wants_later pass_later)) (sym is)
       (goes_still faults_of bad_of ended_of back_of (moment net left begun back failed wants pass) (moment mid left_later begun_later back_later failed_later wants_later pass_later)
       (no_fault (faults_of net) (faults_of mid) n faults) number (λ e. ⊎_elim (λ (was : failed ≡ true). inl was) (λ (some : 1 ≤ n). inr (one_fault (faults_of net) (faults_of mid) n faults some)) (fails e)) same rich ended bad joined steps)
+
+  -- it was looked whether a further link is to come
+  pub goes_looked : {K : Type 0} (net : N) (left left_later : ℕ) (begun begun_later : List ℕ) (back back_later : List (Snapshot L)) (failed failed_later wants wants_later : Bool) (pass : Pass (Node K) Step)
+      → left_later ≡ left → begun_later ≡ begun → back_later ≡ back → failed_later ≡ failed → (wants_later ≡ false → wants ≡ false)
+      → GoesOn faults_of bad_of ended_of back_of (moment net left begun back failed wants pass) (moment net left_later begun_later back_later failed_later wants_later pass)
+  goes_looked net left left_later begun begun_later back back_later failed failed_later wants wants_later pass l b k f w =
+      goes_still faults_of bad_of ended_of back_of (moment net left begun back failed wants pass) (moment net left_later begun_later back_later failed_later wants_later pass)
+      (omega arith) (ap (λ n. n + length begun_later) l ∙ ap (λ x. left + length x) b) (λ e. inl (sym f ∙ e)) k w refl refl refl (λ n m. refl)

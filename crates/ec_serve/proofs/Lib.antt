@@ -6,3 +6,4 @@ pub mod Backs
 pub mod Bodies
 pub mod Goes
 pub mod Tends
+pub mod Lives

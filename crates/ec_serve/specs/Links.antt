@@ -1,7 +1,8 @@
 -- How a link ends that is served, and what becomes of a server's links.
-use Rattle.std.specs.Prelude.{◌≡◌, ◌⊎◌, ◌+◌, ◌<◌, ◌≤◌, ℕ, Bool, true, false, List, ◌∷◌, [], ◌++◌, map, length, Option, Some, None, Result, Ok, Err}
+use Rattle.std.specs.Prelude.{◌≡◌, ◌⊎◌, ◌+◌, ◌<◌, ◌≤◌, ℕ, Bool, true, false, List, ◌∷◌, [], ◌++◌, map, length, Option, Some, None, IfSome, Result, Ok, Err}
 use Rattle.std.specs.List.{All}
 use Rattle.std.specs.declared.snapshot.Snapshot.{Snapshot}
+use Rattle.slab.specs.Slab.{Slab, get}
 use Rattle.ec_wire.specs.Codes.{said}
 use Rattle.ec_wire.specs.declared.fault.WireFault.{WireFault}
 use Rattle.ec_link.specs.Links.{Heard, body, long, added}
@@ -119,6 +120,10 @@ module _ {K L : Type 0} (given : L → Option (List Heard)) (got : L → Option 
 
   abbrev pub GoneSo : Bool → Pass (Node K) Step → L → Type 0
   GoneSo over pass link = (numbers pass ≡ pass.number ∷ []) × WasServed over pass link
+
+-- each link that is being served has what is known of its end from this server
+abbrev pub AllServe : {T S : Type 0} → (T → S) → S → Slab T → Type 0
+AllServe server_of server live = (key : ℕ) → IfSome (get live key) (λ one. server_of one ≡ server)
 
 -- a server's links at one moment: the net, how many are still to come, how many came, those that came back, whether the net failed, whether memory was wanting or the server is down, the
 -- numbers of the server's own pass, into which go those of the links that came back, and the beginning of the list that it knows

@@ -1,4 +1,4 @@
-// The bells of the links that are served, which say when something came to an outbox.
+// The bells of the links that are served, which say when something came to an outbox, and that of the door.
 use ec_base::{CLERK_COUNT, ClerkId, NoMemory};
 use ec_link::Bell;
 use ec_servernode::Told;
@@ -7,30 +7,44 @@ use std::collections::BTreeMap;
 use std::sync::atomic::{AtomicBool, Ordering};
 use std::sync::{Arc, Mutex, Wait};
 
+// A link that is served.
+#[derive(Drop)]
+struct Post<B: Bell + Drop> {
+    bell: Arc<B>,
+    /// The clerk of its last Hello.
+    clerk: Option<ClerkId>,
+}
+
 // Links are told by their number.
 #[derive(Drop)]
 struct Table<B: Bell + Drop> {
-    bells: BTreeMap<u64, Arc<B>>,
+    posts: BTreeMap<u64, Post<B>>,
     /// The link that each clerk has.
     by_clerk: Vec<Option<u64>>,
 }
 
-/// The bells of all links that are served, and which of them a clerk has. Nobody holds the table for longer than a look.
+/// The bells of all links that are served, which of them a clerk has, and the bell of the door, which rings too where a link has ended
+/// and where no further one is to come. Nobody holds a table for longer than a look.
 #[derive(Drop)]
-pub struct Bells<B: Bell + Drop> {
+pub struct Bells<B: Bell + Drop, D: Bell + Drop> {
     table: Mutex<Table<B>>,
+    /// The keys of the links that have ended.
+    ended: Mutex<Vec<usize>>,
+    door: D,
     is_over: AtomicBool,
 }
 
-impl<B: Bell + Drop> Bells<B> {
-    pub fn new(alloc: Global) -> Result<Bells<B>, NoMemory> {
+impl<B: Bell + Drop, D: Bell + Drop> Bells<B, D> {
+    pub fn new(alloc: Global, door: D) -> Result<Bells<B, D>, NoMemory> {
         let mut by_clerk = Vec::with_capacity(alloc, CLERK_COUNT as usize)?;
         for _ in 0..CLERK_COUNT {
             by_clerk.push(None)?;
         }
-        let bells = BTreeMap::new(alloc);
+        let posts = BTreeMap::new(alloc);
         Ok(Bells {
-            table: Mutex::new(Table { bells, by_clerk }),
+            table: Mutex::new(Table { posts, by_clerk }),
+            ended: Mutex::new(Vec::new(alloc)),
+            door,
             is_over: AtomicBool::new(false),
         })
     }
@@ -38,39 +52,83 @@ impl<B: Bell + Drop> Bells<B> {
     /// A link comes.
     pub fn add<R: Wait>(&self, rt: &R, number: u64, bell: Arc<B>) -> Result<(), NoMemory> {
         let mut table = self.table.lock(rt);
-        match table.bells.insert(number, bell) {
+        match table.posts.insert(number, Post { bell, clerk: None }) {
             Ok(_) => Ok(()),
             Err(_) => Err(NoMemory),
         }
     }
 
-    /// A link goes.
-    pub fn remove<R: Wait>(&self, rt: &R, number: u64) {
+    /// A link goes. It was this clerk's, where it said so.
+    pub fn remove<R: Wait>(&self, rt: &R, number: u64) -> Option<ClerkId> {
         let mut table = self.table.lock(rt);
-        let _ = table.bells.remove(&number);
+        table.posts.remove(&number)?.clerk
     }
 
-    /// The link of this number is now the clerk's, and rings where something came to one of these.
-    pub fn ring<R: Wait>(&self, rt: &R, number: u64, clerk: ClerkId, told: Told) {
+    /// The link of this number is now the clerk's. True where it was nobody's before.
+    pub fn greet<R: Wait>(&self, rt: &R, number: u64, clerk: ClerkId) -> bool {
         let mut table = self.table.lock(rt);
         if let Some(has) = table.by_clerk.get_mut(clerk.get() as usize) {
             *has = Some(number);
         }
+        match table.posts.get_mut(&number) {
+            Some(post) => post.clerk.replace(clerk).is_none(),
+            None => false,
+        }
+    }
+
+    /// Rings where something came to one of these, but not for the link of this number, which told it.
+    pub fn ring<R: Wait>(&self, rt: &R, number: u64, told: Told) {
+        let table = self.table.lock(rt);
         ring_told(&table, number, told);
     }
 
     /// No further link is to be served, and all that are served look why.
     pub fn close<R: Wait>(&self, rt: &R) {
         self.is_over.store(true, Ordering::SeqCst);
+        self.door.ring();
         let table = self.table.lock(rt);
-        for bell in table.bells.values() {
-            bell.ring();
+        for post in table.posts.values() {
+            post.bell.ring();
         }
     }
 
     /// Whether no further link is to be served.
     pub fn is_over(&self) -> bool {
         self.is_over.load(Ordering::SeqCst)
+    }
+
+    /// Makes room for the keys of so many links.
+    pub fn make_room<R: Wait>(&self, rt: &R, count: usize) -> Result<(), NoMemory> {
+        let mut ended = self.ended.lock(rt);
+        ended.reserve(count)?;
+        Ok(())
+    }
+
+    /// The link of this key has ended. Where there is no room for its key, it's found at the end of all.
+    pub fn end<R: Wait>(&self, rt: &R, key: usize) {
+        self.note(rt, key);
+        self.door.ring();
+    }
+
+    fn note<R: Wait>(&self, rt: &R, key: usize) {
+        let mut ended = self.ended.lock(rt);
+        let _ = ended.push(key);
+    }
+
+    /// The key of a link that has ended, which is told once.
+    pub fn next_ended<R: Wait>(&self, rt: &R) -> Option<usize> {
+        let mut ended = self.ended.lock(rt);
+        ended.pop()
+    }
+
+    /// How often the bell of the door has rung.
+    pub fn rings(&self) -> u64 {
+        self.door.rings()
+    }
+
+    /// Waits for the door, outside of every lock, unless it has rung since it stood at `seen`.
+    pub fn wait<R: Wait>(&self, rt: &R, seen: u64) {
+        self.door.wait(rt, seen);
     }
 }
 
@@ -94,7 +152,7 @@ fn ring_clerk<B: Bell + Drop>(table: &Table<B>, number: u64, clerk: ClerkId) {
 }
 
 fn ring_one<B: Bell + Drop>(table: &Table<B>, number: u64) {
-    if let Some(bell) = table.bells.get(&number) {
-        bell.ring();
+    if let Some(post) = table.posts.get(&number) {
+        post.bell.ring();
     }
 }

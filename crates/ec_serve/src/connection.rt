@@ -5,19 +5,19 @@ ghost use Rattle.ec_servernode.specs.Turns.{IsServerPass};
 ghost use Rattle.ec_serve.specs.Links.{IsOverBy, is_over, EndsSo, IsServed, WasServed, BeginsSo, GoneSo};
 
 use crate::bells::Bells;
-use crate::telling::tell_end;
+use crate::telling::{tell_end, tell_greeting};
 use ec_base::NoMemory;
 use ec_link::{Around, Bell, Link, NetFault};
 use ec_server::Keeper;
-use ec_servernode::{ServeFault, ServerPass, SharedServer, Turned};
+use ec_servernode::{ServeFault, ServerPass, SharedServer, Told, Turned};
 use std::io::Eprint;
 use std::sync::Arc;
 
 /// A link that is to be served.
 #[derive(Drop)]
-pub struct Connection<'s, 'b, K: Keeper + Drop, L: Link + Drop> {
+pub struct Connection<'s, 'b, K: Keeper + Drop, L: Link + Drop, D: Bell + Drop> {
     pub server: &'s SharedServer<K>,
-    pub bells: &'b Bells<L::Bell>,
+    pub bells: &'b Bells<L::Bell, D>,
     pub number: u64,
     pub pass: ServerPass<K>,
     pub link: L,
@@ -32,10 +32,11 @@ pub struct Ended<K: Keeper + Drop, L: Link + Drop> {
     pub is_over: bool,
 }
 
-/// Serves the link to its end, or until the server is down.
-pub fn serve_connection<K: Keeper + Drop, L: Link + Drop, R: Around + Eprint>(
+/// Serves the link to its end, or until the server is down. Its key then stands among those that have ended.
+pub fn serve_connection<K: Keeper + Drop, L: Link + Drop, D: Bell + Drop, R: Around + Eprint>(
     rt: &R,
-    connection: Connection<'_, '_, K, L>,
+    connection: Connection<'_, '_, K, L, D>,
+    key: usize,
 ) -> Ended<K, L>
     requires { IsServerPass K.kept connection.server.now.lock connection.pass.pass connection.pass.clerk × BeginsSo L.given L.got connection.pass.pass connection.link }
     ensures { IsServerPass K.kept connection.entry.server.now.lock result.pass.pass result.pass.clerk × EndsSo L.faults L.closes L.given result.is_over result.link × GoneSo L.given L.got result.is_over result.pass.pass result.link }
@@ -49,11 +50,12 @@ pub fn serve_connection<K: Keeper + Drop, L: Link + Drop, R: Around + Eprint>(
     } = connection;
     let end = serve_link(rt, server, bells, number, &mut pass, &mut link);
     let is_over = is_over(&end);
-    tell_end(rt, number, &end);
+    tell_end(rt, number, bells.remove(rt, number), &end);
     link.hang_up();
     if !is_over {
         bells.close(rt);
     }
+    bells.end(rt, key);
     Ended {
         pass,
         link,
@@ -73,10 +75,10 @@ fn is_over(end: &Result<(), ServeFault>) -> bool
 }
 
 // Serves the link to its end, or until the server is down.
-fn serve_link<K: Keeper + Drop, L: Link, R: Around>(
+fn serve_link<K: Keeper + Drop, L: Link, D: Bell + Drop, R: Around + Eprint>(
     rt: &R,
     server: &SharedServer<K>,
-    bells: &Bells<L::Bell>,
+    bells: &Bells<L::Bell, D>,
     number: u64,
     pass: &mut ServerPass<K>,
     link: &mut L,
@@ -99,14 +101,12 @@ fn serve_link<K: Keeper + Drop, L: Link, R: Around>(
     if add_bell(rt, bells, number, &bell).is_err() {
         return Err(ServeFault::NoMemory);
     }
-    let end = take_turns(rt, server, bells, number, &*bell, pass, link);
-    bells.remove(rt, number);
-    end
+    take_turns(rt, server, bells, number, &*bell, pass, link)
 }
 
-fn add_bell<B: Bell + Drop, R: Around>(
+fn add_bell<B: Bell + Drop, D: Bell + Drop, R: Around>(
     rt: &R,
-    bells: &Bells<B>,
+    bells: &Bells<B, D>,
     number: u64,
     bell: &Arc<B>,
 ) -> Result<(), NoMemory> {
@@ -114,10 +114,10 @@ fn add_bell<B: Bell + Drop, R: Around>(
 }
 
 // Takes turns with the link until it's at its end.
-fn take_turns<K: Keeper + Drop, L: Link, R: Around>(
+fn take_turns<K: Keeper + Drop, L: Link, D: Bell + Drop, R: Around + Eprint>(
     rt: &R,
     server: &SharedServer<K>,
-    bells: &Bells<L::Bell>,
+    bells: &Bells<L::Bell, D>,
     number: u64,
     bell: &L::Bell,
     pass: &mut ServerPass<K>,
@@ -139,10 +139,10 @@ fn take_turns<K: Keeper + Drop, L: Link, R: Around>(
 }
 
 // One turn with the link. Where there is nothing to do it waits for the bell, outside of every lock.
-fn turn<K: Keeper + Drop, L: Link, R: Around>(
+fn turn<K: Keeper + Drop, L: Link, D: Bell + Drop, R: Around + Eprint>(
     rt: &R,
     server: &SharedServer<K>,
-    bells: &Bells<L::Bell>,
+    bells: &Bells<L::Bell, D>,
     number: u64,
     bell: &L::Bell,
     pass: &mut ServerPass<K>,
@@ -159,7 +159,7 @@ fn turn<K: Keeper + Drop, L: Link, R: Around>(
     let seen = bell.rings();
     match server.serve_one(rt, pass, link) {
         Ok(Turned::Took(told)) => {
-            bells.ring(rt, number, pass.clerk(), told);
+            ring(rt, bells, number, pass, told);
             None
         }
         Ok(Turned::Gave) => None,
@@ -174,4 +174,18 @@ fn turn<K: Keeper + Drop, L: Link, R: Around>(
         Ok(Turned::Closed) => Some(Ok(())),
         Err(fault) => Some(Err(fault)),
     }
+}
+
+// A message was taken. A Hello says whose link it is.
+fn ring<K: Keeper + Drop, B: Bell + Drop, D: Bell + Drop, R: Around + Eprint>(
+    rt: &R,
+    bells: &Bells<B, D>,
+    number: u64,
+    pass: &ServerPass<K>,
+    told: Told,
+) {
+    if pass.greets() && bells.greet(rt, number, pass.clerk()) {
+        tell_greeting(rt, number, pass.clerk());
+    }
+    bells.ring(rt, number, told);
 }

@@ -23,7 +23,7 @@ use std::snapshot::Snapshot;
 #[derive(Drop)]
 pub struct Connections<'s, 'b, K: Keeper + Drop, N: Net> {
     pub server: &'s SharedServer<K>,
-    pub bells: &'b Bells<<N::Link as Link>::Bell>,
+    pub bells: &'b Bells<<N::Link as Link>::Bell, N::DoorBell>,
     pub door: N::Door,
     /// So many links are still to come.
     pub left: u32,
@@ -44,7 +44,7 @@ impl<'s, 'b, K: Keeper + Drop, N: Net> Connections<'s, 'b, K, N> {
         rt: &R,
         pass: &mut ServerPass<K>,
         link: N::Link,
-    ) -> Option<Connection<'s, 'b, K, N::Link>>
+    ) -> Option<Connection<'s, 'b, K, N::Link, N::DoorBell>>
         requires pass { IsServerPass K.kept self.old.server.now.lock pass.old.pass pass.old.clerk }
         requires left { 0 < self.old.left }
         requires link { IsEmpty (N.Link.given link) × IsEmpty (N.Link.got link) }
@@ -96,13 +96,32 @@ impl<'s, 'b, K: Keeper + Drop, N: Net> Connections<'s, 'b, K, N> {
         }
     }
 
-    /// The next link, or `None` where no further one comes. Its pass is drawn by the server's own.
+    /// Whether no further link is to come.
+    pub fn is_over(&mut self) -> bool
+        ensures server { self.new.server ≡ self.old.server }
+        ensures links { (self.new.left ≡ self.old.left) × (self.new.begun ≡ self.old.begun) × (self.new.back ≡ self.old.back) }
+        ensures failed { self.new.failed ≡ self.old.failed }
+        ensures wants { self.new.wants ≡ false → self.old.wants ≡ false }
+        ensures over { result ≡ true → (self.new.left ≡ 0) ⊎ ((self.new.failed ≡ true) ⊎ (self.new.wants ≡ true)) }
+    {
+        self.wants = self.wants || self.bells.is_over();
+        self.left == 0 || self.failed || self.wants
+    }
+
+    /// Waits for the door, unless no further link is to come or it has rung since it stood at `seen`.
+    pub fn rest<R: Around>(&self, rt: &R, seen: u64) {
+        if self.left > 0 && !self.failed && !self.wants {
+            self.bells.wait(rt, seen);
+        }
+    }
+
+    /// The next link, where one is there. Its pass is drawn by the server's own.
     pub fn next<R: Around + Eprint>(
         &mut self,
         rt: &R,
         net: &mut N,
         pass: &mut ServerPass<K>,
-    ) -> Option<Connection<'s, 'b, K, N::Link>>
+    ) -> Option<Connection<'s, 'b, K, N::Link, N::DoorBell>>
         requires pass { IsServerPass K.kept self.old.server.now.lock pass.old.pass pass.old.clerk }
         ensures pass { IsServerPass K.kept self.new.server.now.lock pass.new.pass pass.new.clerk }
         ensures server { self.new.server ≡ self.old.server }
@@ -111,18 +130,14 @@ impl<'s, 'b, K: Keeper + Drop, N: Net> Connections<'s, 'b, K, N> {
             (moment net.new self.new.left self.new.begun.items self.new.back.items self.new.failed self.new.wants pass.new.pass) }
         ensures begun { length self.new.begun.items ≡ length self.old.begun.items + taken result }
         ensures back { self.new.back ≡ self.old.back }
-        ensures none { IfNone result ((self.new.left ≡ 0) ⊎ ((self.new.failed ≡ true) ⊎ (self.new.wants ≡ true))) }
         ensures some { IfSome result (λ c. (c.server ≡ self.old.server) × IsServerPass K.kept self.old.server.now.lock c.pass.pass c.pass.clerk × BeginsSo N.Link.given N.Link.got c.pass.pass c.link) }
     {
         if self.left == 0 {
             return None;
         }
-        if self.bells.is_over() {
-            self.wants = true;
-            return None;
-        }
-        match net.accept(rt, &mut self.door) {
-            Ok(link) => self.begin(rt, pass, link),
+        match net.next(rt, &mut self.door) {
+            Ok(Some(link)) => self.begin(rt, pass, link),
+            Ok(None) => None,
             Err(NetFault::Failed) => {
                 self.failed = true;
                 None

@@ -1,19 +1,53 @@
 // What a server says on standard error, one line each. What can't be said there is no fault.
+use ec_base::ClerkId;
 use ec_servernode::ServeFault;
-use std::io::Eprint;
+use std::io::{self, Eprint};
+use std::net::SocketAddr;
 
-pub fn tell_door<R: Eprint>(rt: &R, addr: &str) {
-    let _ = eprintln!(rt; "echofs: serves at {addr}");
+/// Where it serves, in the system's words where they're known.
+pub fn tell_door<R: Eprint>(rt: &R, addr: &str, place: Option<SocketAddr>) {
+    let _ = match place {
+        Some(place) => eprintln!(rt; "echofs: serves at {place}"),
+        None => eprintln!(rt; "echofs: serves at {addr}"),
+    };
+}
+
+/// Why nothing is served there.
+pub fn tell_no_door<R: Eprint>(rt: &R, addr: &str, why: Option<io::Error>) {
+    let _ = match why {
+        Some(why) => eprintln!(rt; "echofs: can't serve at {addr}: {why}"),
+        None => eprintln!(rt; "echofs: can't serve at {addr}"),
+    };
 }
 
 pub fn tell_begin<R: Eprint>(rt: &R, number: u64) {
     let _ = eprintln!(rt; "echofs: link {number} came");
 }
 
-/// Why a link isn't served any more.
-pub fn tell_end<R: Eprint>(rt: &R, number: u64, end: &Result<(), ServeFault>) {
-    let _ = match end {
-        Ok(()) => eprintln!(rt; "echofs: link {number} was closed"),
-        Err(fault) => eprintln!(rt; "echofs: link {number} ended: {fault}"),
+/// Whose link it is, once it says so.
+pub fn tell_greeting<R: Eprint>(rt: &R, number: u64, clerk: ClerkId) {
+    let _ = eprintln!(rt; "echofs: link {number} is {}'s", letter(clerk));
+}
+
+/// Why a link isn't served any more, and whose it was.
+pub fn tell_end<R: Eprint>(
+    rt: &R,
+    number: u64,
+    clerk: Option<ClerkId>,
+    end: &Result<(), ServeFault>,
+) {
+    let _ = match (clerk, end) {
+        (None, Ok(())) => eprintln!(rt; "echofs: link {number} was closed"),
+        (None, Err(fault)) => eprintln!(rt; "echofs: link {number} ended: {fault}"),
+        (Some(clerk), Ok(())) => {
+            eprintln!(rt; "echofs: link {number} of {} was closed", letter(clerk))
+        }
+        (Some(clerk), Err(fault)) => {
+            eprintln!(rt; "echofs: link {number} of {} ended: {fault}", letter(clerk))
+        }
     };
+}
+
+fn letter(clerk: ClerkId) -> char {
+    (b'A' + clerk.get()) as char
 }

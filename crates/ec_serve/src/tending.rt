@@ -1,7 +1,8 @@
 // The links of a server, from the first to the last.
-ghost use Rattle.std.specs.Prelude.{◌≡◌, ◌≤◌};
+ghost use Rattle.std.specs.Prelude.{◌≡◌, ◌+◌, ◌≤◌};
 ghost use mathlib.Core.List.{IsPrefix};
 ghost use Rattle.ec_lock.specs.Passes.{front, numbers};
+ghost use Rattle.ec_link.specs.Nets.{faulted};
 ghost use Rattle.ec_link.specs.Spawns.{faults_of};
 ghost use Rattle.ec_link.specs.declared.spawn.Spawned.TheVariants as spawned;
 ghost use Rattle.ec_servernode.specs.Turns.{IsServerPass};
@@ -10,7 +11,7 @@ ghost use Rattle.ec_serve.specs.Serve.{Tends, tended_of};
 use crate::bells::Bells;
 use crate::connections::Connections;
 use crate::ending::Tended;
-use crate::telling::tell_door;
+use crate::telling::{tell_door, tell_no_door};
 use crate::threads::run_all;
 use ec_link::{Around, Net, NetFault, Spawned, Spawner};
 use ec_server::Keeper;
@@ -35,15 +36,14 @@ pub fn tend<K: Keeper + Send + Drop, N: Net, R: Around + Eprint>(
         (record { faults = N.faults net.old; bad = N.bad net.old; ended = N.ended net.old; starts = faults_of spawner.old })
         (record { faults = N.faults net.new; bad = N.bad net.new; ended = N.ended net.new; starts = faults_of spawner.new }) }
 {
-    let Ok(bells) = Bells::new(rt.alloc()) else {
-        return Tended::Cut;
-    };
-    let door = match net.listen(rt, addr) {
-        Ok(door) => door,
+    let (door, bell) = match open(rt, net, addr) {
+        Ok(opened) => opened,
         Err(NetFault::Failed) => return Tended::NetFailed,
         Err(NetFault::NoMemory) => return Tended::Cut,
     };
-    tell_door(rt, addr);
+    let Ok(bells) = Bells::new(rt.alloc(), bell) else {
+        return Tended::Cut;
+    };
     let mut connections = Connections {
         server,
         bells: &bells,
@@ -57,6 +57,40 @@ pub fn tend<K: Keeper + Send + Drop, N: Net, R: Around + Eprint>(
     };
     let ran = run_all(rt, spawner, net, pass, &mut connections);
     tended_of(ran.spawned, ran.failed, ran.wants)
+}
+
+// Opens the door, with its bell.
+fn open<N: Net, R: Around + Eprint>(
+    rt: &R,
+    net: &mut N,
+    addr: &str,
+) -> Result<(N::Door, N::DoorBell), NetFault>
+    ensures faults { N.faults net.old + faulted result ≤ N.faults net.new }
+    ensures same { (N.bad net.new ≡ N.bad net.old) × (N.ended net.new ≡ N.ended net.old) }
+{
+    match open_door(rt, net, addr) {
+        Ok((door, bell)) => {
+            tell_door(rt, addr, net.place(&door));
+            Ok((door, bell))
+        }
+        Err(fault) => {
+            tell_no_door(rt, addr, net.reason());
+            Err(fault)
+        }
+    }
+}
+
+fn open_door<N: Net, R: Around>(
+    rt: &R,
+    net: &mut N,
+    addr: &str,
+) -> Result<(N::Door, N::DoorBell), NetFault>
+    ensures faults { N.faults net.old + faulted result ≤ N.faults net.new }
+    ensures same { (N.bad net.new ≡ N.bad net.old) × (N.ended net.new ≡ N.ended net.old) }
+{
+    let mut door = net.listen(rt, addr)?;
+    let bell = net.door_bell(rt, &mut door)?;
+    Ok((door, bell))
 }
 
 // How the links ended, by who started the threads, by whether the net failed, and by whether memory was wanting.

@@ -1,17 +1,19 @@
 // Links that are served in threads of their own, which borrow the server.
-ghost use Rattle.std.specs.Prelude.{◌≡◌, ◌⊎◌, ◌+◌, ℕ, length, true, vec_len, IfSome, IfNone};
-ghost use Rattle.std.specs.List.{All};
+ghost use Rattle.std.specs.Prelude.{◌≡◌, ◌⊎◌, ◌+◌, ℕ, length, true, IfSome, IfNone, OnOk};
+ghost use Rattle.slab.specs.Slab.{slab_len, HasRoomFor};
 ghost use Rattle.ec_link.specs.declared.spawn.Spawned.TheVariants as spawned;
-ghost use Rattle.ec_link.specs.Spawns.{refused, faults_of};
+ghost use Rattle.ec_link.specs.Spawns.{refused, refused_by, faults_of};
 ghost use Rattle.ec_servernode.specs.Turns.{IsServerPass};
-ghost use Rattle.ec_serve.specs.Links.{EndsSo, BeginsSo, GoneSo, back_of, moment, GoesOn};
+ghost use Rattle.ec_serve.specs.Links.{EndsSo, BeginsSo, GoneSo, AllServe, back_of, moment, GoesOn};
 
 use crate::connection::{Connection, Ended, serve_connection};
 use crate::connections::Connections;
-use ec_link::{Around, Link, Net, Spawned, Spawner};
+use ec_base::NoMemory;
+use ec_link::{Around, Bell, Link, Net, Spawned, Spawner};
 use ec_server::Keeper;
 use ec_servernode::{ServerPass, SharedServer};
 use ec_trace::Trace;
+use slab::Slab;
 use std::io::Eprint;
 use std::snapshot::Snapshot;
 use std::thread;
@@ -34,12 +36,22 @@ struct Started<K: Keeper + Drop, L: Link + Drop> {
     handle: PromisedHandle<Ended<K, L>, Kept<K>>,
 }
 
-// Starts to serve a link, or drops it.
-fn start<'s, 'a, 'b, E, K: Keeper + Send + Drop, L: Link + Send + Drop, R: Around + Eprint>(
+// Starts to serve a link that is to have this key, or drops it.
+fn start<
+    's,
+    'a,
+    'b,
+    E,
+    K: Keeper + Send + Drop,
+    L: Link + Send + Drop,
+    D: Bell + Send + Sync + Drop,
+    R: Around + Eprint,
+>(
     rt: &'s R,
     scope: &Scope<'s, E>,
     spawner: &mut Spawner,
-    connection: Connection<'a, 'b, K, L>,
+    connection: Connection<'a, 'b, K, L, D>,
+    key: usize,
 ) -> Option<Started<K, L>>
 where
     'a: 's,
@@ -47,6 +59,7 @@ where
     K: 's,
     L: 's,
     L::Bell: 's,
+    D: 's,
     requires { IsServerPass K.kept connection.server.now.lock connection.pass.pass connection.pass.clerk × BeginsSo L.given L.got connection.pass.pass connection.link }
     ensures some { IfSome result (λ started. (started.handle.promise.0.value ≡ connection.entry.server.now) × (faults_of spawner.new ≡ faults_of spawner.old)) }
     ensures none { IfNone result (faults_of spawner.new ≡ faults_of spawner.old + 1) }
@@ -58,20 +71,20 @@ where
         move || -> Ended<K, L>
             requires { IsServerPass K.kept connection.server.now.lock connection.pass.pass connection.pass.clerk × BeginsSo L.given L.got connection.pass.pass connection.link }
             ensures { IsServerPass K.kept connection.entry.server.now.lock result.pass.pass result.pass.clerk × EndsSo L.faults L.closes L.given result.is_over result.link × GoneSo L.given L.got result.is_over result.pass.pass result.link }
-        { serve_connection(rt, connection) },
+        { serve_connection(rt, connection, key) },
     )?;
     Some(Started { handle })
 }
 
-// Serves link after link.
-fn start_all<'s, 'a, 'b, E, K: Keeper + Send + Drop, N: Net, R: Around + Eprint>(
+// Serves link after link, and gives back each that has ended.
+fn serve_all<'s, 'a, 'b, E, K: Keeper + Send + Drop, N: Net, R: Around + Eprint>(
     rt: &'s R,
     scope: &Scope<'s, E>,
     spawner: &mut Spawner,
     net: &mut N,
     pass: &mut ServerPass<K>,
     connections: &mut Connections<'a, 'b, K, N>,
-    started: &mut Vec<Started<K, N::Link>>,
+    live: &mut Slab<Started<K, N::Link>>,
 ) -> Spawned
 where
     'a: 's,
@@ -79,54 +92,170 @@ where
     K: 's,
     N::Link: 's,
     <N::Link as Link>::Bell: 's,
+    N::DoorBell: 's,
     requires pass { IsServerPass K.kept connections.old.server.now.lock pass.old.pass pass.old.clerk }
-    requires kept { All (λ one. one.handle.promise.0.value ≡ connections.old.server.now) started.old.items }
+    requires kept { AllServe (λ one. one.handle.promise.0.value) connections.old.server.now live.old }
+    ensures pass { IsServerPass K.kept connections.new.server.now.lock pass.new.pass pass.new.clerk }
+    ensures server { connections.new.server ≡ connections.old.server }
+    ensures goes { GoesOn N.faults N.bad N.ended (back_of N.Link.faults N.Link.closes N.Link.given N.Link.got)
+        (moment net.old connections.old.left connections.old.begun.items connections.old.back.items connections.old.failed connections.old.wants pass.old.pass)
+        (moment net.new connections.new.left connections.new.begun.items connections.new.back.items connections.new.failed connections.new.wants pass.new.pass) }
+    ensures each { length connections.new.begun.items + length connections.old.back.items + slab_len live.old ≡ length connections.old.begun.items + length connections.new.back.items + slab_len live.new + refused result }
+    ensures over { (result ≡ spawned.All) → (connections.new.left ≡ 0) ⊎ ((connections.new.failed ≡ true) ⊎ (connections.new.wants ≡ true)) }
+    ensures kept { AllServe (λ one. one.handle.promise.0.value) connections.old.server.now live.new }
+    ensures faults { faults_of spawner.new ≡ faults_of spawner.old + refused result }
+{
+    for _ in rt.forever() {
+        let seen = connections.bells.rings();
+        give_back_ended(rt, net, pass, connections, live);
+        if let Some(spawned) = serve_next(rt, scope, spawner, net, pass, connections, live, seen) {
+            return spawned;
+        }
+    }
+    unreachable!()
+}
+
+// Serves the next link. Where none is there it waits until one may be, or one of those that are served has ended.
+fn serve_next<'s, 'a, 'b, E, K: Keeper + Send + Drop, N: Net, R: Around + Eprint>(
+    rt: &'s R,
+    scope: &Scope<'s, E>,
+    spawner: &mut Spawner,
+    net: &mut N,
+    pass: &mut ServerPass<K>,
+    connections: &mut Connections<'a, 'b, K, N>,
+    live: &mut Slab<Started<K, N::Link>>,
+    seen: u64,
+) -> Option<Spawned>
+where
+    'a: 's,
+    'b: 's,
+    K: 's,
+    N::Link: 's,
+    <N::Link as Link>::Bell: 's,
+    N::DoorBell: 's,
+    requires pass { IsServerPass K.kept connections.old.server.now.lock pass.old.pass pass.old.clerk }
+    requires kept { AllServe (λ one. one.handle.promise.0.value) connections.old.server.now live.old }
     ensures pass { IsServerPass K.kept connections.new.server.now.lock pass.new.pass pass.new.clerk }
     ensures server { connections.new.server ≡ connections.old.server }
     ensures goes { GoesOn N.faults N.bad N.ended (back_of N.Link.faults N.Link.closes N.Link.given N.Link.got)
         (moment net.old connections.old.left connections.old.begun.items connections.old.back.items connections.old.failed connections.old.wants pass.old.pass)
         (moment net.new connections.new.left connections.new.begun.items connections.new.back.items connections.new.failed connections.new.wants pass.new.pass) }
     ensures back { connections.new.back ≡ connections.old.back }
-    ensures each { length connections.new.begun.items + vec_len started.old ≡ length connections.old.begun.items + vec_len started.new + refused result }
-    ensures over { (result ≡ spawned.All) → (connections.new.left ≡ 0) ⊎ ((connections.new.failed ≡ true) ⊎ (connections.new.wants ≡ true)) }
-    ensures kept { All (λ one. one.handle.promise.0.value ≡ connections.old.server.now) started.new.items }
-    ensures faults { faults_of spawner.new ≡ faults_of spawner.old + refused result }
+    ensures each { length connections.new.begun.items + slab_len live.old ≡ length connections.old.begun.items + slab_len live.new + refused_by result }
+    ensures over { IfSome result (λ s. (s ≡ spawned.All) → (connections.new.left ≡ 0) ⊎ ((connections.new.failed ≡ true) ⊎ (connections.new.wants ≡ true))) }
+    ensures kept { AllServe (λ one. one.handle.promise.0.value) connections.old.server.now live.new }
+    ensures faults { faults_of spawner.new ≡ faults_of spawner.old + refused_by result }
+{
+    if connections.is_over() {
+        return Some(Spawned::All);
+    }
+    if make_room(rt, connections, live).is_err() {
+        return Some(Spawned::NoMemory);
+    }
+    let Some(connection) = connections.next(rt, net, pass) else {
+        connections.rest(rt, seen);
+        return None;
+    };
+    let key = live.vacant_key();
+    match start(rt, scope, spawner, connection, key) {
+        Some(one) => {
+            live.insert_reserved(one);
+            None
+        }
+        None => Some(Spawned::Failed),
+    }
+}
+
+// Makes room for one link more, and for its key among those that have ended.
+fn make_room<K: Keeper + Drop, N: Net, R: Around>(
+    rt: &R,
+    connections: &Connections<'_, '_, K, N>,
+    live: &mut Slab<Started<K, N::Link>>,
+) -> Result<(), NoMemory>
+    ensures room { OnOk result (HasRoomFor live.new 1) }
+    ensures same { live.new ≡ record live.old { capacity = live.new.capacity } }
+{
+    live.reserve(1)?;
+    connections
+        .bells
+        .make_room(rt, live.len().saturating_add(1))
+}
+
+// Gives back each link that has ended since this was done last.
+fn give_back_ended<K: Keeper + Drop, N: Net, R: Around>(
+    rt: &R,
+    net: &mut N,
+    pass: &mut ServerPass<K>,
+    connections: &mut Connections<'_, '_, K, N>,
+    live: &mut Slab<Started<K, N::Link>>,
+)
+    requires pass { IsServerPass K.kept connections.old.server.now.lock pass.old.pass pass.old.clerk }
+    requires kept { AllServe (λ one. one.handle.promise.0.value) connections.old.server.now live.old }
+    ensures pass { IsServerPass K.kept connections.new.server.now.lock pass.new.pass pass.new.clerk }
+    ensures server { connections.new.server ≡ connections.old.server }
+    ensures goes { GoesOn N.faults N.bad N.ended (back_of N.Link.faults N.Link.closes N.Link.given N.Link.got)
+        (moment net.old connections.old.left connections.old.begun.items connections.old.back.items connections.old.failed connections.old.wants pass.old.pass)
+        (moment net.new connections.new.left connections.new.begun.items connections.new.back.items connections.new.failed connections.new.wants pass.new.pass) }
+    ensures begun { connections.new.begun ≡ connections.old.begun }
+    ensures each { length connections.new.back.items + slab_len live.new ≡ length connections.old.back.items + slab_len live.old }
+    ensures kept { AllServe (λ one. one.handle.promise.0.value) connections.old.server.now live.new }
 {
     for _ in rt.forever() {
-        if started.reserve(1).is_err() {
-            return Spawned::NoMemory;
-        }
-        let Some(connection) = connections.next(rt, net, pass) else {
-            return Spawned::All;
+        let Some(key) = connections.bells.next_ended(rt) else {
+            return;
         };
-        match start(rt, scope, spawner, connection) {
-            Some(one) => started.push_reserved(one),
-            None => return Spawned::Failed,
-        }
+        give_back(rt, net, pass, connections, live, key);
     }
     unreachable!()
 }
 
-// Waits for each link, and gives it back.
+// Gives back the link of this key, which has ended.
+fn give_back<K: Keeper + Drop, N: Net, R: Around>(
+    rt: &R,
+    net: &mut N,
+    pass: &mut ServerPass<K>,
+    connections: &mut Connections<'_, '_, K, N>,
+    live: &mut Slab<Started<K, N::Link>>,
+    key: usize,
+)
+    requires pass { IsServerPass K.kept connections.old.server.now.lock pass.old.pass pass.old.clerk }
+    requires kept { AllServe (λ one. one.handle.promise.0.value) connections.old.server.now live.old }
+    ensures pass { IsServerPass K.kept connections.new.server.now.lock pass.new.pass pass.new.clerk }
+    ensures server { connections.new.server ≡ connections.old.server }
+    ensures goes { GoesOn N.faults N.bad N.ended (back_of N.Link.faults N.Link.closes N.Link.given N.Link.got)
+        (moment net.old connections.old.left connections.old.begun.items connections.old.back.items connections.old.failed connections.old.wants pass.old.pass)
+        (moment net.new connections.new.left connections.new.begun.items connections.new.back.items connections.new.failed connections.new.wants pass.new.pass) }
+    ensures begun { connections.new.begun ≡ connections.old.begun }
+    ensures each { length connections.new.back.items + slab_len live.new ≡ length connections.old.back.items + slab_len live.old }
+    ensures kept { AllServe (λ one. one.handle.promise.0.value) connections.old.server.now live.new }
+{
+    if let Some(one) = live.try_remove(key) {
+        let ended = join(rt, one);
+        connections.done(net, pass, ended);
+    }
+}
+
+// Waits for each link that is left, and gives it back.
 fn finish_all<K: Keeper + Drop, N: Net, R: Around>(
     rt: &R,
     net: &mut N,
     pass: &mut ServerPass<K>,
     connections: &mut Connections<'_, '_, K, N>,
-    started: Vec<Started<K, N::Link>>,
+    live: Slab<Started<K, N::Link>>,
 )
     requires pass { IsServerPass K.kept connections.old.server.now.lock pass.old.pass pass.old.clerk }
-    requires kept { All (λ one. one.handle.promise.0.value ≡ connections.old.server.now) started.items }
+    requires kept { AllServe (λ one. one.handle.promise.0.value) connections.old.server.now live }
     ensures pass { IsServerPass K.kept connections.new.server.now.lock pass.new.pass pass.new.clerk }
     ensures server { connections.new.server ≡ connections.old.server }
     ensures goes { GoesOn N.faults N.bad N.ended (back_of N.Link.faults N.Link.closes N.Link.given N.Link.got)
         (moment net.old connections.old.left connections.old.begun.items connections.old.back.items connections.old.failed connections.old.wants pass.old.pass)
         (moment net.new connections.new.left connections.new.begun.items connections.new.back.items connections.new.failed connections.new.wants pass.new.pass) }
     ensures others { (connections.new.left ≡ connections.old.left) × (connections.new.begun ≡ connections.old.begun) × (connections.new.failed ≡ connections.old.failed) }
-    ensures back { length connections.new.back.items ≡ length connections.old.back.items + vec_len started }
+    ensures back { length connections.new.back.items ≡ length connections.old.back.items + slab_len live }
     ensures wants { connections.old.wants ≡ true → connections.new.wants ≡ true }
 {
-    for one in started {
+    for entry in live {
+        let (_, one) = entry;
         let ended = join(rt, one);
         connections.done(net, pass, ended);
     }
@@ -153,6 +282,7 @@ where
     K: 's,
     N::Link: 's,
     <N::Link as Link>::Bell: 's,
+    N::DoorBell: 's,
     requires pass { IsServerPass K.kept connections.old.server.now.lock pass.old.pass pass.old.clerk }
     ensures pass { IsServerPass K.kept connections.new.server.now.lock pass.new.pass pass.new.clerk }
     ensures server { connections.new.server ≡ connections.old.server }
@@ -163,9 +293,9 @@ where
     ensures over { (result ≡ spawned.All) → (connections.new.left ≡ 0) ⊎ ((connections.new.failed ≡ true) ⊎ (connections.new.wants ≡ true)) }
     ensures faults { faults_of spawner.new ≡ faults_of spawner.old + refused result }
 {
-    let mut started = Vec::new(rt.alloc());
-    let spawned = start_all(rt, scope, spawner, net, pass, connections, &mut started);
-    finish_all(rt, net, pass, connections, started);
+    let mut live = Slab::new(rt.alloc());
+    let spawned = serve_all(rt, scope, spawner, net, pass, connections, &mut live);
+    finish_all(rt, net, pass, connections, live);
     spawned
 }
 

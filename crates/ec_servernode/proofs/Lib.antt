@@ -7,3 +7,4 @@ pub mod Boxes
 pub mod Ends
 pub mod Fronts
 pub mod Tells
+pub mod Safe

@@ -5,6 +5,7 @@ use Rattle.std.specs.declared.snapshot.Snapshot.{Snapshot}
 use Rattle.ec_base.specs.Limits.{clerk_count}
 use Rattle.ec_disk.specs.Disk.{Counts, Counted}
 use Rattle.ec_wire.specs.Codes.{said}
+use Rattle.ec_wire.specs.Messages.{is_sound}
 use Rattle.ec_wire.specs.declared.msg.Msg.{Msg}
 use Rattle.ec_durable.specs.declared.state.Durable.{Durable}
 use Rattle.ec_durable.specs.declared.record.Record.{Record}
@@ -34,6 +35,7 @@ module _ {K : Type 0} (kept : K → Durable) (counts : K → Counts) (did breaks
     pub up : old.broken ≡ false
     pub none : old.halt ≡ None
     pub said_so : said bytes.value.items ≡ Ok m
+    pub sound : is_sound m ≡ true
     pub from : c ≡ sender m (clerk_by pass old.trace.items)
     pub does : Does (taken c m (state_of kept old)) (kept keeper) server served
     pub did_so : Did did served.rec old.keeper keeper
@@ -51,7 +53,7 @@ module _ {K : Type 0} (kept : K → Durable) (counts : K → Counts) (did breaks
       let done : taken c g.shot.value (leads s0 xs) ≡ record { server = standing (kept keeper) server; sent = served.sent; rec = served.rec; spent = None } =
       ap (λ y. taken c y (leads s0 xs)) g.shot_is ∙ (ap (λ y. taken c m y) lead ∙ t.does) in
       let came : Came (taken c g.shot.value (leads s0 xs)) g.copy.value = (ap (λ d. d.sent) done ∙ ap (λ y. y.sent) (sym g.copy_is), ap (λ d. d.rec) done ∙ ap (λ y. y.rec) (sym g.copy_is), ap (λ d. d.spent) done) in
-      let is_step : IsStep s0 (queue_at first.boxes.items) xs x = (none, (t.said_so ∙ ap Ok (sym g.shot_is), t.from ∙ ap (λ y. sender y (clerk_by pass xs)) (sym g.shot_is), came)) in
+      let is_step : IsStep s0 (queue_at first.boxes.items) xs x = (none, (t.said_so ∙ ap Ok (sym g.shot_is), t.from ∙ ap (λ y. sender y (clerk_by pass xs)) (sym g.shot_is), came, ap is_sound g.shot_is ∙ t.sound)) in
       let counted = s.counted in
       record {
         run = subst (IsRun s0 (queue_at first.boxes.items)) (sym g.list) (run_push s0 (queue_at first.boxes.items) xs x s.run is_step);

@@ -6,3 +6,4 @@ pub mod Told
 pub mod Bodies
 pub mod Turns
 pub mod Floors
+pub mod Safe

@@ -3,6 +3,7 @@ use Rattle.std.specs.Prelude.{◌≡◌, ◌==◌, ℕ, Bool, true, cond, nat_lt
 use Rattle.ec_wire.specs.declared.msg.Msg.{Msg}
 use Rattle.ec_wire.specs.declared.msg.Msg.TheVariants as msg
 use Rattle.ec_wire.specs.Codes.{said}
+use Rattle.ec_wire.specs.Messages.{is_sound}
 use Rattle.ec_durable.specs.declared.record.Record.{Record}
 use Rattle.ec_protocol.specs.declared.server.Server.{Server}
 use Rattle.ec_protocol.specs.declared.server.Served.{Served}
@@ -150,10 +151,10 @@ Halts halt.DiskFailed done = Unit {0}
 Halts halt.DiskStopped done = Unit {0}
 Halts (halt.Spent n) done = done.spent ≡ Some n
 
--- A message is what its body says, and comes from the link's clerk. What is sent stands first in the outbox of the link's clerk, which belongs to this pass or to
+-- A message is what its body says, sound, and comes from the link's clerk. What is sent stands first in the outbox of the link's clerk, which belongs to this pass or to
 -- any.
 abbrev pub IsDeed : Server → (ℕ → List Msg) → ℕ → List Step → Deed → Type 0
-IsDeed s boxes pass before (Took c bytes m served) = (said bytes.value.items ≡ Ok m.value) × (c ≡ sender m.value (clerk_by pass before)) × Came (taken c m.value (leads s before)) served.value
+IsDeed s boxes pass before (Took c bytes m served) = (said bytes.value.items ≡ Ok m.value) × (c ≡ sender m.value (clerk_by pass before)) × Came (taken c m.value (leads s before)) served.value × (is_sound m.value ≡ true)
 IsDeed s boxes pass before (Gave c m) = (c ≡ clerk_by pass before) × (is_for pass (owner c before) ≡ true) × (first_of (box_from c (boxes c) before) ≡ Some m.value)
 IsDeed s boxes pass before (Halted c bytes m h) = (said bytes.value.items ≡ Ok m.value) × (c ≡ sender m.value (clerk_by pass before)) × Halts h (taken c m.value (leads s before))
 

@@ -19,12 +19,18 @@ pub struct ServerPass<K: Keeper + Drop> {
     pub(crate) pass: Pass<Node<K>>,
     /// The clerk of the last Hello that the link gave, and `A` before the first one.
     pub(crate) clerk: ClerkId,
+    /// The last message that it took was a Hello.
+    pub(crate) greets: bool,
 }
 
 // Who drops a pass calls this, and needn't take it apart.
 impl<K: Keeper + Drop> Drop for ServerPass<K> {
     fn drop(self) {
-        let ServerPass { pass, clerk: _ } = self;
+        let ServerPass {
+            pass,
+            clerk: _,
+            greets: _,
+        } = self;
         drop(pass);
     }
 }
@@ -43,10 +49,19 @@ impl<K: Keeper + Drop> ServerPass<K> {
         self.clerk
     }
 
+    /// Whether the last message that it took was a Hello, so that what is sent to its clerk is for its link from now on.
+    pub fn greets(&self) -> bool {
+        self.greets
+    }
+
     fn into_pass(self) -> Pass<Node<K>>
         ensures { result ≡ self.pass }
     {
-        let ServerPass { pass, clerk: _ } = self;
+        let ServerPass {
+            pass,
+            clerk: _,
+            greets: _,
+        } = self;
         pass
     }
 }
@@ -81,6 +96,7 @@ impl<K: Keeper + Drop> SharedServer<K> {
         Some(ServerPass {
             pass: new,
             clerk: first_clerk(),
+            greets: false,
         })
     }
 

@@ -9,6 +9,7 @@ ghost use Rattle.ec_lock.specs.Steps.{Member, of};
 ghost use Rattle.ec_server.specs.Servers.{StandsOn};
 ghost use Rattle.ec_servernode.specs.Floors.{no_floor};
 ghost use Rattle.ec_servernode.specs.Node.{Since, queue_at};
+ghost use Rattle.ec_servernode.specs.Safe.{StaysSafe};
 ghost use Rattle.ec_servernode.specs.Run.{number_of, sender, put_all, for_clerk, halted};
 ghost use Rattle.ec_servernode.specs.Turns.{IsServerPass, Looked, peer_of, turned_of, Hears, TakesMessage, GivesNext, Serves, RunsFrom, Finished};
 
@@ -84,6 +85,10 @@ fn sender_of(msg: &Msg, clerk: ClerkId) -> ClerkId
         Msg::Hello(from, _) => *from,
         _ => clerk,
     }
+}
+
+fn is_hello(msg: &Msg) -> bool {
+    matches!(msg, Msg::Hello(_, _))
 }
 
 // Why a body is no message.
@@ -198,7 +203,12 @@ impl<K: Keeper + Drop> SharedServer<K> {
         match TracedLock::new(alloc, node) {
             Ok((lock, pass)) => {
                 let clerk = first_clerk();
-                Ok((SharedServer { lock, alloc }, ServerPass { pass, clerk }))
+                let pass = ServerPass {
+                    pass,
+                    clerk,
+                    greets: false,
+                };
+                Ok((SharedServer { lock, alloc }, pass))
             }
             Err(node) => Err(keeper_of(node)),
         }
@@ -248,6 +258,7 @@ impl<K: Keeper + Drop> SharedServer<K> {
         let told = turn.value.take(number, from, body, msg);
         self.lock.leave(turn, &mut pass.pass);
         pass.clerk = clerk_behind(&told, from, pass.clerk);
+        pass.greets = is_hello(msg);
         told
     }
 
@@ -312,6 +323,7 @@ impl<K: Keeper + Drop> SharedServer<K> {
         ensures later { IsPrefix (front pass.old.pass) (front pass.new.pass) }
         ensures counts { (L.faults link.old ≤ L.faults link.new) × (L.closes link.old ≤ L.closes link.new) }
         ensures serves { Serves L.faults L.closes L.given L.got L.held L.clear (queue_at (first self.now.lock).boxes.items) pass.old.pass.number pass.old.clerk (front pass.old.pass) (front pass.new.pass) link.old link.new result }
+        ensures safe { StaysSafe K.kept (first self.now.lock) (front pass.new.pass) }
     {
         match link.recv(rt) {
             Got::Body(body) => self.hear(rt, pass, &body),

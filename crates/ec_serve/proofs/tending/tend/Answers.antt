@@ -13,8 +13,8 @@ returns-clause-later g c =
     let ran = c.run_all-ran.ensures in
     let ran_so = c.run_all-ran.result in
     let last = c.run_all-ran.new.net in
-    let net = c.listen.new.self in
-    (later_by (faults c.args.net.now) (faults net) (faults last) (faults_of c.args.spawner.now) (faults_of c.run_all-ran.new.spawner) _ (no_fault (faults c.args.net.now) (faults net) 0 c.in-Ok-listen.ensures.faults) ran.goes.counts ran.faults)
+    let net = c.open.new.net in
+    (later_by (faults c.args.net.now) (faults net) (faults last) (faults_of c.args.spawner.now) (faults_of c.run_all-ran.new.spawner) _ (no_fault (faults c.args.net.now) (faults net) 0 c.in-Ok.ensures.faults) ran.goes.counts ran.faults)
 
 pub returns-clause-tends : goal.returns-clause-tends
 returns-clause-tends g c =
@@ -26,13 +26,13 @@ returns-clause-tends g c =
     let spawned = c.run_all-ran.result.spawned in
     let ran_so = c.run_all-ran.result in
     let last = c.run_all-ran.new.net in
-    let net = c.listen.new.self in
+    let net = c.open.new.net in
     let starts = faults_of c.args.spawner.now in
     let later = faults_of c.run_all-ran.new.spawner in
     let pass = c.run_all-ran.new.pass.pass in
     let first = moment net c.args.count c.new-2.result.items c.new-3.result.items false false c.args.pass.now.pass in
     let final = moment last ran_so.left ran_so.begun.value.items ran_so.back.value.items ran_so.failed ran_so.wants pass in
-    let opened = c.in-Ok-listen.ensures in
+    let opened = c.in-Ok.ensures in
     let old : Outer = record { faults = faults c.args.net.now; bad = bad c.args.net.now; ended = ended c.args.net.now; starts = starts } in
     let t : Tended faults bad ended back first final c.args.count spawned starts later =
     record { goes = ran.goes; left = refl; begun = ap length c.new-2.ensures; back = c.new-3.ensures; failed = refl; each = ran.each; over = ran.over; spawns = ran.faults } in

@@ -5,6 +5,7 @@ use Rattle.ec_servernode.specs.declared.fault.ServeFault.TheVariants as fault
 use Rattle.ec_servernode.specs.declared.shared.Turned.TheVariants as turned
 use Rattle.ec_servernode.proofs.Lists.{prefix_self}
 use Rattle.ec_servernode.proofs.Served.{none_added, heard_body, heard_none, looked, grows, grows_both}
+use Rattle.ec_servernode.proofs.Safe.{runs-safe}
 use Rattle.ec_servernode.proofs.shared.SharedServer.serve_one.Goals as goal
 
 pub returns-in-Body-clause-counts : goal.returns-in-Body-clause-counts
@@ -75,3 +76,24 @@ returns-in-NoMemory-clause-counts g c = (grows _ _ _ c.recv.ensures.faults, grow
 
 pub returns-in-NoMemory-clause-serves : goal.returns-in-NoMemory-clause-serves
 returns-in-NoMemory-clause-serves g c = (none_added c.args.pass.now.pass.number (front c.args.pass.now.pass), c.recv.ensures.got)
+
+pub returns-in-Body-clause-safe : goal.returns-in-Body-clause-safe
+returns-in-Body-clause-safe g c = runs-safe g.K.Keeper.kept (first c.args.self.now.lock) (front c.hear.new.pass.pass) c.hear.ensures.pass.run
+
+pub returns-then-is_clear-clause-safe : goal.returns-then-is_clear-clause-safe
+returns-then-is_clear-clause-safe g c = runs-safe g.K.Keeper.kept (first c.args.self.now.lock) (front c.give.new.pass.pass) c.give.ensures.pass.run
+
+pub returns-else-is_clear-clause-safe : goal.returns-else-is_clear-clause-safe
+returns-else-is_clear-clause-safe g c = runs-safe g.K.Keeper.kept (first c.args.self.now.lock) (front c.unless_down.new.pass.pass) c.unless_down.ensures.pass.run
+
+pub returns-in-Long-clause-safe : goal.returns-in-Long-clause-safe
+returns-in-Long-clause-safe g c = runs-safe g.K.Keeper.kept (first c.args.self.now.lock) (front c.unless_down-in-Long.new.pass.pass) c.unless_down-in-Long.ensures.pass.run
+
+pub returns-in-Closed-clause-safe : goal.returns-in-Closed-clause-safe
+returns-in-Closed-clause-safe g c = runs-safe g.K.Keeper.kept (first c.args.self.now.lock) (front c.unless_down-in-Closed.new.pass.pass) c.unless_down-in-Closed.ensures.pass.run
+
+pub returns-in-Failed-clause-safe : goal.returns-in-Failed-clause-safe
+returns-in-Failed-clause-safe g c = runs-safe g.K.Keeper.kept (first c.args.self.now.lock) (front c.unless_down-in-Failed.new.pass.pass) c.unless_down-in-Failed.ensures.pass.run
+
+pub returns-in-NoMemory-clause-safe : goal.returns-in-NoMemory-clause-safe
+returns-in-NoMemory-clause-safe g c = runs-safe g.K.Keeper.kept (first c.args.self.now.lock) (front c.args.pass.now.pass) c.requires.pass.run

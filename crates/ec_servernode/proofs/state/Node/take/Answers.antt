@@ -28,6 +28,7 @@ returns-in-Ok-clause-keeps g c =
       up = c.in_ok-check.ensures.ok.1;
       none = c.in_ok-check.ensures.ok.0;
       said_so = c.requires.said;
+      sound = c.requires.sound;
       from = c.requires.from;
       does = c.in-Ok.ensures.ok;
       did_so = c.in-Ok.ensures.did;

@@ -1,9 +1,9 @@
-use Rattle.std.proofs.Common.{◌≡◌, ◌+◌, length, vec_len}
-use Rattle.std.specs.List.{All}
+use Rattle.std.proofs.Common.{◌≡◌, ◌+◌, length}
+use Rattle.slab.specs.Slab.{slab_len}
 use Rattle.ec_link.specs.Spawns.{faults_of}
 use Rattle.ec_servernode.specs.Turns.{IsServerPass}
-use Rattle.ec_serve.specs.Links.{back_of, moment, GoesOn}
-use Rattle.ec_serve.proofs.threads.start_all.Given as goal
+use Rattle.ec_serve.specs.Links.{AllServe, back_of, moment, GoesOn}
+use Rattle.ec_serve.proofs.threads.serve_all.Given as goal
 
 abbrev pub invariant-loop : goal.invariant-loop
 invariant-loop g l =
@@ -13,7 +13,6 @@ invariant-loop g l =
     × GoesOn g.N.Net.faults g.N.Net.bad g.N.Net.ended (back_of g.N.Link.Link.faults g.N.Link.Link.closes g.N.Link.Link.given g.N.Link.Link.got)
     (moment l.fn.net l.fn.connections.left l.fn.connections.begun.items l.fn.connections.back.items l.fn.connections.failed l.fn.connections.wants l.fn.pass.pass)
     (moment l.net l.connections.left l.connections.begun.items l.connections.back.items l.connections.failed l.connections.wants l.pass.pass)
-    × (l.connections.back ≡ l.fn.connections.back)
-    × (length l.connections.begun.items + vec_len l.fn.started ≡ length l.fn.connections.begun.items + vec_len l.started)
-    × All (λ one. one.handle.promise.0.value ≡ l.fn.connections.server.now) l.started.items
+    × (length l.connections.begun.items + length l.fn.connections.back.items + slab_len l.fn.live ≡ length l.fn.connections.begun.items + length l.connections.back.items + slab_len l.live)
+    × AllServe (λ one. one.handle.promise.0.value) l.fn.connections.server.now l.live
     × (faults_of l.spawner ≡ faults_of l.fn.spawner)
