@@ -1,5 +1,5 @@
 -- How a mount ends.
-use Rattle.std.proofs.Common.{◌≡◌, ◌+◌, ℕ, List, [], Result, Ok, Err, refl, sym, ap, ◌∙◌, subst, inl, inr}
+use Rattle.std.proofs.Common.{◌≡◌, ◌+◌, ◌++◌, ℕ, List, [], Result, Ok, Err, refl, sym, ap, ◌∙◌, subst, inl, inr}
 use Rattle.std.proofs.KnownBytes.{Appends-nil}
 use Rattle.std.specs.Io.KnownBytes.{Appends}
 use Rattle.ec_plain.specs.declared.call.Call.{Call}
@@ -13,9 +13,10 @@ use Rattle.ec_clerknode.specs.declared.fault.NodeFault.TheVariants as fault
 use Rattle.ec_mount.specs.Mount.{Outside, Ends, Mounts}
 use Rattle.ec_mount.specs.Run.{place_in}
 use Rattle.ec_mount.specs.Script.{most_bytes, GivesRows, Withholds, lanes_of}
-use Rattle.ec_mount.specs.Shown.{mount_text, old_boot_text, peer_text}
-use Rattle.ec_mount.specs.Work.{Given, Works}
-use Rattle.ec_mount.specs.Writes.{Wrote, WroteAs, Silent, Refuses, TellsWork, ended_by}
+use Rattle.ec_clerknode.specs.Run.{Reply}
+use Rattle.ec_mount.specs.Shown.{came_text, mount_text, old_boot_text, peer_text}
+use Rattle.ec_mount.specs.Work.{Given, Works, WorksTo}
+use Rattle.ec_mount.specs.Writes.{Wrote, WroteAs, Silent, Refuses, TellsEnd, TellsWork, ended_by}
 use Rattle.ec_mount.specs.declared.script.Row.{Row}
 use Rattle.ec_mount.specs.declared.script.Unread.{Unread}
 use Rattle.ec_mount.specs.declared.script.Unread.TheVariants as unread
@@ -59,28 +60,29 @@ module _ (id boot : ℕ) (w : Outside) where
   refused unread.NoMemory result same h p = wanting result p
 
   -- the clerk was run
-  pub told : (rows : List Row) (worked : Result Given NodeFault) (result : Status) → GivesRows w.left w.left_after rows → Works id boot (lanes_of rows) w.net w.net_after worked
-      → TellsWork rows worked result w.held w.held_after w.writes w.writes_after → Mounts id boot result w
-  told rows (Ok r) result given k p = ends_as status.Done (mount_text rows r.0 r.1 r.2) result (record {
-    rows = rows;
-    given = given;
-    steps = k.0;
-    ran = k.1;
-    old_boot = k.2.0;
-    all = r.0;
-    last = r.2;
-    holds = k.2.1;
-    is = subst (λ t. mount_text rows r.0 r.1 r.2 ≡ mount_text rows r.0 t r.2) k.2.2 refl;
-  }) p
-  told rows (Err fault.Net) result given k p = silent status.NetFault result ((rows, given), k, refl) p
-  told rows (Err (fault.Peer why)) result given k p = ends_as status.PeerFault (peer_text (place_in why)) result ((rows, given), (fault.Peer why, place_in why, refl, k, refl)) p
-  told rows (Err (fault.Long n)) result given k p = ends_as status.PeerFault (peer_text 0) result ((rows, given), (fault.Long n, 0, refl, k, refl)) p
-  told rows (Err (fault.OldBoot age)) result given k p = ends_as status.OldBoot (old_boot_text age) result ((rows, given), record { steps = k.0; ran = k.1; age = age; told = k.2; is = refl }) p
-  told rows (Err (fault.Spent c)) result given k p = ends_as status.Spent (shown_text (shown.Spent c)) result ((rows, given), (c, k, refl)) p
-  told rows (Err fault.NoMemory) result given k p = wanting result p
+  module _ (rows : List Row) (given : GivesRows w.left w.left_after rows) (all : List (List Reply)) (told : List (List ℕ)) where
+    told_end : (last : Result Reply NodeFault) (result : Status) → WorksTo id boot (lanes_of rows) w.net w.net_after all told last → TellsEnd (came_text rows all told) last result w.held w.held_after w.writes w.writes_after → Mounts id boot result w
+    told_end (Ok last) result k p = ends_as status.Done (mount_text rows all told last) result (record {
+      rows = rows;
+      given = given;
+      steps = k.0;
+      ran = k.1;
+      old_boot = k.2.0;
+      all = all;
+      last = last;
+      holds = k.2.1;
+      is = ap (λ t. mount_text rows all t last) k.2.2;
+    }) p
+    told_end (Err fault.Net) result k p = ends_as status.NetFault (came_text rows all told ++ []) result (rows, given, (all, told, k, refl)) p
+    told_end (Err (fault.Peer why)) result k p = ends_as status.PeerFault (came_text rows all told ++ peer_text (place_in why)) result (fault.Peer why, place_in why, refl, (rows, given, (all, told, k, refl))) p
+    told_end (Err (fault.Long n)) result k p = ends_as status.PeerFault (came_text rows all told ++ peer_text 0) result (fault.Long n, 0, refl, (rows, given, (all, told, k, refl))) p
+    told_end (Err (fault.OldBoot age)) result k p = ends_as status.OldBoot (old_boot_text age) result ((rows, given), record { steps = k.0; ran = k.1; age = age; told = k.2; is = refl }) p
+    told_end (Err (fault.Spent c)) result k p = ends_as status.Spent (came_text rows all told ++ shown_text (shown.Spent c)) result (c, (rows, given, (all, told, k, refl))) p
+    told_end (Err fault.NoMemory) result k p = wanting result p
 
   -- the same for lanes and rows that are equal to these
-  pub told_of : (rows shown listed : List Row) (lanes : List (List Call)) → lanes ≡ lanes_of shown → shown ≡ rows → listed ≡ rows → (worked : Result Given NodeFault) (result : Status) → GivesRows w.left w.left_after rows → Works id boot lanes w.net w.net_after worked
-      → TellsWork listed worked result w.held w.held_after w.writes w.writes_after → Mounts id boot result w
-  told_of rows shown listed lanes are same alike worked result given k p =
-      told rows worked result given (subst (λ l. Works id boot l w.net w.net_after worked) (are ∙ ap lanes_of same) k) (subst (λ r. TellsWork r worked result w.held w.held_after w.writes w.writes_after) alike p)
+  pub told_of : (rows shown listed : List Row) (lanes : List (List Call)) → lanes ≡ lanes_of shown → shown ≡ rows → listed ≡ rows → (id_is : ℕ) → id_is ≡ id → (worked told : Given) → told ≡ worked → (result : Status) → GivesRows w.left w.left_after rows
+      → Works id_is boot lanes w.net w.net_after worked → TellsWork listed told result w.held w.held_after w.writes w.writes_after → Mounts id boot result w
+  told_of rows shown listed lanes are same alike id_is who worked told both result given k p =
+      told_end rows given worked.0 worked.1 worked.2 result (subst (λ n. Works n boot (lanes_of rows) w.net w.net_after worked) who (subst (λ l. Works id_is boot l w.net w.net_after worked) (are ∙ ap lanes_of same) k))
+      (subst (λ t. TellsWork rows t result w.held w.held_after w.writes w.writes_after) both (subst (λ r. TellsWork r told result w.held w.held_after w.writes w.writes_after) alike p))

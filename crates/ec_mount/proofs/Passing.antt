@@ -15,13 +15,41 @@ use Rattle.ec_clerknode.specs.declared.state.Node.{Node}
 use Rattle.ec_clerknode.specs.declared.step.Step.{Step}
 use Rattle.ec_clerknode.specs.Run.{Reply, calls}
 use Rattle.ec_clerknode.specs.Turns.{number_of, calls_by, Turned, Replied, Failed, Worked}
-use Rattle.ec_clerknode.specs.Lanes.{LanesRan, LanesDone}
+use Rattle.ec_clerknode.specs.declared.jobs.AllReplied.{AllReplied}
+use Rattle.ec_clerknode.specs.Lanes.{AreFronts, IfTold, LanesCame, LanesMade}
+use Rattle.ec_clerknode.proofs.LanePasses.{whole_fronts}
 use Rattle.ec_clerknode.proofs.Lists.{prefix_self, prefix_trans, member_left, member_right}
 use Rattle.ec_mount.specs.Run.{Has, Holds}
 use Rattle.ec_mount.specs.declared.calls.Met.{Met}
 use Rattle.ec_mount.specs.declared.calls.Met.TheVariants as met
-use Rattle.ec_mount.specs.Calls.{Judges, Flushed, SideRan, Drew, LanesStand, LanesEnd, RanBeside, Ended, Called}
+use Rattle.ec_mount.specs.Calls.{IfSaid, Judges, Flushed, SideRan, Drew, LanesStand, FrontsStand, LanesEnd, RanBeside, Ended, Called}
 use Rattle.ec_mount.proofs.Causes.{has_longer, failed_has, lane_has}
+
+-- What is said of the answers that came before a fault.
+
+told_said : (f : NodeFault) (P Q : Type 0) → (f ≡ fault.Spent counter.Pass → ⊥) → (P → Q) → IfTold (Err f) P → IfSaid f Q
+told_said fault.Net P Q free h p = h p
+told_said (fault.Peer place) P Q free h p = h p
+told_said (fault.Long n) P Q free h p = h p
+told_said (fault.OldBoot age) P Q free h p = tt
+told_said (fault.Spent c) P Q free h p = ⊎_elim (λ (e : c ≡ counter.Pass). absurd (free (ap fault.Spent e))) (λ (q : P). h q) p
+told_said fault.NoMemory P Q free h p = tt
+
+pub is_said : (f : NodeFault) (P : Type 0) → P → IfSaid f P
+is_said fault.Net P p = p
+is_said (fault.Peer place) P p = p
+is_said (fault.Long n) P p = p
+is_said (fault.OldBoot age) P p = tt
+is_said (fault.Spent c) P p = p
+is_said fault.NoMemory P p = tt
+
+pub said_more : (f : NodeFault) (P Q : Type 0) → (P → Q) → IfSaid f P → IfSaid f Q
+said_more fault.Net P Q h p = h p
+said_more (fault.Peer place) P Q h p = h p
+said_more (fault.Long n) P Q h p = h p
+said_more (fault.OldBoot age) P Q h p = tt
+said_more (fault.Spent c) P Q h p = h p
+said_more fault.NoMemory P Q h p = tt
 
 module _ {L : Type 0} (lock : TracedLock (Node L) Step) where
   -- The worker.
@@ -48,7 +76,7 @@ module _ {L : Type 0} (lock : TracedLock (Node L) Step) where
 
   -- Both sides.
 
-  module _ {S : Type 0} (pass : S → Pass (Node L) Step) (lanes : S → Option (Vec (List Call) Global)) (s t : S) (sides : List S) (ran : List (Pass (Node L) Step × Met)) (a b : Pass (Node L) Step) (all : Result (Vec (Vec Reply Global) Global) NodeFault) (m : Option NodeFault)
+  module _ {S : Type 0} (pass : S → Pass (Node L) Step) (lanes : S → Option (Vec (List Call) Global)) (s t : S) (sides : List S) (ran : List (Pass (Node L) Step × Met)) (a b : Pass (Node L) Step) (all : AllReplied) (m : Option NodeFault)
       (are : sides ≡ s ∷ t ∷ []) (is : ran ≡ (a, met.Lanes all) ∷ (b, met.Worker m) ∷ [])
       (each : (i : ℕ) (d : Pass (Node L) Step × Met) (e : S) → i < 2 → SideRan lock (pass (slice_index_or sides i e)) (lanes (slice_index_or sides i e)) (slice_index_or ran i d).0 (slice_index_or ran i d).1) where
     pub first_ran : SideRan lock (pass s) (lanes s) a (met.Lanes all)
@@ -85,8 +113,8 @@ module _ {L : Type 0} (lock : TracedLock (Node L) Step) where
     pub apart : (n : ℕ) → Member n (numbers old) → Member n (numbers other) → ⊥
     pub both : numbers new ≡ numbers old ++ numbers other
 
-  module _ (old own one two back worker mid joined : Pass (Node L) Step) (lanes : List (List Call)) (all : Result (List (List Reply)) NodeFault) (met : Option NodeFault)
-      (is : IsPassOf lock old) (drew : Drew lock old own) (ran : LanesRan lock (front one) one lanes back all) (flushed : Flushed lock two worker met) (p : Joins own back mid) (q : Joins mid worker joined) where
+  module _ (old own one two back worker mid joined : Pass (Node L) Step) (lanes : List (List Call)) (all : List (List Reply)) (end : Result (Unit {0}) NodeFault) (met : Option NodeFault)
+      (is : IsPassOf lock old) (drew : Drew lock old own) (ran : LanesCame lock (front one) one lanes back all end) (flushed : Flushed lock two worker met) (p : Joins own back mid) (q : Joins mid worker joined) where
     own_number : joined.number ≡ own.number
     own_number = q.number ∙ p.number
 
@@ -105,8 +133,8 @@ module _ {L : Type 0} (lock : TracedLock (Node L) Step) where
     back_later : IsPrefix (front back) (front joined)
     back_later = prefix_trans (front back) (front mid) (front joined) p.other_later q.later
 
-    stand : (rs : List (List Reply)) → LanesDone ran.done.0 lanes (front one) (front back) (Ok rs) → LanesStand lock joined lanes rs
-    stand rs d = record {
+    stand : (u : Unit {0}) → LanesMade ran.done.0 lanes (front one) (front back) all (Ok u) → LanesStand lock joined lanes all
+    stand u d = record {
       passes = ran.done.0;
       distinct = ran.done.2;
       other = λ m. p.apart joined.number (subst (λ n. Member n (numbers own)) (sym own_number) drew.is_pass.1) (lane_in_back joined.number m);
@@ -118,19 +146,43 @@ module _ {L : Type 0} (lock : TracedLock (Node L) Step) where
       once = λ n m. p.others n (lane_in_back n m) ∙ q.own n (lane_in_mid n m);
     }
 
-    ends : (result : Result (List (List Reply)) NodeFault) → Judges all met result → LanesEnd lock joined lanes result
-    ends (Ok rs) j = stand rs (subst (LanesDone ran.done.0 lanes (front one) (front back)) j ran.done.4)
+    fronts : AreFronts (front one) (front back) ran.done.0 lanes all → FrontsStand lock joined lanes all
+    fronts d = record {
+      passes = ran.done.0;
+      distinct = ran.done.2;
+      other = λ m. p.apart joined.number (subst (λ n. Member n (numbers own)) (sym own_number) drew.is_pass.1) (lane_in_back joined.number m);
+      within = λ n m. subst (Member n) (sym q.both) (member_left n (numbers mid) (numbers worker) (lane_in_mid n m));
+      before = front one;
+      ran = front back;
+      fronts = d;
+      later = back_later;
+      once = λ n m. p.others n (lane_in_back n m) ∙ q.own n (lane_in_mid n m);
+    }
+
+    lanes_failed : (f : NodeFault) → (f ≡ fault.Spent counter.Pass → ⊥) → LanesMade ran.done.0 lanes (front one) (front back) all (Err f) → LanesEnd lock joined lanes all (Err f)
+    lanes_failed f free d = (
+      has_longer (front back) (front joined) back_later f (lane_has ran.done.0 (front one) (front back) f free d.0),
+      told_said f (AreFronts (front one) (front back) ran.done.0 lanes all) (FrontsStand lock joined lanes all) free fronts d.1,
+    )
+
+    worker_failed : (f : NodeFault) (u : Unit {0}) → LanesMade ran.done.0 lanes (front one) (front back) all (Ok u) → met ≡ Some f → LanesEnd lock joined lanes all (Err f)
+    worker_failed f u d e = (
+      has_longer (front worker) (front joined) q.other_later f (subst (λ m. IfSome m (λ g. Has g (front worker))) e flushed.has),
+      is_said f (FrontsStand lock joined lanes all) (fronts (whole_fronts (front one) (front back) ran.done.0 lanes all d)),
+    )
+
+    ends : (result : Result (Unit {0}) NodeFault) → Judges end met result → LanesEnd lock joined lanes all result
+    ends (Ok u) j = stand u (subst (LanesMade ran.done.0 lanes (front one) (front back) all) j ran.done.4)
     ends (Err f) j =
-        ⊎_elim (λ (e : f ≡ fault.NoMemory). subst (λ g. Has g (front joined)) (sym e) tt)
-        (λ (h : ((all ≡ Err f) × (f ≡ fault.Spent counter.Pass → ⊥)) ⊎ (met ≡ Some f)).
+        ⊎_elim (λ (e : f ≡ fault.NoMemory). subst (λ g. LanesEnd lock joined lanes all (Err g)) (sym e) (tt, tt))
+        (λ (h : ((end ≡ Err f) × (f ≡ fault.Spent counter.Pass → ⊥)) ⊎ ((u : Unit {0}) × (end ≡ Ok u) × (met ≡ Some f))).
         ⊎_elim
-        (λ (a : (all ≡ Err f) × (f ≡ fault.Spent counter.Pass → ⊥)).
-        has_longer (front back) (front joined) back_later f (lane_has ran.done.0 (front one) (front back) f a.1 (subst (LanesDone ran.done.0 lanes (front one) (front back)) a.0 ran.done.4)))
-        (λ (b : met ≡ Some f). has_longer (front worker) (front joined) q.other_later f (subst (λ m. IfSome m (λ g. Has g (front worker))) b flushed.has))
+        (λ (a : (end ≡ Err f) × (f ≡ fault.Spent counter.Pass → ⊥)). lanes_failed f a.1 (subst (LanesMade ran.done.0 lanes (front one) (front back) all) a.0 ran.done.4))
+        (λ (b : (u : Unit {0}) × (end ≡ Ok u) × (met ≡ Some f)). worker_failed f b.0 (subst (LanesMade ran.done.0 lanes (front one) (front back) all) b.1 ran.done.4) b.2)
         h)
         j
 
-    pub ran_beside : (result : Result (List (List Reply)) NodeFault) → Judges all met result → RanBeside lock old lanes joined result
+    pub ran_beside : (result : Result (Unit {0}) NodeFault) → Judges end met result → RanBeside lock old lanes joined all result
     ran_beside result j = record {
       is_pass = q.is_pass;
       number = own_number ∙ drew.same.0;
@@ -140,8 +192,14 @@ module _ {L : Type 0} (lock : TracedLock (Node L) Step) where
     }
 
   -- memory or a number was wanting
-  pub beside_wants : (old own : Pass (Node L) Step) (lanes : List (List Call)) (f : NodeFault) → IsPassOf lock old → Drew lock old own → f ≡ fault.NoMemory → RanBeside lock old lanes own (Err f)
-  beside_wants old own lanes f is drew e = record { is_pass = drew.is_pass; number = drew.same.0; later = drew.later; own = drew.own old.number is.1; done = subst (λ g. Has g (front own)) (sym e) tt }
+  pub beside_wants : (old own : Pass (Node L) Step) (lanes : List (List Call)) (all : List (List Reply)) (end : Result (Unit {0}) NodeFault) → IsPassOf lock old → Drew lock old own → end ≡ Err fault.NoMemory → RanBeside lock old lanes own all end
+  beside_wants old own lanes all end is drew e = record {
+    is_pass = drew.is_pass;
+    number = drew.same.0;
+    later = drew.later;
+    own = drew.own old.number is.1;
+    done = subst (λ g. LanesEnd lock own lanes all g) (sym e) (tt, tt);
+  }
 
   -- The last sync.
 
@@ -172,25 +230,40 @@ module _ {L : Type 0} (lock : TracedLock (Node L) Step) where
 
   -- All calls.
 
-  pub lanes_fail : (old new : Pass (Node L) Step) (lanes : List (List Call)) (f : NodeFault) → RanBeside lock old lanes new (Err f) → Called lock old lanes new (Err f)
-  lanes_fail old new lanes f r = record { is_pass = r.is_pass; number = r.number; later = r.later; done = r.done }
+  lanes_fail : (old new : Pass (Node L) Step) (lanes : List (List Call)) (all : List (List Reply)) (f : NodeFault) → RanBeside lock old lanes new all (Err f) → Called lock old lanes new all (Err f)
+  lanes_fail old new lanes all f r = record { is_pass = r.is_pass; number = r.number; later = r.later; done = r.done }
 
-  module _ (old mid new : Pass (Node L) Step) (lanes : List (List Call)) (all : List (List Reply)) (r : RanBeside lock old lanes mid (Ok all)) where
-    pub end_fails : (f : NodeFault) → Ended lock mid new (Err f) → Called lock old lanes new (Err f)
-    end_fails f e = record {
-      is_pass = e.is_pass;
-      number = e.same.0 ∙ r.number;
-      later = prefix_trans (front old) (front mid) (front new) r.later e.later;
-      done = e.done;
-    }
+  module _ (old mid new : Pass (Node L) Step) (lanes : List (List Call)) (all : List (List Reply)) (u : Unit {0}) (r : RanBeside lock old lanes mid all (Ok u)) where
+    lane : LanesStand lock mid lanes all
+    lane = r.done
+
+    not_own : (n : ℕ) → Member n lane.passes → ¬ (n ≡ mid.number)
+    not_own n m is = lane.other (subst (λ k. Member k lane.passes) is m)
+
+    module _ (f : NodeFault) (e : Ended lock mid new (Err f)) where
+      stood : FrontsStand lock new lanes all
+      stood = record {
+        passes = lane.passes;
+        distinct = lane.distinct;
+        other = λ m. lane.other (subst (λ n. Member n lane.passes) e.same.0 m);
+        within = λ n m. subst (Member n) (sym e.same.1) (lane.within n m);
+        before = lane.before;
+        ran = lane.ran;
+        fronts = whole_fronts lane.before lane.ran lane.passes lanes all lane.done;
+        later = prefix_trans lane.ran (front mid) (front new) lane.later e.later;
+        once = λ n m. lane.once n m ∙ e.others n (lane.within n m) (not_own n m);
+      }
+
+      end_fails : Called lock old lanes new all (Err f)
+      unfolding lane stood
+      end_fails = record {
+        is_pass = e.is_pass;
+        number = e.same.0 ∙ r.number;
+        later = prefix_trans (front old) (front mid) (front new) r.later e.later;
+        done = (e.done, is_said f (FrontsStand lock new lanes all) stood);
+      }
 
     module _ (last : Reply) (e : Ended lock mid new (Ok last)) (none : calls_by old.number (front old) ≡ []) where
-      lane : LanesStand lock mid lanes all
-      lane = r.done
-
-      not_own : (n : ℕ) → Member n lane.passes → ¬ (n ≡ mid.number)
-      not_own n m is = lane.other (subst (λ k. Member k lane.passes) is m)
-
       none_mid : calls_by mid.number (front mid) ≡ []
       none_mid = ap (λ n. calls_by n (front mid)) r.number ∙ (sym (ap calls r.own) ∙ none)
 
@@ -211,7 +284,7 @@ module _ {L : Type 0} (lock : TracedLock (Node L) Step) where
         sync_once = ap (λ n. calls_by n (front new)) e.same.0 ∙ (e.done.3 ∙ (e.done.1.0 ∙ ap (λ l. l ++ Sync ∷ []) none_mid));
       }
 
-      pub all_done : Called lock old lanes new (Ok (all, last))
+      all_done : Called lock old lanes new all (Ok last)
       unfolding lane holds
       all_done = record {
         is_pass = e.is_pass;
@@ -219,3 +292,16 @@ module _ {L : Type 0} (lock : TracedLock (Node L) Step) where
         later = prefix_trans (front old) (front mid) (front new) r.later e.later;
         done = record { holds = holds; within = λ n m. subst (Member n) (sym e.same.1) (lane.within n m) };
       }
+
+  calls_end : (old mid new : Pass (Node L) Step) (lanes : List (List Call)) (all : List (List Reply)) (u : Unit {0}) → RanBeside lock old lanes mid all (Ok u) → calls_by old.number (front old) ≡ [] → (last : Result Reply NodeFault) → Ended lock mid new last → Called lock old lanes new all last
+  calls_end old mid new lanes all u r none (Ok last) e = all_done old mid new lanes all u r last e none
+  calls_end old mid new lanes all u r none (Err f) e = end_fails old mid new lanes all u r f e
+
+  module _ (old mid : Pass (Node L) Step) (lanes : List (List Call)) (all : List (List Reply)) (end : Result (Unit {0}) NodeFault) (r : RanBeside lock old lanes mid all end) where
+    pub called_failed : (f : NodeFault) → end ≡ Err f → (new : Pass (Node L) Step) → new ≡ mid → (last : Result Reply NodeFault) → last ≡ Err f → Called lock old lanes new all last
+    called_failed f is new pass_is last last_is =
+        subst (λ p. Called lock old lanes p all last) (sym pass_is) (subst (λ l. Called lock old lanes mid all l) (sym last_is) (lanes_fail old mid lanes all f (subst (RanBeside lock old lanes mid all) is r)))
+
+    pub called_ended : (u : Unit {0}) → end ≡ Ok u → calls_by old.number (front old) ≡ [] → (ended new : Pass (Node L) Step) → new ≡ ended → (made last : Result Reply NodeFault) → last ≡ made → Ended lock mid ended made → Called lock old lanes new all last
+    called_ended u is none ended new pass_is made last last_is e =
+        subst (λ p. Called lock old lanes p all last) (sym pass_is) (subst (λ l. Called lock old lanes ended all l) (sym last_is) (calls_end old mid ended lanes all u (subst (RanBeside lock old lanes mid all) is r) none made e))

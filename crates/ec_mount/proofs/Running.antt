@@ -20,10 +20,10 @@ use Rattle.ec_clerknode.specs.Run.{Reply, IsRun, calls, encoded, sends, heard_by
 use Rattle.ec_clerknode.specs.Turns.{number_of, Finished}
 use Rattle.ec_clerknode.proofs.Lists.{prefix_trans}
 use Rattle.ec_clerknode.proofs.Told.{added-added, added-nil}
-use Rattle.ec_mount.specs.Run.{NetSeen, Ran, Holds, Has, Met, Lost, Spends, Unheard}
+use Rattle.ec_mount.specs.Run.{NetSeen, Ran, Holds, HoldsFronts, Has, Met, Lost, Spends, Unheard}
 use Rattle.ec_mount.specs.Run as run
-use Rattle.ec_mount.specs.Calls.{HoldsAll, CallsEnd, Called}
-use Rattle.ec_mount.specs.Work.{Given, LinkSeen, RanOver, Tells, UnlessWanting, Concludes, RunsOver, WorksOver, Works}
+use Rattle.ec_mount.specs.Calls.{HoldsAll, FrontsStand, IfSaid, CallsEnd, Called}
+use Rattle.ec_mount.specs.Work.{Given, LinkSeen, RanOver, Cut, Tells, UnlessWanting, Concludes, last_of, RunsOver, WorksOver, Works, WorksTo}
 use Rattle.ec_mount.proofs.Causes.{has_longer, net_counted}
 
 -- a link, by what is told of it
@@ -32,13 +32,13 @@ seen_of counts given got l = record { counts = counts l; given = given l; got = 
 
 -- The shared clerk is closed.
 
-module _ {L : Type 0} (lock : TracedLock (Node L) Step) (old called closed : Pass (Node L) Step) (lanes : List (List Call)) (made : Result (List (List Reply) × Reply) NodeFault) (c : Called lock old lanes called made)
+module _ {L : Type 0} (lock : TracedLock (Node L) Step) (old called closed : Pass (Node L) Step) (lanes : List (List Call)) (all : List (List Reply)) (made : Result Reply NodeFault) (c : Called lock old lanes called all made)
     (zero : old.number ≡ 0) (later : IsPrefix (front called) (front closed)) (own : (n : ℕ) → Member n (numbers called) → of number_of n (front called) ≡ of number_of n (front closed))
     (mine : Member called.number (numbers called)) where
   is_zero : called.number ≡ 0
   is_zero = c.number ∙ zero
 
-  module _ (all : List (List Reply)) (last : Reply) (h : HoldsAll lock called lanes all last) where
+  module _ (last : Reply) (h : HoldsAll lock called lanes all last) where
     holds_closed : Holds called.number lanes (front closed) all last
     holds_closed = let k = h.holds in record {
       passes = k.passes;
@@ -59,22 +59,40 @@ module _ {L : Type 0} (lock : TracedLock (Node L) Step) (old called closed : Pas
     pub holds_all : Holds 0 lanes (front closed) all last
     holds_all = subst (λ n. Holds n lanes (front closed) all last) is_zero holds_closed
 
+  fronts_closed : FrontsStand lock called lanes all → HoldsFronts called.number lanes (front closed) all
+  fronts_closed h = record {
+    passes = h.passes;
+    distinct = h.distinct;
+    other = h.other;
+    before = h.before;
+    ran = h.ran;
+    fronts = h.fronts;
+    later = prefix_trans h.ran (front called) (front closed) h.later later;
+    once = λ n m. h.once n m ∙ own n (h.within n m);
+  }
+
+  holds_fronts : FrontsStand lock called lanes all → HoldsFronts 0 lanes (front closed) all
+  holds_fronts h = subst (λ n. HoldsFronts n lanes (front closed) all) is_zero (fronts_closed h)
+
   module _ (told : List (List ℕ)) (told_is : told ≡ told_by (front closed)) (boot : Option Age) (boot_is : boot ≡ old_boot (front closed)) where
-    told_more : (none : boot ≡ None) (f : NodeFault) → Has f (front called) → Tells lanes (front closed) (Err f)
-    told_more none fault.Net h = (sym boot_is ∙ none, has_longer (front called) (front closed) later fault.Net h)
-    told_more none (fault.Peer why) h = (sym boot_is ∙ none, has_longer (front called) (front closed) later (fault.Peer why) h)
-    told_more none (fault.Long n) h = (sym boot_is ∙ none, has_longer (front called) (front closed) later (fault.Long n) h)
-    told_more none (fault.OldBoot age) h = has_longer (front called) (front closed) later (fault.OldBoot age) h
-    told_more none (fault.Spent k) h = (sym boot_is ∙ none, has_longer (front called) (front closed) later (fault.Spent k) h)
-    told_more none fault.NoMemory h = tt
+    cut : (none : boot ≡ None) (f : NodeFault) → Has f (front called) → FrontsStand lock called lanes all → Cut lanes (front closed) all told f
+    cut none f h s = record { old_boot = sym boot_is ∙ none; has = has_longer (front called) (front closed) later f h; came = holds_fronts s; told_is = told_is }
 
-    told_all : (none : boot ≡ None) (r : Result (List (List Reply) × Reply) NodeFault) → CallsEnd lock called lanes r → (result : Result Given NodeFault) → (k : Clerk) → Concludes (Some k) told None r result → Tells lanes (front closed) result
-    told_all none (Ok r) d result k e = subst (Tells lanes (front closed)) (sym e) (sym boot_is ∙ none, holds_all r.0 r.1 d, told_is)
-    told_all none (Err f) d result k e = subst (Tells lanes (front closed)) (sym e) (told_more none f d)
+    told_more : (none : boot ≡ None) (f : NodeFault) → Has f (front called) → IfSaid f (FrontsStand lock called lanes all) → Tells lanes (front closed) all told (Err f)
+    told_more none fault.Net h s = cut none fault.Net h s
+    told_more none (fault.Peer why) h s = cut none (fault.Peer why) h s
+    told_more none (fault.Long n) h s = cut none (fault.Long n) h s
+    told_more none (fault.OldBoot age) h s = has_longer (front called) (front closed) later (fault.OldBoot age) h
+    told_more none (fault.Spent k) h s = cut none (fault.Spent k) h s
+    told_more none fault.NoMemory h s = tt
 
-    tells : (k : Clerk) (result : Result Given NodeFault) (b : Option Age) → boot ≡ b → Concludes (Some k) told b made result → Tells lanes (front closed) result
-    tells k result None e h = told_all e made c.done result k h
-    tells k result (Some age) e h = subst (Tells lanes (front closed)) (sym h) (sym boot_is ∙ e)
+    told_all : (none : boot ≡ None) (r : Result Reply NodeFault) → CallsEnd lock called lanes all r → Tells lanes (front closed) all told r
+    told_all none (Ok last) d = (sym boot_is ∙ none, holds_all last d, told_is)
+    told_all none (Err f) d = told_more none f d.0 d.1
+
+    tells : (b : Option Age) → boot ≡ b → Tells lanes (front closed) all told (last_of b made)
+    tells None e = told_all e made c.done
+    tells (Some age) e = sym boot_is ∙ e
 
   unless : {A : Type 0} (r : Result A NodeFault) (P : Type 0) → P → UnlessWanting r P
   unless (Ok x) P p = p
@@ -96,10 +114,26 @@ module _ {L : Type 0} (lock : TracedLock (Node L) Step) (old called closed : Pas
           sent = f.2 ∙ ap (λ l. added (got l) (said_by (front closed))) is_link;
         }
 
-    pub runs_over : (k : Option Clerk) (told : List (List ℕ)) (boot : Option Age) (result : Result Given NodeFault) → Finished counts given got first (front closed) k back → IfSome k (λ _. told ≡ told_by (front closed)) → boot ≡ old_boot (front closed)
-        → Concludes k told boot made result → RunsOver clerk [] lanes (seen_of counts given got link) (seen_of counts given got back) result
-    runs_over None told boot result f t b h = subst (λ r. RunsOver clerk [] lanes (seen_of counts given got link) (seen_of counts given got back) r) (sym h) tt
-    runs_over (Some k) told boot result f t b h = unless result _ (front closed, ran_over k f, tells told t boot b k result boot refl h)
+    pub runs_over : (k : Option Clerk) (told : List (List ℕ)) (boot : Option Age) (given_all : Given) → Finished counts given got first (front closed) k back → IfSome k (λ _. told ≡ told_by (front closed)) → boot ≡ old_boot (front closed)
+        → Concludes k told boot all made given_all → RunsOver clerk [] lanes (seen_of counts given got link) (seen_of counts given got back) given_all
+    runs_over None told boot r f t b h = subst (λ l. UnlessWanting l ((steps : List Step) × RanOver clerk [] (seen_of counts given got link) (seen_of counts given got back) steps × Tells lanes steps r.0 r.1 l)) (sym h) tt
+    runs_over (Some k) told boot r f t b h = subst (λ x. RunsOver clerk [] lanes (seen_of counts given got link) (seen_of counts given got back) x) (sym h)
+        (unless (last_of boot made) _ (front closed, ran_over k f, tells told t boot b boot refl))
+
+-- The link is left, which changes nothing that is told of it.
+
+abbrev link_seen : ℕ → Option (List Heard) → Option (List (List ℕ)) → LinkSeen
+link_seen counts given got = record { counts = counts; given = given; got = got }
+
+seen_same : (a b : ℕ) (g h : Option (List Heard)) (s t : Option (List (List ℕ))) → a ≡ b → g ≡ h → s ≡ t → link_seen a g s ≡ link_seen b h t
+seen_same a b g h s t e f k = subst (λ n. link_seen a g s ≡ link_seen n h t) e (subst (λ x. link_seen a g s ≡ link_seen a x t) f (subst (λ x. link_seen a g s ≡ link_seen a g x) k refl))
+
+pub runs_left : {L : Type 0} (faults closes : L → ℕ) (given : L → Option (List Heard)) (got : L → Option (List (List ℕ))) (clerk : Clerk) (lanes : List (List Call)) (old : LinkSeen) (back link left : L) (r : Given) → link ≡ back → (faults left ≡ faults link) × (closes left ≡ closes link)
+    → (given left ≡ given link) × (got left ≡ got link) → RunsOver clerk [] lanes old (seen_of (λ l. faults l + closes l) given got back) r → RunsOver clerk [] lanes old (seen_of (λ l. faults l + closes l) given got left) r
+runs_left faults closes given got clerk lanes old back link left r is counts bodies h =
+    let same : seen_of (λ l. faults l + closes l) given got back ≡ seen_of (λ l. faults l + closes l) given got left =
+    sym (ap (seen_of (λ l. faults l + closes l) given got) is) ∙ seen_same (faults link + closes link) (faults left + closes left) (given link) (given left) (got link) (got left) (omega (arith, counts.0, counts.1)) (sym bodies.0) (sym bodies.1) in
+    subst (λ s. RunsOver clerk [] lanes old s r) same h
 
 -- Over a link that has greeted.
 
@@ -112,14 +146,17 @@ module _ (clerk : Clerk) (outs : List Out) (lanes : List (List Call)) (old mid n
     sent = r.sent ∙ (ap (λ g. added g (said_by steps)) sent ∙ added-added old.got (map encoded (sends outs)) (said_by steps));
   }
 
-  pub greeted : (result : Result Given NodeFault) → RunsOver clerk [] lanes mid new result → RunsOver clerk outs lanes old new result
-  greeted (Ok x) r = (r.0, behind r.0 r.1, r.2)
-  greeted (Err fault.Net) r = (r.0, behind r.0 r.1, r.2)
-  greeted (Err (fault.Peer why)) r = (r.0, behind r.0 r.1, r.2)
-  greeted (Err (fault.Long n)) r = (r.0, behind r.0 r.1, r.2)
-  greeted (Err (fault.OldBoot age)) r = (r.0, behind r.0 r.1, r.2)
-  greeted (Err (fault.Spent k)) r = (r.0, behind r.0 r.1, r.2)
-  greeted (Err fault.NoMemory) r = tt
+  behind_all : (all : List (List Reply)) (told : List (List ℕ)) (last : Result Reply NodeFault) → RunsOver clerk [] lanes mid new (all, told, last) → RunsOver clerk outs lanes old new (all, told, last)
+  behind_all all told (Ok x) r = (r.0, behind r.0 r.1, r.2)
+  behind_all all told (Err fault.Net) r = (r.0, behind r.0 r.1, r.2)
+  behind_all all told (Err (fault.Peer why)) r = (r.0, behind r.0 r.1, r.2)
+  behind_all all told (Err (fault.Long n)) r = (r.0, behind r.0 r.1, r.2)
+  behind_all all told (Err (fault.OldBoot age)) r = (r.0, behind r.0 r.1, r.2)
+  behind_all all told (Err (fault.Spent k)) r = (r.0, behind r.0 r.1, r.2)
+  behind_all all told (Err fault.NoMemory) r = tt
+
+  pub greeted : (given : Given) → RunsOver clerk [] lanes mid new given → RunsOver clerk outs lanes old new given
+  greeted given r = behind_all given.0 given.1 given.2 r
 
 -- Over the net.
 
@@ -149,26 +186,26 @@ module _ (id boot : ℕ) (clerk : Clerk) (outs : List Out) (lanes : List (List C
   rose : 0 < new.counts → before.bad < after.bad
   rose h = omega (arith, bad, bad_of faults closes (omega (arith, counts)))
 
-  met : (steps : List Step) (f : NodeFault) → RanOver clerk outs old new steps → old_boot steps ≡ None → Has f steps → Met id boot before after f
-  met steps f r none h = record { steps = steps; ran = ran steps r; old_boot = none; has = h }
+  met : (steps : List Step) (f : NodeFault) (all : List (List Reply)) (told : List (List ℕ)) → RanOver clerk outs old new steps → Cut lanes steps all told f → Met id boot lanes before after f all told
+  met steps f all told r c = record { steps = steps; ran = ran steps r; old_boot = c.old_boot; has = c.has; came = c.came; told_is = c.told_is }
 
-  worked : (result : Result Given NodeFault) → RunsOver clerk outs lanes old new result → Works id boot lanes before after result
-  worked (Ok x) r = (r.0, ran r.0 r.1, r.2)
-  worked (Err fault.Net) r = let few = r.1.counted in let one = net_counted r.0 r.2.1 in inr (rose (omega arith), inr (met r.0 fault.Net r.1 r.2.0 r.2.1))
-  worked (Err (fault.Peer why)) r = met r.0 (fault.Peer why) r.1 r.2.0 r.2.1
-  worked (Err (fault.Long n)) r = met r.0 (fault.Long n) r.1 r.2.0 r.2.1
-  worked (Err (fault.OldBoot age)) r = (r.0, ran r.0 r.1, r.2)
-  worked (Err (fault.Spent k)) r = inr (met r.0 (fault.Spent k) r.1 r.2.0 r.2.1)
-  worked (Err fault.NoMemory) r = tt
+  worked : (all : List (List Reply)) (told : List (List ℕ)) (last : Result Reply NodeFault) → RunsOver clerk outs lanes old new (all, told, last) → WorksTo id boot lanes before after all told last
+  worked all told (Ok x) r = (r.0, ran r.0 r.1, r.2)
+  worked all told (Err fault.Net) r = let few = r.1.counted in let one = net_counted r.0 r.2.has in inr (rose (omega arith), inr (met r.0 fault.Net all told r.1 r.2))
+  worked all told (Err (fault.Peer why)) r = met r.0 (fault.Peer why) all told r.1 r.2
+  worked all told (Err (fault.Long n)) r = met r.0 (fault.Long n) all told r.1 r.2
+  worked all told (Err (fault.OldBoot age)) r = (r.0, ran r.0 r.1, r.2)
+  worked all told (Err (fault.Spent k)) r = inr (met r.0 (fault.Spent k) all told r.1 r.2)
+  worked all told (Err fault.NoMemory) r = tt
 
   unheard : new.given ≡ old.given → Unheard before after
   unheard e = (new.given, new.got, ended, told_from old.given new.given [] none_given (e ∙ sym (added-nil old.given)))
 
-  pub works : (result : Result Given NodeFault) → WorksOver clerk outs lanes old new result → Works id boot lanes before after result
-  works result h =
+  pub works : (given : Given) → WorksOver clerk outs lanes old new given → Works id boot lanes before after given
+  works given h =
       ⊎_elim
-      (λ (a : (result ≡ Err fault.Net) × (0 < new.counts) × (new.given ≡ old.given)). subst (Works id boot lanes before after) (sym a.0) (inr (rose a.1, inl (unheard a.2))))
-      (λ (b : RunsOver clerk outs lanes old new result). worked result b)
+      (λ (a : (given ≡ ([], [], Err fault.Net)) × (0 < new.counts) × (new.given ≡ old.given)). subst (Works id boot lanes before after) (sym a.0) (inr (rose a.1, inl (unheard a.2, (refl, refl)))))
+      (λ (b : RunsOver clerk outs lanes old new given). worked given.0 given.1 given.2 b)
       h
 
 -- Over a link that greeted first.
@@ -183,6 +220,6 @@ sent_all n old bell new outs shown same was e is =
     (subst (λ l. new ≡ added bell (map encoded (sends l))) same (e ∙ ap (λ l. added bell (map encoded l)) (ap (λ k. take k (sends shown)) is ∙ take_all (sends shown))))
 
 -- what a run says that came back
-pub some_greeted : {L A : Type 0} (P Q : L → Result Given NodeFault → Type 0) (made : A → Result Given NodeFault) (o : Option (L × A)) → ((l : L) (r : Result Given NodeFault) → P l r → Q l r) → IfSome o (λ r. P r.0 (made r.1)) → IfSome o (λ r. Q r.0 (made r.1))
-some_greeted P Q made None f p = tt
-some_greeted P Q made (Some r) f p = f r.0 (made r.1) p
+pub some_greeted : {L A : Type 0} (P Q : L → Given → Type 0) (seen : A → Given) (o : Option (L × A)) → ((l : L) (r : Given) → P l r → Q l r) → IfSome o (λ r. P r.0 (seen r.1)) → IfSome o (λ r. Q r.0 (seen r.1))
+some_greeted P Q seen None f p = tt
+some_greeted P Q seen (Some r) f p = f r.0 (seen r.1) p

@@ -13,9 +13,10 @@ use Rattle.ec_streams.specs.declared.streams.WriteFault.TheVariants as write
 use Rattle.ec_clerknode.specs.Run.{Reply}
 use Rattle.ec_mount.specs.Mount.{WroteFront}
 use Rattle.ec_mount.specs.Script.{rows_of}
-use Rattle.ec_mount.specs.Shown.{row_text, answers_text, lanes_text, told_text, end_text, mount_text}
-use Rattle.ec_mount.specs.Writes.{Wrote}
+use Rattle.ec_mount.specs.Shown.{row_text, answers_text, lanes_text, told_text, end_text, came_text}
+use Rattle.ec_mount.specs.Writes.{Wrote, WroteAs}
 use Rattle.ec_mount.specs.declared.script.Row.{Row}
+use Rattle.ec_mount.specs.declared.status.Status.{Status}
 
 rose_later : (f g h : ℕ) → f ≤ g → Rose g h → Rose f h
 rose_later f g h le r = later last_count f g h le r
@@ -165,29 +166,31 @@ pub lanes_next : (lane : ℕ) (rows : List Row) (here : List (Vec Reply Global))
     → lanes_text lane rows (map (λ w. w.items) here) ≡ answers_text (rows_of lane rows) one.items ++ lanes_text (lane + 1) rows (map (λ w. w.items) rest)
 lanes_next lane rows here one rest e = ap (λ l. lanes_text lane rows (map (λ (w : Vec Reply Global). w.items) l)) e
 
--- All answers: the lanes, what was told lost, and the last sync.
+-- The answers that came: the lanes, and what was told lost.
 
-module _ (rows : List Row) (lanes shown : List (Vec Reply Global)) (same : shown ≡ lanes) (told listed : List (List ℕ)) (alike : listed ≡ told) (last : Reply) (held : Option (List ℕ)) (before : ℕ) where
+module _ (rows : List Row) (lanes shown : List (Vec Reply Global)) (same : shown ≡ lanes) (told listed : List (List ℕ)) (alike : listed ≡ told) (held : Option (List ℕ)) (before : ℕ) where
   lanes_same : lanes_text 1 rows (map (λ (w : Vec Reply Global). w.items) shown) ≡ lanes_text 1 rows (map (λ (w : Vec Reply Global). w.items) lanes)
   lanes_same = ap (λ vs. lanes_text 1 rows (map (λ (w : Vec Reply Global). w.items) vs)) same
 
   pub lanes_fail_all : (A B : Type 0) (now : Option (List ℕ)) (later : ℕ) (f : WriteFault) → Wrote {A = A} (lanes_text 1 rows (map (λ (w : Vec Reply Global). w.items) shown)) held now before later (Err f)
-      → Wrote {A = B} (mount_text rows (map (λ (w : Vec Reply Global). w.items) lanes) told last) held now before later (Err f)
+      → Wrote {A = B} (came_text rows (map (λ (w : Vec Reply Global). w.items) lanes) told) held now before later (Err f)
   lanes_fail_all A B now later f w =
-      fails_more A B (lanes_text 1 rows (map (λ (w : Vec Reply Global). w.items) lanes)) (flat_map told_text told ++ end_text last) held now before later f (subst (λ l. Wrote {A = A} l held now before later (Err f)) lanes_same w)
+      fails_more A B (lanes_text 1 rows (map (λ (w : Vec Reply Global). w.items) lanes)) (flat_map told_text told) held now before later f (subst (λ l. Wrote {A = A} l held now before later (Err f)) lanes_same w)
 
   module _ (mid : Option (List ℕ)) (between : ℕ) (first : Appends held mid (lanes_text 1 rows (map (λ (w : Vec Reply Global). w.items) shown))) (le : before ≤ between) where
     first_all : Appends held mid (lanes_text 1 rows (map (λ (w : Vec Reply Global). w.items) lanes))
     first_all = subst (Appends held mid) lanes_same first
 
-    pub told_fail_all : (A B : Type 0) (now : Option (List ℕ)) (later : ℕ) (f : WriteFault) → Wrote {A = A} (flat_map told_text listed) mid now between later (Err f)
-        → Wrote {A = B} (mount_text rows (map (λ (w : Vec Reply Global). w.items) lanes) told last) held now before later (Err f)
-    told_fail_all A B now later f w =
-        wrote_behind held mid now (lanes_text 1 rows (map (λ (w : Vec Reply Global). w.items) lanes)) (flat_map told_text told ++ end_text last) before between later first_all le {A = B} (Err f)
-        (fails_more A B (flat_map told_text told) (end_text last) mid now between later f (subst (λ l. Wrote {A = A} (flat_map told_text l) mid now between later (Err f)) alike w))
+    pub all_written : (A : Type 0) (now : Option (List ℕ)) (later : ℕ) (r : Result A WriteFault) → Wrote (flat_map told_text listed) mid now between later r
+        → Wrote (came_text rows (map (λ (w : Vec Reply Global). w.items) lanes) told) held now before later r
+    all_written A now later r w =
+        wrote_behind held mid now (lanes_text 1 rows (map (λ (w : Vec Reply Global). w.items) lanes)) (flat_map told_text told) before between later first_all le {A = A} r
+        (subst (λ l. Wrote (flat_map told_text l) mid now between later r) alike w)
 
-    pub all_written : (A : Type 0) (more now : Option (List ℕ)) (third later : ℕ) (r : Result A WriteFault) → Appends mid more (flat_map told_text listed) → between ≤ third → Wrote (end_text last) more now third later r
-        → Wrote (mount_text rows (map (λ (w : Vec Reply Global). w.items) lanes) told last) held now before later r
-    all_written A more now third later r second up w =
-        wrote_behind held mid now (lanes_text 1 rows (map (λ (w : Vec Reply Global). w.items) lanes)) (flat_map told_text told ++ end_text last) before between later first_all le {A = A} r
-        (wrote_behind mid more now (flat_map told_text told) (end_text last) between third later (subst (λ l. Appends mid more (flat_map told_text l)) alike second) up {A = A} r w)
+-- A last line behind the answers that came.
+
+pub behind_fails : (A B : Type 0) (came shown line : List ℕ) → shown ≡ came → (held now : Option (List ℕ)) (before later : ℕ) (f : WriteFault) → Wrote {A = A} shown held now before later (Err f) → Wrote {A = B} (came ++ line) held now before later (Err f)
+behind_fails A B came shown line e held now before later f w = fails_more A B came line held now before later f (subst (λ t. Wrote {A = A} t held now before later (Err f)) e w)
+
+pub behind_ends : (came line : List ℕ) (held mid now : Option (List ℕ)) (before between later : ℕ) (st result : Status) → Appends held mid came → before ≤ between → WroteAs line st result mid now between later → WroteAs (came ++ line) st result held now before later
+behind_ends came line held mid now before between later st result first le w = (w.0, w.1, wrote_behind held mid now came line before between later first le w.0 w.2)

@@ -1,5 +1,5 @@
 -- No public clause cites this module: it says what the private steps of a mount's calls do.
-use Rattle.std.specs.Prelude.{◌≡◌, ◌⊎◌, ℕ, List, map, Option, Some, None, Result, Ok, Err, IfSome, Vec}
+use Rattle.std.specs.Prelude.{◌≡◌, ◌⊎◌, ℕ, List, Option, Some, None, Result, Ok, Err, IfSome, Vec}
 use Rattle.std.specs.declared.alloc.Global.{Global}
 use mathlib.Core.List.{IsPrefix}
 use Rattle.ec_base.specs.declared.counter.Counter.TheVariants as counter
@@ -15,12 +15,11 @@ use Rattle.ec_clerknode.specs.declared.state.Node.{Node}
 use Rattle.ec_clerknode.specs.declared.step.Step.{Step}
 use Rattle.ec_clerknode.specs.Run.{Reply}
 use Rattle.ec_clerknode.specs.Turns.{number_of, calls_by, Replied}
-use Rattle.ec_clerknode.specs.Lanes.{AreLanes, LanesRan, all_items}
+use Rattle.ec_clerknode.specs.Lanes.{AreLanes, AreFronts, LanesCame, lists_of}
 use Rattle.ec_mount.specs.Run.{Has, Holds}
 use Rattle.ec_mount.specs.Script.{IsBadAt}
 use Rattle.ec_mount.specs.declared.calls.Met.{Met}
 use Rattle.ec_mount.specs.declared.calls.Met.TheVariants as met
-use Rattle.ec_mount.specs.declared.calls.Replies.{Replies}
 use Rattle.ec_mount.specs.declared.script.Unread.{Unread}
 use Rattle.ec_mount.specs.declared.script.Unread.TheVariants as unread
 
@@ -32,14 +31,19 @@ ReadsRows lines unread.Bytes = ⊥
 ReadsRows lines (unread.Lines n) = ⊥
 ReadsRows lines unread.Source = ⊥
 
--- what the lanes gave, where the worker beside them met this fault
-abbrev pub Judges : {A : Type 0} → Result A NodeFault → Option NodeFault → Result A NodeFault → Type 0
-Judges all flushed (Ok xs) = all ≡ Ok xs
-Judges all flushed (Err f) = (f ≡ fault.NoMemory) ⊎ (((all ≡ Err f) × (f ≡ fault.Spent counter.Pass → ⊥)) ⊎ (flushed ≡ Some f))
+-- what a mount writes of the answers that came before a fault, it holds: with want of memory and a greater age it writes none
+abbrev pub IfSaid : NodeFault → Type 0 → Type 0
+IfSaid fault.Net P = P
+IfSaid (fault.Peer place) P = P
+IfSaid (fault.Long n) P = P
+IfSaid (fault.OldBoot age) P = Unit {0}
+IfSaid (fault.Spent c) P = P
+IfSaid fault.NoMemory P = Unit {0}
 
-abbrev pub made_items : Result Replies NodeFault → Result (List (List Reply) × Reply) NodeFault
-made_items (Ok r) = Ok (map (λ w. w.items) r.lanes.items, r.last)
-made_items (Err f) = Err f
+-- how the lanes ended, where the worker beside them met this fault
+abbrev pub Judges : Result (Unit {0}) NodeFault → Option NodeFault → Result (Unit {0}) NodeFault → Type 0
+Judges end flushed (Ok u) = end ≡ Ok u
+Judges end flushed (Err f) = (f ≡ fault.NoMemory) ⊎ (((end ≡ Err f) × (f ≡ fault.Spent counter.Pass → ⊥)) ⊎ ((u : Unit {0}) × (end ≡ Ok u) × (flushed ≡ Some f)))
 
 module _ {L : Type 0} (lock : TracedLock (Node L) Step) where
   -- a pass made flush turns, up to its first fault
@@ -51,7 +55,7 @@ module _ {L : Type 0} (lock : TracedLock (Node L) Step) where
 
   -- the lanes were run, or the worker beside them
   abbrev pub SideRan : Pass (Node L) Step → Option (Vec (List Call) Global) → Pass (Node L) Step → Met → Type 0
-  SideRan old (Some lanes) new (met.Lanes all) = LanesRan lock (front old) old lanes.items new (all_items all)
+  SideRan old (Some lanes) new (met.Lanes all) = LanesCame lock (front old) old lanes.items new (lists_of all.lanes) all.end
   SideRan old (Some lanes) new (met.Worker f) = ⊥
   SideRan old None new (met.Lanes all) = ⊥
   SideRan old None new (met.Worker f) = Flushed old new f
@@ -75,17 +79,29 @@ module _ {L : Type 0} (lock : TracedLock (Node L) Step) where
     pub later : IsPrefix ran (front pass)
     pub once : (n : ℕ) → Member n passes → of number_of n ran ≡ of number_of n (front pass)
 
-  abbrev pub LanesEnd : Pass (Node L) Step → List (List Call) → Result (List (List Reply)) NodeFault → Type 0
-  LanesEnd pass lanes (Ok all) = LanesStand pass lanes all
-  LanesEnd pass lanes (Err f) = Has f (front pass)
+  -- the same of fronts of their calls
+  pub record FrontsStand (pass : Pass (Node L) Step) (lanes : List (List Call)) (all : List (List Reply)) : Type 0 where
+    pub passes : List ℕ
+    pub distinct : Distinct passes
+    pub other : Member pass.number passes → ⊥
+    pub within : (n : ℕ) → Member n passes → Member n (numbers pass)
+    pub before : List Step
+    pub ran : List Step
+    pub fronts : AreFronts before ran passes lanes all
+    pub later : IsPrefix ran (front pass)
+    pub once : (n : ℕ) → Member n passes → of number_of n ran ≡ of number_of n (front pass)
+
+  abbrev pub LanesEnd : Pass (Node L) Step → List (List Call) → List (List Reply) → Result (Unit {0}) NodeFault → Type 0
+  LanesEnd pass lanes all (Ok u) = LanesStand pass lanes all
+  LanesEnd pass lanes all (Err f) = Has f (front pass) × IfSaid f (FrontsStand pass lanes all)
 
   -- lanes were run beside a worker that flushed, and all came back to this pass
-  pub record RanBeside (old : Pass (Node L) Step) (lanes : List (List Call)) (new : Pass (Node L) Step) (result : Result (List (List Reply)) NodeFault) : Type 0 where
+  pub record RanBeside (old : Pass (Node L) Step) (lanes : List (List Call)) (new : Pass (Node L) Step) (all : List (List Reply)) (end : Result (Unit {0}) NodeFault) : Type 0 where
     pub is_pass : IsPassOf lock new
     pub number : new.number ≡ old.number
     pub later : IsPrefix (front old) (front new)
     pub own : of number_of old.number (front old) ≡ of number_of old.number (front new)
-    pub done : LanesEnd new lanes result
+    pub done : LanesEnd new lanes all end
 
   abbrev pub EndDone : Pass (Node L) Step → Pass (Node L) Step → Result Reply NodeFault → Type 0
   EndDone old new (Ok last) = (synced : List Step) × Replied old.number Sync (front old) synced last × IsPrefix synced (front new) × (calls_by old.number (front new) ≡ calls_by old.number synced)
@@ -104,13 +120,13 @@ module _ {L : Type 0} (lock : TracedLock (Node L) Step) where
     pub holds : Holds pass.number lanes (front pass) all last
     pub within : (n : ℕ) → Member n holds.passes → Member n (numbers pass)
 
-  abbrev pub CallsEnd : Pass (Node L) Step → List (List Call) → Result (List (List Reply) × Reply) NodeFault → Type 0
-  CallsEnd pass lanes (Ok r) = HoldsAll pass lanes r.0 r.1
-  CallsEnd pass lanes (Err f) = Has f (front pass)
+  abbrev pub CallsEnd : Pass (Node L) Step → List (List Call) → List (List Reply) → Result Reply NodeFault → Type 0
+  CallsEnd pass lanes all (Ok last) = HoldsAll pass lanes all last
+  CallsEnd pass lanes all (Err f) = Has f (front pass) × IfSaid f (FrontsStand pass lanes all)
 
-  -- all calls were made by this pass, which had begun none
-  pub record Called (old : Pass (Node L) Step) (lanes : List (List Call)) (new : Pass (Node L) Step) (result : Result (List (List Reply) × Reply) NodeFault) : Type 0 where
+  -- all calls were made by this pass, which had begun none, up to a fault
+  pub record Called (old : Pass (Node L) Step) (lanes : List (List Call)) (new : Pass (Node L) Step) (all : List (List Reply)) (last : Result Reply NodeFault) : Type 0 where
     pub is_pass : IsPassOf lock new
     pub number : new.number ≡ old.number
     pub later : IsPrefix (front old) (front new)
-    pub done : CallsEnd new lanes result
+    pub done : CallsEnd new lanes all last

@@ -7,6 +7,7 @@ use Rattle.ec_base.specs.declared.ids.Age.{Age}
 use Rattle.ec_history.specs.declared.shown.LimitName.{LimitName}
 use Rattle.ec_history.specs.declared.shown.LimitName.TheVariants as limit
 use Rattle.ec_history.specs.declared.shown.Shown.TheVariants as shown
+use Rattle.ec_plain.specs.declared.call.Call.{Call}
 use Rattle.ec_script.specs.Lines.{lines_of}
 use Rattle.ec_text.specs.Lines.{shown_text}
 use Rattle.ec_clerknode.specs.declared.fault.NodeFault.{NodeFault}
@@ -14,7 +15,7 @@ use Rattle.ec_clerknode.specs.declared.fault.NodeFault.TheVariants as fault
 use Rattle.ec_clerknode.specs.declared.step.Step.{Step}
 use Rattle.ec_clerknode.specs.Run.{Reply, old_boot, told_by}
 use Rattle.ec_mount.specs.Script.{most_bytes, most_lines, IsScript, GivesRows, IsBadAt, lanes_of}
-use Rattle.ec_mount.specs.Shown.{mount_text, old_boot_text, peer_text}
+use Rattle.ec_mount.specs.Shown.{came_text, mount_text, old_boot_text, peer_text}
 use Rattle.ec_mount.specs.Run.{NetSeen, Ran, Holds, Has, Met, Lost, Spends, IsPeerFault}
 use Rattle.ec_mount.specs.declared.script.Row.{Row}
 use Rattle.ec_mount.specs.declared.status.Status.{Status}
@@ -87,12 +88,20 @@ pub record TellsOldBoot (id boot : ℕ) (w : Outside) (text : List ℕ) : Type 0
   pub told : Has (fault.OldBoot age) steps
   pub is : text ≡ old_boot_text age
 
+-- The answers that came before a fault were written, each with its row as where all came, then what was told lost, and then this last line.
+abbrev pub TellsCame : (List (List Call) → List (List Reply) → List (List ℕ) → Type 0) → Outside → List ℕ → List ℕ → Type 0
+TellsCame Why w line text = (rows : List Row) × GivesRows w.left w.left_after rows × ((all : List (List Reply)) × (told : List (List ℕ)) × Why (lanes_of rows) all told × (text ≡ came_text rows all told ++ line))
+
+-- nobody was reached, or the link failed or was closed
+abbrev pub TellsLost : ℕ → ℕ → Outside → List ℕ → Type 0
+TellsLost id boot w text = TellsCame (λ lanes all told. Lost id boot lanes w.net w.net_after all told) w [] text
+
 -- the link gave what is no message
 abbrev pub TellsPeer : ℕ → ℕ → Outside → List ℕ → Type 0
-TellsPeer id boot w text = (f : NodeFault) × (place : ℕ) × IsPeerFault f place × Met id boot w.net w.net_after f × (text ≡ peer_text place)
+TellsPeer id boot w text = (f : NodeFault) × (place : ℕ) × IsPeerFault f place × TellsCame (λ lanes all told. Met id boot lanes w.net w.net_after f all told) w (peer_text place) text
 
 abbrev pub TellsSpent : ℕ → ℕ → Outside → List ℕ → Type 0
-TellsSpent id boot w text = (c : Counter) × Spends id boot w.net w.net_after c × (text ≡ shown_text (shown.Spent c))
+TellsSpent id boot w text = (c : Counter) × TellsCame (λ lanes all told. Spends id boot lanes w.net w.net_after c all told) w (shown_text (shown.Spent c)) text
 
 -- the script was read whole
 abbrev pub HasRows : Outside → Type 0
@@ -103,11 +112,11 @@ abbrev pub Ends : ℕ → ℕ → Status → Outside → List ℕ → Type 0
 Ends id boot status.Done w text = Answers id boot w text
 Ends id boot status.BadLine w text = TellsBadLine w text
 Ends id boot status.SourceFault w text = Rose w.reads w.reads_after × (w.net_after ≡ w.net) × (text ≡ [])
-Ends id boot status.NetFault w text = HasRows w × Lost id boot w.net w.net_after × (text ≡ [])
+Ends id boot status.NetFault w text = TellsLost id boot w text
 Ends id boot status.Limit w text = TellsLimit w text
 Ends id boot status.OldBoot w text = HasRows w × TellsOldBoot id boot w text
-Ends id boot status.PeerFault w text = HasRows w × TellsPeer id boot w text
-Ends id boot status.Spent w text = HasRows w × TellsSpent id boot w text
+Ends id boot status.PeerFault w text = TellsPeer id boot w text
+Ends id boot status.Spent w text = TellsSpent id boot w text
 Ends id boot status.SinkFault w text = ⊥
 Ends id boot status.NoMemory w text = ⊥
 

@@ -15,9 +15,9 @@ use Rattle.ec_link.specs.Nets.{Ended}
 use Rattle.ec_clerknode.specs.declared.fault.NodeFault.{NodeFault}
 use Rattle.ec_clerknode.specs.declared.fault.NodeFault.TheVariants as fault
 use Rattle.ec_clerknode.specs.declared.step.Step.{Step}
-use Rattle.ec_clerknode.specs.Run.{Reply, IsRun, Among, encoded, sends, heard_by, said_by, marks, old_boot}
+use Rattle.ec_clerknode.specs.Run.{Reply, IsRun, Among, encoded, sends, heard_by, said_by, told_by, marks, old_boot}
 use Rattle.ec_clerknode.specs.Turns.{number_of, calls_by, Replied}
-use Rattle.ec_clerknode.specs.Lanes.{AreLanes}
+use Rattle.ec_clerknode.specs.Lanes.{AreLanes, AreFronts}
 
 -- how often a net failed, how many of the links that came back had failed or closed, and what those that came back gave and got
 pub record NetSeen : Type 0 where
@@ -61,6 +61,18 @@ pub record Holds (own : ℕ) (lanes : List (List Call)) (steps : List Step) (all
   pub lanes_once : (n : ℕ) → Member n passes → of number_of n ran ≡ of number_of n steps
   pub sync_once : calls_by own steps ≡ Sync ∷ []
 
+-- The steps hold the calls of lanes up to a fault: each lane's pass made a front of its calls, in order and each once, with these answers, and nothing
+-- else. The last call that it began may have none.
+pub record HoldsFronts (own : ℕ) (lanes : List (List Call)) (steps : List Step) (all : List (List Reply)) : Type 0 where
+  pub passes : List ℕ
+  pub distinct : Distinct passes
+  pub other : Member own passes → ⊥
+  pub before : List Step
+  pub ran : List Step
+  pub fronts : AreFronts before ran passes lanes all
+  pub later : IsPrefix ran steps
+  pub once : (n : ℕ) → Member n passes → of number_of n ran ≡ of number_of n steps
+
 -- the list has the cause of a fault
 abbrev pub Has : NodeFault → List Step → Type 0
 Has fault.Net steps = Among fault.Net (marks steps)
@@ -70,12 +82,18 @@ Has (fault.OldBoot age) steps = old_boot steps ≡ Some age
 Has (fault.Spent c) steps = Among (fault.Spent c) (marks steps)
 Has fault.NoMemory steps = Unit {0}
 
--- The run has the fault's cause, and the server told no greater age.
-pub record Met (id boot : ℕ) (before after : NetSeen) (f : NodeFault) : Type 0 where
+-- The run has the fault's cause, and the server told no greater age. These answers of lanes came before it, and this was told lost.
+pub record Met (id boot : ℕ) (lanes : List (List Call)) (before after : NetSeen) (f : NodeFault) (all : List (List Reply)) (told : List (List ℕ)) : Type 0 where
   pub steps : List Step
   pub ran : Ran id boot before after steps
   pub old_boot : old_boot steps ≡ None
   pub has : Has f steps
+  pub came : HoldsFronts 0 lanes steps all
+  pub told_is : told ≡ told_by steps
+
+-- nothing was answered
+abbrev pub NothingCame : List (List Reply) → List (List ℕ) → Type 0
+NothingCame all told = (all ≡ []) × (told ≡ [])
 
 -- the link came back and had given nothing
 abbrev pub Unheard : NetSeen → NetSeen → Type 0
@@ -86,12 +104,13 @@ abbrev pub Unreached : NetSeen → NetSeen → Type 0
 Unreached before after = (before.faults < after.faults) × (after.bad ≡ before.bad) × (after.ended ≡ before.ended)
 
 -- Nobody was reached, or the link failed or was closed: before the clerk's first step, or in a step of its run.
-abbrev pub Lost : ℕ → ℕ → NetSeen → NetSeen → Type 0
-Lost id boot before after = Unreached before after ⊎ ((before.bad < after.bad) × (Unheard before after ⊎ Met id boot before after fault.Net))
+abbrev pub Lost : ℕ → ℕ → List (List Call) → NetSeen → NetSeen → List (List Reply) → List (List ℕ) → Type 0
+Lost id boot lanes before after all told = (Unreached before after × NothingCame all told)
+    ⊎ ((before.bad < after.bad) × ((Unheard before after × NothingCame all told) ⊎ Met id boot lanes before after fault.Net all told))
 
 -- the counter was spent at the clerk's start, or in a step of its run
-abbrev pub Spends : ℕ → ℕ → NetSeen → NetSeen → Counter → Type 0
-Spends id boot before after c = (((start id boot).spent ≡ Some c) × (after ≡ before)) ⊎ Met id boot before after (fault.Spent c)
+abbrev pub Spends : ℕ → ℕ → List (List Call) → NetSeen → NetSeen → Counter → List (List Reply) → List (List ℕ) → Type 0
+Spends id boot lanes before after c all told = (((start id boot).spent ≡ Some c) × (after ≡ before) × NothingCame all told) ⊎ Met id boot lanes before after (fault.Spent c) all told
 
 -- the place that the last line shows of bytes that are no message: that of the byte at fault, and 0 for an unknown kind or too great a length
 abbrev pub place_in : WireFault → ℕ

@@ -32,8 +32,12 @@ told_text ops = codes "told lost " ++ numbers_text ops ++ 10 ∷ []
 abbrev pub end_text : Reply → List ℕ
 end_text reply = codes "end sync -> " ++ answered_text reply.0 reply.1 ++ 10 ∷ []
 
+-- the answers that came, lane by lane, and what was told lost
+abbrev pub came_text : List Row → List (List Reply) → List (List ℕ) → List ℕ
+came_text rows all told = lanes_text 1 rows all ++ flat_map told_text told
+
 abbrev pub mount_text : List Row → List (List Reply) → List (List ℕ) → Reply → List ℕ
-mount_text rows all told last = lanes_text 1 rows all ++ (flat_map told_text told ++ end_text last)
+mount_text rows all told last = came_text rows all told ++ end_text last
 
 -- the last line where the server knows a greater age
 abbrev pub old_boot_text : Age → List ℕ

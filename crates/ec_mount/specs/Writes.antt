@@ -1,5 +1,5 @@
 -- No public clause cites this module: it says how texts are written.
-use Rattle.std.specs.Prelude.{◌≡◌, ◌+◌, ℕ, List, Option, Result, Ok, Err}
+use Rattle.std.specs.Prelude.{◌≡◌, ◌+◌, ℕ, List, [], ◌++◌, Option, Result, Ok, Err}
 use Rattle.std.specs.Io.KnownBytes.{Appends}
 use Rattle.ec_history.specs.declared.shown.LimitName.TheVariants as limit
 use Rattle.ec_history.specs.declared.shown.Shown.TheVariants as shown
@@ -9,10 +9,11 @@ use Rattle.ec_streams.specs.declared.streams.WriteFault.TheVariants as write
 use Rattle.ec_text.specs.Lines.{shown_text}
 use Rattle.ec_clerknode.specs.declared.fault.NodeFault.{NodeFault}
 use Rattle.ec_clerknode.specs.declared.fault.NodeFault.TheVariants as fault
+use Rattle.ec_clerknode.specs.Run.{Reply}
 use Rattle.ec_mount.specs.Mount.{WroteFront}
 use Rattle.ec_mount.specs.Run.{place_in}
 use Rattle.ec_mount.specs.Script.{most_bytes}
-use Rattle.ec_mount.specs.Shown.{mount_text, old_boot_text, peer_text}
+use Rattle.ec_mount.specs.Shown.{came_text, end_text, old_boot_text, peer_text}
 use Rattle.ec_mount.specs.Work.{Given}
 use Rattle.ec_mount.specs.declared.script.Row.{Row}
 use Rattle.ec_mount.specs.declared.script.Unread.{Unread}
@@ -47,11 +48,14 @@ Refuses unread.Source result held now before later = Silent status.SourceFault r
 Refuses unread.NoMemory result held now before later = Silent status.NoMemory result held now
 
 -- what is told of the clerk's run
-abbrev pub TellsWork : List Row → Result Given NodeFault → Status → Option (List ℕ) → Option (List ℕ) → ℕ → ℕ → Type 0
-TellsWork rows (Ok r) result held now before later = WroteAs (mount_text rows r.0 r.1 r.2) status.Done result held now before later
-TellsWork rows (Err fault.Net) result held now before later = Silent status.NetFault result held now
-TellsWork rows (Err (fault.Peer why)) result held now before later = WroteAs (peer_text (place_in why)) status.PeerFault result held now before later
-TellsWork rows (Err (fault.Long n)) result held now before later = WroteAs (peer_text 0) status.PeerFault result held now before later
-TellsWork rows (Err (fault.OldBoot age)) result held now before later = WroteAs (old_boot_text age) status.OldBoot result held now before later
-TellsWork rows (Err (fault.Spent c)) result held now before later = WroteAs (shown_text (shown.Spent c)) status.Spent result held now before later
-TellsWork rows (Err fault.NoMemory) result held now before later = Silent status.NoMemory result held now
+abbrev pub TellsEnd : List ℕ → Result Reply NodeFault → Status → Option (List ℕ) → Option (List ℕ) → ℕ → ℕ → Type 0
+TellsEnd came (Ok last) result held now before later = WroteAs (came ++ end_text last) status.Done result held now before later
+TellsEnd came (Err fault.Net) result held now before later = WroteAs (came ++ []) status.NetFault result held now before later
+TellsEnd came (Err (fault.Peer why)) result held now before later = WroteAs (came ++ peer_text (place_in why)) status.PeerFault result held now before later
+TellsEnd came (Err (fault.Long n)) result held now before later = WroteAs (came ++ peer_text 0) status.PeerFault result held now before later
+TellsEnd came (Err (fault.OldBoot age)) result held now before later = WroteAs (old_boot_text age) status.OldBoot result held now before later
+TellsEnd came (Err (fault.Spent c)) result held now before later = WroteAs (came ++ shown_text (shown.Spent c)) status.Spent result held now before later
+TellsEnd came (Err fault.NoMemory) result held now before later = Silent status.NoMemory result held now
+
+abbrev pub TellsWork : List Row → Given → Status → Option (List ℕ) → Option (List ℕ) → ℕ → ℕ → Type 0
+TellsWork rows r result held now before later = TellsEnd (came_text rows r.0 r.1) r.2 result held now before later

@@ -1,41 +1,35 @@
 // The calls of a mount: lanes, beside which a worker flushes, and then a sync.
-ghost use Rattle.std.specs.Prelude.{◌≡◌, ◌<◌, ℕ, [], ◌∷◌, vec_len, slice_index_or, IfOk, IfErr, IfSome};
+ghost use Rattle.std.specs.Prelude.{◌≡◌, ◌<◌, ℕ, [], ◌∷◌, vec_len, slice_index_or, Err, IfOk, IfErr, IfSome};
 ghost use Rattle.std.specs.List.{All};
 ghost use Rattle.std.specs.Thread.{IsSync};
 ghost use Rattle.ec_clerknode.specs.declared.fault.NodeFault.TheVariants as fault;
 ghost use Rattle.ec_mount.specs.declared.calls.Met.TheVariants as met;
 ghost use Rattle.ec_lock.specs.Passes.{front, IsPassOf};
-ghost use Rattle.ec_clerknode.specs.Lanes.{LanesRan, all_items};
+ghost use Rattle.ec_clerknode.specs.Lanes.{LanesCame, lists_of};
 ghost use Rattle.ec_clerknode.specs.Turns.{calls_by};
-ghost use Rattle.ec_mount.specs.Calls.{Judges, Flushed as HasFlushed, SideRan, Drew, RanBeside, Ended, Called, made_items};
+ghost use Rattle.ec_mount.specs.Calls.{Judges, Flushed as HasFlushed, SideRan, Drew, RanBeside, Ended, Called};
 
+use crate::telling::Who;
+use crate::waiting::{Progress, Waiting};
 use ec_base::{Counter, List};
-use ec_clerknode::{Gate, Node, NodeFault, Reply, SharedClerk, run_lane_ops};
+use ec_clerknode::{AllReplied, Node, NodeFault, Reply, SharedClerk, run_lane_calls};
 use ec_link::{Bell, Link};
 use ec_lock::Pass;
 use ec_log::Asked;
 use ec_plain::Call;
 use ec_protocol::Flushed;
 use std::alloc::{AllocError, Global};
+use std::io::Eprint;
 use std::sync::Wait;
-use std::sync::atomic::{AtomicBool, Ordering};
 use std::thread;
 use std::thread::Threads;
 use std::time::Clock;
 
-/// What the lanes were answered, and the last sync.
+/// What the lanes were answered, and the last sync, or else the fault that the mount met.
 #[derive(Drop)]
 pub struct Replies {
     pub lanes: Vec<Vec<Reply>>,
-    pub last: Reply,
-}
-
-// A gate that holds nobody.
-#[derive(Drop)]
-struct Open;
-
-impl Gate for Open {
-    fn pass(&self, _lane: u8, _place: u32) {}
+    pub last: Result<Reply, NodeFault>,
 }
 
 // Runs the lanes, and tells the worker that they have ended.
@@ -44,56 +38,57 @@ fn run_lanes<L: Link + Send, R: Threads + Wait + Clock + Sync>(
     clerk: &SharedClerk<L>,
     pass: Pass<Node<L>>,
     lanes: Vec<List<Call>>,
-    are_done: &AtomicBool,
-) -> (Pass<Node<L>>, Result<Vec<Vec<Reply>>, NodeFault>)
+    progress: &Progress<'_>,
+) -> (Pass<Node<L>>, AllReplied)
     requires { IsPassOf clerk.now.lock pass }
-    ensures { LanesRan clerk.now.lock (front pass) pass lanes.items result.0 (all_items result.1) }
+    ensures { LanesCame clerk.now.lock (front pass) pass lanes.items result.0 (lists_of result.1.lanes) result.1.end }
 {
     let mut own = pass;
-    let all = run_lane_ops(rt, clerk, &mut own, &Open, lanes);
-    are_done.store(true, Ordering::SeqCst);
+    let all = run_lane_calls(rt, clerk, &mut own, progress, lanes);
+    progress.end();
     clerk.bell().ring();
     (own, all)
 }
 
 // Asks for batches of all that is undurable, until the lanes have ended or up to its first fault. It waits where there is
-// nothing to send.
-fn flush_all<L: Link, R: Wait + Clock>(
+// nothing to send, and says so where the lanes wait long.
+fn flush_all<L: Link, R: Wait + Clock + Eprint>(
     rt: &R,
     clerk: &SharedClerk<L>,
     pass: Pass<Node<L>>,
-    are_done: &AtomicBool,
+    progress: &Progress<'_>,
 ) -> (Pass<Node<L>>, Option<NodeFault>)
     requires { IsPassOf clerk.now.lock pass }
     ensures { HasFlushed clerk.now.lock pass result.0 result.1 }
 {
     let mut own = pass;
+    let mut waiting = Waiting::new();
     for _ in rt.forever() {
         let seen = clerk.bell().rings();
-        if are_done.load(Ordering::SeqCst) {
+        if progress.is_ended() {
             return (own, None);
         }
         match clerk.flush_turn(rt, &mut own, Asked::All) {
             Ok(Flushed::Sent(_)) => {}
-            Ok(_) => clerk.bell().watch(rt, seen),
+            Ok(_) => {
+                waiting.look(rt, progress);
+                clerk.bell().watch(rt, seen);
+            }
             Err(fault) => return (own, Some(fault)),
         }
     }
     unreachable!()
 }
 
-// What the lanes gave. A counter that the worker found spent is a fault of the mount; what else the worker met is met by the
+// How the lanes ended. A counter that the worker found spent is a fault of the mount; what else the worker met is met by the
 // calls that it concerns. The passes of a mount can't use up all numbers.
-fn judged(
-    all: Result<Vec<Vec<Reply>>, NodeFault>,
-    flushed: Option<NodeFault>,
-) -> Result<Vec<Vec<Reply>>, NodeFault>
-    ensures { Judges (all_items all) flushed (all_items result) }
+fn judged(end: Result<(), NodeFault>, flushed: Option<NodeFault>) -> Result<(), NodeFault>
+    ensures { Judges end flushed result }
 {
-    match all {
-        Ok(all) => match flushed {
+    match end {
+        Ok(()) => match flushed {
             Some(NodeFault::Spent(counter)) => Err(NodeFault::Spent(counter)),
-            _ => Ok(all),
+            _ => Ok(()),
         },
         Err(NodeFault::Spent(Counter::Pass)) => Err(NodeFault::NoMemory),
         Err(fault) => Err(fault),
@@ -110,15 +105,15 @@ struct Side<L: Link> {
 // What a side met.
 #[derive(Drop)]
 enum Met {
-    Lanes(Result<Vec<Vec<Reply>>, NodeFault>),
+    Lanes(AllReplied),
     Worker(Option<NodeFault>),
 }
 
-fn run_side<L: Link + Send, R: Threads + Wait + Clock + Sync>(
+fn run_side<L: Link + Send, R: Threads + Wait + Clock + Eprint + Sync>(
     rt: &R,
     clerk: &SharedClerk<L>,
     side: Side<L>,
-    are_done: &AtomicBool,
+    progress: &Progress<'_>,
 ) -> (Pass<Node<L>>, Met)
     requires { IsPassOf clerk.now.lock side.pass }
     ensures { SideRan clerk.now.lock side.pass side.lanes result.0 result.1 }
@@ -126,21 +121,21 @@ fn run_side<L: Link + Send, R: Threads + Wait + Clock + Sync>(
     let Side { pass, lanes } = side;
     match lanes {
         Some(lanes) => {
-            let (back, all) = run_lanes(rt, clerk, pass, lanes, are_done);
+            let (back, all) = run_lanes(rt, clerk, pass, lanes, progress);
             (back, Met::Lanes(all))
         }
         None => {
-            let (back, met) = flush_all(rt, clerk, pass, are_done);
+            let (back, met) = flush_all(rt, clerk, pass, progress);
             (back, Met::Worker(met))
         }
     }
 }
 
-fn run_sides<L: Link + Send, R: Threads + Wait + Clock + Sync>(
+fn run_sides<L: Link + Send, R: Threads + Wait + Clock + Eprint + Sync>(
     rt: &R,
     clerk: &SharedClerk<L>,
     sides: Vec<Side<L>>,
-    are_done: &AtomicBool,
+    progress: &Progress<'_>,
 ) -> Result<Vec<(Pass<Node<L>>, Met)>, AllocError>
     requires { All (λ side. IsPassOf clerk.now.lock side.pass) sides.items }
     ensures len { IfOk result (λ ran. vec_len ran ≡ vec_len sides) }
@@ -150,7 +145,7 @@ fn run_sides<L: Link + Send, R: Threads + Wait + Clock + Sync>(
     let one = |side: Side<L>| -> (Pass<Node<L>>, Met)
         requires { IsSync R.row × IsPassOf clerk.now.lock side.pass }
         ensures { SideRan clerk.entry.now.lock side.pass side.lanes result.0 result.1 }
-    { run_side(rt, clerk, side, are_done) };
+    { run_side(rt, clerk, side, progress) };
     thread::map_vec(rt, sides, &one)
 }
 
@@ -158,7 +153,7 @@ fn run_sides<L: Link + Send, R: Threads + Wait + Clock + Sync>(
 #[derive(Drop)]
 struct Both<L: Link> {
     lanes: Pass<Node<L>>,
-    all: Result<Vec<Vec<Reply>>, NodeFault>,
+    all: AllReplied,
     worker: Pass<Node<L>>,
     met: Option<NodeFault>,
 }
@@ -188,9 +183,10 @@ fn sides_of<L: Link>(ran: Vec<(Pass<Node<L>>, Met)>) -> Option<Both<L>>
 }
 
 // Runs the lanes at the same time, and beside them a worker that flushes.
-fn run_both<L: Link + Send, R: Threads + Wait + Clock + Sync>(
+fn run_both<L: Link + Send, R: Threads + Wait + Clock + Eprint + Sync>(
     rt: &R,
     alloc: Global,
+    who: &Who<'_>,
     clerk: &SharedClerk<L>,
     one: Pass<Node<L>>,
     two: Pass<Node<L>>,
@@ -198,11 +194,11 @@ fn run_both<L: Link + Send, R: Threads + Wait + Clock + Sync>(
 ) -> Result<Both<L>, NodeFault>
     requires one { IsPassOf clerk.now.lock one }
     requires two { IsPassOf clerk.now.lock two }
-    ensures lanes { IfOk result (λ b. LanesRan clerk.now.lock (front one) one lanes.items b.lanes (all_items b.all)) }
+    ensures lanes { IfOk result (λ b. LanesCame clerk.now.lock (front one) one lanes.items b.lanes (lists_of b.all.lanes) b.all.end) }
     ensures worker { IfOk result (λ b. HasFlushed clerk.now.lock two b.worker b.met) }
     ensures err { IfErr result (λ f. f ≡ fault.NoMemory) }
 {
-    let are_done = AtomicBool::new(false);
+    let progress = Progress::new(who);
     let mut sides = Vec::with_capacity(alloc, 2)?;
     sides.push(Side {
         pass: one,
@@ -212,7 +208,7 @@ fn run_both<L: Link + Send, R: Threads + Wait + Clock + Sync>(
         pass: two,
         lanes: None,
     })?;
-    let ran = run_sides(rt, clerk, sides, &are_done)?;
+    let ran = run_sides(rt, clerk, sides, &progress)?;
     let Some(both) = sides_of(ran) else {
         return Err(NodeFault::NoMemory);
     };
@@ -239,22 +235,40 @@ fn draw_two<L: Link, R: Wait>(
     Ok((one, two))
 }
 
+// Nothing was answered, since memory is wanting.
+fn none(alloc: Global) -> AllReplied
+    ensures { result.end ≡ Err fault.NoMemory }
+{
+    AllReplied {
+        lanes: Vec::new(alloc),
+        end: Err(NodeFault::NoMemory),
+    }
+}
+
 // Runs the lanes beside the worker, by passes that come back to this one.
-fn run_beside<L: Link + Send, R: Threads + Wait + Clock + Sync>(
+fn run_beside<L: Link + Send, R: Threads + Wait + Clock + Eprint + Sync>(
     rt: &R,
     alloc: Global,
+    who: &Who<'_>,
     clerk: &SharedClerk<L>,
     pass: &mut Pass<Node<L>>,
     lanes: Vec<List<Call>>,
-) -> Result<Vec<Vec<Reply>>, NodeFault>
+) -> AllReplied
     requires { IsPassOf clerk.now.lock pass.old }
-    ensures { RanBeside clerk.now.lock pass.old lanes.items pass.new (all_items result) }
+    ensures { RanBeside clerk.now.lock pass.old lanes.items pass.new (lists_of result.lanes) result.end }
 {
-    let (one, two) = draw_two(rt, clerk, pass)?;
-    let both = run_both(rt, alloc, clerk, one, two, lanes)?;
+    let Ok((one, two)) = draw_two(rt, clerk, pass) else {
+        return none(alloc);
+    };
+    let Ok(both) = run_both(rt, alloc, who, clerk, one, two, lanes) else {
+        return none(alloc);
+    };
     clerk.join(pass, both.lanes);
     clerk.join(pass, both.worker);
-    judged(both.all, both.met)
+    AllReplied {
+        lanes: both.all.lanes,
+        end: judged(both.all.end, both.met),
+    }
 }
 
 // The last sync, and goodbye.
@@ -276,19 +290,23 @@ fn end<L: Link, R: Wait + Clock>(
     }
 }
 
-/// Makes all calls, by a pass that has begun none.
-pub fn make_calls<L: Link + Send, R: Threads + Wait + Clock + Sync>(
+/// Makes all calls up to the first fault, by a pass that has begun none.
+pub fn make_calls<L: Link + Send, R: Threads + Wait + Clock + Eprint + Sync>(
     rt: &R,
     alloc: Global,
+    who: &Who<'_>,
     clerk: &SharedClerk<L>,
     pass: &mut Pass<Node<L>>,
     lanes: Vec<List<Call>>,
-) -> Result<Replies, NodeFault>
+) -> Replies
     requires pass { IsPassOf clerk.now.lock pass.old }
     requires none { calls_by pass.old.number (front pass.old) ≡ [] }
-    ensures { Called clerk.now.lock pass.old lanes.items pass.new (made_items result) }
+    ensures { Called clerk.now.lock pass.old lanes.items pass.new (lists_of result.lanes) result.last }
 {
-    let lanes = run_beside(rt, alloc, clerk, pass, lanes)?;
-    let last = end(rt, clerk, pass)?;
-    Ok(Replies { lanes, last })
+    let AllReplied { lanes, end: met } = run_beside(rt, alloc, who, clerk, pass, lanes);
+    let last = match met {
+        Ok(()) => end(rt, clerk, pass),
+        Err(fault) => Err(fault),
+    };
+    Replies { lanes, last }
 }

@@ -8,6 +8,7 @@ mod script;
 mod shown;
 mod status;
 mod telling;
+mod waiting;
 mod work;
 
 pub use mounting::mount;

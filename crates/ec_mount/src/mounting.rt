@@ -1,15 +1,16 @@
 // A mount from a source to a sink, over a net.
-ghost use Rattle.std.specs.Prelude.{◌≡◌, ◌≤◌, ◌<◌, ℕ, List, length, IfOk};
+ghost use Rattle.std.specs.Prelude.{◌≡◌, ◌≤◌, ◌<◌, ◌++◌, ℕ, List, length, IfOk};
 ghost use Rattle.ec_mount.specs.Mount.{Mounts};
 ghost use Rattle.ec_mount.specs.Run.{place_in};
-ghost use Rattle.ec_mount.specs.Work.{given_items};
+ghost use Rattle.ec_mount.specs.Shown.{came_text};
+ghost use Rattle.ec_mount.specs.Work.{seen};
 ghost use Rattle.ec_mount.specs.Writes.{ended_by, WroteAs, Refuses, TellsWork};
 
 use crate::limits::MOST_BYTES;
 use crate::script::{Row, Unread, lanes_of, rows_of};
-use crate::shown::{old_boot_line, peer_line, shown_line, write_answers, write_line};
+use crate::shown::{end_line, old_boot_line, peer_line, shown_line, write_came, write_line};
 use crate::status::Status;
-use crate::telling::{tell_call, tell_end};
+use crate::telling::{Who, tell_call, tell_end};
 use crate::work::{Answers, work};
 use ec_base::{ClerkId, NoMemory, Sink, Source};
 use ec_clerknode::NodeFault;
@@ -55,10 +56,11 @@ pub fn mount<S: Source, K: Sink, N: Net, R: Around + Eprint>(
     let Ok(lanes) = lanes_of(alloc, &rows) else {
         return Status::NoMemory;
     };
-    tell_call(rt, addr);
-    let worked = work(rt, net, addr, clerk, boot, lanes);
-    tell_end(rt, &worked);
-    tell(alloc, sink, &rows, worked)
+    let who = Who { clerk, addr };
+    tell_call(rt, &who);
+    let answers = work(rt, net, &who, boot, lanes);
+    tell_end(rt, &who, &answers);
+    tell(alloc, sink, &rows, &answers)
 }
 
 // Ends a mount whose script gives no rows.
@@ -85,38 +87,55 @@ fn refuse<K: Sink>(alloc: Global, sink: &mut K, why: Unread) -> Status
 }
 
 // Tells what a mount came to.
-fn tell<K: Sink>(
-    alloc: Global,
-    sink: &mut K,
-    rows: &[Row],
-    worked: Result<Answers, NodeFault>,
-) -> Status
+fn tell<K: Sink>(alloc: Global, sink: &mut K, rows: &[Row], answers: &Answers) -> Status
     ensures later { K.faults sink.old ≤ K.faults sink.new }
-    ensures told { TellsWork rows.now (given_items worked) result (K.held sink.old) (K.held sink.new) (K.faults sink.old) (K.faults sink.new) }
+    ensures told { TellsWork rows.now (seen answers.now) result (K.held sink.old) (K.held sink.new) (K.faults sink.old) (K.faults sink.new) }
 {
-    match worked {
-        Ok(answers) => {
-            let written = write_answers(alloc, sink, rows, &answers);
-            drop(answers);
-            ended_by(Status::Done, written)
+    match &answers.last {
+        Ok(last) => {
+            let line = end_line(alloc, last);
+            write_behind(alloc, sink, rows, answers, line, Status::Done)
         }
-        Err(NodeFault::Net) => Status::NetFault,
+        Err(NodeFault::Net) => {
+            let written = write_came(alloc, sink, rows, answers);
+            ended_by(Status::NetFault, written)
+        }
         Err(NodeFault::Peer(why)) => {
-            write_last(sink, peer_line(alloc, place_in(why)), Status::PeerFault)
+            let line = peer_line(alloc, place_in(*why));
+            write_behind(alloc, sink, rows, answers, line, Status::PeerFault)
         }
-        Err(NodeFault::Long(_)) => write_last(sink, peer_line(alloc, 0), Status::PeerFault),
+        Err(NodeFault::Long(_)) => {
+            let line = peer_line(alloc, 0);
+            write_behind(alloc, sink, rows, answers, line, Status::PeerFault)
+        }
         Err(NodeFault::OldBoot(age)) => {
-            write_last(sink, old_boot_line(alloc, age), Status::OldBoot)
+            write_last(sink, old_boot_line(alloc, *age), Status::OldBoot)
         }
         Err(NodeFault::Spent(counter)) => {
-            write_last(
-                sink,
-                shown_line(alloc, Shown::Spent(counter)),
-                Status::Spent,
-            )
+            let line = shown_line(alloc, Shown::Spent(*counter));
+            write_behind(alloc, sink, rows, answers, line, Status::Spent)
         }
         Err(NodeFault::NoMemory) => Status::NoMemory,
     }
+}
+
+// Writes what came, and the last line of a mount that ends with this status behind it.
+fn write_behind<K: Sink>(
+    alloc: Global,
+    sink: &mut K,
+    rows: &[Row],
+    answers: &Answers,
+    line: Result<Vec<u8>, NoMemory>,
+    status: Status,
+) -> Status
+    ensures later { K.faults sink.old ≤ K.faults sink.new }
+    ensures written { (text : List ℕ) → 0 < length text → IfOk line (λ made. made.items ≡ text)
+        → WroteAs (came_text rows.now (seen answers.now).0 (seen answers.now).1 ++ text) status result (K.held sink.old) (K.held sink.new) (K.faults sink.old) (K.faults sink.new) }
+{
+    if let Err(fault) = write_came(alloc, sink, rows, answers) {
+        return ended_by(status, Err(fault));
+    }
+    write_last(sink, line, status)
 }
 
 // Writes the last line of a mount that ends with this status.

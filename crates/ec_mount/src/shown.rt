@@ -4,8 +4,9 @@ ghost use Rattle.std.specs.Fmt.{decimal};
 ghost use Rattle.std.specs.List.{flat_map};
 ghost use Rattle.ec_text.specs.Answers.{answered_text};
 ghost use Rattle.ec_text.specs.Lines.{shown_text};
-ghost use Rattle.ec_mount.specs.Shown.{row_text, answers_text, lanes_text, told_text, end_text, mount_text, old_boot_text, peer_text};
+ghost use Rattle.ec_mount.specs.Shown.{row_text, answers_text, lanes_text, told_text, end_text, came_text, old_boot_text, peer_text};
 ghost use Rattle.ec_mount.specs.Script.{rows_of};
+ghost use Rattle.ec_mount.specs.Work.{seen};
 ghost use Rattle.ec_mount.specs.Writes.{Wrote};
 
 use crate::script::Row;
@@ -62,8 +63,8 @@ fn told_line(alloc: Global, ops: &List<OpNo>) -> Result<Vec<u8>, NoMemory>
     Ok(text)
 }
 
-// The line of the last sync.
-fn end_line(alloc: Global, reply: &Reply) -> Result<Vec<u8>, NoMemory>
+/// The line of the last sync.
+pub fn end_line(alloc: Global, reply: &Reply) -> Result<Vec<u8>, NoMemory>
     ensures { IfOk result (λ text. text.items ≡ end_text reply.now) }
 {
     let mut text = Vec::from_slice(alloc, b"end sync -> ")?;
@@ -168,17 +169,16 @@ fn write_told<K: Sink>(alloc: Global, sink: &mut K, told: &[List<OpNo>]) -> Resu
     Ok(())
 }
 
-/// Writes all answers: each row with its own, lane by lane, what was told lost, and the last sync.
-pub fn write_answers<K: Sink>(
+/// Writes the answers that came: each row with its own, lane by lane, and what was told lost.
+pub fn write_came<K: Sink>(
     alloc: Global,
     sink: &mut K,
     rows: &[Row],
     answers: &Answers,
 ) -> Result<(), WriteFault>
     ensures later { K.faults sink.old ≤ K.faults sink.new }
-    ensures written { Wrote (mount_text rows.now (map (λ w. w.items) answers.now.lanes.items) answers.now.told.items answers.now.last) (K.held sink.old) (K.held sink.new) (K.faults sink.old) (K.faults sink.new) result }
+    ensures written { Wrote (came_text rows.now (seen answers.now).0 (seen answers.now).1) (K.held sink.old) (K.held sink.new) (K.faults sink.old) (K.faults sink.new) result }
 {
     write_lanes(alloc, sink, rows, &answers.lanes)?;
-    write_told(alloc, sink, &answers.told)?;
-    write_line(sink, end_line(alloc, &answers.last))
+    write_told(alloc, sink, &answers.told)
 }

@@ -1,6 +1,6 @@
 use Rattle.std.proofs.Common.{refl}
 use Rattle.ec_mount.specs.Mount.{Outside}
-use Rattle.ec_mount.specs.Work.{given_items}
+use Rattle.ec_mount.specs.Work as work
 use Rattle.ec_mount.proofs.Endings.{refused, told_of}
 use Rattle.ec_mount.proofs.mounting.mount.Goals as goal
 
@@ -32,6 +32,6 @@ returns-clause-mounted g c =
       writes = g.K.Sink.faults c.args.sink.now;
       writes_after = g.K.Sink.faults c.tell.new.sink;
       net = record { faults = g.N.Net.faults c.args.net.now; bad = g.N.Net.bad c.args.net.now; ended = g.N.Net.ended c.args.net.now };
-      net_after = record { faults = g.N.Net.faults c.work-worked.new.net; bad = g.N.Net.bad c.work-worked.new.net; ended = g.N.Net.ended c.work-worked.new.net };
+      net_after = record { faults = g.N.Net.faults c.work-answers.new.net; bad = g.N.Net.bad c.work-answers.new.net; ended = g.N.Net.ended c.work-answers.new.net };
     } in
-    told_of c.args.clerk c.args.boot w c.in-Ok.rows.items c.deref.result.now c.deref-2.result.now c.in-Ok-lanes_of.lanes.items c.in-Ok-lanes_of.ensures c.deref.ensures.value c.deref-2.ensures.value (given_items c.work-worked.result) c.tell.result c.in-Ok.ensures.given c.work-worked.ensures.works c.tell.ensures.told
+    told_of c.args.clerk c.args.boot w c.in-Ok.rows.items c.deref.result.now c.deref-2.result.now c.in-Ok-lanes_of.lanes.items c.in-Ok-lanes_of.ensures c.deref.ensures.value c.deref-2.ensures.value c.args.clerk refl (work.seen c.work-answers.result) (work.seen c.work-answers.result) refl c.tell.result c.in-Ok.ensures.given c.work-answers.ensures.works c.tell.ensures.told
