@@ -1,5 +1,5 @@
 -- How a drill ends: a run on a world that was opened, and what it makes of the whole.
-use Rattle.std.proofs.Common.{◌≡◌, ◌⊎◌, ◌≤◌, ℕ, List, [], ◌∷◌, ◌++◌, Option, Result, Ok, Err, MatchResult, refl, sym, ap, subst, ◌∙◌, append_assoc, append-nil, inl, inr}
+use Rattle.std.proofs.Common.{◌≡◌, ◌⊎◌, ◌≤◌, ℕ, Bool, List, [], ◌∷◌, ◌++◌, Option, Result, Ok, Err, MatchResult, refl, sym, ap, subst, ◌∙◌, append_assoc, append-nil, inl, inr}
 use Rattle.std.specs.Io.KnownBytes.{Appends}
 use Rattle.ec_base.specs.Outside.{Rose}
 use Rattle.ec_base.specs.declared.counter.Counter.{Counter}
@@ -19,17 +19,19 @@ use Rattle.ec_world.specs.Laws.{in_step_stands}
 use Rattle.ec_world.specs.Steps.{Opens, Unopened}
 use Rattle.ec_world.specs.Worlds.{view_of, IsInStep}
 use Rattle.ec_drill.specs.Cuts.{IsFront}
+use Rattle.ec_drill.specs.Arms.{any_arm, heard}
 use Rattle.ec_drill.specs.Fates.{IsKnown}
 use Rattle.ec_drill.specs.Left.{behind_lines, at_end, IsOfMoment, LeavesOf}
 use Rattle.ec_drill.specs.Steps.{IsLater, Ended, IsCause, CutOff}
 use Rattle.ec_drill.specs.Closing.{closed, lines_in, IsOwn, IsClosing, before_end, behind_end, Closed, ClosedInPart}
-use Rattle.ec_drill.specs.Drill.{Outside, code, HoldsState, end_of, IsGiven, RanWhole, RanInPart, Unbegun, over, bad, RefusedInPart, IsOver, IsDiskUntouched, Drilled}
+use Rattle.ec_drill.specs.Drill.{Outside, code, HoldsState, end_of, IsGiven, RanWhole, RanInPart, Unbegun, over, bad, RefusedInPart, IsOver, IsDiskUntouched, IsToldAll, Drilled}
 use Rattle.ec_drill.specs.Starts.{status_of, RefusedWith, TellsUnopened, WholeOn, PartOn, DrilledOn}
 use Rattle.ec_drill.specs.declared.status.Status.{Status}
 use Rattle.ec_drill.specs.declared.status.Status.TheVariants as status
 use Rattle.ec_drill.specs.declared.writing.Cut.{Cut}
 use Rattle.ec_drill.specs.declared.writing.Cut.TheVariants as cut
-use Rattle.ec_drill.proofs.Known.{known_first, known_later, are_from, are_to}
+use Rattle.ec_drill.proofs.Known.{known_first, known_later, are_to}
+use Rattle.ec_drill.proofs.Heard.{heard_known, heard_none, heard_stops}
 use Rattle.ec_drill.proofs.Texts.{appends_two, text_of-append, texts_then, rose_later}
 use Rattle.ec_drill.proofs.Closings.{any_closed}
 
@@ -136,17 +138,21 @@ cause_from cut.NoMemory last writes writes_now writes_after faults faults_now fa
 -- The whole of a drill, behind the opening of its disk.
 
 module _ (most : ℕ) (reads : List Read) (state : Durable) (start : World) (w : Outside) (given : IsGiven w reads) (opens : Opens w.tells w.disk.gives most state) (opened : open_world state ≡ Ok start) (mid : Counts) (le : w.counts.stops ≤ mid.stops) (faults : w.counts.faults ≤ mid.faults) where
-  known : IsKnown w.tells w.counts.stops w.counts_after.stops → IsKnown w.tells mid.stops w.counts_after.stops
-  known k = known_later w.tells w.counts.stops mid.stops w.counts_after.stops le k
+  abbrev pub may_stop : Bool
+  may_stop = any_arm reads
 
-  ran : (number : ℕ) → WholeOn w.tells mid.stops w.counts_after.stops w.disk_after reads start number w.held w.held_after → RanWhole most number w
+  known : IsToldAll w reads → IsKnown w.tells (heard may_stop mid).stops (heard may_stop w.counts_after).stops
+  known (inl k) = heard_known may_stop w.tells mid w.counts_after (known_later w.tells w.counts.stops mid.stops w.counts_after.stops le k)
+  known (inr none) = heard_none may_stop none w.tells mid w.counts_after
+
+  ran : (number : ℕ) → WholeOn w.tells (heard may_stop mid).stops (heard may_stop w.counts_after).stops w.disk_after reads start number w.held w.held_after → RanWhole most number w
   ran number r = record {
     reads = reads;
     given = given;
     state = state;
     opens = opens;
     fates = r.fates;
-    stopped = are_from r.fates w.counts.stops mid.stops w.counts_after.stops le r.are;
+    stopped = heard_stops may_stop r.fates w.counts mid w.counts_after le r.are;
     shown = r.shown;
     lines = λ k. ap (λ (x : Result World Counter). (drill_in reads r.fates x).0) opened ∙ r.lines (known k);
     status = λ k. ap (λ (x : Result World Counter). (drill_in reads r.fates x).1) opened ∙ r.status (known k);
@@ -154,14 +160,14 @@ module _ (most : ℕ) (reads : List Read) (state : Durable) (start : World) (w :
     disk = λ told. subst (λ (x : Result World Counter). HoldsState w.disk_after (elim x [ Err n ↦ state | Ok v ↦ (end_of reads r.fates v).durable ])) (sym opened) (r.disk told);
   }
 
-  part : (last : List ℕ) → PartOn w.tells mid.stops w.counts_after.stops w.disk_after reads start last w.held w.held_after → RanInPart most w last
+  part : (last : List ℕ) → PartOn w.tells (heard may_stop mid).stops (heard may_stop w.counts_after).stops w.disk_after reads start last w.held w.held_after → RanInPart most w last
   part last r = record {
     reads = reads;
     given = given;
     state = state;
     opens = opens;
     fates = r.fates;
-    stopped = are_from r.fates w.counts.stops mid.stops w.counts_after.stops le r.are;
+    stopped = heard_stops may_stop r.fates w.counts mid w.counts_after le r.are;
     shown = r.shown;
     unwritten = r.unwritten;
     front = λ k. let at = r.front (known k) in (at.0, ap (λ (x : Result World Counter). (drill_in reads r.fates x).0) opened ∙ at.1);
@@ -170,7 +176,7 @@ module _ (most : ℕ) (reads : List Read) (state : Durable) (start : World) (w :
     left = λ told. subst (λ (x : Result World Counter). LeavesOf w.disk_after reads r.fates state x r.shown) (sym opened) (r.left told);
   }
 
-  pub drilled_on : (st : Status) → DrilledOn st w.tells mid w.counts_after w.disk_after reads start w.held w.held_after w.writes w.writes_after → Drilled most st w
+  pub drilled_on : (st : Status) → DrilledOn st w.tells (heard may_stop mid) (heard may_stop w.counts_after) w.disk_after reads start w.held w.held_after w.writes w.writes_after → Drilled most st w
   drilled_on status.Done r = ran 0 r
   drilled_on status.BadLine r = ran 3 r
   drilled_on status.Limit r = inr (ran 11 r)

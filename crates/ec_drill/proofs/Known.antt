@@ -27,7 +27,7 @@ told_if_known tells runs old new h known = tt
 told_if_known tells stops_without old new h known = stopped_told tells old new h known
 told_if_known tells stops_with old new h known = stopped_told tells old new h known
 
-none_is_some : (a : Option ℕ) → a ≡ None → IsSome a → ⊥
+pub none_is_some : (a : Option ℕ) → a ≡ None → IsSome a → ⊥
 none_is_some None e h = cc
 none_is_some (Some n) e h = cc
 
@@ -70,11 +70,6 @@ pub one_line : (fs : List Fates) (f : Fates) (a b : ℕ) (old new : Counts) → 
 one_line fs f a b old new e le later (inr r) h = inr (rose_then a b new.stops r (subst (λ (n : ℕ). n ≤ new.stops) e later))
 one_line fs f a b old new e le later (inl all) (inl h) = inl (each-push fs f all h)
 one_line fs f a b old new e le later (inl all) (inr r) = inr (rose_later a old.stops new.stops (subst (λ (n : ℕ). a ≤ n) (sym e) le) r)
-
--- an earlier beginning
-pub are_from : (fs : List Fates) (a b c : ℕ) → a ≤ b → AreOf fs b c → AreOf fs a c
-are_from fs a b c le (inl all) = inl all
-are_from fs a b c le (inr r) = inr (rose_later a b c le r)
 
 -- a later end
 pub are_to : (fs : List Fates) (a b c : ℕ) → b ≤ c → AreOf fs a b → AreOf fs a c

@@ -1,5 +1,6 @@
 pub mod Texts
 pub mod Known
+pub mod Heard
 pub mod Writes
 pub mod Lines
 pub mod Fresh

@@ -1,5 +1,5 @@
 -- What a drill does with its source, its sink and its disk.
-use Rattle.std.specs.Prelude.{◌≡◌, ◌<◌, ◌≤◌, ◌⊎◌, ◌+◌, ℕ, List, [], ◌++◌, length, Option, Ok, Err}
+use Rattle.std.specs.Prelude.{◌≡◌, Bool, true, false, ◌<◌, ◌≤◌, ◌⊎◌, ◌+◌, ℕ, List, [], ◌++◌, length, Option, Ok, Err}
 use Rattle.std.specs.Io.KnownBytes.{Consumes, Appends, Keeps, IsAtEnd}
 use Rattle.ec_base.specs.Outside.{Rose}
 use Rattle.ec_disk.specs.Disk.{View, Counts}
@@ -17,7 +17,8 @@ use Rattle.ec_protocol.specs.Drill.{Read, Fates, Ran, run_from, bound, close, dr
 use Rattle.ec_world.specs.Steps.{Opens}
 use Rattle.ec_drill.specs.Limits.{most_bytes, most_lines}
 use Rattle.ec_drill.specs.Script.{AreRead}
-use Rattle.ec_drill.specs.Fates.{AreOf, IsKnown}
+use Rattle.ec_drill.specs.Arms.{any_arm}
+use Rattle.ec_drill.specs.Fates.{EachRuns, IsKnown}
 use Rattle.ec_drill.specs.Cuts.{IsFront, IsPartOf}
 use Rattle.ec_drill.specs.Left.{LeavesOf}
 use Rattle.ec_drill.specs.declared.status.Status.{Status}
@@ -76,9 +77,13 @@ pub record IsGiven (w : Outside) (reads : List Read) : Type 0 where
   pub few_lines : length (lines_of script) ≤ most_lines
   pub read : AreRead (lines_of script) reads
 
--- whether it's known what the disk did in each step
-abbrev pub IsToldAll : Outside → Type 0
-IsToldAll w = IsKnown w.tells w.counts.stops w.counts_after.stops
+-- A step is stopped only where a line of the script arms the disk, and the disk's stops rose.
+abbrev pub AreStops : Outside → List Read → List Fates → Type 0
+AreStops w reads fates = EachRuns fates ⊎ ((any_arm reads ≡ true) × Rose w.counts.stops w.counts_after.stops)
+
+-- Whether it's known what the disk did in each step. It is where no line arms it.
+abbrev pub IsToldAll : Outside → List Read → Type 0
+IsToldAll w reads = IsKnown w.tells w.counts.stops w.counts_after.stops ⊎ (any_arm reads ≡ false)
 
 -- A disk stands for a state: what a read gives does, and each image that a crash may leave.
 pub record HoldsState (now : View) (state : Durable) : Type 0 where
@@ -102,11 +107,11 @@ pub record RanWhole (most number : ℕ) (w : Outside) : Type 0 where
   pub opens : Opens w.tells w.disk.gives most state
   -- what the disk did in each step
   pub fates : List Fates
-  pub stopped : AreOf fates w.counts.stops w.counts_after.stops
+  pub stopped : AreStops w reads fates
   -- the lines and the status are the machine's
   pub shown : List Shown
-  pub lines : IsToldAll w → (drill reads fates state).0 ≡ shown
-  pub status : IsToldAll w → (drill reads fates state).1 ≡ number
+  pub lines : IsToldAll w reads → (drill reads fates state).0 ≡ shown
+  pub status : IsToldAll w reads → (drill reads fates state).1 ≡ number
   pub bytes : Appends w.held w.held_after (text_of shown)
   -- the disk stands for the machine's state
   pub disk : w.tells → HoldsState w.disk_after (state_after reads fates state)
@@ -119,10 +124,10 @@ pub record RanInPart (most : ℕ) (w : Outside) (last : List ℕ) : Type 0 where
   pub state : Durable
   pub opens : Opens w.tells w.disk.gives most state
   pub fates : List Fates
-  pub stopped : AreOf fates w.counts.stops w.counts_after.stops
+  pub stopped : AreStops w reads fates
   pub shown : List Shown
   pub unwritten : List Shown
-  pub front : IsToldAll w → (rest : List Shown) × ((drill reads fates state).0 ≡ shown ++ (unwritten ++ rest))
+  pub front : IsToldAll w reads → (rest : List Shown) × ((drill reads fates state).0 ≡ shown ++ (unwritten ++ rest))
   pub bytes : Appends w.held w.held_after (text_of shown ++ last)
   pub part : IsPartOf unwritten last
   pub left : w.tells → LeavesOf w.disk_after reads fates state (open_world state) shown

@@ -12,7 +12,7 @@ abbrev pub EachRuns : List Fates → Type 0
 EachRuns [] = Unit {0}
 EachRuns (fs ∷ more) = AllRun fs × EachRuns more
 
--- A step is stopped only where the disk's stops rose.
+-- Of a part of a run: a step is stopped only where the disk's stops rose.
 abbrev pub AreOf : List Fates → ℕ → ℕ → Type 0
 AreOf fates before now = EachRuns fates ⊎ Rose before now
 

@@ -1,6 +1,7 @@
 pub mod Limits
 pub mod Script
 pub mod Lines
+pub mod Arms
 pub mod Fates
 pub mod Cuts
 pub mod Left

@@ -1,11 +1,12 @@
 // A line is carried out: its event happens, and then the world settles.
-ghost use Rattle.std.specs.Prelude.{◌≡◌, ◌⊎◌, ◌++◌, [], ◌∷◌, ℕ, Err, OnErr, OnOk};
+ghost use Rattle.std.specs.Prelude.{◌≡◌, ◌⊎◌, ◌++◌, [], ◌∷◌, ℕ, Bool, false, Err, IsSome, OnErr, OnOk};
 ghost use Rattle.ec_protocol.specs.World.{Fate, happen};
 ghost use Rattle.ec_protocol.specs.Drill.{Fates, onward, line_happens, settle, carry_out};
 ghost use Rattle.ec_protocol.specs.declared.world.WorldFault.TheVariants as fault;
 ghost use Rattle.ec_world.specs.Worlds.{view_of, IsInStep, Keeps};
 ghost use Rattle.ec_world.specs.Steps.{FateOf, IsTold, IsLeft};
 ghost use Rattle.ec_drill.specs.Script.{machine_line};
+ghost use Rattle.ec_drill.specs.Arms.{IsCalm, heard, is_arm, is_arming};
 ghost use Rattle.ec_drill.specs.Fates.{IsKnown};
 ghost use Rattle.ec_drill.specs.Left.{EachLeft};
 ghost use Rattle.ec_drill.specs.Steps.{going, Comes, Stays, IsLater, AreOfLine, IsSettling, IsCarrying};
@@ -31,12 +32,14 @@ pub(crate) fn carry_out<D: CrashDisk>(
 ) -> Result<(), WorldFault>
     requires in_step { IsInStep D.tells (D.view disk.old) world.old }
     requires empty { piece.old.items ≡ [] }
-    ensures carried { (fates : Fates) × AreOfLine fates (D.counts disk.old) (D.counts disk.new)
-        × (IsKnown D.tells (D.counts disk.old).stops (D.counts disk.new).stops
+    ensures carried { (may_stop : Bool) → IsCalm may_stop (is_arm (machine_line line)) (D.counts disk.old)
+        → (fates : Fates) × AreOfLine fates (heard may_stop (D.counts disk.old)) (heard may_stop (D.counts disk.new))
+        × (IsKnown D.tells (heard may_stop (D.counts disk.old)).stops (heard may_stop (D.counts disk.new)).stops
         → Comes result (carry_out bound fates number (machine_line line) (view_of world.old)) (view_of world.new) piece.new.items)
         × OnErr result (D.tells → EachLeft (D.view disk.new) (IsCarrying bound fates number (machine_line line) (view_of world.old))) }
     ensures in_step { Stays result (IsInStep D.tells (D.view disk.new) world.new) }
     ensures counts { IsLater (D.counts disk.old) (D.counts disk.new) (result ≡ Err fault.DiskFailed) }
+    ensures quiet { is_arm (machine_line line) ≡ false → IsSome (D.counts disk.new).armed → IsSome (D.counts disk.old).armed }
 {
     if let Err(fault) = begin(alloc, world, disk, number, line, piece) {
         return Err(fault);
@@ -61,6 +64,7 @@ fn begin<D: CrashDisk>(
         × OnErr result (D.tells → EachLeft (D.view disk.new) (IsLeft (view_of world.old).durable (line_happens fate number (machine_line line) (view_of world.old)))) }
     ensures in_step { Stays result (IsInStep D.tells (D.view disk.new) world.new) }
     ensures counts { IsLater (D.counts disk.old) (D.counts disk.new) (result ≡ Err fault.DiskFailed) }
+    ensures quiet { is_arm (machine_line line) ≡ false → IsSome (D.counts disk.new).armed → IsSome (D.counts disk.old).armed }
 {
     match event_of(world, number, line) {
         Ok(Some(event)) => step(alloc, world, disk, event, piece),
@@ -78,12 +82,14 @@ fn settle<D: CrashDisk>(
     piece: &mut Vec<Shown>,
 ) -> Result<(), WorldFault>
     requires { IsInStep D.tells (D.view disk.old) world.old }
-    ensures settled { (fates : Fates) × AreOfLine fates (D.counts disk.old) (D.counts disk.new)
-        × (IsKnown D.tells (D.counts disk.old).stops (D.counts disk.new).stops
+    ensures settled { (may_stop : Bool) → IsCalm may_stop false (D.counts disk.old)
+        → (fates : Fates) × AreOfLine fates (heard may_stop (D.counts disk.old)) (heard may_stop (D.counts disk.new))
+        × (IsKnown D.tells (heard may_stop (D.counts disk.old)).stops (heard may_stop (D.counts disk.new)).stops
         → Comes result (settle bound fates (going (view_of world.old) piece.old.items)) (view_of world.new) piece.new.items)
         × OnErr result (D.tells → EachLeft (D.view disk.new) (IsSettling bound fates (going (view_of world.old) piece.old.items))) }
     ensures in_step { Stays result (IsInStep D.tells (D.view disk.new) world.new) }
     ensures counts { IsLater (D.counts disk.old) (D.counts disk.new) (result ≡ Err fault.DiskFailed) }
+    ensures quiet { IsSome (D.counts disk.new).armed → IsSome (D.counts disk.old).armed }
 {
     let mut left = bound;
     'settling: while left > 0 {
@@ -131,6 +137,7 @@ fn step<D: CrashDisk>(
         × OnErr result (D.tells → EachLeft (D.view disk.new) (IsLeft (view_of world.old).durable (happen fate event (view_of world.old)))) }
     ensures in_step { Stays result (IsInStep D.tells (D.view disk.new) world.new) }
     ensures counts { IsLater (D.counts disk.old) (D.counts disk.new) (result ≡ Err fault.DiskFailed) }
+    ensures quiet { is_arming event ≡ false → IsSome (D.counts disk.new).armed → IsSome (D.counts disk.old).armed }
 {
     let lines = match world.step(alloc, disk, event) {
         Ok(lines) => lines,

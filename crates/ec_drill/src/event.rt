@@ -6,6 +6,7 @@ ghost use Rattle.ec_protocol.specs.declared.world.WorldFault.TheVariants as faul
 ghost use Rattle.ec_world.specs.Worlds.{view_of};
 ghost use Rattle.ec_drill.specs.Script.{machine_line};
 ghost use Rattle.ec_drill.specs.Lines.{happens, IsNothing};
+ghost use Rattle.ec_drill.specs.Arms.{arms, is_arm};
 
 use ec_protocol::{Event, WorldFault};
 use ec_script::Line;
@@ -13,7 +14,8 @@ use ec_world::World;
 
 /// What a line asks of the world: an event, or nothing. The number of a call is that of its line.
 pub(crate) fn event_of(world: &World, number: u32, line: Line) -> Result<Option<Event>, WorldFault>
-    ensures { MatchResult result
+    ensures arms { MatchResult result (λ event. arms event ≡ is_arm (machine_line line)) (λ f. Unit {0}) }
+    ensures happens { MatchResult result
         (λ event. (fate : Fate) → line_happens fate number (machine_line line) (view_of world.now) ≡ happens fate event (view_of world.now))
         (λ f. IsNothing f × ((fate : Fate) → line_happens fate number (machine_line line) (view_of world.now) ≡ fails fault.NoSuchMsg (view_of world.now))) }
 {

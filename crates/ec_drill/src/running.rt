@@ -1,7 +1,8 @@
 // A run over the lines of a script.
-ghost use Rattle.std.specs.Prelude.{◌≡◌, ◌≤◌, ℕ, [], map, length, MatchResult, OnOk};
+ghost use Rattle.std.specs.Prelude.{◌≡◌, ◌≤◌, ℕ, Bool, false, [], map, length, IsSome, MatchResult, OnOk};
 ghost use Rattle.ec_protocol.specs.Drill.{reads};
 ghost use Rattle.ec_world.specs.Worlds.{view_of, IsInStep, Keeps};
+ghost use Rattle.ec_drill.specs.Arms.{IsCalm, any_arm, heard, is_arm, is_arm_read};
 ghost use Rattle.ec_drill.specs.Limits.{most_lines};
 ghost use Rattle.ec_drill.specs.Lines.{read_of};
 ghost use Rattle.ec_drill.specs.Steps.{Ended, CutOff, LineDone, LineCut, IsLater, PendingEnd, ending_of, line_end};
@@ -43,8 +44,10 @@ pub(crate) fn run<D: CrashDisk, K: Sink>(
     requires in_step { IsInStep D.tells (D.view disk.old) world.old }
     requires few { length lines.items ≤ most_lines }
     ensures ran { MatchResult result
-        (λ ending. Ended D.tells (D.counts disk.old).stops (D.counts disk.new).stops bound (map read_of lines.items) (view_of world.old) (ending_of ending) (view_of world.new) (K.held sink.old) (K.held sink.new))
-        (λ cut. CutOff D.tells (D.counts disk.old).stops (D.counts disk.new).stops (D.view disk.new) bound (map read_of lines.items) (view_of world.old) cut (K.held sink.old) (K.held sink.new) (K.faults sink.old) (K.faults sink.new) (D.counts disk.old).faults (D.counts disk.new).faults) }
+        (λ ending. (may_stop : Bool) → IsCalm may_stop (any_arm (map read_of lines.items)) (D.counts disk.old)
+        → Ended D.tells (heard may_stop (D.counts disk.old)).stops (heard may_stop (D.counts disk.new)).stops bound (map read_of lines.items) (view_of world.old) (ending_of ending) (view_of world.new) (K.held sink.old) (K.held sink.new))
+        (λ cut. (may_stop : Bool) → IsCalm may_stop (any_arm (map read_of lines.items)) (D.counts disk.old)
+        → CutOff D.tells (heard may_stop (D.counts disk.old)).stops (heard may_stop (D.counts disk.new)).stops (D.view disk.new) bound (map read_of lines.items) (view_of world.old) cut (K.held sink.old) (K.held sink.new) (K.faults sink.old) (K.faults sink.new) (D.counts disk.old).faults (D.counts disk.new).faults) }
     ensures in_step { OnOk result (IsInStep D.tells (D.view disk.new) world.new) }
     ensures counts { IsLater (D.counts disk.old) (D.counts disk.new) ⊥ }
     ensures later { K.faults sink.old ≤ K.faults sink.new }
@@ -73,11 +76,14 @@ fn carry<D: CrashDisk, K: Sink>(
 ) -> Result<Option<Ending>, Cut>
     requires { IsInStep D.tells (D.view disk.old) world.old }
     ensures carried { MatchResult result
-        (λ ending. LineDone D.tells (D.counts disk.old) (D.counts disk.new) bound number (read_of line) (view_of world.old) (view_of world.new) ending (K.held sink.old) (K.held sink.new))
-        (λ cut. LineCut D.tells (D.counts disk.old) (D.counts disk.new) (D.view disk.new) bound number (read_of line) (view_of world.old) cut (K.held sink.old) (K.held sink.new) (K.faults sink.old) (K.faults sink.new)) }
+        (λ ending. (may_stop : Bool) → IsCalm may_stop (is_arm_read (read_of line)) (D.counts disk.old)
+        → LineDone D.tells (heard may_stop (D.counts disk.old)) (heard may_stop (D.counts disk.new)) bound number (read_of line) (view_of world.old) (view_of world.new) ending (K.held sink.old) (K.held sink.new))
+        (λ cut. (may_stop : Bool) → IsCalm may_stop (is_arm_read (read_of line)) (D.counts disk.old)
+        → LineCut D.tells (heard may_stop (D.counts disk.old)) (heard may_stop (D.counts disk.new)) (D.view disk.new) bound number (read_of line) (view_of world.old) cut (K.held sink.old) (K.held sink.new) (K.faults sink.old) (K.faults sink.new)) }
     ensures in_step { OnOk result (IsInStep D.tells (D.view disk.new) world.new) }
     ensures counts { IsLater (D.counts disk.old) (D.counts disk.new) ⊥ }
     ensures later { K.faults sink.old ≤ K.faults sink.new }
+    ensures quiet { is_arm_read (read_of line) ≡ false → IsSome (D.counts disk.new).armed → IsSome (D.counts disk.old).armed }
 {
     match line {
         ScriptLine::Fits(line, column) => {
@@ -99,11 +105,14 @@ fn carry_fit<D: CrashDisk, K: Sink>(
 ) -> Result<Option<Ending>, Cut>
     requires { IsInStep D.tells (D.view disk.old) world.old }
     ensures carried { MatchResult result
-        (λ ending. LineDone D.tells (D.counts disk.old) (D.counts disk.new) bound number (reads (machine_line line) column) (view_of world.old) (view_of world.new) ending (K.held sink.old) (K.held sink.new))
-        (λ cut. LineCut D.tells (D.counts disk.old) (D.counts disk.new) (D.view disk.new) bound number (reads (machine_line line) column) (view_of world.old) cut (K.held sink.old) (K.held sink.new) (K.faults sink.old) (K.faults sink.new)) }
+        (λ ending. (may_stop : Bool) → IsCalm may_stop (is_arm (machine_line line)) (D.counts disk.old)
+        → LineDone D.tells (heard may_stop (D.counts disk.old)) (heard may_stop (D.counts disk.new)) bound number (reads (machine_line line) column) (view_of world.old) (view_of world.new) ending (K.held sink.old) (K.held sink.new))
+        (λ cut. (may_stop : Bool) → IsCalm may_stop (is_arm (machine_line line)) (D.counts disk.old)
+        → LineCut D.tells (heard may_stop (D.counts disk.old)) (heard may_stop (D.counts disk.new)) (D.view disk.new) bound number (reads (machine_line line) column) (view_of world.old) cut (K.held sink.old) (K.held sink.new) (K.faults sink.old) (K.faults sink.new)) }
     ensures in_step { OnOk result (IsInStep D.tells (D.view disk.new) world.new) }
     ensures counts { IsLater (D.counts disk.old) (D.counts disk.new) ⊥ }
     ensures later { K.faults sink.old ≤ K.faults sink.new }
+    ensures quiet { is_arm (machine_line line) ≡ false → IsSome (D.counts disk.new).armed → IsSome (D.counts disk.old).armed }
 {
     let mut piece = Vec::new(alloc);
     let carried = carry_out(alloc, world, disk, bound, number, line, &mut piece);

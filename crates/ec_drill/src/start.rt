@@ -1,9 +1,10 @@
 // A drill from a source to a sink, over a disk.
-ghost use Rattle.std.specs.Prelude.{◌≡◌, ◌≤◌, ◌<◌, ◌^◌, None, map, length, MatchResult, IfOk, IfErr, OnOk};
+ghost use Rattle.std.specs.Prelude.{◌≡◌, ◌≤◌, ◌<◌, ◌^◌, Bool, None, map, length, MatchResult, IfOk, IfErr, OnOk};
 ghost use Rattle.std.specs.Io.KnownBytes.{Appends};
 ghost use Rattle.ec_durable.specs.WellFormed.{least_max_objects, most_max_objects};
 ghost use Rattle.ec_text.specs.Lines.{shown_text};
 ghost use Rattle.ec_world.specs.Worlds.{view_of, IsInStep};
+ghost use Rattle.ec_drill.specs.Arms.{IsCalm, any_arm, heard};
 ghost use Rattle.ec_drill.specs.Drill.{Drilled};
 ghost use Rattle.ec_drill.specs.Lines.{read_of};
 ghost use Rattle.ec_drill.specs.Limits.{most_lines};
@@ -187,7 +188,8 @@ fn drill_on<K: Sink, D: CrashDisk>(
     requires bound { bound ≡ bound_over (map read_of lines.items) }
     ensures later { K.faults sink.old ≤ K.faults sink.new }
     ensures counts { IsLater (D.counts disk.old) (D.counts disk.new) ⊥ }
-    ensures drilled { DrilledOn result D.tells (D.counts disk.old) (D.counts disk.new) (D.view disk.new) (map read_of lines.items) (view_of world.old) (K.held sink.old) (K.held sink.new) (K.faults sink.old) (K.faults sink.new) }
+    ensures drilled { (may_stop : Bool) → IsCalm may_stop (any_arm (map read_of lines.items)) (D.counts disk.old)
+        → DrilledOn result D.tells (heard may_stop (D.counts disk.old)) (heard may_stop (D.counts disk.new)) (D.view disk.new) (map read_of lines.items) (view_of world.old) (K.held sink.old) (K.held sink.new) (K.faults sink.old) (K.faults sink.new) }
 {
     let ending = match run(alloc, world, disk, sink, bound, lines) {
         Ok(ending) => ending,

@@ -1,7 +1,7 @@
 -- What a run without faults made durable is what its lines asked for.
-use Rattle.std.proofs.Common.{◌≡◌, refl, sym, ap, ◌∙◌, subst, arith, ◌≤◌, ℕ, List, [], ◌∷◌, ◌++◌, length, Result, Ok, Err, inl, inr, ◌⊎◌, append-nil}
+use Rattle.std.proofs.Common.{◌≡◌, refl, sym, ap, ◌∙◌, subst, arith, ◌≤◌, ◌+◌, ℕ, List, [], ◌∷◌, ◌++◌, length, Result, Ok, Err, inl, inr, ◌⊎◌, append-nil}
 use Rattle.std.proofs.Math.Logic.{∥∥₁_map}
-use Rattle.ec_base.specs.Outside.{Rose}
+use Rattle.std.proofs.lemmas.List.{length-append}
 use Rattle.ec_base.specs.Tables.{once}
 use Rattle.ec_base.specs.declared.counter.Counter.{Counter}
 use Rattle.ec_volume.specs.Volume.{images}
@@ -21,14 +21,15 @@ use Rattle.ec_lawful.specs.Drills.{AreFit, lines_in}
 use Rattle.ec_lawful.specs.Runs.{RunShows}
 use Rattle.ec_lawful.proofs.Shows.{runs-show}
 use Rattle.ec_world.specs.Steps.{Opens}
-use Rattle.ec_drill.specs.Drill.{IsGiven, Outside, RanInPart, RanWhole}
-use Rattle.ec_drill.specs.Fates as fates
+use Rattle.ec_drill.specs.Drill.{AreStops, IsGiven, Outside, RanInPart, RanWhole}
 use Rattle.ec_deliveries.specs.Runs.{AllRun}
 use Rattle.ec_complete.specs.Complete.{IsFaultlessRead}
 use Rattle.ec_complete.specs.Pieces.{ArePiecesBehind, WritesBehind}
 use Rattle.ec_complete.proofs.Drills.{disks-behind}
 use Rattle.ec_promise.specs.Behind.{AreBehindOn, BehindIsKept, DrillsAreBehind, PartIsKept}
-use Rattle.ec_promise.proofs.Cut.{cut-front, cut-pieces}
+use Rattle.ec_promise.specs.Pieces.{first_lines, pieces_in, pieces_of}
+use Rattle.ec_promise.proofs.Cut.{cut-front, first-all, first-are, first-behind, first-numbered}
+use Rattle.ec_promise.proofs.Calm.{all-run}
 use Rattle.ec_promise.proofs.Fit.{fit_script}
 use Rattle.ec_promise.proofs.Greatest.{greatest-id}
 use Rattle.ec_promise.proofs.Moments.{one-last}
@@ -38,21 +39,12 @@ same-joined : (pieces : List (List Shown)) → headline.joined pieces ≡ joined
 same-joined [] = refl
 same-joined (p ∷ ps) = ap (λ (ls : List Shown). p ++ ls) (same-joined ps)
 
--- the disk ran in each step
-all-run : (fs : Fates) → fates.AllRun fs → AllRun fs
-all-run [] a = tt
-all-run (f ∷ fs) a = (a.0, all-run fs a.1)
-
-each-runs : (fs : List Fates) → fates.EachRuns fs → Each AllRun fs
-each-runs [] a = tt
-each-runs (f ∷ fs) a = (all-run f a.0, each-runs fs a.1)
-
 module _ (reads : List Read) (fs : List Fates) (d : Durable) (formed : WellFormed d) (slots : length d.sessions ≡ 16) (zero : images d.volume 0 ≡ Gone) (few : length reads ≤ 65536) (sixteen : length (once (named_in reads)) ≤ 16) (fit : AreFit reads) (faultless : Each IsFaultlessRead reads) (all : Each AllRun fs) where
   highest : (n : ℕ) × IsGreatest (images d.volume) n
   highest = greatest-id d formed
 
-  unopened : (n : Counter) → AreBehindOn reads d (show.Spent n ∷ [])
-  unopened n = record { told = []; last = show.Spent n ∷ []; written = refl; at_most_one = omega arith; why = (tt, tt); pieces = []; in_pieces = refl; numbered = tt; top = highest.0; greatest = highest.1; behind = tt }
+  unopened : (n : Counter) → AreBehindOn reads d [] (show.Spent n ∷ [])
+  unopened n = record { told = []; last = show.Spent n ∷ []; written = refl; at_most_one = omega arith; why = (tt, tt); in_pieces = refl; numbered = tt; top = highest.0; greatest = highest.1; behind = tt }
 
   module _ (w : World) (o : open_world d ≡ Ok w) where
     abbrev ran : Ran
@@ -67,14 +59,13 @@ module _ (reads : List Read) (fs : List Fates) (d : Durable) (formed : WellForme
     writes : WritesBehind (headline.placed_on (images d.volume) highest.0) (lines_in reads) [] ran × (closed ≡ ran)
     writes = disks-behind d formed slots zero w o highest.0 highest.1.least reads fs few sixteen fit faultless all
 
-    opened : AreBehindOn reads d (joined closed.pieces ++ last_line closed.ending)
+    opened : AreBehindOn reads d closed.pieces (joined closed.pieces ++ last_line closed.ending)
     opened = record {
       told = headline.joined closed.pieces;
       last = last_line closed.ending;
       written = ap (λ (ls : List Shown). ls ++ last_line closed.ending) (sym (same-joined closed.pieces));
       at_most_one = (one-last closed.ending).0;
       why = (one-last closed.ending).1;
-      pieces = closed.pieces;
       in_pieces = refl;
       numbered = shows.numbered;
       top = highest.0;
@@ -82,10 +73,10 @@ module _ (reads : List Read) (fs : List Fates) (d : Durable) (formed : WellForme
       behind = subst (λ (r : Ran). ArePiecesBehind (headline.placed_on (images d.volume) highest.0) (lines_in reads) [] r.pieces) (sym writes.1) writes.0.pieces;
     }
 
-  pub machine-behind : AreBehindOn reads d (drill reads fs d).0
+  pub machine-behind : AreBehindOn reads d (pieces_of reads fs d) (drill reads fs d).0
   machine-behind = go (open_world d) refl
     where
-      go : (o : Result World Counter) → open_world d ≡ o → AreBehindOn reads d (drill_in reads fs o).0
+      go : (o : Result World Counter) → open_world d ≡ o → AreBehindOn reads d (pieces_in reads fs o) (drill_in reads fs o).0
       go (Err n) e = unopened n
       go (Ok w) e = opened w e
 
@@ -93,33 +84,45 @@ pub machines-behind : DrillsAreBehind
 machines-behind reads fs d formed slots zero few sixteen fit faultless all = machine-behind reads fs d formed slots zero few sixteen fit faultless all
 
 -- So is a front of its lines.
-behind-cut : (reads : List Read) (state : Durable) (all xs more : List Shown) → AreBehindOn reads state all → xs ++ more ≡ all → AreBehindOn reads state xs
-behind-cut reads state all xs more a e = go (cut-front xs more a.told a.last (e ∙ a.written) a.at_most_one)
+behind-cut : (reads : List Read) (state : Durable) (pieces : headline.Pieces) (all xs more : List Shown) → AreBehindOn reads state pieces all → xs ++ more ≡ all → AreBehindOn reads state (first_lines (length xs) pieces) xs
+behind-cut reads state pieces all xs more a e = go (cut-front xs more a.told a.last (e ∙ a.written) a.at_most_one)
   where
-    go : ((rest : List Shown) × (xs ++ rest ≡ a.told)) ⊎ (xs ≡ a.told ++ a.last) → AreBehindOn reads state xs
-    go (inr q) = record { told = a.told; last = a.last; written = q; at_most_one = a.at_most_one; why = a.why; pieces = a.pieces; in_pieces = a.in_pieces; numbered = a.numbered; top = a.top; greatest = a.greatest; behind = a.behind }
-    go (inl (rest, q)) =
-        let c = cut-pieces (headline.placed_on (images state.volume) a.top) (lines_in reads) 1 [] a.pieces xs rest (q ∙ a.in_pieces) a.numbered a.behind in
-        record { told = xs; last = []; written = sym (append-nil xs); at_most_one = omega arith; why = tt; pieces = c.pieces; in_pieces = c.is; numbered = c.numbered; top = a.top; greatest = a.greatest; behind = c.behind }
+    few : (a b n : ℕ) → n ≡ a + b → a ≤ n
+    few a b n is = omega (arith, is)
 
-module _ (most : ℕ) (w : Outside) (reads : List Read) (given : IsGiven w reads) (state : Durable) (opens : Opens w.tells w.disk.gives most state) (fs : List Fates) (stopped : fates.AreOf fs w.counts.stops w.counts_after.stops) where
+    go : ((rest : List Shown) × (xs ++ rest ≡ a.told)) ⊎ (xs ≡ a.told ++ a.last) → AreBehindOn reads state (first_lines (length xs) pieces) xs
+    go (inr q) =
+        let whole = first-all (length xs) pieces (subst (λ ls. length ls ≤ length xs) a.in_pieces (few (length a.told) (length a.last) (length xs) (ap length q ∙ length-append a.told a.last))) in
+        subst (λ ps. AreBehindOn reads state ps xs) (sym whole)
+        (record { told = a.told; last = a.last; written = q; at_most_one = a.at_most_one; why = a.why; in_pieces = a.in_pieces; numbered = a.numbered; top = a.top; greatest = a.greatest; behind = a.behind })
+    go (inl (rest, q)) = record {
+      told = xs;
+      last = [];
+      written = sym (append-nil xs);
+      at_most_one = omega arith;
+      why = tt;
+      in_pieces = first-are xs rest pieces (q ∙ a.in_pieces);
+      numbered = first-numbered (length xs) 1 [] pieces a.numbered;
+      top = a.top;
+      greatest = a.greatest;
+      behind = first-behind (headline.placed_on (images state.volume) a.top) (length xs) (lines_in reads) [] pieces a.behind;
+    }
+
+module _ (most : ℕ) (w : Outside) (reads : List Read) (given : IsGiven w reads) (state : Durable) (opens : Opens w.tells w.disk.gives most state) (fs : List Fates) (stopped : AreStops w reads fs) where
   fit : AreFit reads
   fit = fit_script (lines_of given.script) reads given.read
 
   few : length reads ≤ 65536
   few = omega (arith, as-many (lines_of given.script) reads given.read, given.few_lines)
 
-  all-kept : (Rose w.counts.stops w.counts_after.stops → ⊥) → Each IsFaultlessRead reads → WellFormed state → AreBehindOn reads state (drill reads fs state).0
-  all-kept stops faultless formed = machine-behind reads fs state formed opens.whole.slots opens.whole.from_one few (few-named (lines_of given.script) reads given.read fit faultless) fit faultless (each-runs fs ran)
-    where
-      ran : fates.EachRuns fs
-      ran = elim stopped [ inl e ↦ e | inr rose ↦ absurd (stops rose) ]
+  all-kept : Each IsFaultlessRead reads → WellFormed state → AreBehindOn reads state (pieces_of reads fs state) (drill reads fs state).0
+  all-kept faultless formed = machine-behind reads fs state formed opens.whole.slots opens.whole.from_one few (few-named (lines_of given.script) reads given.read fit faultless) fit faultless (all-run w reads fs stopped faultless)
 
 pub behind-kept : (most number : ℕ) (w : Outside) (r : RanWhole most number w) → BehindIsKept most number w r
-behind-kept most number w r tells stops faultless =
-    ∥∥₁_map r.opens.whole.formed (λ formed. subst (AreBehindOn r.reads r.state) (r.lines (inl tells)) (all-kept most w r.reads r.given r.state r.opens r.fates r.stopped stops faultless formed))
+behind-kept most number w r tells faultless =
+    ∥∥₁_map r.opens.whole.formed (λ formed. subst (AreBehindOn r.reads r.state (pieces_of r.reads r.fates r.state)) (r.lines (inl (inl tells))) (all-kept most w r.reads r.given r.state r.opens r.fates r.stopped faultless formed))
 
 pub part-kept : (most : ℕ) (w : Outside) (last : List ℕ) (r : RanInPart most w last) → PartIsKept most w last r
-part-kept most w last r tells stops faultless =
-    let f = r.front (inl tells) in
-    ∥∥₁_map r.opens.whole.formed (λ formed. behind-cut r.reads r.state (drill r.reads r.fates r.state).0 r.shown (r.unwritten ++ f.0) (all-kept most w r.reads r.given r.state r.opens r.fates r.stopped stops faultless formed) (sym f.1))
+part-kept most w last r tells faultless =
+    let f = r.front (inl (inl tells)) in
+    ∥∥₁_map r.opens.whole.formed (λ formed. behind-cut r.reads r.state (pieces_of r.reads r.fates r.state) (drill r.reads r.fates r.state).0 r.shown (r.unwritten ++ f.0) (all-kept most w r.reads r.given r.state r.opens r.fates r.stopped faultless formed) (sym f.1))

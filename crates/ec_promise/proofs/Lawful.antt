@@ -1,12 +1,13 @@
 -- The lines that a drill wrote are lawful, where those of each run of the machine are.
-use Rattle.std.proofs.Common.{◌≡◌, ◌≤◌, ◌⊎◌, ℕ, zero, suc, List, [], ◌∷◌, ◌++◌, length, take, drop, Result, Ok, Err, refl, sym, ap, subst, ◌∙◌, inl, inr, arith, append_assoc, append-nil}
+use Rattle.std.proofs.Common.{◌≡◌, ◌≤◌, ◌+◌, ◌⊎◌, ℕ, zero, suc, List, [], ◌∷◌, ◌++◌, length, take, drop, Result, Ok, Err, refl, sym, ap, subst, ◌∙◌, inl, inr, arith, append_assoc, append-nil}
 use Rattle.std.specs.List.{filter}
+use Rattle.std.proofs.lemmas.List.{length-append}
 use Rattle.std.proofs.Math.Logic.{∥∥₁_map}
 use Rattle.ec_base.specs.declared.counter.Counter.{Counter}
 use Rattle.ec_disk.specs.Disk.{View}
 use Rattle.ec_volume.specs.Volume.{images}
 use Rattle.ec_volume.specs.declared.image.Image.TheVariants.{Gone}
-use Rattle.ec_history.specs.Placing.{EachLine}
+use Rattle.ec_history.specs.Placing.{EachLine, place}
 use Rattle.ec_history.specs.declared.shown.Shown.{Shown}
 use Rattle.ec_history.specs.declared.shown.Shown.TheVariants as show
 use Rattle.ec_durable.specs.WellFormed.{WellFormed}
@@ -25,12 +26,14 @@ use Rattle.ec_drill.specs.declared.status.Status.{Status}
 use Rattle.ec_drill.specs.declared.status.Status.TheVariants as own
 use Rattle.ec_lawful.proofs.RunsInOrder.{run-in-order}
 use Rattle.ec_promise.specs.Left.{EndsStored, IsStoredIn, LeavesStored}
+use Rattle.ec_promise.specs.Pieces.{first_lines, pieces_in, pieces_of}
+use Rattle.ec_promise.specs.Spared.{LosesNothing}
 use Rattle.ec_promise.specs.Promise.{AreInOrder, AreLawfulOn, AreStoredOn, AreWholeOn, CutIsLawful, DrillsAreLawful, CleanIsLawful, IsLawful, MomentsAreStored, PartIsLawful, SpentIsLawful, WholeIsLawful, WholeState, base_on}
 use Rattle.ec_promise.proofs.Behind.{behind-kept, part-kept}
-use Rattle.ec_promise.proofs.Cut.{cut-front}
+use Rattle.ec_promise.proofs.Cut.{cut-front, first-all, first-are, first-ends, first-fewer, first-numbered}
 use Rattle.ec_promise.proofs.Fit.{fit_script}
 use Rattle.ec_promise.proofs.Greatest.{greatest-id}
-use Rattle.ec_promise.proofs.Moments.{moment-stored, one-last}
+use Rattle.ec_promise.proofs.Moments.{end-in-order, moment-stored, one-last}
 use Rattle.ec_promise.proofs.Plain.{plain-complete}
 use Rattle.ec_promise.proofs.Spared.{lose-nothing}
 
@@ -50,11 +53,39 @@ same-joined [] = refl
 same-joined (p ∷ ps) = ap (λ (ls : List Shown). p ++ ls) (same-joined ps)
 
 -- a front of lawful lines is lawful
-lawful-front : (reads : List Read) (state : Durable) (all xs more : List Shown) → AreLawfulOn reads state all → xs ++ more ≡ all → AreLawfulOn reads state xs
-lawful-front reads state all xs more a e = go (cut-front xs more a.told a.last (e ∙ a.written) a.at_most_one)
+lawful-front : (reads : List Read) (state : Durable) (pieces : headline.Pieces) (all xs more : List Shown) → AreLawfulOn reads state pieces all → xs ++ more ≡ all → AreLawfulOn reads state (first_lines (length xs) pieces) xs
+lawful-front reads state pieces all xs more a e = go (cut-front xs more a.told a.last (e ∙ a.written) a.at_most_one)
   where
-    go : ((rest : List Shown) × (xs ++ rest ≡ a.told)) ⊎ (xs ≡ a.told ++ a.last) → AreLawfulOn reads state xs
-    go (inr q) = record { told = a.told; last = a.last; written = q; at_most_one = a.at_most_one; why = a.why; lines = a.lines; front = a.front; own_calls = a.own_calls; top = a.top; greatest = a.greatest; fronts = a.fronts }
+    few : (a b n : ℕ) → n ≡ a + b → a ≤ n
+    few a b n is = omega (arith, is)
+
+    fewer : (a b n : ℕ) → a ≤ b → b ≤ n → a ≤ n
+    fewer a b n le most = omega (arith, le, most)
+
+    ends : headline.AreEndsAsked a.lines (first_lines (length xs) pieces)
+    ends = first-ends (length xs) a.lines pieces a.ends
+
+    go : ((rest : List Shown) × (xs ++ rest ≡ a.told)) ⊎ (xs ≡ a.told ++ a.last) → AreLawfulOn reads state (first_lines (length xs) pieces) xs
+    go (inr q) =
+        let whole = first-all (length xs) pieces (subst (λ ls. length ls ≤ length xs) a.in_pieces (few (length a.told) (length a.last) (length xs) (ap length q ∙ length-append a.told a.last))) in
+        subst (λ ps. AreLawfulOn reads state ps xs) (sym whole) (record {
+          told = a.told;
+          last = a.last;
+          written = q;
+          at_most_one = a.at_most_one;
+          why = a.why;
+          lines = a.lines;
+          front = a.front;
+          own_calls = a.own_calls;
+          in_pieces = a.in_pieces;
+          counted = a.counted;
+          numbered = a.numbered;
+          ends = a.ends;
+          spared = a.spared;
+          top = a.top;
+          greatest = a.greatest;
+          fronts = a.fronts;
+        })
     go (inl (rest, q)) = record {
       told = xs;
       last = [];
@@ -64,6 +95,11 @@ lawful-front reads state all xs more a e = go (cut-front xs more a.told a.last (
       lines = a.lines;
       front = a.front;
       own_calls = each-front (headline.InScript a.lines) xs rest (subst (EachLine (headline.InScript a.lines)) (sym q) a.own_calls);
+      in_pieces = first-are xs rest pieces (q ∙ a.in_pieces);
+      counted = fewer _ _ _ (first-fewer (length xs) pieces) a.counted;
+      numbered = first-numbered (length xs) 1 [] pieces a.numbered;
+      ends = ends;
+      spared = λ s. subst (λ ls. LosesNothing (place ls)) (sym (first-are xs rest pieces (q ∙ a.in_pieces))) (lose-nothing a.lines (first_lines (length xs) pieces) ends s);
       top = a.top;
       greatest = a.greatest;
       fronts = fronts-front state a.top xs rest (subst (FrontsAreLawful (base_on state a.top) state.max_objects) (sym q) a.fronts);
@@ -81,7 +117,7 @@ module _ (reads : List Read) (fates : List Fates) (d : Durable) (wf : WellFormed
   highest = greatest-id d wf
 
   -- nothing is told but that a counter is spent
-  unopened-lines : (n : Counter) → AreLawfulOn reads d (show.Spent n ∷ [])
+  unopened-lines : (n : Counter) → AreLawfulOn reads d [] (show.Spent n ∷ [])
   unopened-lines n = record {
     told = [];
     last = show.Spent n ∷ [];
@@ -91,6 +127,11 @@ module _ (reads : List Read) (fates : List Fates) (d : Durable) (wf : WellFormed
     lines = [];
     front = refl;
     own_calls = tt;
+    in_pieces = refl;
+    counted = omega arith;
+    numbered = tt;
+    ends = λ c k le. no-ends c k;
+    spared = λ s. tt;
     top = highest.0;
     greatest = highest.1;
     fronts = λ front rest e. subst (AreLawful (base_on d highest.0) d.max_objects) (sym (none front rest e)) record { placed = tt; history = tt; fsync = tt };
@@ -100,18 +141,9 @@ module _ (reads : List Read) (fates : List Fates) (d : Durable) (wf : WellFormed
       none [] ys e = refl
       none (x ∷ xs) ys e = absurd cc
 
-  unopened : (n : Counter) → AreWholeOn reads d (show.Spent n ∷ [])
+  unopened : (n : Counter) → AreWholeOn reads d [] (show.Spent n ∷ [])
   unfolding unopened-lines
-  unopened n = record {
-    lawful = unopened-lines n;
-    pieces = [];
-    in_pieces = refl;
-    counted = omega arith;
-    numbered = tt;
-    ends = λ c k le. no-ends c k;
-    spared = λ s. tt;
-    fit = λ o. tt;
-  }
+  unopened n = record { lawful = unopened-lines n; fit = λ o. tt }
 
   module _ (w : World) (o : open_world d ≡ Ok w) where
     abbrev ran : Ran
@@ -120,7 +152,7 @@ module _ (reads : List Read) (fates : List Fates) (d : Durable) (wf : WellFormed
     shows : RunShows (images d.volume) highest.0 d.max_objects reads (close ran.ending ran)
     shows = runs-show d wf sixteen zero w o reads fates fit highest.0 highest.1
 
-    opened-lines : AreLawfulOn reads d (joined (close ran.ending ran).pieces ++ last_line (close ran.ending ran).ending)
+    opened-lines : AreLawfulOn reads d (close ran.ending ran).pieces (joined (close ran.ending ran).pieces ++ last_line (close ran.ending ran).ending)
     opened-lines = record {
       told = headline.joined (close ran.ending ran).pieces;
       last = last_line (close ran.ending ran).ending;
@@ -130,28 +162,24 @@ module _ (reads : List Read) (fates : List Fates) (d : Durable) (wf : WellFormed
       lines = shows.lines;
       front = shows.front;
       own_calls = shows.own_calls;
-      top = highest.0;
-      greatest = highest.1;
-      fronts = shows.fronts;
-    }
-
-    opened : AreWholeOn reads d (joined (close ran.ending ran).pieces ++ last_line (close ran.ending ran).ending)
-    unfolding opened-lines
-    opened = record {
-      lawful = opened-lines;
-      pieces = (close ran.ending ran).pieces;
       in_pieces = refl;
       counted = shows.counted;
       numbered = shows.numbered;
       ends = shows.ends;
       spared = lose-nothing shows.lines (close ran.ending ran).pieces shows.ends;
-      fit = shows.fit;
+      top = highest.0;
+      greatest = highest.1;
+      fronts = shows.fronts;
     }
 
-  all-lawful : AreWholeOn reads d (drill reads fates d).0
+    opened : AreWholeOn reads d (close ran.ending ran).pieces (joined (close ran.ending ran).pieces ++ last_line (close ran.ending ran).ending)
+    unfolding opened-lines
+    opened = record { lawful = opened-lines; fit = shows.fit }
+
+  all-lawful : AreWholeOn reads d (pieces_of reads fates d) (drill reads fates d).0
   all-lawful = go (open_world d) refl
     where
-      go : (o : Result World Counter) → open_world d ≡ o → AreWholeOn reads d (drill_in reads fates o).0
+      go : (o : Result World Counter) → open_world d ≡ o → AreWholeOn reads d (pieces_in reads fates o) (drill_in reads fates o).0
       go (Err n) q = unopened n
       go (Ok w) q = opened w q
 
@@ -161,22 +189,26 @@ module _ (reads : List Read) (fates : List Fates) (d : Durable) (wf : WellFormed
   ends-unspent (BadLine n k) number q not = tt
   ends-unspent (TooMany n) number q not = tt
 
-  all-stored : (number : ℕ) → (drill reads fates d).1 ≡ number → (number ≡ 15 → ⊥) → AreStoredOn reads d (state_after reads fates d) (drill reads fates d).0
+  all-stored : (number : ℕ) → (drill reads fates d).1 ≡ number → (number ≡ 15 → ⊥) → AreStoredOn reads d (state_after reads fates d) (pieces_of reads fates d) (drill reads fates d).0
   unfolding opened opened-lines
   all-stored number is not = go (open_world d) refl is
     where
       after-of : Result World Counter → Durable
       after-of o = elim o [ Err n ↦ d | Ok start ↦ (end_of reads fates start).durable ]
 
-      go : (o : Result World Counter) → open_world d ≡ o → (drill_in reads fates o).1 ≡ number → AreStoredOn reads d (elim o [ Err n ↦ d | Ok start ↦ (end_of reads fates start).durable ]) (drill_in reads fates o).0
+      go : (o : Result World Counter) → open_world d ≡ o → (drill_in reads fates o).1 ≡ number → AreStoredOn reads d (elim o [ Err n ↦ d | Ok start ↦ (end_of reads fates start).durable ]) (pieces_in reads fates o) (drill_in reads fates o).0
       go (Err n) q s = absurd (not (sym s))
       go (Ok w) q s =
           let u = ends-unspent (close (ran w q).ending (ran w q)).ending number s not in
           record { whole = opened w q; formed = (shows w q).formed u; stored = (shows w q).stored u }
 
+-- On the way, and behind the restart at the end.
+all-in-order : (reads : List Read) (fates : List Fates) (d : Durable) → WellFormed d → length d.sessions ≡ 16 → images d.volume 0 ≡ Gone → AreFit reads → AreInOrder reads fates d
+all-in-order reads fates d wf sixteen gone fit = λ w o. (λ n. run-in-order d wf sixteen gone w o reads fates fit n, end-in-order d wf sixteen gone w o reads fates fit)
+
 pub machine-lawful : DrillsAreLawful
 machine-lawful reads fates d is fit =
-    (all-lawful reads fates d is.formed is.slots is.from_one fit, λ not. all-stored reads fates d is.formed is.slots is.from_one fit (drill reads fates d).1 refl not, λ w o n. run-in-order d is.formed is.slots is.from_one w o reads fates fit n)
+    (all-lawful reads fates d is.formed is.slots is.from_one fit, λ not. all-stored reads fates d is.formed is.slots is.from_one fit (drill reads fates d).1 refl not, all-in-order reads fates d is.formed is.slots is.from_one fit)
 
 -- Each moment of its run is stored, and so is its end.
 pub machine-stored : MomentsAreStored
@@ -201,8 +233,8 @@ whole-lawful most number w r not told =
     let is = (r.opens).whole in
     let fit = fit_script _ r.reads (r.given).read in
     ∥∥₁_map is.formed (λ wf. (
-      subst (AreStoredOn r.reads r.state (state_after r.reads r.fates r.state)) (r.lines told) (all-stored r.reads r.fates r.state wf is.slots is.from_one fit number (r.status told) not),
-      λ v o n. run-in-order r.state wf is.slots is.from_one v o r.reads r.fates fit n,
+      subst (AreStoredOn r.reads r.state (state_after r.reads r.fates r.state) (pieces_of r.reads r.fates r.state)) (r.lines told) (all-stored r.reads r.fates r.state wf is.slots is.from_one fit number (r.status told) not),
+      all-in-order r.reads r.fates r.state wf is.slots is.from_one fit,
     ))
 
 spent-lawful : (most number : ℕ) (w : Outside) (r : RanWhole most number w) → SpentIsLawful most number w r
@@ -210,9 +242,9 @@ spent-lawful most number w r told =
     let is = (r.opens).whole in
     let fit = fit_script _ r.reads (r.given).read in
     ∥∥₁_map is.formed (λ wf. (
-      subst (AreWholeOn r.reads r.state) (r.lines told) (all-lawful r.reads r.fates r.state wf is.slots is.from_one fit),
+      subst (AreWholeOn r.reads r.state (pieces_of r.reads r.fates r.state)) (r.lines told) (all-lawful r.reads r.fates r.state wf is.slots is.from_one fit),
       subst (EndsStored r.reads r.fates r.state) (r.lines told) (ends-stored r.reads r.fates r.state (whole-state r.state wf is.slots is.from_one) fit),
-      λ v o n. run-in-order r.state wf is.slots is.from_one v o r.reads r.fates fit n,
+      all-in-order r.reads r.fates r.state wf is.slots is.from_one fit,
     ))
 
 part-lawful : (most : ℕ) (w : Outside) (last : List ℕ) (r : RanInPart most w last) → PartIsLawful most w last r
@@ -221,13 +253,13 @@ part-lawful most w last r = (lawful, stored)
     fit : AreFit r.reads
     fit = fit_script _ r.reads (r.given).read
 
-    lawful : IsToldAll w → ∥ AreLawfulOn r.reads r.state r.shown × AreInOrder r.reads r.fates r.state ∥₁
+    lawful : IsToldAll w r.reads → ∥ AreLawfulOn r.reads r.state (first_lines (length r.shown) (pieces_of r.reads r.fates r.state)) r.shown × AreInOrder r.reads r.fates r.state ∥₁
     lawful told =
         let is = (r.opens).whole in
         let f = r.front told in
         ∥∥₁_map is.formed (λ wf. (
-          lawful-front r.reads r.state (drill r.reads r.fates r.state).0 r.shown (r.unwritten ++ f.0) (all-lawful r.reads r.fates r.state wf is.slots is.from_one fit).lawful (sym f.1),
-          λ v o n. run-in-order r.state wf is.slots is.from_one v o r.reads r.fates fit n,
+          lawful-front r.reads r.state (pieces_of r.reads r.fates r.state) (drill r.reads r.fates r.state).0 r.shown (r.unwritten ++ f.0) (all-lawful r.reads r.fates r.state wf is.slots is.from_one fit).lawful (sym f.1),
+          all-in-order r.reads r.fates r.state wf is.slots is.from_one fit,
         ))
 
     stored : w.tells → ∥ LeavesStored w.disk_after r.reads r.fates r.state (open_world r.state) r.shown ∥₁

@@ -1,5 +1,6 @@
 pub mod Greatest
 pub mod Fit
+pub mod Calm
 pub mod Left
 pub mod Moments
 mod Plain

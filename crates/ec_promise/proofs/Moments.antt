@@ -1,7 +1,7 @@
 -- At each moment of a run all facts hold of its world, and so its volume has the shape that durable lines leave.
-use Rattle.std.proofs.Common.{◌≡◌, ◌≤◌, ◌+◌, ◌-◌, ℕ, zero, suc, Bool, true, false, List, [], ◌∷◌, ◌++◌, Option, Some, None, refl, sym, ap, subst, ◌∙◌, arith, append-nil, append_assoc}
-use Rattle.std.specs.Prelude.{length, nat_lt, slice_get, take, Ok}
-use Rattle.std.proofs.lemmas.List.{length-append}
+use Rattle.std.proofs.Common.{◌≡◌, ◌≤◌, ◌+◌, ◌-◌, ℕ, zero, suc, T, Bool, true, false, List, [], ◌∷◌, ◌++◌, Option, Some, None, refl, sym, ap, subst, ◌∙◌, arith, append-nil, append_assoc}
+use Rattle.std.specs.Prelude.{length, nat_lt, slice_get, drop, take, Ok}
+use Rattle.std.proofs.lemmas.List.{length-append, take-append-drop}
 use Rattle.ec_volume.specs.Volume.{images}
 use Rattle.ec_volume.specs.declared.image.Image.TheVariants.{Gone}
 use Rattle.ec_history.specs.Lines.{IsStored}
@@ -9,6 +9,7 @@ use Rattle.ec_history.specs.Placing.{EachLine}
 use Rattle.ec_history.specs.declared.shown.Shown.{Shown}
 use Rattle.ec_history.specs.declared.shown.Shown.TheVariants as show
 use Rattle.ec_laws.proofs.Numbers.{each-back, each-front}
+use Rattle.ec_plain.specs.Bounds.{is_bounded}
 use Rattle.ec_plain.specs.declared.call.Call.{Call}
 use Rattle.ec_durable.specs.WellFormed.{WellFormed}
 use Rattle.ec_durable.specs.declared.state.Durable.{Durable}
@@ -22,7 +23,7 @@ use Rattle.ec_protocol.specs.declared.world.Noted.TheVariants as noted_of
 use Rattle.ec_protocol.specs.declared.world.World.{World}
 use Rattle.ec_protocol.specs.declared.world.WorldFault.{WorldFault}
 use Rattle.ec_coherence.specs.Steps.{call_of}
-use Rattle.ec_coherence.proofs.Tables.{none_some}
+use Rattle.ec_coherence.proofs.Tables.{none_some, same_some}
 use Rattle.ec_lawful.specs.Headline.{IsGreatest, Lines, Pieces}
 use Rattle.ec_lawful.specs.Headline as headline
 use Rattle.ec_lawful.specs.Calls.{AreOf, IsOf}
@@ -30,7 +31,9 @@ use Rattle.ec_lawful.specs.Drills.{AreFit, Closed, Comes, IsCallIn, IsFit, Sofar
 use Rattle.ec_lawful.specs.Steps.{Holds}
 use Rattle.ec_lawful.proofs.Drills.{drills-on, runs-on}
 use Rattle.ec_drill.specs.Left.{Moment, behind_lines, in_line, at_end, fates_behind}
-use Rattle.ec_lawful.proofs.Worlds.{F, kept-by, no-calls, no-lines, opened-holds}
+use Rattle.ec_lawful.specs.Reached.{IsInOrder}
+use Rattle.ec_drill.specs.Drill.{end_of}
+use Rattle.ec_lawful.proofs.Worlds.{F, in-order-of, kept-by, no-calls, no-lines, opened-holds}
 use Rattle.ec_promise.specs.Left.{IsStoredIn, SaysWhy, in_doubt}
 use Rattle.ec_promise.proofs.Left.{stored-in}
 
@@ -48,29 +51,29 @@ longer-call lines more l c cl p = (p.0, longer (length lines) (length more) (len
     longer : (a b n l : ℕ) → n ≡ a + b → l ≤ a → l ≤ n
     longer a b n l q p = omega (arith, q, p)
 
-longer-one : (lines more : Lines) (s : Shown) → IsOf (IsCallIn lines) s → IsOf (IsCallIn (lines ++ more)) s
-longer-one lines more (show.Waits l c cl) p = longer-call lines more l c cl p
-longer-one lines more (show.Answered l c cl a op) p = longer-call lines more l c cl p
-longer-one lines more (show.Durable c ns) p = tt
-longer-one lines more (show.Ended c ns) p = tt
-longer-one lines more (show.Unseen c) p = tt
-longer-one lines more (show.Told c ns) p = tt
-longer-one lines more (show.Crashed c) p = tt
-longer-one lines more show.Stopped p = tt
-longer-one lines more show.Started p = tt
-longer-one lines more show.Nothing p = tt
-longer-one lines more show.Unsettled p = tt
-longer-one lines more (show.Bad n k) p = tt
-longer-one lines more (show.DiskBad n) p = tt
-longer-one lines more (show.Limit n k) p = tt
-longer-one lines more (show.Spent n) p = tt
+of-another : (P Q : ℕ → ℕ → Call → Type 0) → ((l c : ℕ) (cl : Call) → P l c cl → Q l c cl) → (s : Shown) → IsOf P s → IsOf Q s
+of-another P Q to (show.Waits l c cl) p = to l c cl p
+of-another P Q to (show.Answered l c cl a op) p = to l c cl p
+of-another P Q to (show.Durable c ns) p = tt
+of-another P Q to (show.Ended c ns) p = tt
+of-another P Q to (show.Unseen c) p = tt
+of-another P Q to (show.Told c ns) p = tt
+of-another P Q to (show.Crashed c) p = tt
+of-another P Q to show.Stopped p = tt
+of-another P Q to show.Started p = tt
+of-another P Q to show.Nothing p = tt
+of-another P Q to show.Unsettled p = tt
+of-another P Q to (show.Bad n k) p = tt
+of-another P Q to (show.DiskBad n) p = tt
+of-another P Q to (show.Limit n k) p = tt
+of-another P Q to (show.Spent n) p = tt
 
-longer-shown : (lines more : Lines) (ss : List Shown) → EachLine (IsOf (IsCallIn lines)) ss → EachLine (IsOf (IsCallIn (lines ++ more))) ss
-longer-shown lines more [] e = tt
-longer-shown lines more (s ∷ ss) e = (longer-one lines more s e.0, longer-shown lines more ss e.1)
+shown-of : (P Q : ℕ → ℕ → Call → Type 0) → ((l c : ℕ) (cl : Call) → P l c cl → Q l c cl) → (ss : List Shown) → EachLine (IsOf P) ss → EachLine (IsOf Q) ss
+shown-of P Q to [] e = tt
+shown-of P Q to (s ∷ ss) e = (of-another P Q to s e.0, shown-of P Q to ss e.1)
 
 longer-of : (lines more : Lines) (w : World) → AreOf (IsCallIn lines) w → AreOf (IsCallIn (lines ++ more)) w
-longer-of lines more w a = record { calls = λ c n l cl q. longer-call lines more l c cl (a.calls c n l cl q); shown = longer-shown lines more w.shown a.shown }
+longer-of lines more w a = record { calls = λ c n l cl q. longer-call lines more l c cl (a.calls c n l cl q); shown = shown-of (IsCallIn lines) (IsCallIn (lines ++ more)) (longer-call lines more) w.shown a.shown }
 
 abbrev comments : ℕ → Lines
 comments zero = []
@@ -241,3 +244,32 @@ module _ (d : Durable) (wf : WellFormed d) (sixteen : length d.sessions ≡ 16) 
         (subst (λ (x : Ran). IsStoredIn d (carry_out j f (length done + 1) l x.world).world (machine.joined x.pieces ++ (carry_out j f (length done + 1) l x.world).shown)) is
         (line-stored (bound all) done fs (done-fit done (reads l column ∷ ahead) e) l column (next-fit done ahead l column e) j f)))
     moment-stored w shown (at_end r is at told) = subst (λ v. IsStoredIn d v shown) at (end-stored r is shown told)
+
+-- Behind the restart at the end the world is in order.
+
+abbrev IsWithin : ℕ → ℕ → Call → Type 0
+IsWithin l c cl = T (is_bounded cl)
+
+-- a call of lines that fit is within its bounds
+at-fit : (rs : List Read) → AreFit rs → (i c : ℕ) (cl : Call) → slice_get (lines_in rs) i ≡ Some (line.Call c cl) → T (is_bounded cl)
+at-fit [] a i c cl q = absurd (none_some q)
+at-fit (reads l column ∷ rs) a zero c cl q = (subst (λ x. IsFit (reads x column)) (same_some q) a.0).1
+at-fit (reads l column ∷ rs) a (suc i) c cl q = at-fit rs a.1 i c cl q
+at-fit (unfit column ∷ rs) a i c cl q = at-fit rs a.1 i c cl q
+
+module _ (d : Durable) (wf : WellFormed d) (sixteen : length d.sessions ≡ 16) (gone : images d.volume 0 ≡ Gone) (start : World) (q : open_world d ≡ Ok start) (ls : List Read) (fs : List Fates) (fit : AreFit ls) where
+  abbrev ran : Ran
+  ran = run_from (bound ls) 1 ls fs start
+
+  closes : Closed (F d wf sixteen gone) [] [] ls (close ran.ending ran)
+  closes = drills-on (F d wf sixteen gone) (kept-by d wf sixteen gone) ls fs start (opened-holds d wf sixteen gone start q) (no-calls d wf sixteen gone start q) (no-lines d wf sixteen gone start q) fit
+
+  bounded : (l c : ℕ) (cl : Call) → IsCallIn closes.more l c cl → IsWithin l c cl
+  bounded l c cl p =
+      let n = length closes.more in
+      let first = subst (λ xs. slice_get xs (l - 1) ≡ Some (line.Call c cl)) closes.front p.2 in
+      at-fit ls fit (l - 1) c cl
+      (subst (λ xs. slice_get xs (l - 1) ≡ Some (line.Call c cl)) (take-append-drop n (lines_in ls)) (slice-front (take n (lines_in ls)) (drop n (lines_in ls)) (l - 1) (line.Call c cl) first))
+
+  pub end-in-order : IsInOrder (images d.volume) d.max_objects (end_of ls fs start)
+  end-in-order = in-order-of d wf sixteen gone (close ran.ending ran).world (closes.sofar).holds (shown-of (IsCallIn closes.more) IsWithin bounded (close ran.ending ran).world.shown ((closes.sofar).of).shown)

@@ -1,5 +1,5 @@
 -- A plain script is complete, on a new disk.
-use Rattle.std.proofs.Common.{◌≡◌, refl, sym, ap, ◌∙◌, subst, inl, inr, arith, ◌≤◌, ℕ, suc, List, [], ◌∷◌, length}
+use Rattle.std.proofs.Common.{◌≡◌, refl, sym, ap, ◌∙◌, subst, inl, arith, ◌≤◌, ℕ, suc, List, [], ◌∷◌, length}
 use Rattle.std.proofs.Math.Logic.{∥∥₁_map}
 use Rattle.ec_history.specs.History.{Each}
 use Rattle.ec_history.specs.declared.shown.Shown.{Shown}
@@ -13,9 +13,9 @@ use Rattle.ec_deliveries.specs.Runs as runs
 use Rattle.ec_complete.specs.Complete.{IsComplete}
 use Rattle.ec_complete.proofs.PlainScripts.{plain-scripts-complete}
 use Rattle.ec_drill.specs.Drill.{Outside, IsToldAll, RanWhole}
-use Rattle.ec_drill.specs.Fates.{AllRun, AreOf, EachRuns}
 use Rattle.ec_drill.specs.Script.{AreRead}
 use Rattle.ec_promise.specs.Promise.{PlainIsComplete}
+use Rattle.ec_promise.proofs.Calm.{all-run}
 use Rattle.ec_promise.proofs.Fit.{fit_script}
 
 -- each line is read once
@@ -25,15 +25,6 @@ as-many [] (r ∷ rs) a = absurd a
 as-many (b ∷ bs) [] a = absurd a
 as-many (b ∷ bs) (r ∷ rs) a = ap suc (as-many bs rs a.1)
 
--- the disk runs in each step
-all-run : (fs : Fates) → AllRun fs → runs.AllRun fs
-all-run [] a = tt
-all-run (f ∷ fs) a = (a.0, all-run fs a.1)
-
-each-runs : (fs : List Fates) → EachRuns fs → Each runs.AllRun fs
-each-runs [] a = tt
-each-runs (f ∷ fs) a = (all-run f a.0, each-runs fs a.1)
-
 pub plain-complete : (most number : ℕ) (w : Outside) (r : RanWhole most number w) → PlainIsComplete most number w r
 plain-complete most number w r new script =
     ∥∥₁_map (r.opens).whole.formed (λ wf.
@@ -42,8 +33,8 @@ plain-complete most number w r new script =
     subst (λ (d : Durable). IsComplete (images d.volume) (lines_in r.reads) (drill r.reads r.fates d).0 (drill r.reads r.fates d).1) (sym state-is) c in
     (sym (r.status told) ∙ on.done, subst (λ (x : List Shown × ℕ). IsComplete (images r.state.volume) (lines_in r.reads) x.0 x.1) (λ z. (r.lines told z, r.status told z)) on))
   where
-    told : IsToldAll w
-    told = inl new.tells
+    told : IsToldAll w r.reads
+    told = inl (inl new.tells)
 
     state-is : r.state ≡ formatted most
     state-is = (r.opens).empty new.tells new.empty
@@ -55,8 +46,4 @@ plain-complete most number w r new script =
     few = omega (arith, as-many _ r.reads (r.given).read, (r.given).few_lines)
 
     fates : Each runs.AllRun r.fates
-    fates = go r.stopped
-      where
-        go : AreOf r.fates w.counts.stops w.counts_after.stops → Each runs.AllRun r.fates
-        go (inl e) = each-runs r.fates e
-        go (inr rose) = absurd (new.goes_on rose)
+    fates = all-run w r.reads r.fates r.stopped script.faultless

@@ -33,12 +33,11 @@ both : (a b : Bool) → T (a && b) → T a × T b
 both true b t = (tt, t)
 both false b t = absurd t
 
-none-end : (c k : ℕ) (ls : Lines) → T (list_all spares ls) → length (filter (may_end c) (take k ls)) ≡ 0
-none-end c zero ls s = refl
-none-end c (suc k) [] s = refl
-none-end c (suc k) (l ∷ ls) s =
+none-end : (c : ℕ) (ls : Lines) → T (list_all spares ls) → length (filter (may_end c) ls) ≡ 0
+none-end c [] s = refl
+none-end c (l ∷ ls) s =
     let parts = both (spares l) (list_all spares ls) s in
-    ap (λ b. length (if b then l ∷ filter (may_end c) (take k ls) else filter (may_end c) (take k ls))) (may-end-none c l parts.0) ∙ none-end c k ls parts.1
+    ap (λ b. length (if b then l ∷ filter (may_end c) ls else filter (may_end c) ls)) (may-end-none c l parts.0) ∙ none-end c ls parts.1
 
 -- Lines that show no end.
 
@@ -120,8 +119,8 @@ calls-alone : (past ss : List Shown) → EachLine (λ s. is_end s ≡ false) ss 
 calls-alone past [] n = tt
 calls-alone past (s ∷ ss) n = all-two (line_entries past s ss) (place_from (past ++ s ∷ []) ss) (line-calls past s ss n.0) (calls-alone (past ++ s ∷ []) ss n.1)
 
--- So nothing is lost in pieces that have no more ends than lines that may end a session, of which there are none.
-pub lose-nothing : (lines : Lines) (pieces : Pieces) → AreEndsAsked lines pieces → T (list_all spares lines) → LosesNothing (place (joined pieces))
+-- So nothing is lost in pieces that have no more ends than their lines that may end a session, of which there are none.
+pub lose-nothing : (lines : Lines) (pieces : Pieces) → AreEndsAsked lines pieces → T (list_all spares (take (length pieces) lines)) → LosesNothing (place (joined pieces))
 lose-nothing lines pieces asked s = calls-alone [] (joined pieces) (none-ended (joined pieces) none)
   where
     all : (k : ℕ) (ps : Pieces) → length ps ≤ k → take k ps ≡ ps
@@ -131,4 +130,4 @@ lose-nothing lines pieces asked s = calls-alone [] (joined pieces) (none-ended (
     all (suc k) (p ∷ ps) le = ap (λ qs. p ∷ qs) (all k ps (omega (arith, le)))
 
     none : (c : ℕ) → length (filter (ends c) (joined pieces)) ≡ 0
-    none c = omega (arith, subst (λ ps. length (filter (ends c) (joined ps)) ≤ length (filter (may_end c) (take (length pieces) lines))) (all (length pieces) pieces (omega arith)) (asked c (length pieces) (omega arith)), none-end c (length pieces) lines s)
+    none c = omega (arith, subst (λ ps. length (filter (ends c) (joined ps)) ≤ length (filter (may_end c) (take (length pieces) lines))) (all (length pieces) pieces (omega arith)) (asked c (length pieces) (omega arith)), none-end c (take (length pieces) lines) s)

@@ -1,7 +1,6 @@
 -- Write-behind: what a run made durable is what its lines asked for, where no fault was made. It's told by the lines, the script and the volume of the disk alone.
 use Rattle.std.specs.Prelude.{◌≡◌, ◌≤◌, ℕ, List, [], ◌++◌, length}
 use Rattle.ec_base.specs.Limits.{clerk_count}
-use Rattle.ec_base.specs.Outside.{Rose}
 use Rattle.ec_base.specs.Tables.{once}
 use Rattle.ec_volume.specs.Volume.{images}
 use Rattle.ec_volume.specs.declared.image.Image.TheVariants.{Gone}
@@ -18,18 +17,18 @@ use Rattle.ec_deliveries.specs.Runs.{AllRun}
 use Rattle.ec_complete.specs.Complete.{IsFaultlessRead}
 use Rattle.ec_complete.specs.Pieces.{ArePiecesBehind}
 use Rattle.ec_promise.specs.Left.{SaysWhy}
+use Rattle.ec_promise.specs.Pieces.{first_lines, pieces_of}
 
--- The lines that a run over this script wrote, on a disk that stood for this state, in pieces, one for each line carried out: each operation that a durable line
+-- The lines that a run over this script wrote, on a disk that stood for this state, in these pieces, one for each line carried out: each operation that a durable line
 -- names lies in a closure that the line of the script asks for: of the object of its fsync, of the pushed operation, of all operations for a sync, or, where the
 -- operations are another clerk's, of an object that its call touches.
-pub record AreBehindOn (reads : List Read) (state : Durable) (shown : List Shown) : Type 0 where
+pub record AreBehindOn (reads : List Read) (state : Durable) (pieces : Pieces) (shown : List Shown) : Type 0 where
   -- all but the last one, where that says why the run ended early
   pub told : List Shown
   pub last : List Shown
   pub written : shown ≡ told ++ last
   pub at_most_one : length last ≤ 1
   pub why : EachLine SaysWhy last
-  pub pieces : Pieces
   pub in_pieces : told ≡ joined pieces
   -- the first line of each call stands in the piece of the call's line
   pub numbered : ArePieces 1 [] pieces
@@ -38,19 +37,18 @@ pub record AreBehindOn (reads : List Read) (state : Durable) (shown : List Shown
   pub greatest : IsGreatest (images state.volume) top
   pub behind : ArePiecesBehind (placed_on (images state.volume) top) (lines_in reads) [] pieces
 
--- So it is on a disk that tells its content and made no stop, with a script of comments, calls and pushes: of a run that ended by itself, and of one that was cut
--- off.
-abbrev pub IsKeptBehind : Outside → List Read → Durable → List Shown → Type 0
-IsKeptBehind w reads state shown = w.tells → (Rose w.counts.stops w.counts_after.stops → ⊥) → Each IsFaultlessRead reads → ∥ AreBehindOn reads state shown ∥₁
+-- So it is on a disk that tells its content, with a script of comments, calls and pushes: of a run that ended by itself, and of one that was cut off.
+abbrev pub IsKeptBehind : Outside → List Read → Durable → Pieces → List Shown → Type 0
+IsKeptBehind w reads state pieces shown = w.tells → Each IsFaultlessRead reads → ∥ AreBehindOn reads state pieces shown ∥₁
 
 abbrev pub BehindIsKept : (most number : ℕ) (w : Outside) → RanWhole most number w → Type 0
-BehindIsKept most number w r = IsKeptBehind w r.reads r.state r.shown
+BehindIsKept most number w r = IsKeptBehind w r.reads r.state (pieces_of r.reads r.fates r.state) r.shown
 
 abbrev pub PartIsKept : (most : ℕ) (w : Outside) (last : List ℕ) → RanInPart most w last → Type 0
-PartIsKept most w last r = IsKeptBehind w r.reads r.state r.shown
+PartIsKept most w last r = IsKeptBehind w r.reads r.state (first_lines (length r.shown) (pieces_of r.reads r.fates r.state)) r.shown
 
 -- Of the machine: the lines of each drill over such a script, of at most 65,536 lines and 16 clerks, on a disk that stands for a well-formed state with a slot for
 -- each clerk, whose objects have ids from 1.
 abbrev pub DrillsAreBehind : Type 0
 DrillsAreBehind = (reads : List Read) (fates : List Fates) (d : Durable) → WellFormed d → length d.sessions ≡ clerk_count → images d.volume 0 ≡ Gone → length reads ≤ 65536 → length (once (named_in reads)) ≤ 16 → AreFit reads → Each IsFaultlessRead reads → Each AllRun fates
-    → AreBehindOn reads d (drill reads fates d).0
+    → AreBehindOn reads d (pieces_of reads fates d) (drill reads fates d).0

@@ -1,3 +1,4 @@
+pub mod Pieces
 pub mod Spared
 pub mod Left
 pub mod Promise

@@ -9,7 +9,6 @@ use Rattle.ec_history.specs.Lines.{IsStored}
 use Rattle.ec_history.specs.Placing.{EachLine, place}
 use Rattle.ec_history.specs.declared.shown.Shown.{Shown}
 use Rattle.ec_base.specs.Limits.{clerk_count}
-use Rattle.ec_base.specs.Outside.{Rose}
 use Rattle.ec_volume.specs.declared.image.Image.TheVariants.{Gone}
 use Rattle.ec_durable.specs.WellFormed as states
 use Rattle.ec_durable.specs.declared.state.Durable.{Durable}
@@ -22,9 +21,10 @@ use Rattle.ec_lawful.specs.Reached.{IsInOrder}
 use Rattle.ec_promise.specs.Behind.{BehindIsKept, PartIsKept}
 use Rattle.ec_complete.specs.Complete.{IsComplete}
 use Rattle.ec_complete.specs.PlainScripts.{IsPlainScript}
+use Rattle.ec_promise.specs.Pieces.{first_lines, pieces_of}
 use Rattle.ec_promise.specs.Spared.{LosesNothing, spares}
 use Rattle.ec_promise.specs.Left.{EndsStored, IsStoredIn, LeavesStored, SaysWhy}
-use Rattle.ec_drill.specs.Drill.{Outside, Drilled, IsCut, IsCutClean, IsToldAll, RanWhole, RanInPart, state_after}
+use Rattle.ec_drill.specs.Drill.{Outside, Drilled, IsCut, IsCutClean, IsToldAll, RanWhole, RanInPart, end_of, state_after}
 use Rattle.ec_drill.specs.Left.{Moment}
 use Rattle.ec_drill.specs.declared.status.Status.{Status}
 use Rattle.ec_drill.specs.declared.status.Status.TheVariants as status
@@ -39,8 +39,9 @@ pub record WholeState (d : Durable) : Type 0 where
   pub slots : length d.sessions ≡ clerk_count
   pub from_one : images d.volume 0 ≡ Gone
 
--- The lines that a run over this script wrote, on a disk that stood for this state.
-pub record AreLawfulOn (reads : List Read) (state : Durable) (shown : List Shown) : Type 0 where
+-- The lines that a run over this script wrote, on a disk that stood for this state, in these pieces: one for each line carried out, and perhaps one for the line
+-- that ended it, and for the restart at the end.
+pub record AreLawfulOn (reads : List Read) (state : Durable) (pieces : Pieces) (shown : List Shown) : Type 0 where
   -- all but the last one, where that says why the run ended early
   pub told : List Shown
   pub last : List Shown
@@ -51,59 +52,61 @@ pub record AreLawfulOn (reads : List Read) (state : Durable) (shown : List Shown
   pub lines : Lines
   pub front : lines ≡ take (length lines) (lines_in reads)
   pub own_calls : EachLine (InScript lines) told
+  pub in_pieces : told ≡ joined pieces
+  pub counted : length pieces ≤ length lines + 2
+  -- the first line of each call stands in the piece of the call's line
+  pub numbered : ArePieces 1 [] pieces
+  -- no session ends but by a crash or an end: up to each line no more of a clerk's sessions ended than such lines were carried out
+  pub ends : AreEndsAsked lines pieces
+  -- so nothing is lost where none of the lines of these pieces crashes a clerk or ends a session
+  pub spared : T (list_all spares (take (length pieces) lines)) → LosesNothing (place told)
   -- each front of them has a history, which is legal on the volume at the beginning; what an fsync covers was durable; a new object has the id that is the
   -- greatest one of the volume plus the place of its call's line
   pub top : ℕ
   pub greatest : IsGreatest (images state.volume) top
   pub fronts : FrontsAreLawful (base_on state top) state.max_objects told
 
--- Those of a run that ended by itself, in pieces: one for each line carried out, and perhaps one for the line that ended it, and for the restart at the end.
-pub record AreWholeOn (reads : List Read) (state : Durable) (shown : List Shown) : Type 0 where
-  pub lawful : AreLawfulOn reads state shown
-  pub pieces : Pieces
-  pub in_pieces : lawful.told ≡ joined pieces
-  pub counted : length pieces ≤ length lawful.lines + 2
-  -- the first line of each call stands in the piece of the call's line
-  pub numbered : ArePieces 1 [] pieces
-  -- no session ends but by a crash or an end: up to each line no more of a clerk's sessions ended than such lines were carried out
-  pub ends : AreEndsAsked lawful.lines pieces
-  -- so nothing is lost where none of the lines crashes a clerk or ends a session
-  pub spared : T (list_all spares lawful.lines) → LosesNothing (place lawful.told)
+-- Those of a run that ended by itself.
+pub record AreWholeOn (reads : List Read) (state : Durable) (pieces : Pieces) (shown : List Shown) : Type 0 where
+  pub lawful : AreLawfulOn reads state pieces shown
   -- at the end each update that is kept fits in turn
   pub fit : Fits (images state.volume) (updates (kept (base_on state lawful.top) (place lawful.told)))
 
 -- And the volume on the disk behind the run is well formed, and has the shape that the operations leave which durable lines name, in the history's order.
-pub record AreStoredOn (reads : List Read) (state end : Durable) (shown : List Shown) : Type 0 where
-  pub whole : AreWholeOn reads state shown
+pub record AreStoredOn (reads : List Read) (state end : Durable) (pieces : Pieces) (shown : List Shown) : Type 0 where
+  pub whole : AreWholeOn reads state pieces shown
   pub formed : WellFormed (images end.volume)
   pub stored : IsStored (base_on state whole.lawful.top) whole.lawful.told (images end.volume)
 
--- On the way the world of the run was in order behind each of the first lines, and so between any two: coherent, with lawful lines, and with what is kept fitting.
+-- On the way the world of the run was in order behind each of the first lines, and so between any two, and it is behind the restart at the end: coherent, with
+-- lawful lines, and with what is kept fitting.
 abbrev pub AreInOrder : List Read → List Fates → Durable → Type 0
-AreInOrder reads fates state = (w : World) → open_world state ≡ Ok w → (n : ℕ) → IsInOrder (images state.volume) state.max_objects (run_from (bound reads) 1 (take n reads) fates w).world
+AreInOrder reads fates state =
+    (w : World) → open_world state ≡ Ok w
+    → ((n : ℕ) → IsInOrder (images state.volume) state.max_objects (run_from (bound reads) 1 (take n reads) fates w).world) × IsInOrder (images state.volume) state.max_objects (end_of reads fates w)
 
 -- Where it's known what the disk did: of a run that ended by itself, also of one that a spent counter ended, and of one that was cut off. What the last two left
 -- of the volume is told of a disk that tells its content.
 abbrev pub WholeIsLawful : (most number : ℕ) (w : Outside) → RanWhole most number w → Type 0
-WholeIsLawful most number w r = IsToldAll w → ∥ AreStoredOn r.reads r.state (state_after r.reads r.fates r.state) r.shown × AreInOrder r.reads r.fates r.state ∥₁
+WholeIsLawful most number w r = IsToldAll w r.reads → ∥ AreStoredOn r.reads r.state (state_after r.reads r.fates r.state) (pieces_of r.reads r.fates r.state) r.shown × AreInOrder r.reads r.fates r.state ∥₁
 
 abbrev pub SpentIsLawful : (most number : ℕ) (w : Outside) → RanWhole most number w → Type 0
-SpentIsLawful most number w r = IsToldAll w → ∥ AreWholeOn r.reads r.state r.shown × EndsStored r.reads r.fates r.state r.shown × AreInOrder r.reads r.fates r.state ∥₁
+SpentIsLawful most number w r = IsToldAll w r.reads → ∥ AreWholeOn r.reads r.state (pieces_of r.reads r.fates r.state) r.shown × EndsStored r.reads r.fates r.state r.shown × AreInOrder r.reads r.fates r.state ∥₁
 
--- The disk tells its content, of which it had none, and it didn't stop.
+-- The disk tells its content, of which it had none.
 pub record HasNewDisk (w : Outside) : Type 0 where
   pub tells : w.tells
   pub empty : length w.disk.gives ≡ 0
-  pub goes_on : Rose w.counts.stops w.counts_after.stops → ⊥
 
 -- Of a run that ended by itself on a new disk: where its script is plain, which its lines alone tell, its status is 0, no line says that messages didn't settle,
 -- and its answers are those of one plain volume to all calls of the script, so that none waits.
 abbrev pub PlainIsComplete : (most number : ℕ) (w : Outside) → RanWhole most number w → Type 0
 PlainIsComplete most number w r = HasNewDisk w → IsPlainScript most r.reads → ∥ (number ≡ 0) × IsComplete (images r.state.volume) (lines_in r.reads) r.shown number ∥₁
 
+-- Of a run that was cut off, of whose lines the first ones were written.
 abbrev pub PartIsLawful : (most : ℕ) (w : Outside) (last : List ℕ) → RanInPart most w last → Type 0
 PartIsLawful most w last r =
-    (IsToldAll w → ∥ AreLawfulOn r.reads r.state r.shown × AreInOrder r.reads r.fates r.state ∥₁)
+    (IsToldAll w r.reads → ∥ AreLawfulOn r.reads r.state (first_lines (length r.shown) (pieces_of r.reads r.fates r.state)) r.shown × AreInOrder r.reads r.fates r.state ∥₁)
     × (w.tells → ∥ LeavesStored w.disk_after r.reads r.fates r.state (open_world r.state) r.shown ∥₁)
 
 abbrev pub CutIsLawful : (most : ℕ) (w : Outside) → IsCut most w → Type 0
@@ -133,7 +136,7 @@ IsLawful most status.BadDisk w d = ⊤
 -- Of the machine: the lines of each drill over a script, on a disk that stands for a well-formed state, are lawful, and stored where no spent counter ended it.
 abbrev pub DrillsAreLawful : Type 0
 DrillsAreLawful = (reads : List Read) (fates : List Fates) (d : Durable) → WholeState d → AreFit reads
-    → AreWholeOn reads d (drill reads fates d).0 × (((drill reads fates d).1 ≡ 15 → ⊥) → AreStoredOn reads d (state_after reads fates d) (drill reads fates d).0) × AreInOrder reads fates d
+    → AreWholeOn reads d (pieces_of reads fates d) (drill reads fates d).0 × (((drill reads fates d).1 ≡ 15 → ⊥) → AreStoredOn reads d (state_after reads fates d) (pieces_of reads fates d) (drill reads fates d).0) × AreInOrder reads fates d
 
 -- And at each moment of its run.
 abbrev pub MomentsAreStored : Type 0

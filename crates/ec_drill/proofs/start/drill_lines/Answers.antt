@@ -1,7 +1,9 @@
 use Rattle.std.proofs.Common.{ap, map, Err}
 use Rattle.ec_world.specs.Worlds.{view_of}
+use Rattle.ec_drill.specs.Arms.{any_arm}
 use Rattle.ec_drill.specs.Lines.{read_of}
 use Rattle.ec_drill.proofs.Ends.{not_opened, drilled_on}
+use Rattle.ec_drill.proofs.Heard.{still_none}
 use Rattle.ec_drill.proofs.start.drill_lines.Goals as goal
 
 pub returns-in-Err-clause-drilled : goal.returns-in-Err-clause-drilled
@@ -43,4 +45,5 @@ returns-clause-drilled g c = λ left left_after reads reads_after given.
       counts = g.D.Disk.counts c.args.disk.now;
       counts_after = g.D.Disk.counts c.drill_on-status.new.disk;
     })
-    given opened.1 opened.2 (g.D.Disk.counts c.open.new.disk) c.open.ensures.counts.stops_later c.open.ensures.counts.faults_later c.drill_on-status.result c.drill_on-status.ensures.drilled
+    given opened.1 opened.2 (g.D.Disk.counts c.open.new.disk) c.open.ensures.counts.stops_later c.open.ensures.counts.faults_later c.drill_on-status.result
+    (c.drill_on-status.ensures.drilled (any_arm (map read_of c.args.lines.items)) (λ e. (e, still_none _ _ c.open.ensures.counts.not_rearmed c.requires.not_armed)))
