@@ -7,7 +7,8 @@ use Rattle.ec_drill.specs.Drill.{Outside, Drilled}
 use Rattle.ec_drill.specs.Limits.{most_objects}
 use Rattle.ec_drill.specs.declared.status.Status as drilled
 use Rattle.ec_echo.specs.Made.{made_lines}
-use Rattle.ec_echo.specs.Soak.{AreSorts, IsSort, Soaked, Told, TellsCounts, TellsLast, summary_text, last_text}
+use Rattle.ec_promise.proofs.Lawful.{drills-lawful}
+use Rattle.ec_echo.specs.Soak.{AreSorts, IsSort, Soaked, Told, TellsCounts, TellsLast, summary_text, last_text, within}
 use Rattle.ec_echo.specs.Written.{WroteWith, WroteNothing}
 use Rattle.ec_echo.specs.declared.soaking.Sort.{Sort}
 use Rattle.ec_echo.specs.declared.status.Status.{Status}
@@ -49,32 +50,14 @@ last_told (Err x) items transcript st result held now before later e w = inr w
 
 -- whatever source there is beside it
 pub soaked_over : (number : ℕ) (result : Status) (w : Outside) (left left_after : Option (List ℕ)) (reads reads_after : ℕ) → Soaked number result w → Soaked number result (record w { left = left; left_after = left_after; reads = reads; reads_after = reads_after })
-soaked_over number result w left left_after reads reads_after (inl s) = inl (record {
-  left_after = s.left_after;
-  reads_after = s.reads_after;
-  transcript = s.transcript;
-  writes_after = s.writes_after;
-  end = s.end;
-  drilled_so = s.drilled_so;
-  told = s.told;
-})
+soaked_over number result w left left_after reads reads_after (inl s) = inl (record { left_after = s.left_after; transcript = s.transcript; end = s.end; drilled_so = s.drilled_so; lawful = s.lawful; told = s.told })
 soaked_over number result w left left_after reads reads_after (inr s) = inr (record { result_is = s.result_is; held = s.held; disk = record { gives = s.disk.gives; crash = s.disk.crash; counts = s.disk.counts } })
 
 -- a drill from memory to memory, by what the source and the sink have before it
-pub soaked_by : (number : ℕ) (end : drilled.Status) (result : Status) (w : Outside) (script held : List ℕ) (reads writes : ℕ) (left_after : Option (List ℕ)) (reads_after : ℕ) (transcript : List ℕ) (writes_after : ℕ)
-    → script ≡ script_of number made_lines → reads ≡ 0 → held ≡ [] → writes ≡ 0
-    → Drilled most_objects end (record w { left = Some script; left_after = left_after; reads = reads; reads_after = reads_after; held = Some held; held_after = Some transcript; writes = writes; writes_after = writes_after })
+pub soaked_by : (number : ℕ) (end : drilled.Status) (result : Status) (w : Outside) (script held : List ℕ) (left_after : Option (List ℕ)) (transcript : List ℕ) → script ≡ script_of number made_lines → held ≡ []
+    → Drilled most_objects end (record w { left = Some script; left_after = left_after; reads = 0; reads_after = 0; held = Some held; held_after = Some transcript; writes = 0; writes_after = 0 })
     → Told number end transcript result w.held w.held_after w.writes w.writes_after → Soaked number result w
-soaked_by number end result w script held reads writes left_after reads_after transcript writes_after made no_reads empty no_writes did told =
-    let one = subst (λ (s : List ℕ). Drilled most_objects end (record w { left = Some s; left_after = left_after; reads = reads; reads_after = reads_after; held = Some held; held_after = Some transcript; writes = writes; writes_after = writes_after })) made did in
-    let two = subst (λ (n : ℕ). Drilled most_objects end (record w { left = Some (script_of number made_lines); left_after = left_after; reads = n; reads_after = reads_after; held = Some held; held_after = Some transcript; writes = writes; writes_after = writes_after })) no_reads one in
-    let three = subst (λ (h : List ℕ). Drilled most_objects end (record w { left = Some (script_of number made_lines); left_after = left_after; reads = 0; reads_after = reads_after; held = Some h; held_after = Some transcript; writes = writes; writes_after = writes_after })) empty two in
-    inl (record {
-      left_after = left_after;
-      reads_after = reads_after;
-      transcript = transcript;
-      writes_after = writes_after;
-      end = end;
-      drilled_so = subst (λ (n : ℕ). Drilled most_objects end (record w { left = Some (script_of number made_lines); left_after = left_after; reads = 0; reads_after = reads_after; held = Some []; held_after = Some transcript; writes = n; writes_after = writes_after })) no_writes three;
-      told = told;
-    })
+soaked_by number end result w script held left_after transcript made empty did told =
+    let one = subst (λ (s : List ℕ). Drilled most_objects end (record w { left = Some s; left_after = left_after; reads = 0; reads_after = 0; held = Some held; held_after = Some transcript; writes = 0; writes_after = 0 })) made did in
+    let two = subst (λ (h : List ℕ). Drilled most_objects end (record w { left = Some (script_of number made_lines); left_after = left_after; reads = 0; reads_after = 0; held = Some h; held_after = Some transcript; writes = 0; writes_after = 0 })) empty one in
+    inl (record { left_after = left_after; transcript = transcript; end = end; drilled_so = two; lawful = drills-lawful most_objects end (within number left_after transcript w) two; told = told })

@@ -84,7 +84,8 @@ streams w = record {
   writes_after = w.writes_after;
 }
 
--- What each form of words does. The lines that a drill wrote are lawful besides: they stand in one legal history of one uncached volume.
+-- What each form of words does. The lines that a drill wrote are lawful besides, also those of the drill of `soak`: they stand in one legal history of one uncached
+-- volume.
 abbrev pub DoesAlone : Command → Status → Outside → Type 0
 DoesAlone (Drill most) st w = (end : drilled.Status) × (st ≡ of_drill end) × (did : Drilled most end w) × IsLawful most end w did
 DoesAlone (Check most) st w = Judged most st (streams w) × IsDiskUntouched w

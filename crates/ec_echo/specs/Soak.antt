@@ -8,6 +8,7 @@ use Rattle.ec_script.specs.Lines.{lines_of}
 use Rattle.ec_script.specs.declared.line.LineFault.TheVariants as fault
 use Rattle.ec_shown.specs.Lines.{IsShown, IsUnfit}
 use Rattle.ec_drill.specs.Drill.{Outside, Drilled, IsDiskUntouched}
+use Rattle.ec_promise.specs.Promise.{IsLawful}
 use Rattle.ec_drill.specs.Limits.{most_objects}
 use Rattle.ec_drill.specs.declared.status.Status as drilled
 use Rattle.ec_drill.specs.declared.status.Status.TheVariants as drill
@@ -98,23 +99,26 @@ Told number drill.SinkFault transcript result held now before later = TellsNothi
 Told number drill.DiskFault transcript result held now before later = TellsNothing status.DiskFault result held now
 Told number drill.NoMemory transcript result held now before later = TellsNothing status.NoMemory result held now
 
--- The script of this number was drilled over the disk, from memory to memory, and what its transcript tells was written.
+-- a drill of the script of this number, from memory to memory, which don't fail
+abbrev pub within : ℕ → Option (List ℕ) → List ℕ → Outside → Outside
+within number left_after transcript w = record w {
+  left = Some (script_of number made_lines);
+  left_after = left_after;
+  reads = 0;
+  reads_after = 0;
+  held = Some [];
+  held_after = Some transcript;
+  writes = 0;
+  writes_after = 0;
+}
+
+-- The script of this number was drilled over the disk, and what its transcript tells was written. The transcript's lines are lawful.
 pub record Drills (number : ℕ) (result : Status) (w : Outside) : Type 0 where
   pub left_after : Option (List ℕ)
-  pub reads_after : ℕ
   pub transcript : List ℕ
-  pub writes_after : ℕ
   pub end : drilled.Status
-  pub drilled_so : Drilled most_objects end (record w {
-    left = Some (script_of number made_lines);
-    left_after = left_after;
-    reads = 0;
-    reads_after = reads_after;
-    held = Some [];
-    held_after = Some transcript;
-    writes = 0;
-    writes_after = writes_after;
-  })
+  pub drilled_so : Drilled most_objects end (within number left_after transcript w)
+  pub lawful : IsLawful most_objects end (within number left_after transcript w) drilled_so
   pub told : Told number end transcript result w.held w.held_after w.writes w.writes_after
 
 -- there was no memory for the script

@@ -13,6 +13,7 @@ ghost use Rattle.ec_echo.specs.declared.status.Status.{Status};
 mod checking;
 mod command;
 mod making;
+mod memory;
 mod serving;
 mod soaking;
 mod status;

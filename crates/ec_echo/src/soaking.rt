@@ -5,9 +5,10 @@ ghost use Rattle.ec_echo.specs.Soak.{Soaked, Told, TellsCounts, TellsLast, AreSo
 ghost use Rattle.ec_echo.specs.declared.soaking.Sort.{Sort};
 
 use crate::making::MADE_LINES;
+use crate::memory::{Script, Transcript};
 use crate::status::Status;
 use crate::writing::write_made;
-use ec_base::{MemSink, MemSource, NoMemory, Sink};
+use ec_base::{NoMemory, Sink};
 use ec_disk::CrashDisk;
 use ec_drill::{MOST_OBJECTS, drill};
 use ec_gen::script;
@@ -58,8 +59,8 @@ pub(crate) fn soak<K: Sink, D: CrashDisk>(
     let Ok(script) = script(alloc, number, MADE_LINES) else {
         return Status::NoMemory;
     };
-    let mut source = MemSource::new(script, Vec::new(alloc));
-    let mut transcript = MemSink::new(alloc, Vec::new(alloc));
+    let mut source = Script { ahead: &script };
+    let mut transcript = Transcript::new(alloc);
     let end = drill(alloc, &mut source, &mut transcript, disk, MOST_OBJECTS);
     tell(alloc, number, end, transcript.bytes(), sink)
 }

@@ -1,5 +1,4 @@
-use Rattle.std.proofs.Common.{ℕ, List, Some, ap, subst, ◌∙◌}
-use Rattle.ec_base.specs.Memory.{Buffer}
+use Rattle.std.proofs.Common.{List, ℕ, Some, None, subst, ◌∙◌}
 use Rattle.ec_echo.specs.Soak.{Told}
 use Rattle.ec_echo.proofs.Soaks.{soaked_by}
 use Rattle.ec_echo.proofs.soaking.soak.Goals as goal
@@ -10,11 +9,21 @@ returns-clause-soaked g c =
     let now = g.K.Sink.held c.tell.new.sink in
     let writes = g.K.Sink.faults c.args.sink.now in
     let later = g.K.Sink.faults c.tell.new.sink in
-    let from = c.new-source.result in
-    let to = c.new-transcript.result in
-    let source = c.drill-end.new.source in
-    let transcript = c.drill-end.new.sink in
-    soaked_by c.args.number c.drill-end.result c.tell.result _ from.bytes to.bytes from.faults to.faults (Some source.bytes) source.faults transcript.bytes transcript.faults
-    (ap (λ (b : Buffer). b.bytes) c.new-source.ensures ∙ c.in-Ok.ensures) (ap (λ (b : Buffer). b.faults) c.new-source.ensures) (ap (λ (b : Buffer). b.bytes) c.new-transcript.ensures) (ap (λ (b : Buffer). b.faults) c.new-transcript.ensures)
-    c.drill-end.ensures.drilled
+    soaked_by c.args.number c.drill-end.result c.tell.result
+    (record {
+      left = None;
+      left_after = None;
+      reads = 0;
+      reads_after = 0;
+      held = held;
+      held_after = now;
+      writes = writes;
+      writes_after = later;
+      tells = g.D.Disk.tells;
+      disk = g.D.Disk.view c.args.disk.now;
+      disk_after = g.D.Disk.view c.drill-end.new.disk;
+      counts = g.D.Disk.counts c.args.disk.now;
+      counts_after = g.D.Disk.counts c.drill-end.new.disk;
+    })
+    c.deref.result.now c.new-transcript.result.bytes.items (Some c.drill-end.new.source.ahead.now) c.drill-end.new.sink.bytes.items (c.deref.ensures.value ∙ c.in-Ok.ensures) c.new-transcript.ensures c.drill-end.ensures.drilled
     (subst (λ (t : List ℕ). Told c.args.number c.drill-end.result t c.tell.result held now writes later) c.bytes.ensures c.tell.ensures.told)
