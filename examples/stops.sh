@@ -5,6 +5,11 @@
 # The script is `ordered.script`. With the stop armed behind its fourth line, and a restart as its last one, the drill ends well, its `fsync` is
 # answered, and the transcript is legal. With the stop armed before its first line the drill ends well too, and the transcript is legal; there
 # the restart may come too late for the first calls. A round ends with the first number of calls in which nothing stops.
+#
+# Then the script `stops/script` is drilled, in which three commits follow the `arm` line, with each number of calls and each choice, and the
+# transcript is compared with the one that has to come. A commit makes four device calls: it writes and syncs its record, and writes and syncs
+# the gate before it. Where the stop is in the last two of these and the choice is `new`, its operation is durable behind the restart; where
+# it's `torn`, only if the gate stands at an even place, which the length of the first name decides. Behind the twelfth call nothing stops.
 set -u
 program=$(realpath "${1:?usage: examples/stops.sh PROGRAM}")
 cd "$(dirname "$0")" || exit 1
@@ -38,6 +43,45 @@ for choice in old new torn; do
             calls=$((calls + 1))
             stopped_in "arm $calls $choice" "$behind"
         done
+    done
+done
+
+# Which transcript has to come where this call stops, with this choice, and the gates stand at such places.
+wanted() {
+    calls=$1 choice=$2 places=$3
+    case $(((calls - 1) / 4)) in
+        0) commit=first ;;
+        1) commit=second ;;
+        2) commit=third ;;
+        *) echo none; return ;;
+    esac
+    case $(((calls - 1) % 4))-$choice-$places in
+        [23]-new-* | [23]-torn-even) echo "${commit}_with" ;;
+        *) echo "${commit}_without" ;;
+    esac
+}
+
+# Drills that script with this stop, and compares the transcripts.
+told_so() {
+    calls=$1 choice=$2 file=$3 places=$4
+    rm -rf "$folder/run"
+    mkdir "$folder/run"
+    sed "s|FILE|$file|; s|ARM|arm $calls $choice|" stops/script > "$folder/script"
+    sed "s|FILE|$file|" "stops/$(wanted "$calls" "$choice" "$places").expected" > "$folder/expected"
+    (cd "$folder/run" && "$program" drill) < "$folder/script" > "$folder/transcript" 2> /dev/null
+    status=$?
+    if [ "$status" = 0 ] && cmp -s "$folder/transcript" "$folder/expected"; then
+        passed=$((passed + 1))
+    else
+        failed=$((failed + 1))
+        echo "arm $calls $choice, gates at $places places: status $status, or another transcript"
+    fi
+}
+
+for choice in old new torn; do
+    for calls in 1 2 3 4 5 6 7 8 9 10 11 12 13; do
+        told_so "$calls" "$choice" /ff odd
+        told_so "$calls" "$choice" /f even
     done
 done
 
