@@ -10,7 +10,7 @@ use ec_base::NoMemory;
 use ec_history::{Entry, Shown};
 use ec_judge::HistoryFault;
 use ec_lines::{Following, PlaceFault, are_told, follow, none_followed};
-use ec_watching::Watching;
+use ec_watch::watching::{self, Watching};
 use std::alloc::Global;
 
 /// So many lines are placed at once.
@@ -37,7 +37,7 @@ pub fn none_placed(alloc: Global, lines: usize) -> Result<Ahead, NoMemory>
     ensures first { IfOk result (λ ahead. ahead.placed ≡ 0) }
 {
     let following = none_followed(alloc, lines)?;
-    let watches = ec_watching::none_watched(alloc)?;
+    let watches = watching::none_watched(alloc)?;
     Ok(Ahead {
         following,
         followed: 0,

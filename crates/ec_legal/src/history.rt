@@ -18,7 +18,7 @@ use ec_history::{Entry, Shown};
 use ec_judge::HistoryFault;
 use ec_lines::{PlaceFault, begins};
 use ec_volume::Update;
-use ec_watching::Watching;
+use ec_watch::watching::{self, Watching};
 use std::alloc::Global;
 use std::marker::Model;
 
@@ -96,7 +96,7 @@ pub fn place(alloc: Global, shown: &[Shown]) -> Result<History, HistoryFault>
         Err(PlaceFault::At(line, rule)) => return Err(HistoryFault::At(line, rule)),
         Err(PlaceFault::NoMemory) => return Err(HistoryFault::NoMemory),
     };
-    let mut watches = ec_watching::none_watched(alloc)?;
+    let mut watches = watching::none_watched(alloc)?;
     let mut entries = Vec::new(alloc);
     place_all(alloc, &mut watches, shown, &begins, &mut entries)?;
     Ok(History { entries })
@@ -145,7 +145,7 @@ pub fn place_lines(
     for at in from..to {
         let line = &shown[at];
         placing::push(alloc, watches, known, begins, at, line, entries)?;
-        ec_watching::note(alloc, watches, line)?;
+        watching::note(alloc, watches, line)?;
     }
     Ok(())
 }

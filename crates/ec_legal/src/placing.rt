@@ -10,7 +10,7 @@ ghost use Rattle.ec_legal.specs.Watches.{IsHeld, call_of_start, own_call, late_c
 
 use ec_base::{ClerkId, Duplicate, List, NoMemory, OpNo};
 use ec_history::{Entry, Shown};
-use ec_watching::Watching;
+use ec_watch::watching::{self, Watching};
 use std::alloc::Global;
 
 // Where the call of the answer at this place began.
@@ -149,11 +149,11 @@ fn push_late_calls(
     ensures entries { OnOk result (entries.new.items ≡ entries.old.items ++ late_calls clerk watch.now shown.now at) }
     ensures ops { OnOk result (ops.new.items ≡ ops.old.items ++ ops_in (late_calls clerk watch.now shown.now at)) }
 {
-    if ec_watching::ends_running(watch) {
+    if watching::ends_running(watch) {
         push_late(
             alloc,
             clerk,
-            ec_watching::starts(watch),
+            watching::starts(watch),
             shown,
             begins,
             at + 1,
@@ -185,7 +185,7 @@ fn push_loss(
     push_late_calls(alloc, clerk, watch, shown, begins, at, entries, &mut ops)?;
     let entry = Entry::Loss {
         clerk,
-        boot: ec_watching::owner(watch).unwrap_or(0),
+        boot: watching::owner(watch).unwrap_or(0),
         ops: List::of(ops),
     };
     entries.push((at as u32 + 1, entry))?;
@@ -206,15 +206,8 @@ fn push_answer(
     requires begun { begun ≡ begun_in (start_behind watch.now).starts above.now line.now }
     ensures { OnOk result (entries.new.items ≡ entries.old.items ++ answer_of watch.now above.now line.now) }
 {
-    if ec_watching::untold(watch).is_none() {
-        push_call(
-            alloc,
-            ec_watching::start(watch),
-            begun,
-            above,
-            line,
-            entries,
-        )?;
+    if watching::untold(watch).is_none() {
+        push_call(alloc, watching::start(watch), begun, above, line, entries)?;
     }
     Ok(())
 }
@@ -238,12 +231,12 @@ pub fn push(
 {
     match line {
         Shown::Answered(_, clerk, _, _, _) => {
-            let watch = ec_watching::watch_of(watches, *clerk);
+            let watch = watching::watch_of(watches, *clerk);
             let begun = begins_at(begins, shown, at, line);
             push_answer(alloc, watch, begun, &shown[..at], line, entries)
         }
         Shown::Ended(clerk, lost) => {
-            let watch = ec_watching::watch_of(watches, *clerk);
+            let watch = watching::watch_of(watches, *clerk);
             push_loss(alloc, *clerk, watch, lost, shown, begins, at, entries)
         }
         _ => Ok(()),

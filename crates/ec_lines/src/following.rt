@@ -13,7 +13,7 @@ use crate::lines;
 use crate::seen::{self, Seen};
 use ec_base::NoMemory;
 use ec_history::Shown;
-use ec_watching::Watching;
+use ec_watch::watching::{self, Watching};
 use std::alloc::Global;
 
 /// Lines from the first one on, each of which may follow those above it.
@@ -82,7 +82,7 @@ fn all_told(watches: &[Watching]) -> bool
 fn is_told(watch: &Watching) -> bool
     ensures { result ≡ is_none watch.now.untold }
 {
-    ec_watching::untold(watch).is_none()
+    watching::untold(watch).is_none()
 }
 
 /// Whether each line may follow those above it, and of each answer the place, from 1, of the last

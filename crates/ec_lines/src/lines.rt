@@ -14,7 +14,7 @@ use crate::seen::Seen;
 use ec_base::{ClerkId, List, NoMemory, OpNo};
 use ec_history::{Rule, Shown};
 use ec_plain::Call;
-use ec_watching::Watching;
+use ec_watch::watching::{self, Watching};
 use std::alloc::Global;
 
 /// The first rule that the line breaks behind those above it, as they are seen.
@@ -35,7 +35,7 @@ pub fn broken(
     }
     match ec_watch::clerk_of(line) {
         Some(clerk) => {
-            let named = is_named(alloc, ec_watching::watch_of(&seen.watches, clerk), line)?;
+            let named = is_named(alloc, watching::watch_of(&seen.watches, clerk), line)?;
             if named {
                 Ok(None)
             } else {
@@ -112,11 +112,11 @@ fn is_named(alloc: Global, watch: &Watching, line: &Shown) -> Result<bool, NoMem
 {
     match line {
         Shown::Answered(_, _, call, answer, _) => {
-            Ok(!ec_watch::shows(call, answer) || ec_watching::may_show(watch))
+            Ok(!ec_watch::shows(call, answer) || watching::may_show(watch))
         }
         Shown::Durable(_, ops) => Ok(may_be_durable(watch, ops)),
         Shown::Ended(_, ops) => may_end(alloc, watch, ops),
-        Shown::Unseen(_) => Ok(ec_watching::may_be_unseen(watch)),
+        Shown::Unseen(_) => Ok(watching::may_be_unseen(watch)),
         Shown::Told(_, ops) => may_be_told(alloc, watch, ops),
         _ => Ok(true),
     }
@@ -126,17 +126,17 @@ fn is_named(alloc: Global, watch: &Watching, line: &Shown) -> Result<bool, NoMem
 fn may_be_durable(watch: &Watching, ops: &List<OpNo>) -> bool
     ensures { Decides result (T (list_all (λ n. member n watch.now.undurable) ops.now)) }
 {
-    ec_watching::may_be_durable(watch, ops.as_slice())
+    watching::may_be_durable(watch, ops.as_slice())
 }
 
 // Whether a session ends with these operations lost.
 fn may_end(alloc: Global, watch: &Watching, ops: &List<OpNo>) -> Result<bool, NoMemory>
     ensures { IfOk result (λ may. Decides may (T (is_some (owner watch.now)) × T (same_numbers ops.now (to_lose watch.now)))) }
 {
-    if ec_watching::owner(watch).is_none() {
+    if watching::owner(watch).is_none() {
         return Ok(false);
     }
-    let same = ec_watching::loses(alloc, watch, ops.as_slice())?;
+    let same = watching::loses(alloc, watch, ops.as_slice())?;
     Ok(same)
 }
 
@@ -144,7 +144,7 @@ fn may_end(alloc: Global, watch: &Watching, ops: &List<OpNo>) -> Result<bool, No
 fn may_be_told(alloc: Global, watch: &Watching, ops: &List<OpNo>) -> Result<bool, NoMemory>
     ensures { IfOk result (λ may. Decides may (T (is_told watch.now ops.now))) }
 {
-    match ec_watching::untold(watch) {
+    match watching::untold(watch) {
         Some(lost) => {
             let same = ec_watch::same_numbers(alloc, ops.as_slice(), lost)?;
             Ok(same)

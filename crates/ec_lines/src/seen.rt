@@ -12,7 +12,7 @@ ghost use Rattle.ec_lines.specs.Seen.{Sees};
 use crate::index::{self, CallLines, Calls};
 use ec_base::{CLERK_COUNT, ClerkId, NoMemory};
 use ec_history::Shown;
-use ec_watching::Watching;
+use ec_watch::watching::{self, Watching};
 use std::alloc::Global;
 use std::collections::HashMap;
 
@@ -30,7 +30,7 @@ pub struct Seen {
 pub fn nothing(alloc: Global, lines: usize) -> Result<Seen, NoMemory>
     ensures { IfOk result (λ seen. Sees seen []) }
 {
-    let watches = ec_watching::none_watched(alloc)?;
+    let watches = watching::none_watched(alloc)?;
     let calls = HashMap::with_capacity(alloc, lines)?;
     let last = no_entries(alloc)?;
     Ok(Seen {
@@ -104,7 +104,7 @@ fn start_of(watches: &[Watching], above: &[Shown], clerk: ClerkId) -> u64
     requires watched { AreWatched watches.now above.now }
     ensures { result ≡ start_of clerk above.now }
 {
-    ec_watching::start(ec_watching::watch_of(watches, clerk))
+    watching::start(watching::watch_of(watches, clerk))
 }
 
 fn last_of(last: &[u32], clerk: ClerkId) -> u32
@@ -234,7 +234,7 @@ fn note_watches(
     requires watched { AreWatched watches.old above.now }
     ensures { OnOk result (AreWatched watches.new (above.now ++ line.now ∷ [])) }
 {
-    ec_watching::note(alloc, watches, line)?;
+    watching::note(alloc, watches, line)?;
     Ok(())
 }
 
@@ -244,7 +244,7 @@ fn start_behind(watches: &[Watching], above: &[Shown], line: &Shown, clerk: Cler
     requires watched { AreWatched watches.now (above.now ++ line.now ∷ []) }
     ensures { result ≡ start_of clerk (above.now ++ line.now ∷ []) }
 {
-    ec_watching::start(ec_watching::watch_of(watches, clerk))
+    watching::start(watching::watch_of(watches, clerk))
 }
 
 // Whether the line gives an entry of the clerk's start.
@@ -253,7 +253,7 @@ fn gives(watches: &[Watching], above: &[Shown], clerk: ClerkId, line: &Shown) ->
     requires watched { AreWatched watches.now above.now }
     ensures { result ≡ gives_entry clerk (start_of clerk above.now) (watched clerk above.now) line.now }
 {
-    let watch = ec_watching::watch_of(watches, clerk);
+    let watch = watching::watch_of(watches, clerk);
     gives_entry(clerk, start_of(watches, above, clerk), watch, line)
 }
 
@@ -282,8 +282,8 @@ fn gives_entry(clerk: ClerkId, boot: u64, watch: &Watching, line: &Shown) -> boo
     ensures { result ≡ gives_entry clerk boot watch.now line.now }
 {
     match line {
-        Shown::Answered(_, of, _, _, _) => *of == clerk && ec_watching::start(watch) == boot,
-        Shown::Ended(of, _) => *of == clerk && ec_watching::owner(watch) == Some(boot),
+        Shown::Answered(_, of, _, _, _) => *of == clerk && watching::start(watch) == boot,
+        Shown::Ended(of, _) => *of == clerk && watching::owner(watch) == Some(boot),
         _ => false,
     }
 }

@@ -1,2 +1,3 @@
 pub mod Parts
 pub mod Watched
+pub mod Remaining

@@ -3,7 +3,7 @@ ghost use Rattle.std.specs.Prelude.{◌≡◌, ◌<◌, ◌+◌, ◌^◌, ◌++�
 ghost use Rattle.ec_base.specs.Limits.{clerk_count};
 ghost use Rattle.ec_watch.specs.Watches.{AreWatched, clerk_of};
 
-use crate::watching;
+use crate::watch;
 use ec_base::{CLERK_COUNT, ClerkId, NoMemory};
 use ec_history::{Shown, Watch};
 use std::alloc::Global;
@@ -39,7 +39,7 @@ pub fn none_watched(alloc: Global) -> Result<Vec<Watch>, NoMemory>
 {
     let mut watches = Vec::new(alloc);
     for _ in 0..CLERK_COUNT {
-        watches.push(watching::unwatched(alloc))?;
+        watches.push(watch::unwatched(alloc))?;
     }
     Ok(watches)
 }
@@ -51,7 +51,7 @@ pub fn note(alloc: Global, watches: &mut [Watch], line: &Shown) -> Result<(), No
     ensures { OnOk result ((past : Listed Shown) → AreWatched watches.old past → AreWatched watches.new (past ++ line.now ∷ [])) }
 {
     if let Some(clerk) = clerk_of(line) {
-        watching::follow(alloc, clerk, &mut watches[clerk.get() as usize], line)?;
+        watch::follow(alloc, clerk, &mut watches[clerk.get() as usize], line)?;
     }
     Ok(())
 }

@@ -1,33 +1,54 @@
-// What the lines of a transcript show of one clerk, line by line.
-ghost use Rattle.std.specs.Prelude.{◌≡◌, ◌<◌, ◌≤◌, ◌+◌, ◌^◌, ◌++◌, [], true, false, not, filter, IfOk, OnOk, T};
+//! What the lines of a transcript show of each clerk, line by line, of which operations that became durable are taken out fast.
+ghost use Rattle.std.specs.Prelude.{◌≡◌, ◌<◌, ◌+◌, ◌^◌, ◌++◌, ◌∷◌, [], ℕ, true, List as Listed, length, slice_get, Some, None, Decides, MatchOption, IfOk, OnOk};
 ghost use Rattle.std.specs.List.{list_all};
+ghost use Rattle.ec_base.specs.Limits.{clerk_count};
 ghost use Rattle.ec_volume.specs.Update.{member, listed};
-ghost use Rattle.ec_watch.specs.Watches.{shown, crashed};
-ghost use Rattle.ec_history.specs.Placing.{shows, unwatched, begun, answered, owner, is_running, to_lose, ended, watch_next, may_show, same_numbers};
+ghost use Rattle.ec_watch.specs.Watches.{AreWatched, clerk_of, shown, crashed};
+ghost use Rattle.ec_history.specs.declared.watch.Watch.{Watch};
+ghost use Rattle.ec_history.specs.Placing.{unwatched, begun, answered, owner, is_running, to_lose, ended, watch_next, may_show, same_numbers};
 
-use ec_base::{ClerkId, Duplicate, List, NoMemory, OpNo};
-use ec_history::{Answer, Shown, Watch};
-use ec_numbers::Numbers;
-use ec_plain::{Call, Refusal, Reply};
+use crate::left::Left;
+use crate::watch::{same_numbers, shows};
+use crate::watches::clerk_of;
+use ec_base::{CLERK_COUNT, ClerkId, Duplicate, List, NoMemory, OpNo};
+use ec_history::Shown;
 use std::alloc::Global;
+use std::marker::Model;
 use std::mem;
 
-/// Whether the answer shows that its start has a session.
-pub fn shows(call: &Call, answer: &Answer) -> bool
-    ensures { result ≡ shows call.now answer.now }
-{
-    !matches!(call, Call::Sync) && !matches!(answer, Answer::Reply(Reply::Refused(Refusal::Root)))
+/// What the lines so far show of one clerk: a `Watch`, of which operations that became durable are
+/// taken out fast.
+#[derive(Drop)]
+pub struct Watching {
+    starts: u64,
+    running: bool,
+    open_start: Option<u64>,
+    undurable: Left,
+    early: List<OpNo>,
+    untold: Option<List<OpNo>>,
+    crashed: bool,
+}
+
+impl Model for Watching {
+    ghost use Rattle.ec_history.specs.contracts.watch.Watch as watch;
+    ghost use Rattle.ec_history.specs.declared.watch.Watch.{Watch};
+
+    ghost Value = { Watch };
+
+    ghost coded = { watch.the_row.coded };
+
+    ghost view = { λ w. record { starts = w.starts; running = w.running; open_start = w.open_start; undurable = w.undurable; early = w.early; untold = w.untold; crashed = w.crashed } };
 }
 
 /// What no line shows.
-pub fn unwatched(alloc: Global) -> Watch
+pub fn unwatched(alloc: Global) -> Watching
     ensures { result ≡ unwatched }
 {
-    Watch {
+    Watching {
         starts: 0,
         running: false,
         open_start: None,
-        undurable: List::of(Vec::new(alloc)),
+        undurable: Left::new(alloc),
         early: List::of(Vec::new(alloc)),
         untold: None,
         crashed: false,
@@ -35,7 +56,7 @@ pub fn unwatched(alloc: Global) -> Watch
 }
 
 /// The number of the start to which a call line of the clerk belongs.
-pub fn start(watch: &Watch) -> u64
+pub fn start(watch: &Watching) -> u64
     requires { watch.now.starts + 1 < 2 ^ 64 }
     ensures { result ≡ (begun watch.now).starts }
 {
@@ -46,7 +67,7 @@ pub fn start(watch: &Watch) -> u64
     }
 }
 
-fn begin(watch: &mut Watch)
+fn begin(watch: &mut Watching)
     requires { watch.old.starts + 1 < 2 ^ 64 }
     ensures { watch.new ≡ begun watch.old }
 {
@@ -68,6 +89,28 @@ fn add(alloc: Global, ops: &mut List<OpNo>, op: Option<OpNo>) -> Result<(), NoMe
     Ok(())
 }
 
+// Adds the operation, if there is one.
+fn add_left(ops: &mut Left, op: Option<OpNo>) -> Result<(), NoMemory>
+    ensures { OnOk result (ops.new ≡ ops.old ++ listed op) }
+{
+    match op {
+        Some(op) => ops.push(op),
+        None => Ok(()),
+    }
+}
+
+// Puts these operations before the others.
+fn put_before(alloc: Global, ops: &mut Left, before: &[OpNo]) -> Result<(), NoMemory>
+    ensures { OnOk result (ops.new ≡ before.now ++ ops.old) }
+{
+    let behind = ops.all()?;
+    let mut longer = Left::new(alloc);
+    longer.push_all(before)?;
+    longer.push_all(&behind)?;
+    *ops = longer;
+    Ok(())
+}
+
 // The operations, of which none is left.
 fn take(alloc: Global, ops: &mut List<OpNo>) -> List<OpNo>
     ensures value { result ≡ ops.old }
@@ -76,7 +119,12 @@ fn take(alloc: Global, ops: &mut List<OpNo>) -> List<OpNo>
     mem::replace(ops, List::of(Vec::new(alloc)))
 }
 
-fn answer(alloc: Global, watch: &mut Watch, shown: bool, op: Option<OpNo>) -> Result<(), NoMemory>
+fn answer(
+    alloc: Global,
+    watch: &mut Watching,
+    shown: bool,
+    op: Option<OpNo>,
+) -> Result<(), NoMemory>
     ensures { OnOk result (watch.new ≡ answered watch.old shown op) }
 {
     if let Some(ops) = &mut watch.untold {
@@ -84,32 +132,31 @@ fn answer(alloc: Global, watch: &mut Watch, shown: bool, op: Option<OpNo>) -> Re
     }
     if shown {
         show(alloc, watch)?;
-        return add(alloc, &mut watch.undurable, op);
+        return add_left(&mut watch.undurable, op);
     }
     if watch.open_start == Some(watch.starts) {
-        add(alloc, &mut watch.undurable, op)
+        add_left(&mut watch.undurable, op)
     } else {
         add(alloc, &mut watch.early, op)
     }
 }
 
 // The running start has a session, to which its early operations belong.
-fn show(alloc: Global, watch: &mut Watch) -> Result<(), NoMemory>
+fn show(alloc: Global, watch: &mut Watching) -> Result<(), NoMemory>
     ensures { OnOk result (watch.new ≡ shown watch.old) }
 {
     if watch.open_start.is_none() {
         watch.open_start = Some(watch.starts);
     }
     if !watch.early.as_slice().is_empty() {
-        let mut ops = take(alloc, &mut watch.early).into_vec();
-        ops.extend_from_slice(watch.undurable.as_slice())?;
-        watch.undurable = List::of(ops);
+        let ops = take(alloc, &mut watch.early);
+        put_before(alloc, &mut watch.undurable, ops.as_slice())?;
     }
     Ok(())
 }
 
 /// The start to which an ended line belongs now.
-pub fn owner(watch: &Watch) -> Option<u64>
+pub fn owner(watch: &Watching) -> Option<u64>
     ensures { result ≡ owner watch.now }
 {
     if watch.open_start.is_some() {
@@ -123,24 +170,55 @@ pub fn owner(watch: &Watch) -> Option<u64>
 }
 
 /// Whether an ended line belongs now to the running start.
-pub fn ends_running(watch: &Watch) -> bool
+pub fn ends_running(watch: &Watching) -> bool
     ensures { result ≡ is_running watch.now (owner watch.now) }
 {
     watch.running && owner(watch) == Some(watch.starts)
 }
 
-/// The operations that an ended line loses now.
-pub fn to_lose(watch: &Watch) -> &[OpNo]
-    ensures { result.now ≡ to_lose watch.now }
+/// Whether these are the operations that an ended line loses now.
+pub fn loses(alloc: Global, watch: &Watching, ops: &[OpNo]) -> Result<bool, NoMemory>
+    ensures { IfOk result (λ same. same ≡ same_numbers ops.now (to_lose watch.now)) }
 {
     if watch.open_start.is_some() {
-        watch.undurable.as_slice()
-    } else {
-        watch.early.as_slice()
+        let left = watch.undurable.all()?;
+        return same_numbers(alloc, ops, &left);
+    }
+    same_numbers(alloc, ops, watch.early.as_slice())
+}
+
+/// Whether each of these operations may become durable now.
+pub fn may_be_durable(watch: &Watching, ops: &[OpNo]) -> bool
+    ensures { result ≡ list_all (λ n. member n watch.now.undurable) ops.now }
+{
+    watch.undurable.has_all(ops)
+}
+
+/// Whether nobody sees the clerk: a start of it crashed, and no session is open.
+pub fn may_be_unseen(watch: &Watching) -> bool
+    ensures { Decides result ((watch.now.crashed ≡ true) × (watch.now.open_start ≡ None)) }
+{
+    watch.crashed && watch.open_start.is_none()
+}
+
+/// What the running start lost and was not told yet.
+pub fn untold(watch: &Watching) -> Option<&[OpNo]>
+    ensures { MatchOption result (watch.now.untold ≡ None) (λ ops. watch.now.untold ≡ Some ops.now) }
+{
+    match &watch.untold {
+        Some(ops) => Some(ops.as_slice()),
+        None => None,
     }
 }
 
-fn end(alloc: Global, watch: &mut Watch, lost: &List<OpNo>) -> Result<(), NoMemory>
+/// How many starts began.
+pub fn starts(watch: &Watching) -> u64
+    ensures { result ≡ watch.now.starts }
+{
+    watch.starts
+}
+
+fn end(alloc: Global, watch: &mut Watching, lost: &List<OpNo>) -> Result<(), NoMemory>
     ensures { OnOk result (watch.new ≡ ended watch.old lost.now) }
 {
     if ends_running(watch) {
@@ -148,22 +226,11 @@ fn end(alloc: Global, watch: &mut Watch, lost: &List<OpNo>) -> Result<(), NoMemo
         watch.early = List::of(Vec::new(alloc));
     }
     watch.open_start = None;
-    watch.undurable = List::of(Vec::new(alloc));
+    watch.undurable = Left::new(alloc);
     Ok(())
 }
 
-// Takes the operations that became durable out.
-fn make_durable(alloc: Global, ops: &mut List<OpNo>, durable: &[OpNo]) -> Result<(), NoMemory>
-    ensures { OnOk result (ops.new ≡ filter (λ n. not (member n durable.now)) ops.old) }
-{
-    let known = Numbers::of(alloc, Vec::from_slice(alloc, durable)?)?;
-    let mut left = take(alloc, ops).into_vec();
-    left.retain(|op| !known.has(*op));
-    *ops = List::of(left);
-    Ok(())
-}
-
-fn crash(alloc: Global, watch: &mut Watch)
+fn crash(alloc: Global, watch: &mut Watching)
     ensures { watch.new ≡ crashed watch.old }
 {
     watch.running = false;
@@ -176,7 +243,7 @@ fn crash(alloc: Global, watch: &mut Watch)
 pub fn follow(
     alloc: Global,
     clerk: ClerkId,
-    watch: &mut Watch,
+    watch: &mut Watching,
     line: &Shown,
 ) -> Result<(), NoMemory>
     requires { watch.old.starts + 1 < 2 ^ 64 }
@@ -189,7 +256,7 @@ pub fn follow(
             answer(alloc, watch, shows(call, given), *op)?;
         }
         Shown::Durable(of, ops) if *of == clerk => {
-            make_durable(alloc, &mut watch.undurable, ops.as_slice())?;
+            watch.undurable.take_out(ops.as_slice());
         }
         Shown::Ended(of, lost) if *of == clerk => end(alloc, watch, lost)?,
         Shown::Told(of, _) if *of == clerk => watch.untold = None,
@@ -200,49 +267,41 @@ pub fn follow(
 }
 
 /// Whether an answer may show a session of the running start.
-pub fn may_show(watch: &Watch) -> bool
+pub fn may_show(watch: &Watching) -> bool
     requires { watch.now.starts + 1 < 2 ^ 64 }
     ensures { result ≡ may_show (begun watch.now) }
 {
     watch.untold.is_some() || watch.open_start.is_none() || watch.open_start == Some(start(watch))
 }
 
-/// Whether each operation of each list is in the other.
-pub fn same_numbers(alloc: Global, ops: &[OpNo], others: &[OpNo]) -> Result<bool, NoMemory>
-    ensures { IfOk result (λ same. same ≡ same_numbers ops.now others.now) }
+/// The watch of the clerk.
+pub fn watch_of(watches: &[Watching], clerk: ClerkId) -> &Watching
+    requires { length watches.now ≡ clerk_count }
+    ensures value { slice_get watches.now clerk ≡ Some result.now }
+    ensures below { clerk < clerk_count }
 {
-    Ok(are_among(alloc, ops, others)? && are_among(alloc, others, ops)?)
+    &watches[clerk.get() as usize]
 }
 
-/// Whether each of the operations is among the others. Where they come in the order of the others, as
-/// most do, one walk tells it.
-pub fn are_among(alloc: Global, ops: &[OpNo], others: &[OpNo]) -> Result<bool, NoMemory>
-    ensures { IfOk result (λ are. are ≡ list_all (λ n. member n others.now) ops.now) }
+/// The watches of the clerks before the first line.
+pub fn none_watched(alloc: Global) -> Result<Vec<Watching>, NoMemory>
+    ensures { IfOk result (λ watches. AreWatched watches.items []) }
 {
-    if is_part(ops, others) {
-        return Ok(true);
+    let mut watches = Vec::new(alloc);
+    for _ in 0..CLERK_COUNT {
+        watches.push(unwatched(alloc))?;
     }
-    let known = Numbers::of(alloc, Vec::from_slice(alloc, others)?)?;
-    Ok(are_known(&known, ops))
+    Ok(watches)
 }
 
-fn are_known(known: &Numbers, ops: &[OpNo]) -> bool
-    ensures { result ≡ list_all (λ n. member n known.now) ops.now }
+/// One more line.
+pub fn note(alloc: Global, watches: &mut [Watching], line: &Shown) -> Result<(), NoMemory>
+    requires count { length watches.old ≡ clerk_count }
+    requires starts { (w : Watch) (c : ℕ) → slice_get watches.old c ≡ Some w → w.starts + 1 < 2 ^ 64 }
+    ensures { OnOk result ((past : Listed Shown) → AreWatched watches.old past → AreWatched watches.new (past ++ line.now ∷ [])) }
 {
-    ops.iter().all(|op| known.has(*op))
-}
-
-// Whether the operations come in this order among the others.
-fn is_part(ops: &[OpNo], others: &[OpNo]) -> bool
-    ensures { result ≡ true → list_all (λ n. member n others.now) ops.now ≡ true }
-{
-    let mut found = 0;
-    let mut at = 0;
-    'walk: while found < ops.len() && at < others.len() {
-        if ops[found] == others[at] {
-            found += 1;
-        }
-        at += 1;
+    if let Some(clerk) = clerk_of(line) {
+        follow(alloc, clerk, &mut watches[clerk.get() as usize], line)?;
     }
-    found == ops.len()
+    Ok(())
 }
