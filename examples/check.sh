@@ -61,6 +61,9 @@ mkdir "$folder/run"
 (cd "$folder/run" && "$program" drill) < . > "$folder/none" 2> "$folder/error"
 ended "a script that can't be read" $? 4 && [ ! -s "$folder/none" ]
 count $?
+"$program" check < . > "$folder/none" 2> "$folder/error"
+ended "a transcript that can't be read" $? 4 && [ ! -s "$folder/none" ]
+count $?
 (cd "$folder/run" && "$program" drill) < read_back.script > /dev/full 2> "$folder/error"
 ended "a transcript that can't be written" $? 5
 count $?

@@ -1,4 +1,4 @@
-//! The tests of bytes and texts from outside, of volumes, tables and stores, and of disks that stop, in one crate, so that each of them is proved once.
+//! The tests of bytes from outside, of volumes, tables and stores, and of disks that stop, in one crate, so that each of them is proved once.
 #![tactic(auto)]
 
 #[cfg(test)]
@@ -9,14 +9,6 @@ mod checkpoints;
 mod codes;
 #[cfg(test)]
 mod durable;
-#[cfg(test)]
-mod generator;
-#[cfg(test)]
-mod plain;
-#[cfg(test)]
-mod script;
-#[cfg(test)]
-mod shown;
 #[cfg(test)]
 mod stops;
 #[cfg(test)]
@@ -29,5 +21,3 @@ mod volume;
 mod volumes;
 #[cfg(test)]
 mod wire;
-#[cfg(test)]
-mod written;
