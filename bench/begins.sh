@@ -1,7 +1,7 @@
 #!/bin/sh
 # Times calls at a clerk that holds what they need: reads of 4 KiB, each answered in the step that begins it. Prints how many there are a second; the time is the
 # least of five runs, less that of a run of none.
-# Usage: bench/begins.sh PROGRAM [COUNT]   (the ec_bench program; `rt run` in crates/ec_bench builds it)
+# Usage: bench/begins.sh PROGRAM [COUNT]   (the ec_bench program; `bench/build.sh PROGRAM` builds it)
 set -eu
 program=${1:?usage: bench/begins.sh PROGRAM [COUNT]}
 count=${2:-1000000}

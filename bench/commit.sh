@@ -4,7 +4,7 @@
 # beside a C program that reads the same bytes, from the disk and from memory. It prints rates and ratios. The programs run by turns; each
 # time is the least of its runs, of which a busy disk needs more than five. Those of the commits are of the commits alone: what is committed
 # stands ready before the clock starts.
-# Usage: bench/commit.sh PROGRAM [FOLDER] [RECORDS] [RUNS]   (the ec_bench program; `rt run` in crates/ec_bench builds it; FOLDER is on the disk to be measured)
+# Usage: bench/commit.sh PROGRAM [FOLDER] [RECORDS] [RUNS]   (the ec_bench program; `bench/build.sh PROGRAM` builds it; FOLDER is on the disk to be measured)
 set -eu
 program=${1:?usage: bench/commit.sh PROGRAM [FOLDER] [RECORDS] [RUNS]}
 records=${3:-500}

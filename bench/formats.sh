@@ -2,7 +2,7 @@
 # Times the reading and printing of lines and the coding of messages (decoded, and encoded again), each of two lengths that differ eightfold, over as many bytes
 # in all, and prints the rates in MB (10^6 bytes) a second and how many times as long a byte takes in the longer ones.
 # Each time is the least of five runs.
-# Usage: bench/formats.sh PROGRAM   (the ec_bench program; `rt run` in crates/ec_bench builds it)
+# Usage: bench/formats.sh PROGRAM   (the ec_bench program; `bench/build.sh PROGRAM` builds it)
 set -eu
 program=${1:?usage: bench/formats.sh PROGRAM}
 

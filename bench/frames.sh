@@ -1,7 +1,7 @@
 #!/bin/sh
 # Times streams of 8,192 and of 65,536 frames, each taken while as many stand behind it, and prints both times and their ratio.
 # Each time is the least of five runs.
-# Usage: bench/frames.sh PROGRAM   (the ec_bench program; `rt run` in crates/ec_bench builds it)
+# Usage: bench/frames.sh PROGRAM   (the ec_bench program; `bench/build.sh PROGRAM` builds it)
 set -eu
 program=${1:?usage: bench/frames.sh PROGRAM}
 folder=$(mktemp -d)

@@ -1,7 +1,7 @@
 #!/bin/sh
 # Times calls at a shared clerk over loopback: reads of 4,096 bytes by one lane, alone and while another lane waits for the network, and writes of 64 bytes, so few
 # that none needs to be flushed. Prints how many there are a second. They run by turns; each time is the least of its runs, less that of a run of none.
-# Usage: bench/lanes.sh PROGRAM [READS] [RUNS]   (the ec_bench program; `rt run` in crates/ec_bench builds it)
+# Usage: bench/lanes.sh PROGRAM [READS] [RUNS]   (the ec_bench program; `bench/build.sh PROGRAM` builds it)
 set -eu
 program=${1:?usage: bench/lanes.sh PROGRAM [READS] [RUNS]}
 reads=${2:-1000000}

@@ -1,7 +1,7 @@
 #!/bin/sh
 # Has a shared server take messages over a link in memory, a third of them batches, and prints the most memory that its process had, for a tenth of the messages and
 # for all of them. They are to be equal but for a few pages: what a server keeps doesn't grow.
-# Usage: bench/messages.sh PROGRAM [MESSAGES]   (the ec_bench program; `rt run` in crates/ec_bench builds it)
+# Usage: bench/messages.sh PROGRAM [MESSAGES]   (the ec_bench program; `bench/build.sh PROGRAM` builds it)
 set -eu
 program=${1:?usage: bench/messages.sh PROGRAM [MESSAGES]}
 messages=${2:-10000000}

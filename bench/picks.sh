@@ -1,7 +1,7 @@
 #!/bin/sh
 # Times 8,192 and 65,536 operations, issued on so many files in turn, of which those on one file are picked batch by batch: on one file, and on two of
 # which the other's stay. Prints both times and their ratio for each. Each time is the least of five runs.
-# Usage: bench/picks.sh PROGRAM [FILES]...   (the ec_bench program; `rt run` in crates/ec_bench builds it)
+# Usage: bench/picks.sh PROGRAM [FILES]...   (the ec_bench program; `bench/build.sh PROGRAM` builds it)
 set -eu
 program=${1:?usage: bench/picks.sh PROGRAM [FILES]...}
 shift
