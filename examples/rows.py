@@ -84,6 +84,19 @@ LINES = [
     "durable A 1 2",
     "4 B read /%C3%A9%25 0 9 -> data 3 h%20%00",
     "11 A stat /f -> lost 3 4",
+    "2 A write /f 0 one -> ok op 2",
+    "3 A sync -> waits",
+    "3 A sync -> ok",
+    "5 A write /f 0 two -> ok op 3",
+    "6 A touch /f 7 -> ok op 4",
+    "ended A lost 3 4",
+    "8 B write /f 0 six -> waits",
+    "8 B write /f 0 six -> ok op 1",
+    "9 A read /f 0 9 -> data 3 two",
+    "told A lost 3 4",
+    "11 A stat /f -> waits",
+    "durable B 1",
+    "12 A stat /f -> stat file 0644 0 3",
 ]
 
 # Lines that no script has, and the columns at which they're bad.
@@ -130,6 +143,17 @@ DRILLS = [
         "1 A create /f -> waits\n1 A create /f -> ok op 1\n2 A create /f -> refused Exists\n3 A write /f 1 hi -> ok op 2\n"
         "4 A read /f 0 9 -> data 3 %00hi\n5 A stat /f -> stat file 0644 0 3\n",
     ),
+    (
+        "A create /f\nA chown /f 7\nA stat /f\n",
+        "1 A create /f -> waits\n1 A create /f -> ok op 1\n2 A chown /f 7 -> ok op 2\n3 A stat /f -> stat file 0644 0 0 owner 7\n",
+    ),
+    # Many overwrites, which one fsync of another file doesn't take along.
+    (
+        "A create /a\n" + "A write /a 0 x\n" * 30000 + "A create /b\nA fsync /b\n",
+        "1 A create /a -> waits\n1 A create /a -> ok op 1\n"
+        + "".join(f"{line} A write /a 0 x -> ok op {line}\n" for line in range(2, 30002))
+        + "30002 A create /b -> ok op 30002\n30003 A fsync /b -> waits\ndurable A 1 30002\n30003 A fsync /b -> ok\n",
+    ),
 ]
 
 # The numbers of scripts that are made, their first lines, how many bytes they have, and the sum of these.
@@ -168,7 +192,7 @@ def failures():
         yield "" if text.startswith("bad 1 col ") and status == STATUS["bad"] else f"mount of {line!r}: {(text, status)}"
     for script, transcript in DRILLS:
         found = ran(["drill"], script)
-        yield "" if found == (transcript, 0) else f"drill of {script!r}: {found}"
+        yield "" if found == (transcript, 0) else f"drill of {script[:200]!r}: {found[0][:200]!r}, {found[1]}"
     for number, front, sums in MADE:
         text, status = ran(["make", number], "")
         is_so = status == 0 and text.startswith(front) and text.count("\n") == 2000 and sums in (None, (len(text), sum(text.encode())))
