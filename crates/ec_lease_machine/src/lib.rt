@@ -1,0 +1,10 @@
+//! The machine of a world with leases: clocks, what the server notes and clerks keep, held clerks and their queues, as plain data, and scripts with what
+//! it shows of them. The steps are functions in `specs/`. The functions here carry facts alone and do nothing.
+#![tactic(auto)]
+
+pub mod rules;
+mod script;
+mod world;
+
+pub use script::LeaseLine;
+pub use world::{Lease, LeaseEvent, LeaseFault, LeaseShown, LeaseWorld};
