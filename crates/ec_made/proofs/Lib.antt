@@ -1,0 +1,4 @@
+mod Words
+mod Names
+mod Calls
+pub mod Made
