@@ -1,0 +1,2 @@
+mod Roomy
+pub mod Rooms
