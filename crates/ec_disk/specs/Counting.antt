@@ -1,9 +1,9 @@
 -- Counts over two calls.
-use Rattle.std.specs.Prelude.{◌≡◌, ◌⊎◌, ◌+◌, ◌≤◌, ℕ, zero, suc, Option, Some, None}
-use Rattle.std.proofs.Common.{⊎_elim, arith, ◌∙◌, ap, refl}
+use Rattle.std.specs.Prelude.{◌≡◌, ◌⊎◌, ◌+◌, ◌-◌, ◌≤◌, ℕ, zero, suc, Option, Some, None}
+use Rattle.std.proofs.Common.{⊎_elim, arith, ◌∙◌, ap, refl, subst}
 use Rattle.std.proofs.lemmas.Bool.Decides.{nat_tests}
 use Rattle.ec_base.specs.Outside.{Rose, one_more}
-use Rattle.ec_disk.specs.Disk.{Counts, Counted, Called, after_calls, calls_later}
+use Rattle.ec_disk.specs.Disk.{Counts, Counted, Called, CountsDown, IsDue, Turned, NoneDue, IsDueIn, after_calls, calls_later}
 
 one_more-rises : (a b : ℕ) → a ≤ b → one_more a ≤ one_more b
 one_more-rises a b le = grind (arith, nat_tests, le)
@@ -44,3 +44,74 @@ called_both m n a b c first second = record {
   numbered = second.numbered ∙ ap (λ (k : ℕ). calls_later n k) first.numbered ∙ calls_later-add m n a.calls;
   armed = second.armed ∙ ap (λ (armed : Option ℕ). after_calls n armed) first.armed ∙ after_calls-add m n a.armed;
 }
+
+none_at_first : (armed : Option ℕ) → NoneDue 0 armed
+none_at_first None = tt
+none_at_first (Some left) = omega arith
+
+fewer_due : (n : ℕ) (armed : Option ℕ) → NoneDue n armed → NoneDue (n - 1) armed
+fewer_due n None none = tt
+fewer_due n (Some left) none = omega (arith, none)
+
+due_more : (m n : ℕ) (armed : Option ℕ) → m ≤ n → IsDueIn m armed → IsDueIn n armed
+due_more m n None le due = due
+due_more m n (Some left) le due = omega (arith, le, due)
+
+due_later : (m n : ℕ) (armed : Option ℕ) → IsDueIn n (after_calls m armed) → IsDueIn (m + n) armed
+due_later m n None due = due
+due_later m n (Some left) due = omega (arith, due)
+
+none_then : (m n : ℕ) (armed : Option ℕ) → NoneDue m armed → NoneDue n (after_calls m armed) → NoneDue (m + n) armed
+none_then m n None first second = tt
+none_then m n (Some left) first second = omega (arith, first, second)
+
+-- no call
+pub turned_none : (armed : Option ℕ) (G : Type 0) → Turned 0 armed armed G ⊥
+turned_none armed G = record { next = same armed; before = none_at_first armed; goes = λ g. none_at_first armed; stops = λ s. absurd s }
+  where
+    same : (a : Option ℕ) → a ≡ after_calls 0 a
+    same None = refl
+    same (Some left) = ap (λ (k : ℕ). Some k) (omega arith)
+
+-- one call
+pub turned_once : (old new : Option ℕ) (G S : Type 0) → CountsDown old new G S → Turned 1 old new G S
+turned_once old new G S down = record {
+  next = down.next;
+  before = none_at_first old;
+  goes = λ g. ahead old (down.goes g);
+  stops = λ s. reached old (down.stops s);
+}
+  where
+    ahead : (a : Option ℕ) → (IsDue a → ⊥) → NoneDue 1 a
+    ahead None not_due = tt
+    ahead (Some zero) not_due = absurd (not_due (omega arith))
+    ahead (Some (suc zero)) not_due = absurd (not_due (omega arith))
+    ahead (Some (suc (suc left))) not_due = omega arith
+
+    reached : (a : Option ℕ) → IsDue a → IsDueIn 1 a
+    reached None due = due
+    reached (Some left) due = due
+
+-- calls behind others that were done
+pub turned_both : (m n : ℕ) (a b c : Option ℕ) (G H S T : Type 0) → Turned m a b G S → G → Turned n b c H T → Turned (m + n) a c H T
+turned_both m n a b c G H S T first done second = record {
+  next = second.next ∙ ap (λ (armed : Option ℕ). after_calls n armed) first.next ∙ after_calls-add m n a;
+  before = all_but n second.before;
+  goes = λ h. none_then m n a (first.goes done) (subst (NoneDue n) first.next (second.goes h));
+  stops = λ t. due_later m n a (subst (IsDueIn n) first.next (second.stops t));
+}
+  where
+    all_but : (k : ℕ) → NoneDue (k - 1) b → NoneDue ((m + k) - 1) a
+    all_but zero none = fewer_due (m + 0) a (none_then m 0 a (first.goes done) (none_at_first (after_calls m a)))
+    all_but (suc k) none = subst (λ (j : ℕ). NoneDue j a) (ends k) (none_then m (suc k - 1) a (first.goes done) (subst (NoneDue (suc k - 1)) first.next none))
+      where
+        ends : (i : ℕ) → m + (suc i - 1) ≡ (m + suc i) - 1
+        ends i = omega arith
+
+-- the same calls, said of less
+pub turned_for : (n : ℕ) (a b : Option ℕ) (G H S T : Type 0) → (H → G) → (T → S) → Turned n a b G S → Turned n a b H T
+turned_for n a b G H S T goes stops turned = record { next = turned.next; before = turned.before; goes = λ h. turned.goes (goes h); stops = λ t. turned.stops (stops t) }
+
+-- the one that stops is the last of them
+pub stops_at : (n left : ℕ) (b : Option ℕ) (G S : Type 0) → 1 ≤ left → 1 ≤ n → Turned n (Some left) b G S → S → left ≡ n
+stops_at n left b G S some made turned stops = omega (arith, some, made, turned.before, turned.stops stops)

@@ -23,9 +23,11 @@ pub record Loose (Places : ℕ → Type 0) (old new : List ℕ) : Type 0 where
 abbrev pub InRange : ℕ → ℕ → ℕ → Type 0
 InRange at count place = (at ≤ place) × (place < at + count)
 
--- a disk at one moment: what a read gives, what a crash may leave, the moment, and what a crash since an earlier one might have left
+-- A disk at one moment: what a read gives, what a power cut with the choice `Old` leaves, what a crash may leave, the moment, and what a
+-- crash since an earlier one might have left.
 pub record View : Type 1 where
   pub gives : List ℕ
+  pub synced : List ℕ
   pub may_leave : List ℕ → Type 0
   pub moment : ℕ
   pub left_since : ℕ → List ℕ → Type 0
@@ -110,3 +112,20 @@ pub record CountsDown (old new : Option ℕ) (Going Stopping : Type 0) : Type 0 
   pub next : new ≡ after_calls 1 old
   pub stops : Stopping → IsDue old
   pub goes : Going → IsDue old → ⊥
+
+-- none of so many reads, writes and syncs from now on is due to stop
+abbrev pub NoneDue : ℕ → Option ℕ → Type 0
+NoneDue turns None = Unit {0}
+NoneDue turns (Some left) = turns ≤ left - 1
+
+-- one of them is
+abbrev pub IsDueIn : ℕ → Option ℕ → Type 0
+IsDueIn turns None = ⊥
+IsDueIn turns (Some left) = left ≤ turns
+
+-- So many reads, writes and syncs, of which each but the last was done. Where all of them were, none was due; the one that stopped was.
+pub record Turned (turns : ℕ) (old new : Option ℕ) (Going Stopping : Type 0) : Type 0 where
+  pub next : new ≡ after_calls turns old
+  pub before : NoneDue (turns - 1) old
+  pub goes : Going → NoneDue turns old
+  pub stops : Stopping → IsDueIn turns old

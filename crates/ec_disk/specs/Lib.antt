@@ -1,4 +1,5 @@
 pub mod Calls
+pub mod Choices
 pub mod Counting
 pub mod Disk
 pub mod Images

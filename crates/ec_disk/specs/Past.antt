@@ -1,11 +1,9 @@
 -- A disk in memory by the list of its writes, syncs and power cuts.
 use Rattle.std.specs.Prelude.{◌<◌, ◌≡◌, ◌⊎◌, ℕ, ◌≤◌, Bool, true, false, List, [], ◌∷◌, length, take}
+use Rattle.ec_disk.specs.Choices.{cut}
 use Rattle.ec_disk.specs.Disk.{View, byte, written, InRange}
-use Rattle.ec_disk.specs.Undo.{torn}
 use Rattle.ec_disk.specs.declared.memory.Step.{Step}
 use Rattle.ec_disk.specs.declared.memory.Step.TheVariants as step
-use Rattle.ec_disk.specs.declared.disk.Choice.{Choice}
-use Rattle.ec_disk.specs.declared.disk.Choice.TheVariants as choice
 
 -- what is there, what the last sync left, the places written since, and whether there were any writes
 pub record Shot : Type 1 where
@@ -13,12 +11,6 @@ pub record Shot : Type 1 where
   pub synced : List ℕ
   pub places : ℕ → Type 0
   pub dirty : Bool
-
--- what a power cut leaves
-abbrev pub cut : Choice → List ℕ → List ℕ → List ℕ
-cut choice.Old now synced = synced
-cut choice.New now synced = now
-cut choice.Torn now synced = torn 0 now synced
 
 abbrev pub clean : List ℕ → Shot
 clean image = record { now = image; synced = image; places = λ place. ⊥; dirty = false }
@@ -46,4 +38,4 @@ abbrev pub LeftSince : List Step → ℕ → List ℕ → Type 0
 LeftSince log since image = (moment : ℕ) × (since ≤ moment) × (moment ≤ length log) × Left (shot_of (take moment log)) image
 
 abbrev pub view_of : List Step → View
-view_of log = record { gives = (shot_of log).now; may_leave = Left (shot_of log); moment = length log; left_since = LeftSince log }
+view_of log = record { gives = (shot_of log).now; synced = (shot_of log).synced; may_leave = Left (shot_of log); moment = length log; left_since = LeftSince log }

@@ -6,6 +6,7 @@ use Rattle.std.proofs.lemmas.Bool.{cases_eq, cases_lt}
 use Rattle.std.proofs.lemmas.Bool.Decides.{nat_tests}
 use Rattle.std.proofs.lemmas.List.{ext_get_or, take_all, take-append-le}
 use Rattle.std.proofs.lemmas.List.FromFn.{length-map-range_with_len, get_or-map-range_with_len}
+use Rattle.ec_disk.specs.Choices.{cut}
 use Rattle.ec_disk.specs.Disk.{byte, written, InRange, Loose, Elapses, Wrote, Rests, Cut, IsSynced}
 use Rattle.ec_disk.specs.Images.{in_range_or_not, length-written, byte-written_out}
 use Rattle.ec_disk.specs.Undo.{torn, torn_byte}
@@ -13,7 +14,7 @@ use Rattle.ec_disk.specs.declared.memory.Step.{Step}
 use Rattle.ec_disk.specs.declared.memory.Step.TheVariants as step
 use Rattle.ec_disk.specs.declared.disk.Choice.{Choice}
 use Rattle.ec_disk.specs.declared.disk.Choice.TheVariants as choice
-use Rattle.ec_disk.specs.Past.{Shot, cut, clean, apply, apply_all, shot_of, Left, LeftSince, view_of}
+use Rattle.ec_disk.specs.Past.{Shot, clean, apply, apply_all, shot_of, Left, LeftSince, view_of}
 
 -- what is there may be left, and where nothing is written the last sync's image is there
 pub record Good (s : Shot) : Type 0 where
@@ -149,6 +150,10 @@ wrote-nothing log W = record { crash = λ c left. (c, left, record { no_shorter 
 pub gives-written : (log : List Step) (at : ℕ) (bytes : List ℕ) → (view_of (log ++ step.Write at bytes ∷ [])).gives ≡ written at bytes (view_of log).gives
 gives-written log at bytes = ap (λ s. Shot.now s) (shot-push log (step.Write at bytes))
 
+-- a write syncs nothing
+pub synced-written : (log : List Step) (at : ℕ) (bytes : List ℕ) → (view_of (log ++ step.Write at bytes ∷ [])).synced ≡ (view_of log).synced
+synced-written log at bytes = ap (λ s. Shot.synced s) (shot-push log (step.Write at bytes))
+
 left-clean : (image c : List ℕ) → Left (clean image) c → c ≡ image
 left-clean image c left = left.nothing_written refl
 
@@ -161,6 +166,9 @@ rests-sync log = record {
   crash = λ c left. subst (λ l. Left (shot_of log) l) (sym (left-clean (shot_of log).now c (subst (λ s. Left s c) (shot-push log step.Sync) left))) (given log);
   time = elapses-push log step.Sync;
 }
+
+pub saved : (log : List Step) → (view_of (log ++ step.Sync ∷ [])).synced ≡ (view_of (log ++ step.Sync ∷ [])).gives
+saved log = ap (λ s. Shot.synced s) (shot-push log step.Sync) ∙ ap (λ s. Shot.now s) (sym (shot-push log step.Sync))
 
 pub synced : (log : List Step) → IsSynced (view_of (log ++ step.Sync ∷ []))
 synced log c left = left-clean (shot_of log).now c (subst (λ s. Left s c) (shot-push log step.Sync) left) ∙ ap (λ s. Shot.now s) (sym (shot-push log step.Sync))
@@ -190,6 +198,12 @@ cut-left choice.Torn s good = record {
         by_test : (b : Bool) → (if b then byte s.now i else byte s.synced i) ≡ byte s.synced i
         by_test true = same
         by_test false = refl
+
+pub given_synced : (log : List Step) → Left (shot_of log) (shot_of log).synced
+given_synced log = cut-left choice.Old (shot_of log) (good log)
+
+pub leaves : (log : List Step) (choice : Choice) → (view_of (log ++ step.Cut choice ∷ [])).gives ≡ cut choice (view_of log).gives (view_of log).synced
+leaves log choice = ap (λ s. Shot.now s) (shot-push log (step.Cut choice))
 
 pub cuts : (log : List Step) (choice : Choice) → Cut (view_of log) (view_of (log ++ step.Cut choice ∷ []))
 cuts log choice = record {

@@ -4,7 +4,8 @@ ghost use Rattle.ec_disk.specs.declared.disk.DiskAnswer.TheVariants as answer;
 ghost use Rattle.ec_disk.specs.declared.disk.DiskLen.TheVariants as len;
 ghost use Rattle.ec_base.specs.Outside.{one_more};
 ghost use Rattle.ec_disk.specs.Calls as call;
-ghost use Rattle.ec_disk.specs.Disk.{View, Counts, part, written, IsSynced, Rests, InRange, Wrote, Cut, Counted, CountsDown};
+ghost use Rattle.ec_disk.specs.Choices.{cut, Saves};
+ghost use Rattle.ec_disk.specs.Disk.{View, Counts, part, written, IsSynced, Rests, InRange, Wrote, Cut, Counted, CountsDown, IsDue};
 
 /// What a disk answers.
 #[derive(Clone, Copy, Debug, Drop, PartialEq, Eq)]
@@ -58,8 +59,10 @@ pub trait Disk {
         ensures does { does self.old (call.Read at into.old result into.new) self.new }
         ensures bytes { tells → result ≡ answer.Done → into.new ≡ part (view self.old).gives at (length into.old) }
         ensures rests { tells → Rests (view self.old) (view self.new) }
+        ensures kept { tells → (view self.new).synced ≡ (view self.old).synced }
         ensures counts { Counted (counts self.old) (counts self.new) (result ≡ answer.Failed) (result ≡ answer.Stopped) }
         ensures armed { CountsDown (counts self.old).armed (counts self.new).armed (result ≡ answer.Done) (result ≡ answer.Stopped) }
+        ensures due { IsDue (counts self.old).armed → result ≡ answer.Stopped }
         ensures call { (counts self.new).calls ≡ one_more (counts self.old).calls };
 
     /// Writes `piece` from `at` on. A gap past the end reads as zeros. Until a sync a crash may leave any bytes in the range.
@@ -67,6 +70,7 @@ pub trait Disk {
         ensures does { does self.old (call.Write at piece.now result) self.new }
         ensures written { tells → result ≡ answer.Done → (view self.new).gives ≡ written at piece.now (view self.old).gives }
         ensures wrote { tells → Wrote (InRange at (length piece.now)) (view self.old) (view self.new) }
+        ensures kept { tells → (view self.new).synced ≡ (view self.old).synced }
         ensures counts { Counted (counts self.old) (counts self.new) (result ≡ answer.Failed) (result ≡ answer.Stopped) }
         ensures armed { CountsDown (counts self.old).armed (counts self.new).armed (result ≡ answer.Done) (result ≡ answer.Stopped) }
         ensures call { (counts self.new).calls ≡ one_more (counts self.old).calls };
@@ -76,8 +80,10 @@ pub trait Disk {
         ensures does { does self.old (call.Sync result) self.new }
         ensures synced { tells → result ≡ answer.Done → IsSynced (view self.new) }
         ensures rests { tells → Rests (view self.old) (view self.new) }
+        ensures saved { tells → Saves result (view self.old) (view self.new) }
         ensures counts { Counted (counts self.old) (counts self.new) (result ≡ answer.Failed) (result ≡ answer.Stopped) }
         ensures armed { CountsDown (counts self.old).armed (counts self.new).armed (result ≡ answer.Done) (result ≡ answer.Stopped) }
+        ensures due { IsDue (counts self.old).armed → result ≡ answer.Stopped }
         ensures call { (counts self.new).calls ≡ one_more (counts self.old).calls };
 
     /// An armed disk doesn't count this call, but answers it no more once it has stopped.
@@ -85,6 +91,7 @@ pub trait Disk {
         ensures does { does self.old (call.Len result) self.new }
         ensures len { tells → (n : ℕ) → result ≡ len.Len n → n ≡ length (view self.old).gives }
         ensures rests { tells → Rests (view self.old) (view self.new) }
+        ensures kept { tells → (view self.new).synced ≡ (view self.old).synced }
         ensures counts { Counted (counts self.old) (counts self.new) (result ≡ len.Failed) (result ≡ len.Stopped) }
         ensures armed { (counts self.new).armed ≡ (counts self.old).armed }
         ensures stopped { result ≡ len.Stopped → (counts self.old).armed ≡ Some 0 }
@@ -93,6 +100,9 @@ pub trait Disk {
 
     /// What a read gives is one of the images that a crash may leave.
     ghost given: { tells → (disk : Self) → (view disk).may_leave (view disk).gives };
+
+    /// What a power cut with the choice `Old` leaves is one of them too.
+    ghost given_synced: { tells → (disk : Self) → (view disk).may_leave (view disk).synced };
 
     /// This moment is one of those since an earlier one.
     ghost counts_now: { tells → (disk : Self) (since : ℕ) (image : List ℕ) → since ≤ (view disk).moment → (view disk).may_leave image → (view disk).left_since since image };
@@ -110,18 +120,21 @@ pub trait CrashDisk: Disk {
     fn arm(&mut self, calls: u64)
         ensures tries { tries self.old (call.Arm calls) self.new }
         ensures rests { Self.tells → Rests (Self.view self.old) (Self.view self.new) }
+        ensures kept { Self.tells → (Self.view self.new).synced ≡ (Self.view self.old).synced }
         ensures armed { Self.counts self.new ≡ record (Self.counts self.old) { armed = Some calls } };
 
     /// Ends an arm or a stop.
     fn disarm(&mut self)
         ensures tries { tries self.old call.Disarm self.new }
         ensures rests { Self.tells → Rests (Self.view self.old) (Self.view self.new) }
+        ensures kept { Self.tells → (Self.view self.new).synced ≡ (Self.view self.old).synced }
         ensures disarmed { Self.counts self.new ≡ record (Self.counts self.old) { armed = None } };
 
-    /// Leaves one of the images that a crash may leave, with nothing unsynced, and disarms.
+    /// Leaves what the choice says, which is one of the images that a crash may leave, with nothing unsynced, and disarms.
     fn power_cut(&mut self, choice: Choice) -> DiskAnswer
         ensures tries { tries self.old (call.PowerCut choice result) self.new }
         ensures cut { Self.tells → Cut (Self.view self.old) (Self.view self.new) }
+        ensures leaves { Self.tells → result ≡ answer.Done → (Self.view self.new).gives ≡ cut choice (Self.view self.old).gives (Self.view self.old).synced }
         ensures synced { Self.tells → result ≡ answer.Done → IsSynced (Self.view self.new) }
         ensures counts { Counted (Self.counts self.old) (Self.counts self.new) (result ≡ answer.Failed) (result ≡ answer.Stopped) }
         ensures call { (Self.counts self.new).calls ≡ (Self.counts self.old).calls }

@@ -226,6 +226,8 @@ impl<F: FileExt + OpenFile + Drop> Disk for FileDisk<F> {
 
     ghost given = { λ told disk. absurd told };
 
+    ghost given_synced = { λ told disk. absurd told };
+
     ghost counts_now = { λ told disk since image earlier left. absurd told };
 
     ghost only_now = { λ told disk image left. absurd told };

@@ -12,6 +12,8 @@ impl<D: Disk> Disk for &mut D {
 
     ghost given = { λ told disk. D.given told disk.now };
 
+    ghost given_synced = { λ told disk. D.given_synced told disk.now };
+
     ghost counts_now = { λ told disk since image earlier left. D.counts_now told disk.now since image earlier left };
 
     ghost only_now = { λ told disk image left. D.only_now told disk.now image left };

@@ -1,6 +1,7 @@
 // A disk in memory, which keeps the list of its writes, syncs and power cuts.
 ghost use Rattle.std.specs.Prelude.{◌≡◌, ℕ, List, length, vec_len, IfOk};
-ghost use Rattle.ec_disk.specs.Past.{shot_of, cut};
+ghost use Rattle.ec_disk.specs.Choices.{cut};
+ghost use Rattle.ec_disk.specs.Past.{shot_of};
 ghost use Rattle.ec_disk.specs.Undo.{undone, Restores};
 
 use crate::disk::{Choice, CrashDisk, Disk, DiskAnswer, DiskLen};
@@ -133,7 +134,7 @@ fn after_cut(
 impl Disk for MemDisk {
     ghost use Rattle.ec_disk.specs.Memory.{steps_of, counts_of_disk, Does};
     ghost use Rattle.ec_disk.specs.Past.{view_of};
-    ghost use Rattle.ec_disk.specs.PastLaws.{given as past_given, counts_now as past_counts_now, only_now as past_only_now};
+    ghost use Rattle.ec_disk.specs.PastLaws.{given as past_given, given_synced as past_given_synced, counts_now as past_counts_now, only_now as past_only_now};
 
     ghost tells = { Unit {0} };
 
@@ -144,6 +145,8 @@ impl Disk for MemDisk {
     ghost does = { λ old call new. Does old call new };
 
     ghost given = { λ told disk. past_given (steps_of disk) };
+
+    ghost given_synced = { λ told disk. past_given_synced (steps_of disk) };
 
     ghost counts_now = { λ told disk since image earlier left. past_counts_now (steps_of disk) since image earlier left };
 

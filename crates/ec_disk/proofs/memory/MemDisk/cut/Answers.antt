@@ -1,5 +1,6 @@
 use Rattle.std.proofs.Common.{rules, ◌∙◌, ap, sym, subst, List, ℕ}
-use Rattle.ec_disk.specs.Past.{clean, cut, shot_of}
+use Rattle.ec_disk.specs.Choices.{cut}
+use Rattle.ec_disk.specs.Past.{clean, shot_of}
 use Rattle.ec_disk.specs.Undo.{Restores}
 use Rattle.ec_disk.specs.declared.undo.Undo.{Undo}
 use Rattle.ec_disk.specs.declared.memory.Step.TheVariants as step

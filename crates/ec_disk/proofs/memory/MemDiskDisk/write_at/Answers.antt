@@ -1,7 +1,7 @@
 use Rattle.std.proofs.Common.{sym, subst, ap, ◌∙◌, length}
 use Rattle.ec_disk.specs.Disk.{Wrote, InRange}
 use Rattle.ec_disk.specs.Past.{Shot, shot_of, view_of}
-use Rattle.ec_disk.specs.PastLaws.{wrote, gives-written}
+use Rattle.ec_disk.specs.PastLaws.{wrote, gives-written, synced-written}
 use Rattle.ec_disk.proofs.memory.MemDiskDisk.write_at.Goals as goal
 
 pub returns-in-Ok-clause-wrote : goal.returns-in-Ok-clause-wrote
@@ -16,3 +16,9 @@ returns-in-Ok-2-clause-wrote c told =
 
 pub returns-in-Ok-2-clause-written : goal.returns-in-Ok-2-clause-written
 returns-in-Ok-2-clause-written c told done = ap (λ l. Shot.now (shot_of l)) c.in-Ok.ensures.ok ∙ gives-written c.args.self.now.log.items c.args.at c.args.piece.now
+
+pub returns-in-Ok-clause-kept : goal.returns-in-Ok-clause-kept
+returns-in-Ok-clause-kept c told = ap (λ l. Shot.synced (shot_of l)) c.in-Ok.ensures.ok ∙ synced-written c.args.self.now.log.items c.args.at c.args.piece.now
+
+pub returns-in-Ok-2-clause-kept : goal.returns-in-Ok-2-clause-kept
+returns-in-Ok-2-clause-kept c told = ap (λ l. Shot.synced (shot_of l)) c.in-Ok.ensures.ok ∙ synced-written c.args.self.now.log.items c.args.at c.args.piece.now
