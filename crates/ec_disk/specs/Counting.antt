@@ -23,6 +23,8 @@ counted_both a b c F S G T H K first second fails stops = record {
   stopped = λ k. ⊎_elim (λ s. rose-later a.stops b.stops c.stops (first.stopped s) second.stops_later) (λ t. later-rose a.stops b.stops c.stops first.stops_later (second.stopped t)) (stops k);
   armed = λ k. ⊎_elim first.armed (λ t. first.not_rearmed (second.armed t)) (stops k);
   not_rearmed = λ some. first.not_rearmed (second.not_rearmed some);
+  stays = λ was. second.stays (first.stays was);
+  over = λ k. ⊎_elim (λ s. second.stays (first.over s)) second.over (stops k);
 }
 
 after_calls-add : (m n : ℕ) (armed : Option ℕ) → after_calls n (after_calls m armed) ≡ after_calls (m + n) armed

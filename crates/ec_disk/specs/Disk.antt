@@ -78,7 +78,13 @@ pub record Counts : Type 0 where
   pub stops : ℕ
   pub armed : Option ℕ
 
--- Counts don't fall, and have risen where the call answers so. Only an armed disk stops, and no call of these arms one.
+-- A disk that isn't armed, or has stopped: none of its turns is ahead.
+abbrev pub IsOver : Option ℕ → Type 0
+IsOver None = Unit {0}
+IsOver (Some left) = left ≡ 0
+
+-- Counts don't fall, and have risen where the call answers so. Only an armed disk stops, and no call of these arms one; one that has stopped
+-- stays so until it's disarmed.
 pub record Counted (old new : Counts) (Failing Stopping : Type 0) : Type 0 where
   pub faults_later : old.faults ≤ new.faults
   pub stops_later : old.stops ≤ new.stops
@@ -86,6 +92,8 @@ pub record Counted (old new : Counts) (Failing Stopping : Type 0) : Type 0 where
   pub stopped : Stopping → Rose old.stops new.stops
   pub armed : Stopping → IsSome old.armed
   pub not_rearmed : IsSome new.armed → IsSome old.armed
+  pub stays : IsOver old.armed → IsOver new.armed
+  pub over : Stopping → IsOver new.armed
 
 -- the next read, write or sync stops
 abbrev pub IsDue : Option ℕ → Type 0

@@ -194,13 +194,13 @@ CountedIn server.DiskStopped a b = Counted a b ⊥ (Unit {0})
 CountedIn _ a b = Counted a b ⊥ ⊥
 
 pub counted_same : (a : Counts) → Counted a a ⊥ ⊥
-counted_same a = record { faults_later = omega arith; stops_later = omega arith; failed = λ x. absurd x; stopped = λ x. absurd x; armed = λ x. absurd x; not_rearmed = λ x. x }
+counted_same a = record { faults_later = omega arith; stops_later = omega arith; failed = λ x. absurd x; stopped = λ x. absurd x; armed = λ x. absurd x; not_rearmed = λ x. x; stays = λ x. x; over = λ x. absurd x }
 
 pub counted_less : (a b : Counts) (F S : Type 0) → Counted a b F S → Counted a b ⊥ ⊥
-counted_less a b F S h = record { faults_later = h.faults_later; stops_later = h.stops_later; failed = λ x. absurd x; stopped = λ x. absurd x; armed = λ x. absurd x; not_rearmed = h.not_rearmed }
+counted_less a b F S h = record { faults_later = h.faults_later; stops_later = h.stops_later; failed = λ x. absurd x; stopped = λ x. absurd x; armed = λ x. absurd x; not_rearmed = h.not_rearmed; stays = h.stays; over = λ x. absurd x }
 
 pub counted_stop : (a b : Counts) (F S : Type 0) → S → Counted a b F S → Counted a b ⊥ (Unit {0})
-counted_stop a b F S s h = record { faults_later = h.faults_later; stops_later = h.stops_later; failed = λ x. absurd x; stopped = λ x. h.stopped s; armed = λ x. h.armed s; not_rearmed = h.not_rearmed }
+counted_stop a b F S s h = record { faults_later = h.faults_later; stops_later = h.stops_later; failed = λ x. absurd x; stopped = λ x. h.stopped s; armed = λ x. h.armed s; not_rearmed = h.not_rearmed; stays = h.stays; over = λ x. h.over s }
 
 pub ok_counted : (T : Type 0) (gives : T → Served) (K : Type 0) (did broke : K → Record → K → Type 0) (k l : K) (tells : Type 0) (old new : Store) (now : View) (mark : Option Mark) (before : List Record) (a b : Counts) (stops : ℕ)
     → Means K did broke k l tells old new now mark before a b stops → (answer : Result T ServerFault) → IfOk answer (λ x. Did did (gives x).rec k l) → IfOk answer (λ x. Counted a b ⊥ ⊥)
@@ -239,6 +239,8 @@ counts_by a b n F S G X Y m c f s x = record {
   stopped = λ y. c.stopped (x y);
   armed = λ y. m.armed (s y);
   not_rearmed = m.not_rearmed;
+  stays = m.stays;
+  over = λ y. m.over (s y);
 }
 
 done_clash : (T : Type 0) (x : T) (mark : Option Mark) → ◌≡◌ {A = Result (Came T) Counter} (Ok (came.Done x mark)) (Ok came.DiskFailed) → ⊥

@@ -54,6 +54,8 @@ uncounted n F never = record {
   stopped = λ s. absurd s;
   armed = λ s. absurd s;
   not_rearmed = λ a. a;
+  stays = λ a. a;
+  over = λ s. absurd s;
 }
 
 pub left_as_was : {A : Type 0} (r : Result A StepFault) (tells : Type 0) (now : View) (w : World) (m : Moving) → IsInStep tells now w → IfErr r (λ why. tells → (image : List ℕ) → now.may_leave image → IsLeft (view_of w).durable m image)

@@ -64,6 +64,8 @@ counted_less old new F G by h = record {
   stopped = h.stopped;
   armed = h.armed;
   not_rearmed = h.not_rearmed;
+  stays = h.stays;
+  over = h.over;
 }
 
 counts_less : (e : Event) (old new : Counts) (F G : Type 0) → (G → F) → CountsOf e old new F → CountsOf e old new G

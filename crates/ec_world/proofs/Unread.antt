@@ -56,6 +56,8 @@ counted_as a b F S H c to = record {
   stopped = λ k. absurd k;
   armed = λ k. absurd k;
   not_rearmed = c.not_rearmed;
+  stays = c.stays;
+  over = λ k. absurd k;
 }
 
 pub counted_none : (a : Counts) (H : Type 0) → (H → ⊥) → Counted a a H ⊥
@@ -66,6 +68,8 @@ counted_none a H never = record {
   stopped = λ k. absurd k;
   armed = λ k. absurd k;
   not_rearmed = λ some. some;
+  stays = λ over. over;
+  over = λ k. absurd k;
 }
   where
     same : (n : ℕ) → n ≤ n

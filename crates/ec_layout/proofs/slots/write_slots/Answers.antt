@@ -44,6 +44,8 @@ slots-preserved g c =
         stopped = λ no. absurd no;
         armed = λ no. absurd no;
         not_rearmed = λ some. c.slots.invariant.counts.not_rearmed (c.write_at-answer.ensures.counts.not_rearmed some);
+        stays = λ over. c.write_at-answer.ensures.counts.stays (c.slots.invariant.counts.stays over);
+        over = λ no. absurd no;
       };
     }
 
