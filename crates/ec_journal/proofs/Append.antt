@@ -7,6 +7,9 @@ use Rattle.std.proofs.lemmas.List.Elements.{All-push}
 use Rattle.ec_disk.specs.Disk.{View, byte, part, written, Loose, InRange, After, IsSynced, LeavesOnly}
 use Rattle.ec_disk.specs.Images.{byte-part, part-add, part-one, part-loose, part-written, byte-written}
 use Rattle.ec_disk.specs.Runs.{Ran, leaves_only, leaves_then, ran_within, ran_then}
+use Rattle.ec_disk.specs.Calls.{Call}
+use Rattle.ec_journal.specs.Ends.{EndsBy, answer_of}
+use Rattle.ec_journal.specs.declared.fault.JournalFault.{JournalFault}
 use Rattle.ec_journal.specs.Records.{open_gate, IsShort, records, HasBodies, staged}
 use Rattle.ec_journal.proofs.Reading.{records-push}
 
@@ -96,6 +99,10 @@ module _ (at size end : ℕ) (bodies : List (List ℕ)) (body : List ℕ) (ends 
       has : Has bodies mid.gives
       has = kept_by_first mid.gives (first.crash mid.gives given)
 
+      -- what was synced of the new one
+      pub old_stays : new.synced ≡ mid.gives → Has bodies new.synced
+      old_stays same = subst (Has bodies) (sym same) has
+
       stands : part mid.gives (at + length (records bodies) + 1) (length (staged body)) ≡ staged body
       stands = subst (λ k. part mid.gives (at + k + 1) (length (staged body)) ≡ staged body) ends
           (subst (λ image. part image (at + end + 1) (length (staged body)) ≡ staged body) (sym wrote) (part-written (at + end + 1) _ old.gives))
@@ -141,3 +148,7 @@ both_ran at size end body fits before W covers old mid new first second =
       where
         four : length (to_be_bytes w32 (length body)) ≡ 4
         four = refl
+
+-- one fault for another
+pub ends_for : {D : Type 0} (does : D → Call → D → Type 0) (f g : JournalFault) (most : ℕ) (old new : D) → f ≡ g → EndsBy does (answer_of f) most old new → EndsBy does (answer_of g) most old new
+ends_for does f g most old new same is = subst (λ h. EndsBy does (answer_of h) most old new) same is

@@ -41,6 +41,10 @@ Adds old new journal later body = (bodies : List (List ℕ)) → IsOn old journa
 abbrev pub LeavesEither : View → View → Journal → List ℕ → Type 0
 LeavesEither old new journal body = (bodies : List (List ℕ)) → IsOn old journal bodies → LeavesOnly old new (HasEither journal bodies body)
 
+-- Where the old disk stands for some bodies, what was synced of the new one has these.
+abbrev pub LeavesOld : View → View → Journal → Type 0
+LeavesOld old new journal = (bodies : List (List ℕ)) → IsOn old journal bodies → HasBodies new.synced (place_of journal) (size_of journal) bodies
+
 -- an open gate at this place stands over a record that runs past the journal
 abbrev pub IsBad : List ℕ → ℕ → ℕ → ℕ → Type 0
 IsBad image at size place = (bodies : List (List ℕ)) × (place ≡ at + length (records bodies)) × RunsPast image at size bodies

@@ -1,3 +1,4 @@
+pub mod Ends
 pub mod Journal
 pub mod Laws
 pub mod Records

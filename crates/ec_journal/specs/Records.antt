@@ -1,5 +1,5 @@
 -- A journal's bytes: a row of records, each a gate, a length and a body, up to the first closed gate.
-use Rattle.std.specs.Prelude.{◌≡◌, ◌≢◌, ◌⊎◌, ◌<◌, ◌≤◌, ◌+◌, ◌^◌, ℕ, List, [], ◌∷◌, ◌++◌, length}
+use Rattle.std.specs.Prelude.{◌≡◌, ◌≢◌, ◌⊎◌, ◌<◌, ◌≤◌, ◌+◌, ◌^◌, ℕ, ◌-◌, List, [], ◌∷◌, ◌++◌, length, take, drop}
 use Rattle.std.specs.List.{All}
 use Rattle.std.specs.Int.{w32, to_be_bytes, from_be_bytes}
 use Rattle.ec_disk.specs.Disk.{byte, part}
@@ -58,3 +58,7 @@ pub record RunsPast (image : List ℕ) (at size : ℕ) (bodies : List (List ℕ)
 -- what an append writes behind its gate: a length, a body and the closed next gate
 abbrev pub staged : List ℕ → List ℕ
 staged body = to_be_bytes w32 (length body) ++ body ++ closed_gate ∷ []
+
+-- the body in such bytes
+abbrev pub body_in : List ℕ → List ℕ
+body_in piece = take (length piece - 5) (drop 4 piece)

@@ -1,8 +1,9 @@
 // Calls on a disk that a journal, and the store above it, are made of.
-ghost use Rattle.std.specs.Prelude.{◌≡◌, ◌+◌, ◌≤◌, ℕ, length, IfOk, OnOk, IsErrOf};
+ghost use Rattle.std.specs.Prelude.{◌≡◌, ◌+◌, ◌≤◌, ℕ, length, IfOk, OnOk, OnErr, IfErr, IsOk, IsErrOf};
 ghost use Rattle.ec_disk.specs.declared.disk.DiskAnswer.TheVariants as said;
 ghost use Rattle.ec_disk.specs.Disk.{View, InRange, part, written, IsSynced, Rests, Counted, Called};
 ghost use Rattle.ec_disk.specs.Runs.{Ran};
+ghost use Rattle.ec_journal.specs.Ends.{DidAll, EndsBy, TurnedUpTo, answer_of};
 ghost use Rattle.ec_journal.specs.declared.fault.JournalFault.TheVariants as fault;
 
 use crate::fault::JournalFault;
@@ -14,6 +15,7 @@ static ZEROS: [u8; 4_096] = [0; 4_096];
 
 fn done(answer: DiskAnswer) -> Result<(), JournalFault>
     ensures ok { OnOk result (answer ≡ said.Done) }
+    ensures err { IfErr result (λ f. answer ≡ answer_of f) }
     ensures failed { IsErrOf result fault.DiskFailed → answer ≡ said.Failed }
     ensures stopped { IsErrOf result fault.DiskStopped → answer ≡ said.Stopped }
     ensures no_room { (need free : ℕ) → IsErrOf result (fault.NoRoom need free) → ⊥ }
@@ -33,6 +35,11 @@ pub fn write_synced<D: Disk>(disk: &mut D, at: u64, piece: &[u8]) -> Result<(), 
     ensures written { OnOk result (D.tells → (D.view disk.new).gives ≡ written at piece.now (D.view disk.old).gives) }
     ensures synced { OnOk result (D.tells → IsSynced (D.view disk.new)) }
     ensures calls { OnOk result (Called 2 (D.counts disk.old) (D.counts disk.new)) }
+    ensures did { OnOk result (DidAll D.does 2 disk.old disk.new) }
+    ensures turned { TurnedUpTo 2 (D.counts disk.old).armed (D.counts disk.new).armed (IsOk result) (IsErrOf result fault.DiskStopped) }
+    ensures saved { OnOk result (D.tells → (D.view disk.new).synced ≡ (D.view disk.new).gives) }
+    ensures kept { OnErr result (D.tells → (D.view disk.new).synced ≡ (D.view disk.old).synced) }
+    ensures ends { IfErr result (λ f. EndsBy D.does (answer_of f) 2 disk.old disk.new) }
     ensures counts { Counted (D.counts disk.old) (D.counts disk.new) (IsErrOf result fault.DiskFailed) (IsErrOf result fault.DiskStopped) }
     ensures no_room { (need free : ℕ) → IsErrOf result (fault.NoRoom need free) → ⊥ }
     ensures no_bad { (place : ℕ) → IsErrOf result (fault.Bad place) → ⊥ }

@@ -1,22 +1,21 @@
 // A journal: it reads its records back, and adds one behind them.
-ghost use Rattle.std.specs.Prelude.{◌≡◌, ◌+◌, ◌^◌, ◌<◌, ◌≤◌, ℕ, length, IfOk, OnOk, IsErrOf};
+ghost use Rattle.std.specs.Prelude.{◌≡◌, ◌+◌, ◌^◌, ◌<◌, ℕ, length, OnOk, OnErr, IfErr, IsOk, IsErrOf};
 ghost use Rattle.ec_disk.specs.Disk.{InRange, written, IsSynced, Counted, Called};
 ghost use Rattle.ec_disk.specs.Runs.{Ran};
-ghost use Rattle.ec_journal.specs.Records.{max_record_bytes, staged};
+ghost use Rattle.ec_journal.specs.Ends.{DidAll, EndsBy, TurnedUpTo, answer_of};
+ghost use Rattle.ec_journal.specs.Records.{staged};
 ghost use Rattle.ec_journal.specs.declared.fault.JournalFault.TheVariants as fault;
 
 use crate::device::write_synced;
 use crate::fault::JournalFault;
-use crate::read::{AROUND_BYTES, LENGTH_BYTES, OPEN, read_records};
+use crate::read::{AROUND_BYTES, HEAD_BYTES, OPEN, read_records};
+use crate::staged::Staged;
 use ec_base::List;
 use ec_disk::Disk;
-use std::alloc::{AllocError, Global};
+use std::alloc::Global;
 
 /// `append` takes a body of at most this many bytes.
 pub const MAX_RECORD_BYTES: usize = 524_288;
-
-// What is written behind a body, a gate that isn't open.
-const CLOSED: u8 = 0;
 
 /// A row of records in a range of a disk.
 ///
@@ -31,11 +30,13 @@ pub struct Journal {
 }
 
 impl Journal {
-    ghost use Rattle.std.specs.Prelude.{◌≡◌, ◌+◌, ◌^◌, ◌<◌, ◌≤◌, ℕ, length, IfOk, OnOk, OnErr, IsErrOf, MatchBool};
+    ghost use Rattle.std.specs.Prelude.{◌≡◌, ◌+◌, ◌^◌, ◌<◌, ◌≤◌, ℕ, length, IfOk, OnOk, OnErr, IsOk, IsErrOf, MatchBool, MatchResult};
     ghost use Rattle.ec_disk.specs.Disk.{IsSynced, Counted, Called, Rests};
     ghost use Rattle.ec_disk.specs.Runs.{Ran};
-    ghost use Rattle.ec_journal.specs.Records.{head_bytes, max_record_bytes, records, HasBodies};
-    ghost use Rattle.ec_journal.specs.Journal.{place_of, size_of, end_of, free_of, need_of, FromGate, Adds, LeavesEither, IsBad};
+    ghost use Rattle.ec_disk.specs.declared.disk.DiskAnswer.TheVariants as said;
+    ghost use Rattle.ec_journal.specs.Ends.{DidAll, EndsBy, Lacks, TurnedUpTo};
+    ghost use Rattle.ec_journal.specs.Records.{around_bytes, head_bytes, max_record_bytes, records, HasBodies};
+    ghost use Rattle.ec_journal.specs.Journal.{place_of, size_of, end_of, free_of, need_of, FromGate, Adds, LeavesEither, LeavesOld, IsBad};
     ghost use Rattle.ec_journal.specs.declared.fault.JournalFault.TheVariants as fault;
 
     /// The journal of `size` bytes from `at` on, whose closed gate stands at `end` in it: 0 where it has no record.
@@ -88,10 +89,24 @@ impl Journal {
         (body.len() + AROUND_BYTES) as u64 <= self.size - self.end
     }
 
+    // A record of so many bytes of body fits behind the others.
+    fn find_room(&self, len: usize) -> Result<(), JournalFault>
+        requires { len ≤ max_record_bytes }
+        ensures { MatchResult result (λ _. len + around_bytes ≤ free_of self.now) (λ f. (f ≡ fault.NoRoom (len + around_bytes) (free_of self.now)) × (free_of self.now < len + around_bytes)) }
+    {
+        let need = (len + AROUND_BYTES) as u64;
+        let free = self.size - self.end;
+        if need > free {
+            Err(JournalFault::NoRoom(need, free))
+        } else {
+            Ok(())
+        }
+    }
+
     /// Adds a body, by four calls of the disk. At `Ok` it is there after each crash.
     ///
-    /// At `NoRoom`, which shows the bytes needed and those free, there was no call. After a fault of the disk, or want of its memory,
-    /// the record may be there or not: open again.
+    /// At `NoRoom`, which shows the bytes needed and those free, there was no call, and none where there was no memory, which is all taken
+    /// before the first one. After a fault of the disk, or want of its own memory, the record may be there or not: open again.
     pub fn append<D: Disk>(
         &mut self,
         alloc: Global,
@@ -103,6 +118,15 @@ impl Journal {
         ensures synced { OnOk result (D.tells → IsSynced (D.view disk.new)) }
         ensures any_moment { D.tells → LeavesEither (D.view disk.old) (D.view disk.new) self.old body.now }
         ensures calls { OnOk result (Called 4 (D.counts disk.old) (D.counts disk.new)) }
+        ensures did { OnOk result (DidAll D.does 4 disk.old disk.new) }
+        // Behind any other fault the disk answered so in one of four calls, the last one made.
+        ensures failed { IsErrOf result fault.DiskFailed → EndsBy D.does said.Failed 4 disk.old disk.new }
+        ensures stopped { IsErrOf result fault.DiskStopped → EndsBy D.does said.Stopped 4 disk.old disk.new }
+        ensures no_memory { IsErrOf result fault.NoMemory → Lacks D.does 4 disk.old disk.new }
+        // How many reads, writes and syncs an armed disk counted: four at `Ok`, and where it stopped, up to the one that stops.
+        ensures turned { TurnedUpTo 4 (D.counts disk.old).armed (D.counts disk.new).armed (IsOk result) (IsErrOf result fault.DiskStopped) }
+        // What was synced has the bodies from before.
+        ensures old { OnErr result (D.tells → LeavesOld (D.view disk.old) (D.view disk.new) self.old) }
         ensures ran { D.tells → Ran (FromGate self.old) (D.view disk.old) (D.view disk.new) }
         ensures full { free_of self.old < need_of body.now → IsErrOf result (fault.NoRoom (need_of body.now) (free_of self.old)) }
         ensures no_room { (need free : ℕ) → IsErrOf result (fault.NoRoom need free) → (need ≡ need_of body.now) × (free ≡ free_of self.old) × (free < need) × (disk.new ≡ disk.old) }
@@ -112,46 +136,63 @@ impl Journal {
         ensures end { OnOk result (end_of self.new ≡ end_of self.old + length body.now + head_bytes) }
         ensures err { OnErr result (self.new ≡ self.old) }
     {
-        let need = (body.len() + AROUND_BYTES) as u64;
-        let free = self.size - self.end;
-        if need > free {
-            return Err(JournalFault::NoRoom(need, free));
-        }
+        self.find_room(body.len())?;
+        let entry = Staged::of(alloc, body)?;
+        self.append_staged(disk, &entry)
+    }
+
+    /// Adds a record that is ready, as `append` does, and takes no memory for it.
+    pub fn append_staged<D: Disk>(
+        &mut self,
+        disk: &mut D,
+        entry: &Staged,
+    ) -> Result<(), JournalFault>
+        ensures ok { OnOk result (D.tells → Adds (D.view disk.old) (D.view disk.new) self.old self.new entry.now) }
+        ensures synced { OnOk result (D.tells → IsSynced (D.view disk.new)) }
+        ensures any_moment { D.tells → LeavesEither (D.view disk.old) (D.view disk.new) self.old entry.now }
+        ensures calls { OnOk result (Called 4 (D.counts disk.old) (D.counts disk.new)) }
+        ensures did { OnOk result (DidAll D.does 4 disk.old disk.new) }
+        // Behind any other fault the disk answered so in one of four calls, the last one made.
+        ensures failed { IsErrOf result fault.DiskFailed → EndsBy D.does said.Failed 4 disk.old disk.new }
+        ensures stopped { IsErrOf result fault.DiskStopped → EndsBy D.does said.Stopped 4 disk.old disk.new }
+        ensures no_memory { IsErrOf result fault.NoMemory → EndsBy D.does said.NoMemory 4 disk.old disk.new }
+        // How many reads, writes and syncs an armed disk counted: four at `Ok`, and where it stopped, up to the one that stops.
+        ensures turned { TurnedUpTo 4 (D.counts disk.old).armed (D.counts disk.new).armed (IsOk result) (IsErrOf result fault.DiskStopped) }
+        // What was synced has the bodies from before.
+        ensures old { OnErr result (D.tells → LeavesOld (D.view disk.old) (D.view disk.new) self.old) }
+        ensures ran { D.tells → Ran (FromGate self.old) (D.view disk.old) (D.view disk.new) }
+        ensures full { free_of self.old < need_of entry.now → IsErrOf result (fault.NoRoom (need_of entry.now) (free_of self.old)) }
+        ensures no_room { (need free : ℕ) → IsErrOf result (fault.NoRoom need free) → (need ≡ need_of entry.now) × (free ≡ free_of self.old) × (free < need) × (disk.new ≡ disk.old) }
+        ensures no_bad { (place : ℕ) → IsErrOf result (fault.Bad place) → ⊥ }
+        ensures counts { Counted (D.counts disk.old) (D.counts disk.new) (IsErrOf result fault.DiskFailed) (IsErrOf result fault.DiskStopped) }
+        ensures place { (place_of self.new ≡ place_of self.old) × (size_of self.new ≡ size_of self.old) }
+        ensures end { OnOk result (end_of self.new ≡ end_of self.old + length entry.now + head_bytes) }
+        ensures err { OnErr result (self.new ≡ self.old) }
+    {
+        let size = entry.size();
+        self.find_room(size)?;
         let gate = self.at + self.end;
-        write_staged(alloc, disk, gate + 1, body)?;
+        write_staged(disk, gate + 1, entry)?;
         write_synced(disk, gate, &[OPEN])?;
-        self.end += need - 1;
+        self.end += (size + HEAD_BYTES) as u64;
         Ok(())
     }
 }
 
 // Writes a length, a body and the closed next gate from `at` on, and syncs.
-fn write_staged<D: Disk>(
-    alloc: Global,
-    disk: &mut D,
-    at: u64,
-    body: &[u8],
-) -> Result<(), JournalFault>
-    requires { length body.now ≤ max_record_bytes }
-    ensures ran { D.tells → Ran (InRange at (length (staged body.now))) (D.view disk.old) (D.view disk.new) }
-    ensures written { OnOk result (D.tells → (D.view disk.new).gives ≡ written at (staged body.now) (D.view disk.old).gives) }
+fn write_staged<D: Disk>(disk: &mut D, at: u64, entry: &Staged) -> Result<(), JournalFault>
+    ensures ran { D.tells → Ran (InRange at (length (staged entry.now))) (D.view disk.old) (D.view disk.new) }
+    ensures written { OnOk result (D.tells → (D.view disk.new).gives ≡ written at (staged entry.now) (D.view disk.old).gives) }
     ensures synced { OnOk result (D.tells → IsSynced (D.view disk.new)) }
     ensures calls { OnOk result (Called 2 (D.counts disk.old) (D.counts disk.new)) }
+    ensures did { OnOk result (DidAll D.does 2 disk.old disk.new) }
+    ensures ends { IfErr result (λ f. EndsBy D.does (answer_of f) 2 disk.old disk.new) }
+    ensures turned { TurnedUpTo 2 (D.counts disk.old).armed (D.counts disk.new).armed (IsOk result) (IsErrOf result fault.DiskStopped) }
+    ensures saved { OnOk result (D.tells → (D.view disk.new).synced ≡ (D.view disk.new).gives) }
+    ensures kept { OnErr result (D.tells → (D.view disk.new).synced ≡ (D.view disk.old).synced) }
     ensures counts { Counted (D.counts disk.old) (D.counts disk.new) (IsErrOf result fault.DiskFailed) (IsErrOf result fault.DiskStopped) }
     ensures no_room { (need free : ℕ) → IsErrOf result (fault.NoRoom need free) → ⊥ }
     ensures no_bad { (place : ℕ) → IsErrOf result (fault.Bad place) → ⊥ }
 {
-    let piece = staged(alloc, body)?;
-    write_synced(disk, at, piece.as_slice())
-}
-
-fn staged(alloc: Global, body: &[u8]) -> Result<Vec<u8>, AllocError>
-    requires { length body.now ≤ max_record_bytes }
-    ensures { IfOk result (λ piece. piece.items ≡ staged body.now) }
-{
-    let mut piece = Vec::with_capacity(alloc, LENGTH_BYTES + body.len() + 1)?;
-    piece.extend_from_slice(&(body.len() as u32).to_be_bytes())?;
-    piece.extend_from_slice(body)?;
-    piece.push(CLOSED)?;
-    Ok(piece)
+    write_synced(disk, at, entry.piece())
 }

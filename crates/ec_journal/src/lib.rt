@@ -5,8 +5,10 @@ mod device;
 mod fault;
 mod journal;
 mod read;
+mod staged;
 
 pub use device::{read_part, write_synced};
 pub use fault::JournalFault;
 pub use journal::{Journal, MAX_RECORD_BYTES};
 pub use read::{Found, read_records};
+pub use staged::Staged;

@@ -18,7 +18,7 @@ pub const OPEN: u8 = b'O';
 pub const LENGTH_BYTES: usize = 4;
 
 // A gate and a length stand in front of a body.
-const HEAD_BYTES: usize = 1 + LENGTH_BYTES;
+pub const HEAD_BYTES: usize = 1 + LENGTH_BYTES;
 
 /// What a record needs beside its body: a gate, a length and the next gate.
 pub const AROUND_BYTES: usize = HEAD_BYTES + 1;
