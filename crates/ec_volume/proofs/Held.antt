@@ -16,7 +16,7 @@ use Rattle.ec_volume.specs.Held.{IsVolume, is_held}
 use Rattle.ec_volume.specs.Carry.{instead, cleared}
 use Rattle.ec_volume.specs.declared.image.Image.{Image}
 use Rattle.ec_volume.specs.declared.image.Image.TheVariants.{Gone, File, Dir}
-use Rattle.ec_base.specs.SortedLaws.{first, second, both, find-without, put-put, without-put_new}
+use Rattle.ec_base.specs.SortedLaws.{first, second, both, find-without, without-put_new}
 
 pick : (b : Bool) (i r : Image) (f : Option Image) → r ≡ unwrap_or f Gone → (if b then i else r) ≡ unwrap_or (cond b (Some i) f) Gone
 pick true i r f e = refl
@@ -105,6 +105,10 @@ found_cases (Some i) e = refl
 pub found : (es : List (ℕ × Image)) (k : ℕ) → is_gone (images es k) ≡ false → find nat_cmp k es ≡ Some (images es k)
 found es k h = found_cases (find nat_cmp k es) (ap is_gone (sym (images_find es k)) ∙ h) ∙ ap Some (sym (images_find es k))
 
+pub not_found : (f : Option Image) (i : Image) → f ≡ None → f ≡ Some i → ⊥
+not_found None i e h = cc
+not_found (Some j) i e h = cc
+
 absent_cases : (f : Option Image) → is_gone (unwrap_or f Gone) ≡ true → ((i : Image) → f ≡ Some i → is_gone i ≡ false) → f ≡ None
 absent_cases None e h = refl
 absent_cases (Some i) e h = absurd (let t : is_gone i ≡ false = h i refl in cc)
@@ -117,11 +121,6 @@ found_live es k i v f = ap is_gone (images_find es k ∙ ap (λ r. unwrap_or r G
 
 pub image_held : (es : List (ℕ × Image)) (k : ℕ) → IsVolume es → is_gone (images es k) ≡ false → is_held (images es k) ≡ true
 image_held es k v h = found_held es k (images es k) v.held (found es k h)
-
-pub found-put : (k : ℕ) (i : Image) (es new : List (ℕ × Image)) → new ≡ put nat_cmp k i es → is_some (find nat_cmp k new) ≡ true
-found-put k i es new e =
-    ap (λ xs. is_some (find nat_cmp k xs)) e ∙ ap is_some (find-put nat_cmp nat_cmp_total k k i es)
-    ∙ ap (λ b. is_some (cond b (Some i) (find nat_cmp k es))) ((eq_by_cmp_equiv nat_cmp_total).refl k)
 
 pub on_some : {A : Type 0} (r : Option A) (P : Type 0) → is_some r ≡ true → OnSome r P → P
 on_some (Some a) P e p = p
@@ -138,11 +137,6 @@ then_ok (Err e) P Q f p = p
 pub then_err : {A E : Type 0} (r : Result A E) (P Q : Type 0) → (P → Q) → OnErr r P → OnErr r Q
 then_err (Ok a) P Q f p = p
 then_err (Err e) P Q f p = f p
-
--- An image that was taken out and another one that was put back.
-
-pub given : (k : ℕ) (i j : Image) (es middle new : List (ℕ × Image)) → IsVolume es → middle ≡ put nat_cmp k j es → new ≡ put nat_cmp k i middle → new ≡ put nat_cmp k i es
-given k i j es middle new v e f = f ∙ ap (put nat_cmp k i) e ∙ put-put nat_cmp nat_cmp_total k j i es
 
 -- a live object's image that was changed in its place
 pub made : (k : ℕ) (f : Image → Image) (es new : List (ℕ × Image)) → is_gone (images es k) ≡ false → MatchOption (find nat_cmp k es) (new ≡ es) (λ i. new ≡ put nat_cmp k (f i) es) → new ≡ put nat_cmp k (f (images es k)) es

@@ -110,7 +110,7 @@ holds true h = refl
 holds false h = absurd h
 
 module _ (dir : ℕ) (from : List ℕ) (into : ℕ) (to : List ℕ) (obj : ℕ) (k : Kind) (victim : Option ℕ) (up : Above) (v : Images) where
-  shift_live : first_unfit (Shift dir from into to obj k victim up) v (operands (Shift dir from into to obj k victim up)) ≡ None → is_gone (v into) ≡ false
+  pub shift_live : first_unfit (Shift dir from into to obj k victim up) v (operands (Shift dir from into to obj k victim up)) ≡ None → is_gone (v into) ≡ false
   shift_live e =
       let later = fits_rest (fits (Shift dir from into to obj k victim up) dir (v dir)) dir _ e in
       let here = fits_first (fits (Shift dir from into to obj k victim up) into (v into)) into _ later in
@@ -148,14 +148,27 @@ module _ (dir : ℕ) (from : List ℕ) (into : ℕ) (to : List ℕ) (obj : ℕ) 
       ))
       (λ t. member_tail o dir two (member_tail o into three (member_tail o obj four (listed_member o victim rest t))))
 
+  -- the old directory, which isn't the new one, loses its entry
+  left_behind : effect (Shift dir from into to obj k victim up) dir (v dir) ≡ with_entries (λ es. without_entry es from) (v dir)
+  left_behind = rw (same dir) refl
+
+  dir_apart : distinct (operands (Shift dir from into to obj k victim up)) ≡ true → (dir == into) ≡ false
+  dir_apart h =
+      let three = obj ∷ listed victim ++ filter (λ p. not (p == dir)) (ids_of up) in
+      head_differs dir into three (not_first dir (into ∷ three) h)
+
   -- the entry of the new directory, then that of the old one, then the victim
   pub carried : T (is_sound (Shift dir from into to obj k victim up)) → (v1 v2 v3 : Images)
       → ((p : ℕ) → v1 p ≡ instead into (effect (Shift dir from into to obj k victim up) into (v into)) v p)
-      → ((p : ℕ) → v2 p ≡ instead dir (with_entries (λ es. without_entry es from) (v1 dir)) v1 p)
+      → ((p : ℕ) → v2 p ≡ instead dir (effect (Shift dir from into to obj k victim up) dir (v dir)) v1 p)
       → ((p : ℕ) → v3 p ≡ cleared victim v2 p) → (o : ℕ) → v3 o ≡ image_next o (v o) (Shift dir from into to obj k victim up)
   carried sound v1 v2 v3 e f g o =
+      let D = effect (Shift dir from into to obj k victim up) dir (v dir) in
       let E = effect (Shift dir from into to obj k victim up) into (v into) in
       let F = with_entries (λ es. without_entry es from) in
+      let h = left (distinct (operands (Shift dir from into to obj k victim up))) (is_within (Shift dir from into to obj k victim up)) (holds (is_sound (Shift dir from into to obj k victim up)) sound) in
+      let kept : instead into E v dir ≡ v dir = ap (λ b. if b then E else v dir) (dir_apart h) in
       g o
-      ∙ cleared_same victim v2 (instead dir (F (instead into E v dir)) (instead into E v)) o (λ p. f p ∙ instead_same dir (F (v1 dir)) (F (instead into E v dir)) v1 (instead into E v) p (ap F (e dir)) (e p))
-      ∙ shifted (left (distinct (operands (Shift dir from into to obj k victim up))) (is_within (Shift dir from into to obj k victim up)) (holds (is_sound (Shift dir from into to obj k victim up)) sound)) o
+      ∙ cleared_same victim v2 (instead dir (F (instead into E v dir)) (instead into E v)) o
+      (λ p. f p ∙ instead_same dir D (F (instead into E v dir)) v1 (instead into E v) p (left_behind ∙ ap F (sym kept)) (e p))
+      ∙ shifted h o

@@ -74,7 +74,7 @@ is_id_some o (Some p) e = refl
 put_held : (m s w : ℕ) (es : Entries) (n : List ℕ) (o : ℕ) → Fine m es → length (with_entry es n o) ≤ 128 → is_held (Dir m s w (with_entry es n o)) ≡ true
 put_held m s w es n o f few = held m s w _ (record { mode = f.mode; few = few; sorted = is_sorted-put by_bytes nat_list_cmp_total n o es f.sorted })
 
-pub without_held : (n : List ℕ) (i : Image) → is_held i ≡ true → is_held (with_entries (λ es. without_entry es n) i) ≡ true
+without_held : (n : List ℕ) (i : Image) → is_held i ≡ true → is_held (with_entries (λ es. without_entry es n) i) ≡ true
 without_held n Gone h = h
 without_held n (File m s w bs) h = h
 without_held n (Dir m s w es) h =

@@ -1,18 +1,18 @@
 // An update that fits, carried out on the images of its operands.
-ghost use Rattle.std.specs.Prelude.{◌≡◌, ◌==◌, ℕ, T, true, false, None, [], ◌∷◌, OnOk, OnErr, is_some};
+ghost use Rattle.std.specs.Prelude.{◌≡◌, ◌==◌, ℕ, T, true, false, None, [], ◌∷◌, OnOk, OnErr, IfOk};
 ghost use Rattle.std.specs.Ordering.{nat_cmp};
-ghost use Rattle.std.specs.FinMap.{find, put};
+ghost use Rattle.std.specs.FinMap.{put};
 ghost use Rattle.ec_base.specs.Sorted.{Stands};
-ghost use Rattle.ec_volume.specs.Entries.{without_entry};
-ghost use Rattle.ec_volume.specs.Image.{is_gone, with_entries, new_object};
+ghost use Rattle.ec_volume.specs.Image.{is_gone, new_object};
 ghost use Rattle.ec_volume.specs.Update.{is_sound, operands, first_unfit, fits, effect};
 ghost use Rattle.ec_volume.specs.Volume.{images, after};
 ghost use Rattle.ec_volume.specs.Held.{IsVolume, is_held};
 ghost use Rattle.ec_volume.specs.Carry.{instead, cleared};
 
 use crate::image::{Image, Kind};
+use crate::shared::SharedImage;
 use crate::update::Update;
-use ec_base::{Change, Name, NoMemory, ObjId, SortedMap};
+use ec_base::{Change, Duplicate, NoMemory, ObjId, SortedMap};
 use std::alloc::Global;
 
 // What an update makes of the image of one of its operands.
@@ -23,7 +23,7 @@ struct Step<'a> {
     id: ObjId,
 }
 
-impl Change<Image> for Step<'_> {
+impl Change<SharedImage> for Step<'_> {
     ghost use Rattle.std.specs.Prelude.{T};
     ghost use Rattle.ec_volume.specs.Update.{is_sound, effect};
 
@@ -31,13 +31,16 @@ impl Change<Image> for Step<'_> {
 
     ghost makes = { λ step image. effect step.update.now step.id image };
 
-    fn change(&self, image: &mut Image) -> Result<(), NoMemory> {
+    fn change(&self, image: &mut SharedImage) -> Result<(), NoMemory> {
         image.effect(self.alloc, self.update, self.id)
     }
 }
 
 /// Carries out an update that fits. What may want memory comes first.
-pub(crate) fn carry_out(map: &mut SortedMap<ObjId, Image>, update: &Update) -> Result<(), NoMemory>
+pub(crate) fn carry_out(
+    map: &mut SortedMap<ObjId, SharedImage>,
+    update: &Update,
+) -> Result<(), NoMemory>
     requires volume { IsVolume map.old }
     requires sound { T (is_sound update.now) }
     requires fits { first_unfit update.now (images map.old) (operands update.now) ≡ None }
@@ -47,8 +50,8 @@ pub(crate) fn carry_out(map: &mut SortedMap<ObjId, Image>, update: &Update) -> R
 {
     match update {
         Update::Make { dir, obj, kind, .. } => make(map, update, *dir, *obj, *kind),
-        Update::Drop { dir, name, obj, .. } => {
-            unlink(map, *dir, name);
+        Update::Drop { dir, obj, .. } => {
+            change(map, update, *dir)?;
             clear(map, Some(*obj));
             Ok(())
         }
@@ -65,13 +68,13 @@ pub(crate) fn carry_out(map: &mut SortedMap<ObjId, Image>, update: &Update) -> R
         Update::Order { .. } => Ok(()),
         Update::Shift {
             dir,
-            from,
             into,
             victim,
             ..
         } => {
+            let left = changed_image(map, update, *dir)?;
             change(map, update, *into)?;
-            unlink(map, *dir, from);
+            give(map, *dir, left);
             clear(map, *victim);
             Ok(())
         }
@@ -80,7 +83,7 @@ pub(crate) fn carry_out(map: &mut SortedMap<ObjId, Image>, update: &Update) -> R
 
 // A new object, and what the update makes of its directory.
 fn make(
-    map: &mut SortedMap<ObjId, Image>,
+    map: &mut SortedMap<ObjId, SharedImage>,
     update: &Update,
     dir: ObjId,
     obj: ObjId,
@@ -107,18 +110,23 @@ fn make(
 }
 
 // Adds an object.
-fn add(map: &mut SortedMap<ObjId, Image>, obj: ObjId, image: Image) -> Result<(), NoMemory>
+fn add(map: &mut SortedMap<ObjId, SharedImage>, obj: ObjId, image: Image) -> Result<(), NoMemory>
     requires volume { IsVolume map.old }
     requires held { is_held image ≡ true }
     ensures ok { OnOk result (map.new ≡ put nat_cmp obj image map.old) }
     ensures volume { IsVolume map.new }
     ensures err { OnErr result (map.new ≡ map.old) }
 {
-    map.insert(obj, image)
+    let shared = SharedImage::new(*map.allocator(), image)?;
+    map.insert(obj, shared)
 }
 
 // What the update makes of an object that neither comes nor goes.
-fn change(map: &mut SortedMap<ObjId, Image>, update: &Update, id: ObjId) -> Result<(), NoMemory>
+fn change(
+    map: &mut SortedMap<ObjId, SharedImage>,
+    update: &Update,
+    id: ObjId,
+) -> Result<(), NoMemory>
     requires volume { IsVolume map.old }
     requires sound { T (is_sound update.now) }
     requires fits { fits update.now id (images map.old id) ≡ true }
@@ -134,7 +142,7 @@ fn change(map: &mut SortedMap<ObjId, Image>, update: &Update, id: ObjId) -> Resu
 
 /// The same, where the object stands at this place of the map.
 pub(crate) fn change_at(
-    map: &mut SortedMap<ObjId, Image>,
+    map: &mut SortedMap<ObjId, SharedImage>,
     update: &Update,
     id: ObjId,
     place: usize,
@@ -153,37 +161,41 @@ pub(crate) fn change_at(
     map.change_at(&id, place, &Step { alloc, update, id })
 }
 
-// Removes an entry of a directory.
-fn unlink(map: &mut SortedMap<ObjId, Image>, dir: ObjId, name: &Name)
+// What the update makes of the image of such an object, which stays as it is.
+fn changed_image(
+    map: &SortedMap<ObjId, SharedImage>,
+    update: &Update,
+    id: ObjId,
+) -> Result<SharedImage, NoMemory>
+    requires volume { IsVolume map.now }
+    requires sound { T (is_sound update.now) }
+    requires fits { fits update.now id (images map.now id) ≡ true }
+    requires live { is_gone (images map.now id) ≡ false }
+    requires stays { is_gone (effect update.now id (images map.now id)) ≡ false }
+    ensures image { IfOk result (λ image. image ≡ effect update.now id (images map.now id)) }
+    ensures held { IfOk result (λ image. is_held image ≡ true) }
+{
+    let Some(image) = map.get(&id) else {
+        unreachable!()
+    };
+    let mut image = image.duplicate()?;
+    image.effect(*map.allocator(), update, id)?;
+    Ok(image)
+}
+
+// Puts an image in the place of a live object's.
+fn give(map: &mut SortedMap<ObjId, SharedImage>, id: ObjId, image: SharedImage)
     requires volume { IsVolume map.old }
-    requires live { is_gone (images map.old dir) ≡ false }
-    ensures images { (o : ℕ) → images map.new o ≡ instead dir (with_entries (λ es. without_entry es name.now) (images map.old dir)) (images map.old) o }
+    requires live { is_gone (images map.old id) ≡ false }
+    requires held { is_held image ≡ true }
+    ensures images { (o : ℕ) → images map.new o ≡ instead id image (images map.old) o }
     ensures volume { IsVolume map.new }
-{
-    let mut image = take(map, dir);
-    image.remove_entry(name);
-    give(map, dir, image);
-}
-
-// Takes a live object's image out, which leaves Gone in its place.
-fn take(map: &mut SortedMap<ObjId, Image>, id: ObjId) -> Image
-    requires { is_gone (images map.old id) ≡ false }
-    ensures image { result ≡ images map.old id }
-    ensures left { map.new ≡ put nat_cmp id Image.Gone map.old }
-{
-    map.replace(&id, Image::Gone).unwrap_or(Image::Gone)
-}
-
-// Puts an image in the place of the one that stands there.
-fn give(map: &mut SortedMap<ObjId, Image>, id: ObjId, image: Image)
-    requires { is_some (find nat_cmp id map.old) ≡ true }
-    ensures { map.new ≡ put nat_cmp id image map.old }
 {
     map.replace(&id, image);
 }
 
 // Removes an object, if any.
-fn clear(map: &mut SortedMap<ObjId, Image>, victim: Option<ObjId>)
+fn clear(map: &mut SortedMap<ObjId, SharedImage>, victim: Option<ObjId>)
     requires { IsVolume map.old }
     ensures images { (o : ℕ) → images map.new o ≡ cleared victim (images map.old) o }
     ensures volume { IsVolume map.new }

@@ -9,6 +9,7 @@ mod image;
 mod laws;
 mod limits;
 mod look;
+mod shared;
 mod update;
 mod volume;
 
@@ -20,5 +21,6 @@ pub use laws::{
 };
 pub use limits::{MAX_ENTRIES, MAX_FILE_BYTES, MAX_MODE, MAX_ORDERED, MAX_WRITE_BYTES};
 pub use look::Look;
+pub use shared::SharedImage;
 pub use update::{Update, operands};
 pub use volume::{ApplyFault, Volume};

@@ -12,6 +12,7 @@ ghost use Rattle.ec_volume.specs.Held.{IsVolume, is_held, changed, Unfits};
 use crate::carry::{carry_out, change_at};
 use crate::image::{Image, Kind};
 use crate::look::Look;
+use crate::shared::SharedImage;
 use crate::update::{Update, operands};
 use ec_base::{Duplicate, NoMemory, ObjId, SortedMap};
 use std::alloc::Global;
@@ -40,7 +41,7 @@ impl From<NoMemory> for ApplyFault {
 
 /// A volume: its live objects' images by rising ids.
 pub struct Volume {
-    map: SortedMap<ObjId, Image>,
+    map: SortedMap<ObjId, SharedImage>,
     // The place of the object that was changed last.
     near: usize,
 }
@@ -73,12 +74,13 @@ impl Volume {
         ensures list { IfOk result (λ volume. volume ≡ (root, new_object kind.Dir) ∷ []) }
     {
         let mut map = SortedMap::new(alloc);
-        map.insert(ObjId::root(), Image::new_object(alloc, Kind::Dir))?;
+        let root = Image::new_object(alloc, Kind::Dir);
+        map.insert(ObjId::root(), SharedImage::new(alloc, root)?)?;
         Ok(Volume { map, near: 0 })
     }
 
     /// The volume of these images, by rising ids. It takes no memory.
-    pub fn of(list: Vec<(ObjId, Image)>) -> Result<Volume, NoMemory>
+    pub fn of(list: Vec<(ObjId, SharedImage)>) -> Result<Volume, NoMemory>
         requires { IsVolume list.items }
         ensures { result ≡ Ok list.items }
     {
@@ -94,8 +96,18 @@ impl Volume {
         ensures limits { IfSome result (λ image. is_held image.now ≡ true) }
     {
         match self.map.find(&id, self.near) {
-            Some((_, image)) => Some(image),
+            Some((_, image)) => Some(image.get()),
             None => None,
+        }
+    }
+
+    /// The image of each id, which stays the volume's too. Those that aren't live are Gone.
+    pub fn share(&self, id: ObjId) -> Result<SharedImage, NoMemory>
+        ensures { IfOk result (λ image. image ≡ images self.now id) }
+    {
+        match self.map.find(&id, self.near) {
+            Some((_, image)) => image.duplicate(),
+            None => Ok(SharedImage::new(*self.map.allocator(), Image::Gone)?),
         }
     }
 
@@ -108,7 +120,7 @@ impl Volume {
     }
 
     /// The live objects' images, by rising ids.
-    pub fn items(&self) -> &[(ObjId, Image)]
+    pub fn items(&self) -> &[(ObjId, SharedImage)]
         ensures value { result.now ≡ self.now }
         ensures volume { IsVolume self.now }
     {
@@ -120,7 +132,7 @@ impl Volume {
         ensures { MatchOption result (length self.now ≤ place) (λ pair. slice_get self.now place ≡ Some (pair.0, pair.1.now)) }
     {
         let (id, image) = self.map.at(place)?;
-        Some((*id, image))
+        Some((*id, image.get()))
     }
 
     /// Carries out an update where it fits each of its operands.
@@ -156,7 +168,7 @@ impl Volume {
         let Some((place, image)) = self.map.find(&id, self.near) else {
             return Err(ApplyFault::Unfit(id));
         };
-        if !image.fits(update, id) {
+        if !image.get().fits(update, id) {
             return Err(ApplyFault::Unfit(id));
         }
         self.near = place;
@@ -219,7 +231,7 @@ impl Duplicate for Volume {
 }
 
 // Ids are from 1, so there are no more of them than the last one says.
-fn count(items: &[(ObjId, Image)]) -> u32
+fn count(items: &[(ObjId, SharedImage)]) -> u32
     requires { T (is_sorted nat_cmp items.now) }
     ensures { result ≡ length items.now }
 {

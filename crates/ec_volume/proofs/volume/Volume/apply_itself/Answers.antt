@@ -1,4 +1,5 @@
-use Rattle.std.proofs.Common.{sym, ◌∙◌, true, false}
+use Rattle.std.proofs.Common.{ap, sym, ◌∙◌, true, false}
+use Rattle.ec_volume.specs.Update.{fits}
 use Rattle.ec_volume.specs.Volume.{images}
 use Rattle.ec_volume.proofs.Held.{found_live}
 use Rattle.ec_volume.proofs.Alone.{gone_unfit, stays_alone, looked_at, absent_at, decides_alone, after_alone}
@@ -11,10 +12,10 @@ returns-in_default-clause-unfit c = rw (← c.self.view_is)
 
 pub returns-then-not-fits-clause-unfit : goal.returns-then-not-fits-clause-unfit
 returns-then-not-fits-clause-unfit c = rw (← c.self.view_is)
-    (decides_alone c.args.update.now (images c.self.inside.map) c.args.id _ false c.requires.operand (looked_at c.self.inside.map c.args.id c.in-Some.image.now c.in-Some.ensures.1) (sym c.if-not-fits.ensures))
+    (decides_alone c.args.update.now (images c.self.inside.map) c.args.id _ false c.requires.operand (looked_at c.self.inside.map c.args.id c.in-Some.image.now c.in-Some.ensures.1) (ap (fits c.args.update.now c.args.id) (sym c.get.ensures) ∙ sym c.if-not-fits.ensures))
 
 pub change_at-requires-clause-fits : goal.change_at-requires-clause-fits
-change_at-requires-clause-fits c = rw (looked_at c.self.inside.map c.args.id c.in-Some.image.now c.in-Some.ensures.1) (sym c.if-not-fits.ensures)
+change_at-requires-clause-fits c = rw (looked_at c.self.inside.map c.args.id c.in-Some.image.now c.in-Some.ensures.1) (ap (fits c.args.update.now c.args.id) (sym c.get.ensures) ∙ sym c.if-not-fits.ensures)
 
 pub change_at-requires-clause-live : goal.change_at-requires-clause-live
 change_at-requires-clause-live c = found_live c.self.inside.map c.args.id c.in-Some.image.now c.self.invariant c.in-Some.ensures.1
@@ -29,4 +30,4 @@ returns-clause-changed c = rw (← c.self.view_is)
 
 pub returns-clause-fits : goal.returns-clause-fits
 returns-clause-fits c = rw (← c.self.view_is)
-    (decides_alone c.args.update.now (images c.self.inside.map) c.args.id _ true c.requires.operand (looked_at c.self.inside.map c.args.id c.in-Some.image.now c.in-Some.ensures.1) (sym c.if-not-fits.ensures))
+    (decides_alone c.args.update.now (images c.self.inside.map) c.args.id _ true c.requires.operand (looked_at c.self.inside.map c.args.id c.in-Some.image.now c.in-Some.ensures.1) (ap (fits c.args.update.now c.args.id) (sym c.get.ensures) ∙ sym c.if-not-fits.ensures))
