@@ -14,6 +14,7 @@ use crate::fields::{age, clerk, first, held, lowered, ops, tokens};
 use crate::msg::Msg;
 use ec_base::{List, SessionNo};
 use ec_codes::{CodeFault, Reader};
+use ec_volume::SharedImage;
 use std::alloc::Global;
 
 #[tactic(auto, unfolding(crate::specs::Codes::hello_fields))]
@@ -109,7 +110,7 @@ fn read_grant(reader: &mut Reader) -> Result<Msg, CodeFault>
     let object = reader.id()?;
     let number = reader.long()?;
     let hold = held(reader)?;
-    let image = reader.image()?;
+    let image = SharedImage::new(reader.alloc(), reader.image()?)?;
     Ok(Msg::Grant(session, epoch, object, number, hold, image))
 }
 

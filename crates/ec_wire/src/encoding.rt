@@ -69,7 +69,7 @@ fn put_msg(out: &mut Vec<u8>, msg: &Msg) -> Result<(), NoMemory>
         }
         Msg::Grant(session, epoch, object, number, hold, image) => {
             put_byte(out, 66)?;
-            put_grant(out, *session, *epoch, *object, *number, *hold, image)
+            put_grant(out, *session, *epoch, *object, *number, *hold, image.get())
         }
         Msg::Recall(session, epoch, object, number, hold) => {
             put_byte(out, 67)?;

@@ -20,7 +20,8 @@ impl Msg {
             Msg::Back(_, _, _, _, hold) => is_lowered_mode(*hold),
             Msg::Flush(_, _, _, ops) => are_ops(ops.as_slice()),
             Msg::Claim(_, _, tokens) => are_tokens(tokens.as_slice()),
-            Msg::Grant(_, _, _, _, hold, image) => is_held_mode(*hold) && is_sound_image(image),
+            Msg::Grant(_, _, _, _, hold, image) => is_held_mode(*hold)
+                && is_sound_image(image.get()),
             Msg::Recall(_, _, _, _, hold) => is_lowered_mode(*hold),
             Msg::Ids(_, _, _, _, first) => first.get() <= 4_294_967_279,
             Msg::Hello(..)
