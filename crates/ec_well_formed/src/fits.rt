@@ -10,20 +10,20 @@ ghost use Rattle.ec_durable.specs.WellFormed.{fits_slot, last_first_fits};
 
 use ec_base::ObjId;
 use ec_sessions::Slot;
-use ec_volume::Image;
+use ec_volume::{Image, SharedImage};
 
 // The ids of a grant.
 const IDS_PER_GRANT: u64 = 16;
 
 /// Whether the root is a directory.
-pub(crate) fn has_root(objects: &[(ObjId, Image)]) -> bool
+pub(crate) fn has_root(objects: &[(ObjId, SharedImage)]) -> bool
     ensures { result ≡ is_dir (images objects.now root) }
 {
     match objects {
         [] => false,
         [(id, image), rest @ ..] => {
             if ObjId::root() == *id {
-                matches!(image, Image::Dir { .. })
+                matches!(image.get(), Image::Dir { .. })
             } else {
                 has_root(rest)
             }
@@ -32,13 +32,13 @@ pub(crate) fn has_root(objects: &[(ObjId, Image)]) -> bool
 }
 
 /// Whether each of these objects lives.
-pub(crate) fn are_held(objects: &[(ObjId, Image)]) -> bool
+pub(crate) fn are_held(objects: &[(ObjId, SharedImage)]) -> bool
     requires { list_all (λ e. is_sound_image e.1) objects.now ≡ true }
     ensures { result ≡ list_all (λ e. is_held e.1) objects.now }
 {
     match objects {
         [] => true,
-        [(_, image), rest @ ..] => is_held(image) && are_held(rest),
+        [(_, image), rest @ ..] => is_held(image.get()) && are_held(rest),
     }
 }
 

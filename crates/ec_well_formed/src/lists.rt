@@ -9,11 +9,11 @@ ghost use Rattle.ec_well_formed.specs.WellFormed.{named_ids};
 
 use ec_base::{NoMemory, ObjId};
 use ec_sessions::Slot;
-use ec_volume::{Entries, Image};
+use ec_volume::{Entries, Image, SharedImage};
 use std::alloc::Global;
 
 /// The ids of these images.
-pub(crate) fn ids_of(alloc: Global, images: &[(ObjId, Image)]) -> Result<Vec<u64>, NoMemory>
+pub(crate) fn ids_of(alloc: Global, images: &[(ObjId, SharedImage)]) -> Result<Vec<u64>, NoMemory>
     ensures { IfOk result (λ ids. ids.items ≡ keys images.now) }
 {
     let mut ids = Vec::new(alloc);
@@ -24,12 +24,15 @@ pub(crate) fn ids_of(alloc: Global, images: &[(ObjId, Image)]) -> Result<Vec<u64
 }
 
 /// The ids in the entries of all directories.
-pub(crate) fn named_ids(alloc: Global, images: &[(ObjId, Image)]) -> Result<Vec<u64>, NoMemory>
+pub(crate) fn named_ids(
+    alloc: Global,
+    images: &[(ObjId, SharedImage)],
+) -> Result<Vec<u64>, NoMemory>
     ensures { IfOk result (λ ids. ids.items ≡ named_ids images.now) }
 {
     let mut ids = Vec::new(alloc);
     'images: for image in images {
-        push_entries(&mut ids, &image.1)?;
+        push_entries(&mut ids, image.1.get())?;
     }
     Ok(ids)
 }

@@ -14,7 +14,7 @@ use crate::lists::{ids_of, named_ids, push_unspent, sessions_of};
 use crate::numbers::{are_distinct, are_these};
 use ec_base::{NoMemory, ObjId};
 use ec_sessions::Slot;
-use ec_volume::{Image, Volume};
+use ec_volume::{SharedImage, Volume};
 use std::alloc::Global;
 
 /// Whether the state of these slots and of these images, whose ids rise, is well formed.
@@ -24,7 +24,7 @@ pub fn is_well_formed(
     next_id: u32,
     next_session: u64,
     slots: &[Option<Slot>],
-    images: &[(ObjId, Image)],
+    images: &[(ObjId, SharedImage)],
 ) -> Result<bool, NoMemory>
     requires least { least_max_objects ≤ max_objects }
     requires limit { max_objects ≤ most_max_objects }
@@ -51,7 +51,7 @@ pub fn is_well_formed_volume(alloc: Global, volume: &Volume) -> Result<bool, NoM
 }
 
 // Whether each object lives, and each but the root, which is a directory, stands in one entry.
-fn is_tree(alloc: Global, images: &[(ObjId, Image)]) -> Result<bool, NoMemory>
+fn is_tree(alloc: Global, images: &[(ObjId, SharedImage)]) -> Result<bool, NoMemory>
     requires ids { T (is_sorted nat_cmp images.now) }
     requires sound { list_all (λ e. is_sound_image e.1) images.now ≡ true }
     ensures { IfOk result (λ is. MatchBool is (IsTree images.now) (IsTree images.now → ⊥)) }
@@ -63,7 +63,7 @@ fn is_tree(alloc: Global, images: &[(ObjId, Image)]) -> Result<bool, NoMemory>
 }
 
 // Whether the root and the ids in all entries are these ids, each once.
-fn are_named_once(alloc: Global, images: &[(ObjId, Image)]) -> Result<bool, NoMemory>
+fn are_named_once(alloc: Global, images: &[(ObjId, SharedImage)]) -> Result<bool, NoMemory>
     requires { T (is_sorted nat_cmp images.now) }
     ensures { IfOk result (λ is. MatchBool is (AreNamedOnce images.now) (AreNamedOnce images.now → ⊥)) }
 {
@@ -80,7 +80,7 @@ fn is_in_order(
     next_id: u32,
     next_session: u64,
     slots: &[Option<Slot>],
-    images: &[(ObjId, Image)],
+    images: &[(ObjId, SharedImage)],
 ) -> Result<bool, NoMemory>
     ensures { IfOk result (λ is. is ≡ is_in_order max_objects next_id next_session slots.now images.now) }
 {
