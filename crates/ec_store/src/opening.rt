@@ -27,7 +27,7 @@ use ec_journal::{Found, read_records};
 use ec_layout::{Head, JOURNAL_BYTES, Side};
 use ec_sessions::Sessions;
 use ec_table::{Table, Version};
-use ec_volume::{Image, Volume};
+use ec_volume::{SharedImage, Volume};
 use ec_well_formed::is_well_formed;
 use std::alloc::Global;
 
@@ -124,7 +124,7 @@ fn checkpoint_of(
     version: Version,
     head: Head,
     table: Table,
-    images: Vec<(ObjId, Image)>,
+    images: Vec<(ObjId, SharedImage)>,
 ) -> Result<Checkpoint, StoreFault>
     requires least { least_max_objects ≤ head.max_objects }
     requires limit { head.max_objects ≤ most_max_objects }
@@ -166,7 +166,7 @@ fn assemble(
     version: Version,
     max_objects: u32,
     table: Table,
-    images: Vec<(ObjId, Image)>,
+    images: Vec<(ObjId, SharedImage)>,
 ) -> Result<Option<Checkpoint>, NoMemory>
     requires least { least_max_objects ≤ max_objects }
     requires limit { max_objects ≤ most_max_objects }

@@ -24,7 +24,7 @@ use ec_disk::Disk;
 use ec_journal::read_part;
 use ec_layout::{Head, SLOT_BYTES, TABLE_BYTES, slot_at};
 use ec_table::{Table, Version, get_table};
-use ec_volume::Image;
+use ec_volume::SharedImage;
 use std::alloc::Global;
 
 // Bytes of a disk's head.
@@ -148,7 +148,7 @@ fn object_in(
     alloc: Global,
     bytes: &[u8],
     version: Version,
-) -> Result<((ObjId, Image), usize), CodeFault>
+) -> Result<((ObjId, SharedImage), usize), CodeFault>
     ensures found { IfOk result (λ x. Spells (slot_code version) bytes.now 0 x.0 x.1) }
     ensures sound { IfOk result (λ x. is_sound_image x.0.1 ≡ true) }
     ensures exact { Gives (λ x. x) result ((slot_code version).read bytes.now 0) }
@@ -160,7 +160,7 @@ fn read_slot(
     alloc: Global,
     bytes: &[u8],
     version: Version,
-) -> Result<((ObjId, Image), usize), CodeFault>
+) -> Result<((ObjId, SharedImage), usize), CodeFault>
     ensures sound { IfOk result (λ x. is_sound_image x.0.1 ≡ true) }
     ensures exact { Gives (λ x. x) result ((slot_code version).read bytes.now 0) }
 {
@@ -170,11 +170,11 @@ fn read_slot(
     match version {
         Version::One => {
             let (image, next) = get_image_v1(alloc, bytes, at)?;
-            Ok(((id, image), next))
+            Ok(((id, SharedImage::new(alloc, image)?), next))
         }
         Version::Two => {
             let (image, next) = get_image(alloc, bytes, at)?;
-            Ok(((id, image), next))
+            Ok(((id, SharedImage::new(alloc, image)?), next))
         }
     }
 }
@@ -186,7 +186,7 @@ fn read_object<D: Disk>(
     len: u64,
     version: Version,
     named: (ObjId, u32),
-) -> Result<(ObjId, Image), StoreFault>
+) -> Result<(ObjId, SharedImage), StoreFault>
     requires len { D.tells → len ≡ length (D.view disk.old).gives }
     ensures spelled { IfOk result (λ object. D.tells → IsSpelled version (D.view disk.old).gives named object) }
     ensures id { IfOk result (λ object. object.0 ≡ named.0) }
@@ -217,7 +217,7 @@ pub(crate) fn read_objects<D: Disk>(
     len: u64,
     version: Version,
     places: &[(ObjId, u32)],
-) -> Result<Vec<(ObjId, Image)>, StoreFault>
+) -> Result<Vec<(ObjId, SharedImage)>, StoreFault>
     requires len { D.tells → len ≡ length (D.view disk.old).gives }
     ensures spelled { IfOk result (λ objects. D.tells → AreSpelled version (D.view disk.old).gives places.now objects.items) }
     ensures ids { IfOk result (λ objects. keys objects.items ≡ ids_in places.now) }
