@@ -14,19 +14,16 @@ ghost use Rattle.ec_server.specs.Steps.{under, server, at_slot, Stops};
 use crate::fault::ServerFault;
 use crate::keeper::Keeper;
 use crate::state::{Core, epoch};
-use ec_base::{ClerkId, Duplicate, Hold, NoMemory, ObjId, SessionNo};
+use ec_base::{ClerkId, Hold, NoMemory, ObjId, SessionNo};
 use ec_tokens::ClaimFault;
-use ec_volume::Image;
+use ec_volume::SharedImage;
 use ec_wire::Msg;
 
 // The object's image now.
-fn image<K: Keeper>(keeper: &K, obj: ObjId) -> Result<Image, NoMemory>
+fn image<K: Keeper>(keeper: &K, obj: ObjId) -> Result<SharedImage, NoMemory>
     ensures { IfOk result (λ image. image ≡ images (K.kept keeper.now).volume obj) }
 {
-    match keeper.view().volume.look(obj) {
-        Some(image) => image.duplicate(),
-        None => Ok(Image::Gone),
-    }
+    keeper.view().volume.share(obj)
 }
 
 impl Core {
