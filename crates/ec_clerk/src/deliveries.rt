@@ -12,7 +12,7 @@ use crate::messages::take_no_room;
 use ec_base::{Counter, Hold, NoMemory, ObjId, SessionNo};
 use ec_protocol::Waiting;
 use ec_sessions::Window;
-use ec_volume::Image;
+use ec_volume::SharedImage;
 use ec_wire::Msg;
 
 impl Doing {
@@ -30,13 +30,13 @@ impl Doing {
         obj: ObjId,
         number: u64,
         hold: Hold,
-        image: Image,
+        image: SharedImage,
     ) -> Result<(), NoMemory>
         requires { is_within image ≡ true }
         ensures { OnOk result (Does (clerk.in_session session epoch (take_grant obj number hold image)) self.old self.new) }
     {
         if self.is_current(session, epoch) {
-            self.take_grant(obj, number, hold, image)?;
+            self.take_grant(obj, number, hold, image.into_image()?)?;
         }
         Ok(())
     }
