@@ -1,7 +1,7 @@
 //! Directories that stand alone: with the id of the root they're a well-formed volume.
 
 use ec_base::{NoMemory, ObjId};
-use ec_volume::{Entries, Image, Volume};
+use ec_volume::{Entries, Image, SharedImage, Volume};
 use ec_well_formed::is_well_formed_volume;
 use std::alloc::Global;
 
@@ -13,7 +13,7 @@ fn alone(alloc: Global, id: ObjId) -> Result<Volume, NoMemory> {
         owner: 0,
         entries: Entries::new(alloc),
     };
-    images.push((id, dir))?;
+    images.push((id, SharedImage::new(alloc, dir)?))?;
     Volume::of(images)
 }
 
