@@ -183,7 +183,7 @@ def alone():
 
 def no_thread():
     with Server(1):
-        return wrong(start("A", address, LANES, preexec_fn=alone), 9, b"", b"no thread can be started")
+        return wrong(start("A", address, LANES, preexec_fn=alone), 10, b"", b"no thread can be started")
 
 
 CASES = {

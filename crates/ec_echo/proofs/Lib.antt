@@ -1,3 +1,4 @@
 mod Judging
+mod Starts
 mod Usage
 pub mod Soaks

@@ -7,7 +7,7 @@ use Rattle.ec_drill.specs.Drill.{Outside, Drilled, IsDiskUntouched}
 use Rattle.ec_drill.specs.declared.status.Status as drilled
 use Rattle.ec_promise.specs.Promise.{IsLawful}
 use Rattle.ec_serve.specs.Serve.{Outer, Outside as Serving}
-use Rattle.ec_mount.specs.Mount.{Mounts, Outside as Mounting}
+use Rattle.ec_mount.specs.Mount.{Mounts, StartsAs, Outside as Mounting}
 use Rattle.ec_mount.specs.declared.status.Status as mounted
 use Rattle.ec_echo.specs.Check.{Streams, Judged}
 use Rattle.ec_echo.specs.Made.{made_lines}
@@ -101,7 +101,7 @@ Does boot (Check most) st w n = DoesAlone (Check most) st w × (n.later ≡ n.be
 Does boot (Make number) st w n = DoesAlone (Make number) st w × (n.later ≡ n.before)
 Does boot (Soak number) st w n = DoesAlone (Soak number) st w × (n.later ≡ n.before)
 Does boot (Serve count) st w n = Served count st w.held w.held_after w.writes w.writes_after (serving w n) × IsSourceUntouched w
-Does boot (Mount c) st w n = (end : mounted.Status) × (st ≡ of_mount end) × Mounts c boot end (mounting w n) × IsDiskUntouched w × (n.later.starts ≡ n.before.starts)
+Does boot (Mount c) st w n = (end : mounted.Status) × (st ≡ of_mount end) × Mounts c boot end (mounting w n) × IsDiskUntouched w × StartsAs end n.before.starts n.later.starts
 
 -- Words of no form touch nothing; any others do what they spell, with its causes and what was written.
 abbrev pub Echoes : ℕ → List (List ℕ) → Status → Outside → Links → Type 0

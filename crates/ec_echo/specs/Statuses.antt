@@ -46,6 +46,7 @@ of_mount mount.SourceFault = status.SourceFault
 of_mount mount.SinkFault = status.SinkFault
 of_mount mount.NetFault = status.NetFault
 of_mount mount.NoMemory = status.NoMemory
+of_mount mount.StartFault = status.StartFault
 of_mount mount.Limit = status.Limit
 of_mount mount.OldBoot = status.OldBoot
 of_mount mount.PeerFault = status.PeerFault

@@ -86,7 +86,8 @@ pub fn echo_main<R: Around + Eprint, S: Source, K: Sink, D: CrashDisk + Send, N:
             serve(rt, sink, disk, net, spawner, address_of(words), count).code()
         }
         Command::Mount(clerk) => {
-            Status::of_mount(mount(rt, source, sink, net, address_of(words), clerk, boot)).code()
+            let addr = address_of(words);
+            Status::of_mount(mount(rt, source, sink, net, spawner, addr, clerk, boot)).code()
         }
     }
 }

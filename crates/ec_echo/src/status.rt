@@ -88,6 +88,7 @@ impl Status {
             ec_mount::Status::SinkFault => Status::SinkFault,
             ec_mount::Status::NetFault => Status::NetFault,
             ec_mount::Status::NoMemory => Status::NoMemory,
+            ec_mount::Status::StartFault => Status::StartFault,
             ec_mount::Status::Limit => Status::Limit,
             ec_mount::Status::OldBoot => Status::OldBoot,
             ec_mount::Status::PeerFault => Status::PeerFault,

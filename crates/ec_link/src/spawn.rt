@@ -1,5 +1,5 @@
 // Jobs that run beside the caller, and who starts them.
-ghost use Rattle.std.specs.Prelude.{◌≡◌, ℕ, ◌+◌, IfNone, IfSome, vec_len};
+ghost use Rattle.std.specs.Prelude.{true, false, ◌≡◌, ℕ, ◌+◌, IfNone, IfSome, vec_len};
 ghost use Rattle.std.specs.List.{All};
 ghost use Rattle.ec_link.specs.declared.spawn.Spawned.TheVariants as spawned;
 ghost use Rattle.ec_link.specs.Happenings.{faults_in};
@@ -9,7 +9,7 @@ use crate::around::Around;
 use crate::happenings::Happenings;
 use std::snapshot::Snapshot;
 use std::thread;
-use std::thread::{Promise, PromisedHandle, Scope};
+use std::thread::{Promise, PromisedHandle, Scope, Threads};
 
 /// What is run in a thread of its own.
 pub trait Job {
@@ -309,6 +309,29 @@ impl Spawner {
             Spawner::Fails(fails) => {
                 fails.happened.fault();
                 None
+            }
+        }
+    }
+
+    /// Whether a thread can be started: one is, and it's waited for. Where none can be, that's counted as a fault.
+    pub fn can_start<R: Threads>(&mut self, rt: &R) -> bool
+        ensures can { result ≡ true → faults_of self.new ≡ faults_of self.old }
+        ensures cannot { result ≡ false → faults_of self.new ≡ faults_of self.old + 1 }
+    {
+        match self {
+            Spawner::Threads(threads) => match thread::spawn(rt, || {}) {
+                Ok(handle) => {
+                    handle.join(rt);
+                    true
+                }
+                Err(_) => {
+                    threads.happened.fault();
+                    false
+                }
+            },
+            Spawner::Fails(fails) => {
+                fails.happened.fault();
+                false
             }
         }
     }

@@ -33,6 +33,7 @@ module _ (id boot : ℕ) (w : Outside) where
   whole status.OldBoot text e p = (text, e, p)
   whole status.PeerFault text e p = (text, e, p)
   whole status.Spent text e p = (text, e, p)
+  whole status.StartFault text e p = (text, e, p)
   whole status.SinkFault text e p = absurd e
   whole status.NoMemory text e p = absurd e
 

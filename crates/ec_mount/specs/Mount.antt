@@ -29,6 +29,7 @@ code status.SourceFault = 4
 code status.SinkFault = 5
 code status.NetFault = 8
 code status.NoMemory = 9
+code status.StartFault = 10
 code status.Limit = 11
 code status.OldBoot = 13
 code status.PeerFault = 14
@@ -117,6 +118,7 @@ Ends id boot status.Limit w text = TellsLimit w text
 Ends id boot status.OldBoot w text = HasRows w × TellsOldBoot id boot w text
 Ends id boot status.PeerFault w text = TellsPeer id boot w text
 Ends id boot status.Spent w text = TellsSpent id boot w text
+Ends id boot status.StartFault w text = HasRows w × (w.net_after ≡ w.net) × (text ≡ [])
 Ends id boot status.SinkFault w text = ⊥
 Ends id boot status.NoMemory w text = ⊥
 
@@ -137,3 +139,8 @@ abbrev pub Mounts : ℕ → ℕ → Status → Outside → Type 0
 Mounts id boot status.SinkFault w = Rose w.writes w.writes_after × EndsInPart id boot w
 Mounts id boot status.NoMemory w = EndsInPart id boot w ⊎ (w.held_after ≡ w.held)
 Mounts id boot st w = (text : List ℕ) × Ends id boot st w text × Appends w.held w.held_after text
+
+-- No thread could be started exactly with its status: how often one couldn't be, before and after.
+abbrev pub StartsAs : Status → ℕ → ℕ → Type 0
+StartsAs status.StartFault before later = later ≡ before + 1
+StartsAs st before later = later ≡ before

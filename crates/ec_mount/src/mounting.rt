@@ -1,6 +1,7 @@
 // A mount from a source to a sink, over a net.
 ghost use Rattle.std.specs.Prelude.{◌≡◌, ◌≤◌, ◌<◌, ◌++◌, ℕ, List, length, IfOk};
-ghost use Rattle.ec_mount.specs.Mount.{Mounts};
+ghost use Rattle.ec_link.specs.Spawns.{faults_of};
+ghost use Rattle.ec_mount.specs.Mount.{Mounts, StartsAs};
 ghost use Rattle.ec_mount.specs.Run.{place_in};
 ghost use Rattle.ec_mount.specs.Shown.{came_text};
 ghost use Rattle.ec_mount.specs.Work.{seen};
@@ -10,30 +11,32 @@ use crate::limits::MOST_BYTES;
 use crate::script::{Row, Unread, lanes_of, rows_of};
 use crate::shown::{end_line, old_boot_line, peer_line, shown_line, write_came, write_line};
 use crate::status::Status;
-use crate::telling::{Who, tell_call, tell_end};
+use crate::telling::{Who, tell_call, tell_end, tell_no_thread};
 use crate::work::{Answers, work};
 use ec_base::{ClerkId, NoMemory, Sink, Source};
 use ec_clerknode::NodeFault;
 use ec_history::{LimitName, Shown};
-use ec_link::{Around, Net};
+use ec_link::{Around, Net, Spawner};
 use ec_streams::WriteFault;
 use ec_wire::WireFault;
 use std::alloc::Global;
 use std::io::Eprint;
 
 /// Runs the lane script that the source gives by this clerk, over a link to who listens at the address, and writes the answers
-/// to the sink. The source is read to its end first. `boot` is the number of this start of the clerk. Standard error tells the
-/// address, the start, and why it ended.
+/// to the sink. The source is read to its end first. `boot` is the number of this start of the clerk. Where the spawner can't start a
+/// thread, nobody is called. Standard error tells the address, the start, and why it ended.
 pub fn mount<S: Source, K: Sink, N: Net, R: Around + Eprint>(
     rt: &R,
     source: &mut S,
     sink: &mut K,
     net: &mut N,
+    spawner: &mut Spawner,
     addr: &str,
     clerk: ClerkId,
     boot: u64,
 ) -> Status
     ensures later { (S.faults source.old ≤ S.faults source.new) × (K.faults sink.old ≤ K.faults sink.new) × (N.faults net.old ≤ N.faults net.new) }
+    ensures starts { StartsAs result (faults_of spawner.old) (faults_of spawner.new) }
     ensures mounted { Mounts clerk boot result
         (record {
           left = S.left source.old;
@@ -57,6 +60,10 @@ pub fn mount<S: Source, K: Sink, N: Net, R: Around + Eprint>(
         return Status::NoMemory;
     };
     let who = Who { clerk, addr };
+    if !spawner.can_start(rt) {
+        tell_no_thread(rt, &who);
+        return Status::StartFault;
+    }
     tell_call(rt, &who);
     let answers = work(rt, net, &who, boot, lanes);
     tell_end(rt, &who, &answers);

@@ -16,6 +16,8 @@ pub enum Status {
     /// The net or the link failed, or the server closed the link.
     NetFault,
     NoMemory,
+    /// No thread could be started.
+    StartFault,
     /// The source has too many bytes or lines.
     Limit,
     /// The server knows a greater age of this clerk.
@@ -38,6 +40,7 @@ impl Status {
             Status::SinkFault => 5,
             Status::NetFault => 8,
             Status::NoMemory => 9,
+            Status::StartFault => 10,
             Status::Limit => 11,
             Status::OldBoot => 13,
             Status::PeerFault => 14,

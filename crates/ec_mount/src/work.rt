@@ -4,7 +4,7 @@ ghost use Rattle.ec_clerknode.specs.Lanes.{lists_of};
 ghost use Rattle.ec_mount.specs.Work.{RunsOver, WorksOver, Works, Concludes, last_of, seen};
 
 use crate::calls::{Replies, make_calls};
-use crate::telling::{Who, tell_no_thread, tell_start, tell_unreached};
+use crate::telling::{Who, tell_start, tell_unreached};
 use ec_base::{Age, List, OpNo};
 use ec_clerk::Clerk;
 use ec_clerknode::{Closing, NodeFault, Reply, SharedClerk, send_all};
@@ -13,8 +13,6 @@ use ec_plain::Call;
 use ec_protocol::{ClerkFault, Out};
 use std::alloc::Global;
 use std::io::Eprint;
-use std::thread;
-use std::thread::Threads;
 
 /// What a mount's calls were answered.
 #[derive(Drop)]
@@ -159,17 +157,6 @@ fn work_over<L: Link + Send + Drop, R: Around + Eprint>(
     }
 }
 
-// Whether a thread can be started. Without one for the worker the lanes might wait for ever.
-fn starts_threads<R: Threads>(rt: &R) -> bool {
-    match thread::spawn(rt, || {}) {
-        Ok(handle) => {
-            handle.join(rt);
-            true
-        }
-        Err(_) => false,
-    }
-}
-
 /// Starts the clerk, makes its calls over a link to who listens at the address, and gives the link back to the net.
 pub fn work<N: Net, R: Around + Eprint>(
     rt: &R,
@@ -190,11 +177,6 @@ pub fn work<N: Net, R: Around + Eprint>(
         Err(ClerkFault::Spent(counter)) => return none(alloc, NodeFault::Spent(counter)),
         Err(_) => return none(alloc, NodeFault::NoMemory),
     };
-    if !starts_threads(rt) {
-        tell_no_thread(rt, who);
-        drop(clerk);
-        return none(alloc, NodeFault::NoMemory);
-    }
     let link = match net.call(rt, who.addr) {
         Ok(link) => link,
         Err(NetFault::Failed) => {

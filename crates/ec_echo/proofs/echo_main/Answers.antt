@@ -3,6 +3,7 @@ use Rattle.ec_echo.specs.declared.command.Command.TheVariants.{Drill, Check, Mak
 use Rattle.ec_echo.specs.declared.status.Status.TheVariants as status
 use Rattle.ec_promise.proofs.Lawful.{drills-lawful}
 use Rattle.ec_echo.proofs.Soaks.{soaked_over}
+use Rattle.ec_echo.proofs.Starts.{starts_later}
 use Rattle.ec_echo.proofs.Usage.{answers-usage}
 use Rattle.ec_echo.proofs.echo_main.Goals as goal
 
@@ -50,7 +51,10 @@ returns-in-Serve-clause-usage g c = answers-usage _ _ _ _ _ (returns-in-Serve-cl
 
 pub returns-in-Mount-clause-echoes : goal.returns-in-Mount-clause-echoes
 returns-in-Mount-clause-echoes g c =
-    (c.of_mount.result, c.code-in-Mount.ensures, inr (Mount c.in-Mount.clerk, rw c.in-Mount.is at c.in-Some.ensures, (c.mount.result, c.of_mount.ensures, c.mount.ensures.mounted, record { gives = refl; crash = λ image h. h; counts = refl }, refl)))
+    (c.of_mount.result, c.code-in-Mount.ensures, inr (Mount c.in-Mount.clerk, rw c.in-Mount.is at c.in-Some.ensures, (c.mount.result, c.of_mount.ensures, c.mount.ensures.mounted, record { gives = refl; crash = λ image h. h; counts = refl }, c.mount.ensures.starts)))
 
 pub returns-in-Mount-clause-usage : goal.returns-in-Mount-clause-usage
 returns-in-Mount-clause-usage g c = answers-usage _ _ _ _ _ (returns-in-Mount-clause-echoes g c)
+
+pub returns-in-Mount-clause-net : goal.returns-in-Mount-clause-net
+returns-in-Mount-clause-net g c = (c.mount.ensures.later.2, starts_later c.mount.result _ _ c.mount.ensures.starts)
