@@ -1,5 +1,5 @@
 -- Formats: which bytes spell a value, and what bytes say at a place, read from the left.
-use Rattle.std.specs.Prelude.{◌≡◌, ◌+◌, ◌*◌, ◌^◌, ℕ, zero, suc, Bool, true, false, ◌&&◌, if◌then◌else◌, nat_lt, max, List, [], ◌∷◌, ◌++◌, length, take, drop, get_or, Option, None, Some, Result, Ok, Err}
+use Rattle.std.specs.Prelude.{◌≡◌, ◌+◌, ◌*◌, ◌^◌, ℕ, zero, suc, Bool, true, false, ◌&&◌, if◌then◌else◌, nat_lt, max, List, [], ◌∷◌, ◌++◌, length, take, drop, get_or, Option, None, Some, Result, Ok, Err, MatchResult}
 use Rattle.std.specs.List.{flat_map}
 use Rattle.std.specs.Int.{Width, byte_len, to_be_bytes, from_be_bytes}
 use Rattle.ec_codes.specs.declared.fault.CodeFault.{CodeFault}
@@ -145,3 +145,11 @@ Gives view (Err e) read = Fails e read
 -- new is old with the bytes of the value at its end, and the value has these as its spelling
 abbrev pub Writes : {A : Type 0} → Format A → A → List ℕ → List ℕ → Type 0
 Writes F x old new = (new ≡ old ++ F.spell x) × (F.fits x ≡ true)
+
+-- new begins with old
+abbrev pub Keeps : List ℕ → List ℕ → Type 0
+Keeps old new = (rest : List ℕ) × (new ≡ old ++ rest)
+
+-- the bytes of the value stand at the end, as its spelling, unless memory ran out; what was there stays in front
+abbrev pub Puts : {A T E : Type 0} → Format A → A → List ℕ → Result T E → List ℕ → Type 0
+Puts F x old result new = MatchResult result (λ _. Writes F x old new) (λ _. Keeps old new)

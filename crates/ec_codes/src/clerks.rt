@@ -1,6 +1,6 @@
 // The fields that tell a clerk and its age are written and read.
-ghost use Rattle.std.specs.Prelude.{◌≡◌, OnOk};
-ghost use Rattle.ec_codes.specs.Formats.{Writes};
+ghost use Rattle.std.specs.Prelude.{◌≡◌};
+ghost use Rattle.ec_codes.specs.Formats.{Puts};
 ghost use Rattle.ec_codes.specs.Readers.{Reads};
 ghost use Rattle.ec_codes.specs.Clerks.{clerk_field, age_field};
 
@@ -12,7 +12,7 @@ use ec_base::{Age, ClerkId, NoMemory};
 /// Adds a clerk's number.
 #[tactic(auto, unfolding(crate::specs::Clerks::clerk_field))]
 pub fn put_clerk(out: &mut Vec<u8>, clerk: ClerkId) -> Result<(), NoMemory>
-    ensures { OnOk result (Writes clerk_field clerk out.old.items out.new.items) }
+    ensures { Puts clerk_field clerk out.old.items result out.new.items }
 {
     put_byte(out, clerk.get())
 }
@@ -20,7 +20,7 @@ pub fn put_clerk(out: &mut Vec<u8>, clerk: ClerkId) -> Result<(), NoMemory>
 /// Adds an age: boot and round.
 #[tactic(auto, unfolding(crate::specs::Clerks::age_field))]
 pub fn put_age(out: &mut Vec<u8>, age: Age) -> Result<(), NoMemory>
-    ensures { OnOk result (Writes age_field age out.old.items out.new.items) }
+    ensures { Puts age_field age out.old.items result out.new.items }
 {
     put_long(out, age.boot)?;
     put_word(out, age.round)

@@ -4,7 +4,7 @@ ghost use Rattle.std.specs.List.{flat_map, list_all};
 ghost use Rattle.std.specs.FinMap.{is_sorted};
 ghost use Rattle.ec_volume.specs.Entries.{by_bytes};
 ghost use Rattle.ec_volume.specs.Update.{distinct};
-ghost use Rattle.ec_codes.specs.Formats.{Writes};
+ghost use Rattle.ec_codes.specs.Formats.{Keeps, Puts};
 ghost use Rattle.ec_codes.specs.EntryLaws.{is_entry};
 ghost use Rattle.ec_codes.specs.Images.{max_file_bytes, max_entries, ids_under, content, entry_spell, entries_field, file_fields, dir_fields, image_code, is_sound_image};
 
@@ -12,12 +12,12 @@ use crate::writer::{put_byte, put_id, put_mode_field, put_name, put_u32, put_u64
 use ec_base::{Name, NoMemory, ObjId};
 use ec_volume::{Entries, Image};
 
-/// Adds the code of an image at the end of the bytes. After want of memory the bytes end with a
-/// part of the code.
+/// Adds the code of an image at the end of the bytes. After want of memory too, what was there
+/// stands in front.
 #[tactic(auto, unfolding(crate::specs::Images::image_code, crate::specs::Images::image_form))]
 pub fn put_image(image: &Image, out: &mut Vec<u8>) -> Result<(), NoMemory>
     requires { is_sound_image image.now ≡ true }
-    ensures { OnOk result (Writes image_code image.now out.old.items out.new.items) }
+    ensures { Puts image_code image.now out.old.items result out.new.items }
 {
     match image {
         Image::Gone => put_byte(out, 0),
@@ -52,7 +52,7 @@ fn put_file(
 ) -> Result<(), NoMemory>
     requires mode { nat_le mode 4095 ≡ true }
     requires most { nat_le (length bytes.now) max_file_bytes ≡ true }
-    ensures { OnOk result (Writes file_fields (mode, (stamp, (owner, bytes.now))) out.old.items out.new.items) }
+    ensures { Puts file_fields (mode, (stamp, (owner, bytes.now))) out.old.items result out.new.items }
 {
     put_mode_field(out, mode)?;
     put_u64(out, stamp)?;
@@ -63,7 +63,7 @@ fn put_file(
 #[tactic(auto, unfolding(crate::specs::Images::content))]
 fn put_content(out: &mut Vec<u8>, bytes: &[u8]) -> Result<(), NoMemory>
     requires { nat_le (length bytes.now) max_file_bytes ≡ true }
-    ensures { OnOk result (Writes content bytes.now out.old.items out.new.items) }
+    ensures { Puts content bytes.now out.old.items result out.new.items }
 {
     put_u32(out, bytes.len() as u32)?;
     out.extend_from_slice(bytes)?;
@@ -81,7 +81,7 @@ fn put_dir(
     requires mode { nat_le mode 4095 ≡ true }
     requires most { nat_le (length entries.now) max_entries ≡ true }
     requires once { distinct (ids_under entries.now) ≡ true }
-    ensures { OnOk result (Writes dir_fields (mode, (stamp, (owner, entries.now))) out.old.items out.new.items) }
+    ensures { Puts dir_fields (mode, (stamp, (owner, entries.now))) out.old.items result out.new.items }
 {
     put_mode_field(out, mode)?;
     put_u64(out, stamp)?;
@@ -92,7 +92,7 @@ fn put_dir(
 fn put_entries(out: &mut Vec<u8>, entries: &Entries) -> Result<(), NoMemory>
     requires most { nat_le (length entries.now) max_entries ≡ true }
     requires once { distinct (ids_under entries.now) ≡ true }
-    ensures { OnOk result (Writes entries_field entries.now out.old.items out.new.items) }
+    ensures { Puts entries_field entries.now out.old.items result out.new.items }
 {
     let count = entries.len();
     put_byte(out, count as u8)?;
@@ -103,6 +103,7 @@ fn put_entries(out: &mut Vec<u8>, entries: &Entries) -> Result<(), NoMemory>
 fn put_rows(out: &mut Vec<u8>, entries: &Entries) -> Result<(), NoMemory>
     ensures spelled { OnOk result (out.new.items ≡ out.old.items ++ flat_map entry_spell entries.now) }
     ensures fit { OnOk result (list_all is_entry entries.now ≡ true) }
+    ensures kept { Keeps out.old.items out.new.items }
 {
     for place in 0..entries.len() {
         if let Some(row) = entries.at(place) {
@@ -116,6 +117,7 @@ fn put_rows(out: &mut Vec<u8>, entries: &Entries) -> Result<(), NoMemory>
 fn put_row(out: &mut Vec<u8>, name: &Name, object: ObjId) -> Result<(), NoMemory>
     ensures spelled { OnOk result (out.new.items ≡ out.old.items ++ entry_spell (name.now, object)) }
     ensures fit { OnOk result (is_entry (name.now, object) ≡ true) }
+    ensures kept { Keeps out.old.items out.new.items }
 {
     put_name(out, name)?;
     put_id(out, object)

@@ -1,10 +1,10 @@
 // The codes of updates are written.
-ghost use Rattle.std.specs.Prelude.{◌≡◌, ◌++◌, ◌&&◌, ◌∷◌, [], ℕ, true, false, List, OnOk, nat_le, length};
+ghost use Rattle.std.specs.Prelude.{◌≡◌, ◌++◌, ◌&&◌, ◌∷◌, [], ℕ, true, false, List, OnOk, MatchResult, nat_le, length};
 ghost use Rattle.std.specs.Int.{w16, w32, to_be_bytes};
 ghost use Rattle.std.specs.List.{flat_map, list_all};
 ghost use Rattle.ec_volume.specs.Entries.{same_name};
 ghost use Rattle.ec_volume.specs.Update.{listed, distinct, ids_of, is_way, is_sound};
-ghost use Rattle.ec_codes.specs.Formats.{Writes, number, rows_fit};
+ghost use Rattle.ec_codes.specs.Formats.{Keeps, Puts, Writes, number, rows_fit};
 ghost use Rattle.ec_codes.specs.Fields.{id, id_but, flag_number};
 ghost use Rattle.ec_codes.specs.Updates.{entry_fields, move_fields, is_put_length, put_fields, len_fields, mode_fields, stamp_fields, owner_fields, order_fields, step_spell, way_fields, shift_fields, update_code};
 ghost use Rattle.ec_codes.specs.SoundLaws.{is_step, IsWay};
@@ -16,12 +16,12 @@ use crate::writer::{
 use ec_base::{Name, NoMemory, ObjId};
 use ec_volume::{Kind, Update};
 
-/// Adds the code of a sound update at the end of the bytes. After want of memory the bytes end
-/// with a part of the code.
+/// Adds the code of a sound update at the end of the bytes. After want of memory too, what was
+/// there stands in front.
 #[tactic(auto, unfolding(crate::specs::Updates::update_code, crate::specs::Updates::form))]
 pub fn put_update(update: &Update, out: &mut Vec<u8>) -> Result<(), NoMemory>
     requires { is_sound update.now ≡ true }
-    ensures { OnOk result (Writes update_code update.now out.old.items out.new.items) }
+    ensures { Puts update_code update.now out.old.items result out.new.items }
 {
     match update {
         Update::Make {
@@ -117,7 +117,7 @@ fn put_entry(
     name: &Name,
 ) -> Result<(), NoMemory>
     requires { distinct (dir ∷ obj ∷ []) ≡ true }
-    ensures { OnOk result (Writes entry_fields (dir, (obj, (kind, name.now))) out.old.items out.new.items) }
+    ensures { Puts entry_fields (dir, (obj, (kind, name.now))) out.old.items result out.new.items }
 {
     put_id(out, dir)?;
     put_id(out, obj)?;
@@ -137,7 +137,7 @@ fn put_move(
 ) -> Result<(), NoMemory>
     requires apart { distinct (dir ∷ obj ∷ listed victim) ≡ true }
     requires names { same_name from.now to.now ≡ false }
-    ensures { OnOk result (Writes move_fields (dir, (obj, (kind, (victim, (from.now, to.now))))) out.old.items out.new.items) }
+    ensures { Puts move_fields (dir, (obj, (kind, (victim, (from.now, to.now))))) out.old.items result out.new.items }
 {
     put_id(out, dir)?;
     put_id(out, obj)?;
@@ -155,7 +155,7 @@ fn put_written(
     inside: bool,
 ) -> Result<(), NoMemory>
     requires { is_put_length at (length bytes.now) ≡ true }
-    ensures { OnOk result (Writes put_fields (obj, (at, (inside, bytes.now))) out.old.items out.new.items) }
+    ensures { Puts put_fields (obj, (at, (inside, bytes.now))) out.old.items result out.new.items }
 {
     out.extend_from_slice(&put_head(obj, at, inside, bytes.len() as u16))?;
     out.extend_from_slice(bytes)?;
@@ -179,7 +179,7 @@ fn put_head(obj: ObjId, at: u32, inside: bool, len: u16) -> [u8; 11]
 #[tactic(auto, unfolding(crate::specs::Updates::len_fields))]
 fn put_len(out: &mut Vec<u8>, obj: ObjId, len: u32) -> Result<(), NoMemory>
     requires { nat_le len 65536 ≡ true }
-    ensures { OnOk result (Writes len_fields (obj, len) out.old.items out.new.items) }
+    ensures { Puts len_fields (obj, len) out.old.items result out.new.items }
 {
     put_id(out, obj)?;
     put_u32(out, len)
@@ -188,7 +188,7 @@ fn put_len(out: &mut Vec<u8>, obj: ObjId, len: u32) -> Result<(), NoMemory>
 #[tactic(auto, unfolding(crate::specs::Updates::mode_fields))]
 fn put_mode(out: &mut Vec<u8>, obj: ObjId, mode: u16) -> Result<(), NoMemory>
     requires { nat_le mode 4095 ≡ true }
-    ensures { OnOk result (Writes mode_fields (obj, mode) out.old.items out.new.items) }
+    ensures { Puts mode_fields (obj, mode) out.old.items result out.new.items }
 {
     put_id(out, obj)?;
     put_mode_field(out, mode)
@@ -196,7 +196,7 @@ fn put_mode(out: &mut Vec<u8>, obj: ObjId, mode: u16) -> Result<(), NoMemory>
 
 #[tactic(auto, unfolding(crate::specs::Updates::stamp_fields))]
 fn put_stamp(out: &mut Vec<u8>, obj: ObjId, stamp: u64) -> Result<(), NoMemory>
-    ensures { OnOk result (Writes stamp_fields (obj, stamp) out.old.items out.new.items) }
+    ensures { Puts stamp_fields (obj, stamp) out.old.items result out.new.items }
 {
     put_id(out, obj)?;
     put_u64(out, stamp)
@@ -204,7 +204,7 @@ fn put_stamp(out: &mut Vec<u8>, obj: ObjId, stamp: u64) -> Result<(), NoMemory>
 
 #[tactic(auto, unfolding(crate::specs::Updates::owner_fields))]
 fn put_owner(out: &mut Vec<u8>, obj: ObjId, owner: u32) -> Result<(), NoMemory>
-    ensures { OnOk result (Writes owner_fields (obj, owner) out.old.items out.new.items) }
+    ensures { Puts owner_fields (obj, owner) out.old.items result out.new.items }
 {
     put_id(out, obj)?;
     put_u32(out, owner)
@@ -213,7 +213,7 @@ fn put_owner(out: &mut Vec<u8>, obj: ObjId, owner: u32) -> Result<(), NoMemory>
 #[tactic(auto, unfolding(crate::specs::Updates::order_fields))]
 fn put_order(out: &mut Vec<u8>, objs: &[ObjId]) -> Result<(), NoMemory>
     requires { (distinct objs.now && (nat_le 1 (length objs.now) && nat_le (length objs.now) 8)) ≡ true }
-    ensures { OnOk result (Writes order_fields objs.now out.old.items out.new.items) }
+    ensures { Puts order_fields objs.now out.old.items result out.new.items }
 {
     put_byte(out, objs.len() as u8)?;
     put_distinct(out, objs)
@@ -223,6 +223,7 @@ fn put_distinct(out: &mut Vec<u8>, ids: &[ObjId]) -> Result<(), NoMemory>
     requires { distinct ids.now ≡ true }
     ensures spelled { OnOk result (out.new.items ≡ out.old.items ++ flat_map id.spell ids.now) }
     ensures fit { OnOk result (rows_fit id_but [] ids.now ≡ true) }
+    ensures kept { Keeps out.old.items out.new.items }
 {
     put_ids(out, ids)
 }
@@ -230,6 +231,7 @@ fn put_distinct(out: &mut Vec<u8>, ids: &[ObjId]) -> Result<(), NoMemory>
 fn put_ids(out: &mut Vec<u8>, ids: &[ObjId]) -> Result<(), NoMemory>
     ensures spelled { OnOk result (out.new.items ≡ out.old.items ++ flat_map id.spell ids.now) }
     ensures fit { OnOk result (list_all id.fits ids.now ≡ true) }
+    ensures kept { Keeps out.old.items out.new.items }
 {
     for object in ids {
         put_id(out, *object)?;
@@ -251,7 +253,7 @@ fn put_shift(
 ) -> Result<(), NoMemory>
     requires apart { distinct (dir ∷ into ∷ obj ∷ listed victim) ≡ true }
     requires way { IsWay kind into (into ∷ obj ∷ listed victim) up.now }
-    ensures { OnOk result (Writes shift_fields (dir, (into, (obj, (kind, (victim, (from.now, (to.now, up.now))))))) out.old.items out.new.items) }
+    ensures { Puts shift_fields (dir, (into, (obj, (kind, (victim, (from.now, (to.now, up.now))))))) out.old.items result out.new.items }
 {
     put_id(out, dir)?;
     put_id(out, into)?;
@@ -265,7 +267,7 @@ fn put_shift(
 
 fn put_way(out: &mut Vec<u8>, kind: Kind, into: ObjId, up: &[(ObjId, Name)]) -> Result<(), NoMemory>
     requires { is_way kind into up.now ≡ true }
-    ensures { OnOk result ((others : List ℕ) → IsWay kind into others up.now → Writes (way_fields kind into others) up.now out.old.items out.new.items) }
+    ensures { MatchResult result (λ _. (others : List ℕ) → IsWay kind into others up.now → Writes (way_fields kind into others) up.now out.old.items out.new.items) (λ _. Keeps out.old.items out.new.items) }
 {
     put_byte(out, up.len() as u8)?;
     put_steps(out, up)?;
@@ -275,6 +277,7 @@ fn put_way(out: &mut Vec<u8>, kind: Kind, into: ObjId, up: &[(ObjId, Name)]) -> 
 fn put_steps(out: &mut Vec<u8>, up: &[(ObjId, Name)]) -> Result<(), NoMemory>
     ensures spelled { OnOk result (out.new.items ≡ out.old.items ++ flat_map step_spell up.now) }
     ensures fit { OnOk result (list_all is_step up.now ≡ true) }
+    ensures kept { Keeps out.old.items out.new.items }
 {
     for step in up {
         put_step(out, step)?;
@@ -286,6 +289,7 @@ fn put_steps(out: &mut Vec<u8>, up: &[(ObjId, Name)]) -> Result<(), NoMemory>
 fn put_step(out: &mut Vec<u8>, step: &(ObjId, Name)) -> Result<(), NoMemory>
     ensures spelled { OnOk result (out.new.items ≡ out.old.items ++ step_spell step.now) }
     ensures fit { OnOk result (is_step step.now ≡ true) }
+    ensures kept { Keeps out.old.items out.new.items }
 {
     put_id(out, step.0)?;
     put_name(out, &step.1)

@@ -1,7 +1,7 @@
-// Fields are written one behind the other.
-ghost use Rattle.std.specs.Prelude.{◌≡◌, ◌++◌, ◌≤◌, ◌<◌, ◌^◌, OnOk, nat_le, List, ℕ, length, true, false};
+// Fields are written one behind the other. What was there stays in front, after want of memory too.
+ghost use Rattle.std.specs.Prelude.{◌≡◌, ◌++◌, ◌≤◌, ◌<◌, ◌^◌, nat_le, List, ℕ, length, true, false};
 ghost use Rattle.std.specs.Int.{w16, w32, w64};
-ghost use Rattle.ec_codes.specs.Formats.{Writes, byte, number, such, standing, text};
+ghost use Rattle.ec_codes.specs.Formats.{Puts, byte, number, such, standing, text};
 ghost use Rattle.ec_codes.specs.Fields.{word, long, id, kind_field, flag, or_zero, is_from_one, id_or_none, mode_field, name};
 
 use ec_base::{Name, NoMemory, ObjId};
@@ -9,28 +9,28 @@ use ec_volume::Kind;
 
 /// Adds a byte.
 pub fn put_byte(out: &mut Vec<u8>, value: u8) -> Result<(), NoMemory>
-    ensures { OnOk result (Writes byte value out.old.items out.new.items) }
+    ensures { Puts byte value out.old.items result out.new.items }
 {
     out.push(value)?;
     Ok(())
 }
 
 pub(crate) fn put_u16(out: &mut Vec<u8>, value: u16) -> Result<(), NoMemory>
-    ensures { OnOk result (Writes (number w16) value out.old.items out.new.items) }
+    ensures { Puts (number w16) value out.old.items result out.new.items }
 {
     out.extend_from_slice(&value.to_be_bytes())?;
     Ok(())
 }
 
 pub(crate) fn put_u32(out: &mut Vec<u8>, value: u32) -> Result<(), NoMemory>
-    ensures { OnOk result (Writes (number w32) value out.old.items out.new.items) }
+    ensures { Puts (number w32) value out.old.items result out.new.items }
 {
     out.extend_from_slice(&value.to_be_bytes())?;
     Ok(())
 }
 
 pub(crate) fn put_u64(out: &mut Vec<u8>, value: u64) -> Result<(), NoMemory>
-    ensures { OnOk result (Writes (number w64) value out.old.items out.new.items) }
+    ensures { Puts (number w64) value out.old.items result out.new.items }
 {
     out.extend_from_slice(&value.to_be_bytes())?;
     Ok(())
@@ -39,7 +39,7 @@ pub(crate) fn put_u64(out: &mut Vec<u8>, value: u64) -> Result<(), NoMemory>
 /// Adds any `u32`.
 #[tactic(auto, unfolding(crate::specs::Fields::word))]
 pub fn put_word(out: &mut Vec<u8>, value: u32) -> Result<(), NoMemory>
-    ensures { OnOk result (Writes word value out.old.items out.new.items) }
+    ensures { Puts word value out.old.items result out.new.items }
 {
     put_u32(out, value)
 }
@@ -47,7 +47,7 @@ pub fn put_word(out: &mut Vec<u8>, value: u32) -> Result<(), NoMemory>
 /// Adds any `u64`.
 #[tactic(auto, unfolding(crate::specs::Fields::long))]
 pub fn put_long(out: &mut Vec<u8>, value: u64) -> Result<(), NoMemory>
-    ensures { OnOk result (Writes long value out.old.items out.new.items) }
+    ensures { Puts long value out.old.items result out.new.items }
 {
     put_u64(out, value)
 }
@@ -55,14 +55,14 @@ pub fn put_long(out: &mut Vec<u8>, value: u64) -> Result<(), NoMemory>
 /// Adds an id.
 #[tactic(auto, unfolding(crate::specs::Fields::id))]
 pub fn put_id(out: &mut Vec<u8>, object: ObjId) -> Result<(), NoMemory>
-    ensures { OnOk result (Writes id object out.old.items out.new.items) }
+    ensures { Puts id object out.old.items result out.new.items }
 {
     put_u32(out, object.get())
 }
 
 #[tactic(auto, unfolding(crate::specs::Fields::kind_field))]
 pub(crate) fn put_kind(out: &mut Vec<u8>, kind: Kind) -> Result<(), NoMemory>
-    ensures { OnOk result (Writes kind_field kind out.old.items out.new.items) }
+    ensures { Puts kind_field kind out.old.items result out.new.items }
 {
     match kind {
         Kind::File => put_byte(out, 1),
@@ -72,13 +72,13 @@ pub(crate) fn put_kind(out: &mut Vec<u8>, kind: Kind) -> Result<(), NoMemory>
 
 #[tactic(auto, unfolding(crate::specs::Fields::flag))]
 pub(crate) fn put_flag(out: &mut Vec<u8>, set: bool) -> Result<(), NoMemory>
-    ensures { OnOk result (Writes flag set out.old.items out.new.items) }
+    ensures { Puts flag set out.old.items result out.new.items }
 {
     put_byte(out, u8::from(set))
 }
 
 pub(crate) fn put_victim(out: &mut Vec<u8>, victim: Option<ObjId>) -> Result<(), NoMemory>
-    ensures { OnOk result (Writes (standing or_zero is_from_one id_or_none (number w32)) victim out.old.items out.new.items) }
+    ensures { Puts (standing or_zero is_from_one id_or_none (number w32)) victim out.old.items result out.new.items }
 {
     match victim {
         Some(object) => put_u32(out, object.get()),
@@ -89,14 +89,14 @@ pub(crate) fn put_victim(out: &mut Vec<u8>, victim: Option<ObjId>) -> Result<(),
 #[tactic(auto, unfolding(crate::specs::Fields::mode_field))]
 pub(crate) fn put_mode_field(out: &mut Vec<u8>, mode: u16) -> Result<(), NoMemory>
     requires { nat_le mode 4095 ≡ true }
-    ensures { OnOk result (Writes mode_field mode out.old.items out.new.items) }
+    ensures { Puts mode_field mode out.old.items result out.new.items }
 {
     put_u16(out, mode)
 }
 
 #[tactic(auto, unfolding(crate::specs::Fields::name))]
 pub(crate) fn put_name(out: &mut Vec<u8>, entry: &Name) -> Result<(), NoMemory>
-    ensures { OnOk result (Writes name entry.now out.old.items out.new.items) }
+    ensures { Puts name entry.now out.old.items result out.new.items }
 {
     let bytes = entry.bytes();
     put_byte(out, bytes.len() as u8)?;
