@@ -1,6 +1,6 @@
 -- What a keeper of the durable state promises.
 use Rattle.std.specs.Prelude.{◌≡◌, ◌+◌, ◌≤◌, ℕ, Ok, Err, Some, IsSome}
-use Rattle.ec_disk.specs.Disk.{Counts}
+use Rattle.ec_disk.specs.Disk.{Counts, IsOver}
 use Rattle.ec_sessions.specs.Limits.{ids_per_grant}
 use Rattle.ec_sessions.specs.declared.slot.Slot.{Slot}
 use Rattle.ec_durable.specs.Durable.{step, slot}
@@ -23,8 +23,9 @@ pub record HasIds (d : Durable) : Type 0 where
   pub next : 1 ≤ d.next_id
   pub grants : (c : ℕ) (sl : Slot) (first : ℕ) → slot d c ≡ Some sl → sl.last_first ≡ Some first → first + ids_per_grant ≤ d.next_id
 
--- Counts don't fall, and nothing arms a disk.
+-- Counts don't fall, nothing arms a disk, and one that stopped stays stopped.
 pub record IsLater (old new : Counts) : Type 0 where
   pub faults : old.faults ≤ new.faults
   pub stops : old.stops ≤ new.stops
   pub armed : IsSome new.armed → IsSome old.armed
+  pub stays : IsOver old.armed → IsOver new.armed

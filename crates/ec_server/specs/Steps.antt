@@ -1,7 +1,7 @@
 -- What the code's server is to the machine, and what its faults leave.
 use Rattle.std.specs.Prelude.{◌≡◌, ◌==◌, ℕ, Bool, true, false, Option, None, Some, Ok, Err, is_some, IsSome}
 use Rattle.ec_base.specs.Outside.{Rose}
-use Rattle.ec_disk.specs.Disk.{Counts}
+use Rattle.ec_disk.specs.Disk.{Counts, IsOver}
 use Rattle.ec_wire.specs.declared.msg.Msg.{Msg}
 use Rattle.ec_wire.specs.declared.msg.Msg.TheVariants as msg
 use Rattle.ec_sessions.specs.declared.window.Window.{Window}
@@ -39,18 +39,18 @@ under d c = record { server = server d c; sent = c.sent.items; rec = c.rec; spen
 abbrev pub at_slot : ℕ → (Slot → Serving → Serving) → Serving → Serving
 at_slot c f t = elim (slot_of c t) [ None ↦ t | Some sl ↦ f sl t ]
 
--- What a fault leaves: a spent counter is the machine's, and leaves the server as it was. A fault of the disk has risen its count.
+-- What a fault leaves: a spent counter is the machine's, and leaves the server as it was. A fault of the disk has risen its count, and one that stopped stays so.
 abbrev pub Leaves : ServerFault → Counts → Counts → Serving → Server → Server → Type 0
 Leaves (Spent n) before after done old new = (done.spent ≡ Some n) × (new ≡ old)
 Leaves DiskFailed before after done old new = Rose before.faults after.faults
-Leaves DiskStopped before after done old new = Rose before.stops after.stops × IsSome before.armed
+Leaves DiskStopped before after done old new = Rose before.stops after.stops × IsSome before.armed × IsOver after.armed
 Leaves NoMemory before after done old new = Unit {0}
 
 -- The same, where no counter is spent.
 abbrev pub Stops : ServerFault → Counts → Counts → Type 0
 Stops (Spent n) before after = ⊥
 Stops DiskFailed before after = Rose before.faults after.faults
-Stops DiskStopped before after = Rose before.stops after.stops × IsSome before.armed
+Stops DiskStopped before after = Rose before.stops after.stops × IsSome before.armed × IsOver after.armed
 Stops NoMemory before after = Unit {0}
 
 -- A record was committed, or was refused and nothing changed.
