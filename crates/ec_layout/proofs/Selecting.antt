@@ -3,17 +3,20 @@ use Rattle.std.proofs.Common.{◌≡◌, ℕ, List, length, ap, sym, ◌∙◌}
 use Rattle.ec_disk.specs.Disk.{View, LeavesOnly}
 use Rattle.ec_disk.specs.Runs.{Ran}
 use Rattle.ec_journal.specs.Records.{records}
-use Rattle.ec_journal.specs.Journal.{place_of, size_of, Adds, LeavesEither, FromGate}
+use Rattle.ec_journal.specs.Journal.{place_of, size_of, Adds, LeavesEither, LeavesOld, FromGate}
 use Rattle.ec_journal.specs.declared.journal.Journal.{Journal}
 use Rattle.ec_layout.specs.declared.selected.Selected.{Selected}
 use Rattle.ec_layout.specs.declared.side.Side.{Side}
 use Rattle.ec_layout.specs.Places.{journal_at}
-use Rattle.ec_layout.specs.Layout.{Layout, IsLaid, Follows}
-use Rattle.ec_layout.specs.Appends.{with_body, LeavesBody, append_leaves, append_done, append_journal}
+use Rattle.ec_layout.specs.Layout.{Layout, Lies, IsLaid, Follows}
+use Rattle.ec_layout.specs.Appends.{with_body, LeavesBody, append_leaves, append_keeps, append_done, append_journal}
 use Rattle.ec_layout.specs.Selected.{IsOn, IsSelected}
 
 pub body_leaves : (old new : View) (l : Layout) (s : Selected) (body : List ℕ) → IsOn old s l → Ran (FromGate s.journal) old new → LeavesEither old new s.journal body → LeavesOnly old new (LeavesBody l body)
 body_leaves old new l s body on ran leaves = append_leaves old new l s.journal s.journal body on.journal on.laid ran leaves
+
+pub body_keeps : (old new : View) (l : Layout) (s : Selected) (body : List ℕ) → IsOn old s l → Ran (FromGate s.journal) old new → LeavesOld old new s.journal → new.may_leave new.synced → Lies new.synced l
+body_keeps old new l s body on ran keeps given = append_keeps old new l s.journal s.journal body on.journal on.laid ran keeps given
 
 pub body_added : (old new : View) (l : Layout) (s : Selected) (later : Journal) (body : List ℕ) → IsOn old s l → Ran (FromGate s.journal) old new → Adds old new s.journal later body → place_of later ≡ place_of s.journal
     → size_of later ≡ size_of s.journal → IsOn new (record s { journal = later }) (with_body body l)

@@ -5,7 +5,7 @@ use Rattle.ec_disk.specs.Disk.{View, After, LeavesOnly}
 use Rattle.ec_disk.specs.Images.{part-loose}
 use Rattle.ec_disk.specs.Runs.{Ran}
 use Rattle.ec_journal.specs.Records.{HasBodies, records}
-use Rattle.ec_journal.specs.Journal.{place_of, size_of, end_of, IsOn, HasEither, Adds, LeavesEither, FromGate}
+use Rattle.ec_journal.specs.Journal.{place_of, size_of, end_of, IsOn, HasEither, Adds, LeavesEither, LeavesOld, FromGate}
 use Rattle.ec_journal.specs.declared.journal.Journal.{Journal}
 use Rattle.ec_layout.specs.Places.{journal_at, table_at, side_of, journal_bytes}
 use Rattle.ec_layout.specs.Layout.{Layout, Lies, IsLaid}
@@ -70,6 +70,10 @@ module _ (old new : View) (l : Layout) (journal later : Journal) (body : List �
         each = λ c left. either c (ran.each c left) (only.each c left);
         before = λ t c le left. ⊎_elim (λ was. inl was) (λ is. ⊎_elim (λ was. inl was) (λ after. inr (either c after is)) (ran.before t c le left)) (only.before t c le left);
       }
+
+  -- what was synced before it was there
+  pub append_keeps : LeavesOld old new journal → new.may_leave new.synced → Lies new.synced l
+  append_keeps keeps given = stays l.bodies new.synced (ran.crash new.synced given) (has l.bodies new.synced (keeps l.bodies on))
 
   -- at `Ok`
   pub append_done : Adds old new journal later body → place_of later ≡ place_of journal → size_of later ≡ size_of journal → IsLaid new (with_body body l)

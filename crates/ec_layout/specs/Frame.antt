@@ -192,6 +192,12 @@ module _ (to : Side) (table : List ℕ) (pieces : List (ℕ × List ℕ)) (l m :
     pub prepare_leaves : LeavesOnly old mid Either
     prepare_leaves = leaves_only (InPieces to pieces) Either old mid first (λ c after. inl (checkpoint_loose after.0 c (laid after.0 after.1) after.2))
 
+    -- what the first half may leave has the old layout
+    pub prepare_keeps : (c : List ℕ) → mid.may_leave c → Lies c l
+    prepare_keeps c left =
+        let after = first.crash c left in
+        checkpoint_loose after.0 c (laid after.0 after.1) after.2
+
     module _ (given : mid.may_leave mid.gives) (synced : IsSynced mid) (side_has : HasSide mid.gives to table []) (slots_have : HasSlots mid.gives pieces) (new : View) (second : Ran (InRange 12 1) mid new) where
       ready : Prepared mid.gives
       ready =

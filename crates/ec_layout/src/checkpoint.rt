@@ -3,6 +3,7 @@ ghost use Rattle.std.specs.Prelude.{◌≡◌, ◌⊎◌, ◌<◌, ◌≤◌, �
 ghost use Rattle.ec_disk.specs.declared.disk.DiskAnswer.TheVariants as said;
 ghost use Rattle.ec_disk.specs.Disk.{byte, InRange, IsSynced, LeavesOnly, Counted, Called, written};
 ghost use Rattle.ec_disk.specs.Runs.{Ran};
+ghost use Rattle.ec_journal.specs.Ends.{DidAll, EndsBy, TurnedUpTo};
 ghost use Rattle.ec_layout.specs.Places as place;
 ghost use Rattle.ec_layout.specs.Layout.{Layout, Lies, IsLaid, HasSide, HasSlots, Follows};
 ghost use Rattle.ec_layout.specs.Pieces.{pieces_of, AreApart, InPieces};
@@ -31,6 +32,11 @@ pub fn prepare<D: Disk>(
     ensures front { D.tells → result ≡ said.Done → (i : ℕ) → i < place.journals_at → byte (D.view disk.new).gives i ≡ byte (D.view disk.old).gives i }
     ensures synced { D.tells → result ≡ said.Done → IsSynced (D.view disk.new) }
     ensures calls { result ≡ said.Done → Called (length pieces.now + 3) (D.counts disk.old) (D.counts disk.new) }
+    ensures did { result ≡ said.Done → DidAll D.does (length pieces.now + 3) disk.old disk.new }
+    ensures ends { (result ≡ said.Done → ⊥) → EndsBy D.does result (length pieces.now + 3) disk.old disk.new }
+    ensures turns { TurnedUpTo (length pieces.now + 3) (D.counts disk.old).armed (D.counts disk.new).armed (result ≡ said.Done) (result ≡ said.Stopped) }
+    ensures saved { D.tells → result ≡ said.Done → (D.view disk.new).synced ≡ (D.view disk.new).gives }
+    ensures kept { D.tells → (result ≡ said.Done → ⊥) → (D.view disk.new).synced ≡ (D.view disk.old).synced }
     // The sync is the first one.
     ensures unsynced { (result ≡ said.Done → ⊥) → NoSync D.does disk.old disk.new }
     ensures first { result ≡ said.Done → FirstSync D.does disk.old disk.new }
@@ -56,6 +62,10 @@ fn write_side<D: Disk>(
     ensures slots { D.tells → result ≡ said.Done → HasSlots (D.view disk.new).gives (pieces_of pieces.now) }
     ensures front { D.tells → result ≡ said.Done → (i : ℕ) → i < place.journals_at → byte (D.view disk.new).gives i ≡ byte (D.view disk.old).gives i }
     ensures calls { result ≡ said.Done → Called (length pieces.now + 2) (D.counts disk.old) (D.counts disk.new) }
+    ensures did { result ≡ said.Done → DidAll D.does (length pieces.now + 2) disk.old disk.new }
+    ensures ends { (result ≡ said.Done → ⊥) → EndsBy D.does result (length pieces.now + 2) disk.old disk.new }
+    ensures turns { TurnedUpTo (length pieces.now + 2) (D.counts disk.old).armed (D.counts disk.new).armed (result ≡ said.Done) (result ≡ said.Stopped) }
+    ensures kept { D.tells → (D.view disk.new).synced ≡ (D.view disk.old).synced }
     ensures unsynced { NoSync D.does disk.old disk.new }
     ensures counts { Counted (D.counts disk.old) (D.counts disk.new) (result ≡ said.Failed) (result ≡ said.Stopped) }
 {
@@ -76,6 +86,10 @@ pub fn select<D: Disk>(disk: &mut D, side: Side) -> DiskAnswer
     ensures turned { D.tells → result ≡ said.Done → byte (D.view disk.new).gives place.select_at ≡ place.select_byte side }
     ensures synced { D.tells → result ≡ said.Done → IsSynced (D.view disk.new) }
     ensures calls { result ≡ said.Done → Called 2 (D.counts disk.old) (D.counts disk.new) }
+    ensures did { result ≡ said.Done → DidAll D.does 2 disk.old disk.new }
+    ensures ends { (result ≡ said.Done → ⊥) → EndsBy D.does result 2 disk.old disk.new }
+    ensures turns { TurnedUpTo 2 (D.counts disk.old).armed (D.counts disk.new).armed (result ≡ said.Done) (result ≡ said.Stopped) }
+    ensures kept { D.tells → (result ≡ said.Done → ⊥) → (D.view disk.new).synced ≡ (D.view disk.old).synced }
     ensures counts { Counted (D.counts disk.old) (D.counts disk.new) (result ≡ said.Failed) (result ≡ said.Stopped) }
 {
     let answer = disk.write_at(SELECT_AT, &[side.select_byte()]);
@@ -101,6 +115,11 @@ pub fn write_checkpoint<D: Disk>(
     ensures done { D.tells → result ≡ said.Done → (before after : Layout) → Follows side table.now (pieces_of pieces.now) before after → IsLaid (D.view disk.old) before → IsLaid (D.view disk.new) after }
     ensures synced { D.tells → result ≡ said.Done → IsSynced (D.view disk.new) }
     ensures calls { result ≡ said.Done → Called (length pieces.now + 5) (D.counts disk.old) (D.counts disk.new) }
+    ensures did { result ≡ said.Done → DidAll D.does (length pieces.now + 5) disk.old disk.new }
+    ensures ends { (result ≡ said.Done → ⊥) → EndsBy D.does result (length pieces.now + 5) disk.old disk.new }
+    ensures turns { TurnedUpTo (length pieces.now + 5) (D.counts disk.old).armed (D.counts disk.new).armed (result ≡ said.Done) (result ≡ said.Stopped) }
+    // What was synced before it was done has the old layout.
+    ensures old { D.tells → (result ≡ said.Done → ⊥) → (before after : Layout) → Follows side table.now (pieces_of pieces.now) before after → IsLaid (D.view disk.old) before → Lies (D.view disk.new).synced before }
     ensures counts { Counted (D.counts disk.old) (D.counts disk.new) (result ≡ said.Failed) (result ≡ said.Stopped) }
 {
     let answer = prepare(disk, side, pieces, table);

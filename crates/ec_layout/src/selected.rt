@@ -4,8 +4,7 @@ ghost use Rattle.std.specs.Prelude.{◌≡◌};
 use crate::checkpoint::write_checkpoint;
 use crate::side::{JOURNAL_BYTES, Side};
 use ec_disk::{Disk, DiskAnswer};
-use ec_journal::{Journal, JournalFault};
-use std::alloc::Global;
+use ec_journal::{Journal, JournalFault, Staged};
 
 /// The side that a disk's select byte picks, with its journal.
 #[derive(Drop)]
@@ -15,9 +14,10 @@ pub struct Selected {
 }
 
 impl Selected {
-    ghost use Rattle.std.specs.Prelude.{◌≡◌, ◌⊎◌, ◌<◌, ◌≤◌, ◌+◌, ℕ, length, OnOk, OnErr, IsErrOf, MatchBool};
+    ghost use Rattle.std.specs.Prelude.{◌≡◌, ◌⊎◌, ◌<◌, ◌≤◌, ◌+◌, ℕ, length, OnOk, OnErr, IsOk, IsErrOf, MatchBool};
     ghost use Rattle.ec_disk.specs.declared.disk.DiskAnswer.TheVariants as said;
     ghost use Rattle.ec_disk.specs.Disk.{IsSynced, LeavesOnly, Counted, Called};
+    ghost use Rattle.ec_journal.specs.Ends.{DidAll, EndsBy, TurnedUpTo};
     ghost use Rattle.ec_journal.specs.Records.{max_record_bytes};
     ghost use Rattle.ec_journal.specs.Journal.{need_of};
     ghost use Rattle.ec_journal.specs.declared.fault.JournalFault.TheVariants as fault;
@@ -52,25 +52,27 @@ impl Selected {
 
     /// Adds a record, by four calls of the disk. At `Ok` it is there after each crash.
     ///
-    /// At `NoRoom` there was no call. After a fault of the disk, or want of its memory, the record may be there or not. `Bad` never comes.
-    pub fn append<D: Disk>(
-        &mut self,
-        alloc: Global,
-        disk: &mut D,
-        body: &[u8],
-    ) -> Result<(), JournalFault>
-        requires { length body.now ≤ max_record_bytes }
-        ensures ok { OnOk result (D.tells → (l : Layout) → IsOn (D.view disk.old) self.old l → IsOn (D.view disk.new) self.new (with_body body.now l)) }
-        ensures any_moment { D.tells → (l : Layout) → IsOn (D.view disk.old) self.old l → LeavesOnly (D.view disk.old) (D.view disk.new) (LeavesBody l body.now) }
+    /// At `NoRoom` there was no call. After a fault of the disk, or want of its memory, the record may be there or not. `Bad` never comes, and
+    /// no other memory is taken.
+    pub fn append<D: Disk>(&mut self, disk: &mut D, entry: &Staged) -> Result<(), JournalFault>
+        ensures ok { OnOk result (D.tells → (l : Layout) → IsOn (D.view disk.old) self.old l → IsOn (D.view disk.new) self.new (with_body entry.now l)) }
+        ensures any_moment { D.tells → (l : Layout) → IsOn (D.view disk.old) self.old l → LeavesOnly (D.view disk.old) (D.view disk.new) (LeavesBody l entry.now) }
         ensures synced { OnOk result (D.tells → IsSynced (D.view disk.new)) }
         ensures calls { OnOk result (Called 4 (D.counts disk.old) (D.counts disk.new)) }
-        ensures full { free_now self.old < need_of body.now → IsErrOf result (fault.NoRoom (need_of body.now) (free_now self.old)) }
-        ensures no_room { (need free : ℕ) → IsErrOf result (fault.NoRoom need free) → (need ≡ need_of body.now) × (free ≡ free_now self.old) × (free < need) × (disk.new ≡ disk.old) }
+        ensures did { OnOk result (DidAll D.does 4 disk.old disk.new) }
+        ensures failed { IsErrOf result fault.DiskFailed → EndsBy D.does said.Failed 4 disk.old disk.new }
+        ensures stopped { IsErrOf result fault.DiskStopped → EndsBy D.does said.Stopped 4 disk.old disk.new }
+        ensures no_memory { IsErrOf result fault.NoMemory → EndsBy D.does said.NoMemory 4 disk.old disk.new }
+        ensures turns { TurnedUpTo 4 (D.counts disk.old).armed (D.counts disk.new).armed (IsOk result) (IsErrOf result fault.DiskStopped) }
+        // What was synced before it was there has the layout from before.
+        ensures old { OnErr result (D.tells → (l : Layout) → IsOn (D.view disk.old) self.old l → Lies (D.view disk.new).synced l) }
+        ensures full { free_now self.old < need_of entry.now → IsErrOf result (fault.NoRoom (need_of entry.now) (free_now self.old)) }
+        ensures no_room { (need free : ℕ) → IsErrOf result (fault.NoRoom need free) → (need ≡ need_of entry.now) × (free ≡ free_now self.old) × (free < need) × (disk.new ≡ disk.old) }
         ensures no_bad { (at : ℕ) → IsErrOf result (fault.Bad at) → ⊥ }
         ensures counts { Counted (D.counts disk.old) (D.counts disk.new) (IsErrOf result fault.DiskFailed) (IsErrOf result fault.DiskStopped) }
         ensures err { OnErr result (self.new ≡ self.old) }
     {
-        self.journal.append(alloc, disk, body)?;
+        self.journal.append_staged(disk, entry)?;
         Ok(())
     }
 
@@ -89,6 +91,11 @@ impl Selected {
         ensures synced { D.tells → result ≡ said.Done → IsSynced (D.view disk.new) }
         ensures empty { result ≡ said.Done → IsSelected (place.other (side_now self.old)) 0 self.new }
         ensures calls { result ≡ said.Done → Called (length pieces.now + 5) (D.counts disk.old) (D.counts disk.new) }
+        ensures did { result ≡ said.Done → DidAll D.does (length pieces.now + 5) disk.old disk.new }
+        ensures ends { (result ≡ said.Done → ⊥) → EndsBy D.does result (length pieces.now + 5) disk.old disk.new }
+        ensures turns { TurnedUpTo (length pieces.now + 5) (D.counts disk.old).armed (D.counts disk.new).armed (result ≡ said.Done) (result ≡ said.Stopped) }
+        // What was synced before it was done has the old layout.
+        ensures old { D.tells → (result ≡ said.Done → ⊥) → (before after : Layout) → Follows (place.other (side_now self.old)) table.now (pieces_of pieces.now) before after → IsOn (D.view disk.old) self.old before → Lies (D.view disk.new).synced before }
         ensures counts { Counted (D.counts disk.old) (D.counts disk.new) (result ≡ said.Failed) (result ≡ said.Stopped) }
     {
         let side = self.side.other();

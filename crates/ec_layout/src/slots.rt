@@ -3,6 +3,7 @@ ghost use Rattle.std.specs.Prelude.{◌≡◌, ◌<◌, ℕ, length};
 ghost use Rattle.ec_disk.specs.declared.disk.DiskAnswer.TheVariants as said;
 ghost use Rattle.ec_disk.specs.Disk.{byte, Counted, Called};
 ghost use Rattle.ec_disk.specs.Runs.{Ran};
+ghost use Rattle.ec_journal.specs.Ends.{DidAll, EndsBy, TurnedUpTo};
 ghost use Rattle.ec_layout.specs.Places as place;
 ghost use Rattle.ec_layout.specs.Layout.{HasSlots};
 ghost use Rattle.ec_layout.specs.Pieces.{pieces_of, AreApart, InSlots};
@@ -30,6 +31,10 @@ pub fn write_slots<D: Disk>(disk: &mut D, pieces: &[(u32, Vec<u8>)]) -> DiskAnsw
     ensures written { D.tells → result ≡ said.Done → HasSlots (D.view disk.new).gives (pieces_of pieces.now) }
     ensures below { D.tells → result ≡ said.Done → (i : ℕ) → i < place.slot_at 0 → byte (D.view disk.new).gives i ≡ byte (D.view disk.old).gives i }
     ensures calls { result ≡ said.Done → Called (length pieces.now) (D.counts disk.old) (D.counts disk.new) }
+    ensures did { result ≡ said.Done → DidAll D.does (length pieces.now) disk.old disk.new }
+    ensures ends { (result ≡ said.Done → ⊥) → EndsBy D.does result (length pieces.now) disk.old disk.new }
+    ensures turns { TurnedUpTo (length pieces.now) (D.counts disk.old).armed (D.counts disk.new).armed (result ≡ said.Done) (result ≡ said.Stopped) }
+    ensures kept { D.tells → (D.view disk.new).synced ≡ (D.view disk.old).synced }
     ensures unsynced { NoSync D.does disk.old disk.new }
     ensures counts { Counted (D.counts disk.old) (D.counts disk.new) (result ≡ said.Failed) (result ≡ said.Stopped) }
 {
