@@ -1,5 +1,5 @@
 -- What a disk holds behind an append and behind a checkpoint.
-use Rattle.std.proofs.Common.{◌≡◌, ◌⊎◌, ℕ, ◌+◌, ◌*◌, ◌≤◌, true, false, List, [], ◌∷◌, ◌++◌, length, get_or, Option, Some, Ok, refl, sym, ap, subst, ◌∙◌, arith, inl, inr, ⊎_elim}
+use Rattle.std.proofs.Common.{◌≡◌, ◌⊎◌, ℕ, ◌+◌, ◌*◌, ◌≤◌, true, false, cond, List, [], ◌∷◌, ◌++◌, length, get_or, Option, None, Some, Ok, refl, sym, ap, subst, ◌∙◌, arith, inl, inr, ⊎_elim}
 use Rattle.std.specs.Prelude.{nat_le, unwrap_or}
 use Rattle.std.specs.Int.{w32, to_be_bytes}
 use Rattle.std.specs.List.{All}
@@ -44,7 +44,8 @@ use Rattle.ec_stands.specs.Stands.{slot_code, IsCheckpoint, StepsTo, StandsFor}
 use Rattle.ec_stands.specs.Laws.{lies_stands, lies_stands_in, steps_more}
 use Rattle.ec_store.specs.Places.{ArePlaces, AreSpare, IsPlaced, placed, pieces, touched}
 use Rattle.ec_store.specs.Store.{Holds, HoldsIn, StandsForEither}
-use Rattle.ec_store.proofs.Members.{told, free_member, free_distinct}
+use Rattle.ec_store.proofs.Members.{told, free_member, free_distinct, left_kept, keeps_left}
+use Rattle.ec_store.proofs.Replaying.{untouched_parts}
 use Rattle.ec_store.proofs.Images.{step_images, step_most, image_at}
 use Rattle.ec_store.proofs.Placing.{rows_all, pieces_apart, pieces_are_free, slots_of, StandsIn, new_slots, new_among, new_numbers, place_stands, are_places, length_placed}
 
@@ -61,6 +62,10 @@ leaves_none P now only all = record { later = omega arith; each = λ c left. all
 
 pub held_stands : (now : View) (selected : Selected) (named : List ℕ) (kept : List (ℕ × ℕ)) (d : Durable) → Holds now selected named kept d → (c : List ℕ) → now.may_leave c → StandsFor c d
 held_stands now selected named kept d h c left = lies_stands c h.layout h.base d h.places (h.on.laid c left) h.checkpoint h.steps
+
+-- an image with the layout of such a disk
+pub held_lies : (now : View) (selected : Selected) (named : List ℕ) (kept : List (ℕ × ℕ)) (d : Durable) → Holds now selected named kept d → (image : List ℕ) → ((l : Layout) → IsOn now selected l → Lies image l) → StandsFor image d
+held_lies now selected named kept d h image lies = lies_stands image h.layout h.base d h.places (lies h.layout h.on) h.checkpoint h.steps
 
 with_more : (l : Layout) (body : List ℕ) (base : Durable) (places : List (ℕ × ℕ)) → IsCheckpoint l base places → IsCheckpoint (with_body body l) base places
 with_more l body base places is = record { front_is = is.front_is; back_is = is.back_is; table_is = is.table_is; table_fits = is.table_fits; slots_are = is.slots_are; formed = is.formed }
@@ -80,8 +85,8 @@ module _ (r : Record) (body : List ℕ) (fits : record_code.fits r ≡ true) (sp
             inr (e, stepped, lies_stands c (with_body body h.layout) h.base e h.places lies (with_more h.layout body h.base h.places h.checkpoint) (steps_more h.layout.bodies body r h.base d e h.steps body_is stepped))
 
     pub append_holds : (later : Selected) (fewer : List (ℕ × ℕ)) → ((l : Layout) → IsOn old selected l → IsOn new later (with_body body l))
-        → ((o s : ℕ) → at o fewer ≡ Some s → (at o kept ≡ Some s) × (member o (touched r) ≡ false)) → Holds new later named fewer e
-    append_holds later fewer on less = record {
+        → ((o : ℕ) → at o fewer ≡ cond (member o (touched r)) None (at o kept)) → Holds new later named fewer e
+    append_holds later fewer on left = record {
       layout = with_body body h.layout;
       base = h.base;
       places = h.places;
@@ -92,11 +97,14 @@ module _ (r : Record) (body : List ℕ) (fits : record_code.fits r ≡ true) (sp
       keeps = record {
         numbers = h.keeps.numbers;
         stand = λ o s found live.
-            let was = less o s found in
+            let was = left_kept o s (member o (touched r)) (at o fewer) (at o kept) (left o) found in
             let same = step_images r d e o sound was.1 stepped in
             let old_one = h.keeps.stand o s was.0 (ap is_gone (sym same) ∙ live) in
             subst (λ i. IsAmong (s, (slot_code Two).spell (o, i)) h.layout.slots × ((slot_code Two).fits (o, i) ≡ true)) (sym same) old_one;
       };
+      rest = λ two o s found un.
+          let parts = untouched_parts o h.layout.bodies (body ∷ []) un in
+          keeps_left s (member o (touched r)) (at o fewer) (at o kept) (left o) (h.rest refl o s found parts.0) (parts.1.0 r body_is);
     }
 
 -- the limit of objects stays
@@ -204,6 +212,7 @@ module _ (d : Durable) (named : List ℕ) (kept : List (ℕ × ℕ)) (order : Is
             let same : it.0 ≡ images d.volume o = sym (images_find d.volume o ∙ ap (λ (f : Option Image). unwrap_or f Gone) it.1) in
             subst (λ (v : Image). IsAmong (s, (slot_code Two).spell (o, v)) (slots_of new_places d.volume) × ((slot_code Two).fits (o, v) ≡ true)) same (it.2, it.3);
       };
+      rest = λ two o s found un. found;
     }
 
 -- What a store keeps of itself.

@@ -13,6 +13,7 @@ pub mod Rows
 pub mod ReadBack
 pub mod Ahead
 pub mod Trying
+pub mod Turning
 pub mod Replaying
 pub mod Opens
 pub mod Renewing

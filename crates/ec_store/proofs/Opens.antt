@@ -1,5 +1,5 @@
 -- What a store that is opened holds.
-use Rattle.std.proofs.Common.{◌≡◌, ℕ, false, List, length, Some, Result, Ok, Err, sym, subst, ◌∙◌, inl, inr, ⊎_elim}
+use Rattle.std.proofs.Common.{◌≡◌, ℕ, cond, List, length, None, Result, Ok, Err, sym, subst, ◌∙◌, inl, inr, ⊎_elim}
 use Rattle.std.specs.Prelude.{IfOk}
 use Rattle.ec_base.specs.Tables.{at}
 use Rattle.ec_disk.specs.Disk.{View, Rests, IsSynced, LeavesOnly}
@@ -9,10 +9,10 @@ use Rattle.ec_durable.specs.declared.state.Durable.{Durable}
 use Rattle.ec_durable.specs.WellFormed.{WellFormed}
 use Rattle.ec_journal.specs.Records.{records}
 use Rattle.ec_table.specs.Codes.{numbers_in}
-use Rattle.ec_table.specs.declared.table.Version.TheVariants.{Two}
+use Rattle.ec_table.specs.declared.table.Version.TheVariants.{One, Two}
 use Rattle.ec_layout.specs.Selected.{IsSelected}
 use Rattle.ec_stands.specs.Stands.{StandsFor, IsReadBack}
-use Rattle.ec_store.specs.Opening.{IsOpened, WasLeftOrStands, IsSameOrStands}
+use Rattle.ec_store.specs.Opening.{IsOpened, IsOlder, WasLeftOrStands, IsSameOrStands}
 use Rattle.ec_store.specs.declared.fault.StoreFault.{StoreFault}
 use Rattle.ec_store.specs.Store.{Holds, IsHeld, view_of}
 use Rattle.ec_store.specs.declared.opening.Opened.{Opened}
@@ -27,13 +27,13 @@ still_stands before image opened state same is state_is =
 
 pub is_held : (now : View) (image : List ℕ) (opened : Opened) (store : Store) → IsSynced now → now.gives ≡ image → opened.version ≡ Two → WellFormed opened.state → IsOpened image opened → store.state ≡ opened.state
     → (store.named.items ≡ numbers_in opened.places.items) × IsSelected opened.side opened.end store.selected
-    → ((o slot : ℕ) → at o store.kept ≡ Some slot → (at o opened.places.items ≡ Some slot) × (member o opened.ids.items ≡ false)) → IsHeld now store
+    → ((o : ℕ) → at o store.kept ≡ cond (member o opened.ids.items) None (at o opened.places.items)) → IsHeld now store
 is_held now image opened store synced same two formed is state_is parts kept =
     let here : IsOpened now.gives opened = subst (λ i. IsOpened i opened) (sym same) is in
     subst (λ d. Holds now store.selected store.named.items store.kept d) (sym state_is)
     (subst (λ ns. Holds now store.selected ns store.kept opened.state) (sym parts.0)
     (opened_holds now synced opened.places.items here.base here.bodies (subst (λ v. IsReadBack now.gives v opened.places.items here.base here.bodies) two here.read) opened.state here.steps formed store.selected
-    (subst (λ s. IsSelected s (length (records here.bodies)) store.selected) here.side (subst (λ n. IsSelected opened.side n store.selected) here.ends parts.1)) opened.ids.items here.spares store.kept kept))
+    (subst (λ s. IsSelected s (length (records here.bodies)) store.selected) here.side (subst (λ n. IsSelected opened.side n store.selected) here.ends parts.1)) opened.ids.items here.spares here.touches store.kept kept))
 
 -- where nothing was written
 pub rests_open : (old new : View) → Rests old new → ((c : List ℕ) → old.left_since old.moment c → old.may_leave c) → LeavesOnly old new (WasLeftOrStands old)
@@ -67,3 +67,8 @@ open_leaves old mid new given only rests leaves =
 pub stood_before : (r : Result Store StoreFault) (Tells : Type 0) (here before : List ℕ) → (Tells → here ≡ before) → IfOk r (λ store. Tells → StandsFor here (view_of store)) → IfOk r (λ store. Tells → StandsFor before (view_of store))
 stood_before (Ok store) Tells here before same stands = λ told. subst (λ image. StandsFor image store.state) (same told) (stands told)
 stood_before (Err e) Tells here before same stands = tt
+
+-- Where nothing is brought to another version.
+
+pub is_older : (image : List ℕ) (opened : Opened) → opened.version ≡ One → IsOpened image opened → IsOlder image
+is_older image opened one is = (opened.places.items, is.base, is.bodies, subst (λ v. IsReadBack image v opened.places.items is.base is.bodies) one is.read)

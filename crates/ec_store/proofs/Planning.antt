@@ -12,7 +12,7 @@ use Rattle.ec_layout.specs.Head.{first_word, form}
 use Rattle.ec_layout.specs.Layout.{IsFree, IsAmong}
 use Rattle.ec_layout.specs.declared.side.Side.TheVariants as side
 use Rattle.ec_stands.specs.Stands.{slot_code, AreSlots, IsCheckpoint, StandsFor}
-use Rattle.ec_stands.specs.Laws.{lies_stands}
+use Rattle.ec_stands.specs.Laws.{lies_stands, lies_stands_in}
 use Rattle.ec_store.proofs.Placing.{slots_of, StandsIn, new_slots, new_numbers, place_stands}
 use Rattle.ec_base.specs.declared.list.NoMemory.{NoMemory}
 use Rattle.ec_volume.specs.Update.{member}
@@ -66,6 +66,11 @@ module _ (d : Durable) (named : List ℕ) (kept : List (ℕ × ℕ)) (order : Is
     pub plan_leaves : (new : View) → ((l m : Layout) → Follows (other (side_now selected)) plan.table.items (pieces_of plan.pieces.items) l m → IsOn old selected l → LeavesOnly old new (λ image. Lies image l ⊎ Lies image m)) → LeavesOnly old new (λ image. StandsFor image d)
     unfolding after
     plan_leaves new leaves = turn_leaves d named kept order are is.each v plan.table.items spelled_made fits_made old selected wider fewer h new (leaves h.layout after follows h.on)
+
+    -- an image with the layout from before
+    pub plan_lies : (image : List ℕ) → ((l m : Layout) → Follows (other (side_now selected)) plan.table.items (pieces_of plan.pieces.items) l m → IsOn old selected l → Lies image l) → StandsFor image d
+    unfolding after
+    plan_lies image lies = lies_stands_in v image h.layout h.base d h.places (lies h.layout after follows h.on) h.checkpoint h.steps
 
     -- or for the state behind a record
     pub plan_leaves_either : (r : Record) (new : View) → ((l m : Layout) → Follows (other (side_now selected)) plan.table.items (pieces_of plan.pieces.items) l m → IsOn old selected l → LeavesOnly old new (λ image. Lies image l ⊎ Lies image m)) → LeavesOnly old new (StandsForEither r d)
@@ -148,4 +153,5 @@ module _ (d : Durable) (formed : WellFormed d) (plan : Plan) (is : IsPlan d.max_
           let same : it.0 ≡ images d.volume o = sym (images_find d.volume o ∙ ap (λ (f : Option Image). unwrap_or f Gone) it.1) in
           subst (λ (v : Image). IsAmong (s, (slot_code Two).spell (o, v)) (pieces_of plan.pieces.items) × ((slot_code Two).fits (o, v) ≡ true)) same (it.2, it.3);
     };
+    rest = λ two o s found un. found;
   }

@@ -1,5 +1,5 @@
 -- What is read of an image, and what a store holds then.
-use Rattle.std.proofs.Common.{◌≡◌, ℕ, ◌+◌, ◌<◌, ◌≤◌, Bool, true, false, List, [], ◌∷◌, ◌++◌, length, Option, None, Some, Err, refl, sym, ap, subst, ◌∙◌, arith, inl, inr, append_assoc, length-append}
+use Rattle.std.proofs.Common.{◌≡◌, ℕ, ◌+◌, ◌<◌, ◌≤◌, Bool, true, false, cond, List, [], ◌∷◌, ◌++◌, length, Option, None, Some, Err, refl, sym, ap, subst, ◌∙◌, arith, inl, inr, append_assoc, length-append}
 use Rattle.std.specs.Prelude.{unwrap_or}
 use Rattle.std.specs.Int.{w32, to_be_bytes}
 use Rattle.ec_base.specs.Tables.{at}
@@ -31,11 +31,11 @@ use Rattle.ec_stands.specs.Stands.{side_in, journal_in, most_in, table_part, slo
 use Rattle.ec_stands.specs.Stands.{bad_table, bad_slot, ill_formed, bad_record}
 use Rattle.ec_stands.specs.Laws.{read_back_lies, behind_journal, lies_stands_in}
 use Rattle.ec_stands.specs.FirstPlace.{front_of}
-use Rattle.ec_store.specs.Replay.{Spares, HasRefused}
+use Rattle.ec_store.specs.Replay.{Spares, IsUntouched, HasRefused}
 use Rattle.ec_store.specs.Opening.{IsRead, IsOpened}
 use Rattle.ec_store.specs.Store.{HoldsIn, Holds}
 use Rattle.ec_store.specs.declared.opening.Opened.{Opened}
-use Rattle.ec_store.proofs.Members.{member_none}
+use Rattle.ec_store.proofs.Members.{member_none, left_kept, keeps_left}
 use Rattle.ec_store.proofs.Placing.{place_stands}
 use Rattle.ec_store.proofs.Parts.{has_image}
 
@@ -161,9 +161,9 @@ module _ (now : View) (synced : IsSynced now) (v : Version) (places : List (ℕ 
     laid = λ c left. subst (λ image. Lies image (layout_in now.gives v places base bodies)) (sym (synced c left)) (read_back_lies now.gives v places base bodies read).0;
   }
 
-  -- no image is kept
-  pub holds_none : HoldsIn v now selected (numbers_in places) [] state
-  holds_none = record {
+  -- no image of an older version is kept
+  pub holds_none : (v ≡ Two → ⊥) → HoldsIn v now selected (numbers_in places) [] state
+  holds_none older = record {
     layout = layout_in now.gives v places base bodies;
     base = base;
     places = places;
@@ -175,6 +175,7 @@ module _ (now : View) (synced : IsSynced now) (v : Version) (places : List (ℕ 
       numbers = λ k out. numbers_free v k (layout_in now.gives v places base bodies).slots places base.volume (read_back_lies now.gives v places base bodies read).1.slots_are out;
       stand = λ o s found live. absurd (nothing s found);
     };
+    rest = λ two. absurd (older two);
   }
     where
       nothing : (s : ℕ) → ◌≡◌ {A = Option ℕ} None (Some s) → ⊥
@@ -182,8 +183,8 @@ module _ (now : View) (synced : IsSynced now) (v : Version) (places : List (ℕ 
 
 -- the images that no record changed are kept
 pub opened_holds : (now : View) → IsSynced now → (places : List (ℕ × ℕ)) (base : Durable) (bodies : List (List ℕ)) (read : IsReadBack now.gives Two places base bodies) (state : Durable) → StepsTo bodies base state → WellFormed state
-    → (selected : Selected) → IsSelected (side_in now.gives) (length (records bodies)) selected → (ids : List ℕ) → Spares ids base state → (kept : List (ℕ × ℕ)) → ((o s : ℕ) → at o kept ≡ Some s → (at o places ≡ Some s) × (member o ids ≡ false)) → Holds now selected (numbers_in places) kept state
-opened_holds now synced places base bodies read state steps formed selected is ids spares kept left = record {
+    → (selected : Selected) → IsSelected (side_in now.gives) (length (records bodies)) selected → (ids : List ℕ) → Spares ids base state → ((o : ℕ) → IsUntouched o bodies → member o ids ≡ false) → (kept : List (ℕ × ℕ)) → ((o : ℕ) → at o kept ≡ cond (member o ids) None (at o places)) → Holds now selected (numbers_in places) kept state
+opened_holds now synced places base bodies read state steps formed selected is ids spares touches kept left = record {
   layout = layout_in now.gives Two places base bodies;
   base = base;
   places = places;
@@ -194,11 +195,12 @@ opened_holds now synced places base bodies read state steps formed selected is i
   keeps = record {
     numbers = λ k out. numbers_free Two k (layout_in now.gives Two places base bodies).slots places base.volume (read_back_lies now.gives Two places base bodies read).1.slots_are out;
     stand = λ o s found live.
-        let was = left o s found in
+        let was = left_kept o s (member o ids) (at o kept) (at o places) (left o) found in
         let it = place_stands (layout_in now.gives Two places base bodies).slots places base.volume (read_back_lies now.gives Two places base bodies read).1.slots_are o s was.0 in
         let same : it.0 ≡ images state.volume o = sym (images_find base.volume o ∙ ap (λ (f : Option Image). unwrap_or f Gone) it.1) ∙ sym (spares o was.1) in
         subst (λ (v : Image). IsAmong (s, (slot_code Two).spell (o, v)) (layout_in now.gives Two places base bodies).slots × ((slot_code Two).fits (o, v) ≡ true)) same (it.2, it.3);
   };
+  rest = λ two o s found un. keeps_left s (member o ids) (at o kept) (at o places) (left o) found (touches o un);
 }
 
 -- what is read back stands for the state

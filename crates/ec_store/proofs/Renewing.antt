@@ -5,7 +5,8 @@ use Rattle.ec_disk.specs.Disk.{View, IsSynced, LeavesOnly}
 use Rattle.ec_durable.specs.WellFormed.{WellFormed}
 use Rattle.ec_journal.specs.Records.{records}
 use Rattle.ec_table.specs.Codes.{table_code, described, numbers_in}
-use Rattle.ec_table.specs.declared.table.Version.TheVariants.{Two}
+use Rattle.ec_table.specs.declared.table.Version.{Version}
+use Rattle.ec_table.specs.declared.table.Version.TheVariants.{One, Two}
 use Rattle.ec_layout.specs.Places.{other}
 use Rattle.ec_layout.specs.Layout.{Layout, Lies, Follows}
 use Rattle.ec_layout.specs.Selected.{IsSelected, IsOn, side_now}
@@ -21,6 +22,10 @@ use Rattle.ec_store.specs.declared.plan.Plan.{Plan}
 use Rattle.ec_store.proofs.Holding.{leaves_none, fewer_places}
 use Rattle.ec_store.proofs.Planning.{pieces_stand_apart, new_places_are, plan_leaves, plan_holds}
 use Rattle.ec_store.proofs.ReadBack.{holds_none, opened_stands}
+
+pub not_two : (v : Version) → v ≡ One → v ≡ Two → ⊥
+not_two One one two = absurd cc
+not_two Two one two = absurd cc
 
 -- no image is kept
 pub none_kept : (most : ℕ) (named : List ℕ) (places : List (ℕ × ℕ)) → ArePlaces most named places → ArePlaces most named []
@@ -47,12 +52,12 @@ module _ (opened : Opened) (named : List ℕ) (named_is : named ≡ numbers_in o
   renewed_places = new_places_are opened.state named [] formed.order free_places plan is
 
   module _ (spelled : plan.table.items ≡ (table_code opened.state.max_objects).spell (Two, described opened.state plan.kept)) (fits : (table_code opened.state.max_objects).fits (Two, described opened.state plan.kept) ≡ true)
-      (old : View) (synced : IsSynced old) (read : IsOpened old.gives opened) (selected : Selected) (at_side : IsSelected opened.side opened.end selected) where
+      (older : opened.version ≡ Two → ⊥) (old : View) (synced : IsSynced old) (read : IsOpened old.gives opened) (selected : Selected) (at_side : IsSelected opened.side opened.end selected) where
     old_held : HoldsIn opened.version old selected named [] opened.state
     old_held =
         subst (λ ns. HoldsIn opened.version old selected ns [] opened.state) (sym named_is)
         (holds_none old synced opened.version opened.places.items read.base read.bodies read.read opened.state read.steps formed selected
-        (subst (λ s. IsSelected s (length (records read.bodies)) selected) read.side (subst (λ n. IsSelected opened.side n selected) read.ends at_side)))
+        (subst (λ s. IsSelected s (length (records read.bodies)) selected) read.side (subst (λ n. IsSelected opened.side n selected) read.ends at_side)) older)
 
     pub renewed_leaves : (new : View) → ((l m : Layout) → Follows (other (side_now selected)) plan.table.items (pieces_of plan.pieces.items) l m → IsOn old selected l → LeavesOnly old new (λ image. Lies image l ⊎ Lies image m)) → LeavesOnly old new (λ image. StandsFor image opened.state)
     renewed_leaves new leaves = plan_leaves opened.state named [] formed.order free_places plan is opened.version spelled fits old selected [] (λ o s found. found) old_held new leaves

@@ -10,7 +10,7 @@ use Rattle.ec_journal.specs.Records.{records}
 use Rattle.ec_journal.specs.Laws.{records-append, length-records}
 use Rattle.ec_stands.specs.Stands.{StepsTo, IsRefused}
 use Rattle.ec_stands.specs.Laws.{steps_join}
-use Rattle.ec_store.specs.Replay.{Steps, Spares, HasRefused}
+use Rattle.ec_store.specs.Replay.{Steps, Spares, Avoids, IsUntouched, HasRefused}
 
 more_of : (bodies : List (List ℕ)) (i : ℕ) (x : List ℕ) → i < length bodies → x ≡ get_or bodies i x → take (i + 1) bodies ≡ take i bodies ++ x ∷ []
 more_of bodies i x lt is = take_more bodies i x lt ∙ ap (λ (y : List ℕ). take i bodies ++ y ∷ []) (sym is)
@@ -57,3 +57,33 @@ either_none false b h = (refl, h)
 -- the operands of one record more
 pub operands_more : (o : ℕ) (old operands new : List ℕ) → new ≡ old ++ operands → member o new ≡ false → (member o old ≡ false) × (member o operands ≡ false)
 operands_more o old operands new made out = either_none (member o old) (member o operands) (sym (list_any-append (λ p. o == p) old operands) ∙ ap (λ (l : List ℕ). member o l) (sym made) ∙ out)
+
+none_of_both : (a b : Bool) → a ≡ false → b ≡ false → (a || b) ≡ false
+none_of_both true b first second = absurd cc
+none_of_both false b first second = second
+
+-- none of the operands of one record more
+pub operands_none : (o : ℕ) (old operands new : List ℕ) → new ≡ old ++ operands → member o old ≡ false → member o operands ≡ false → member o new ≡ false
+operands_none o old operands new made out other =
+    ap (λ (l : List ℕ). member o l) made ∙ list_any-append (λ p. o == p) old operands ∙ none_of_both (member o old) (member o operands) out other
+
+-- Objects that no record has as an operand.
+
+pub untouched_parts : (o : ℕ) (xs ys : List (List ℕ)) → IsUntouched o (xs ++ ys) → IsUntouched o xs × IsUntouched o ys
+untouched_parts o [] ys un = (tt, un)
+untouched_parts o (x ∷ xs) ys un =
+    let parts = untouched_parts o xs ys un.1 in
+    ((un.0, parts.0), parts.1)
+
+pub touches_more : (bodies : List (List ℕ)) (i : ℕ) (x old new : List ℕ) → i < length bodies → x ≡ get_or bodies i x → ((o : ℕ) → IsUntouched o (take i bodies) → member o old ≡ false)
+    → ((o : ℕ) → Avoids o x → member o old ≡ false → member o new ≡ false) → (o : ℕ) → IsUntouched o (take (i + 1) bodies) → member o new ≡ false
+touches_more bodies i x old new lt is so_far one o un =
+    let parts = untouched_parts o (take i bodies) (x ∷ []) (subst (IsUntouched o) (more_of bodies i x lt is) un) in
+    one o parts.1.0 (so_far o parts.0)
+
+pub touches_all : (bodies : List (List ℕ)) (i : ℕ) (ids : List ℕ) → i ≡ length bodies → ((o : ℕ) → IsUntouched o (take i bodies) → member o ids ≡ false) → (o : ℕ) → IsUntouched o bodies → member o ids ≡ false
+touches_all bodies i ids all so_far o un = so_far o (subst (IsUntouched o) (sym (ap (λ (k : ℕ). take k bodies) all ∙ whole bodies)) un)
+  where
+    whole : (bs : List (List ℕ)) → take (length bs) bs ≡ bs
+    whole [] = refl
+    whole (b ∷ bs) = ap (λ (l : List (List ℕ)). b ∷ l) (whole bs)

@@ -1,14 +1,16 @@
 -- What a disk is read back as.
-use Rattle.std.specs.Prelude.{◌≡◌, ◌⊎◌, ℕ, true, List, length}
+use Rattle.std.specs.Prelude.{◌≡◌, ◌⊎◌, ℕ, true, false, List, length}
 use Rattle.std.specs.Int.{w32, to_be_bytes}
 use Rattle.ec_disk.specs.Disk.{View, part}
 use Rattle.ec_codes.specs.Formats.{StandsAt}
+use Rattle.ec_volume.specs.Update.{member}
 use Rattle.ec_durable.specs.declared.state.Durable.{Durable}
 use Rattle.ec_journal.specs.Records.{records}
 use Rattle.ec_table.specs.Codes.{table_code, described}
 use Rattle.ec_table.specs.declared.table.Version.{Version}
+use Rattle.ec_table.specs.declared.table.Version.TheVariants.{One}
 use Rattle.ec_stands.specs.Stands.{side_in, table_part, HasGoodHead, AreSpelled, StepsTo, StandsFor, IsBadAt, IsReadBack}
-use Rattle.ec_store.specs.Replay.{Spares}
+use Rattle.ec_store.specs.Replay.{Spares, IsUntouched}
 use Rattle.ec_store.specs.declared.opening.Checkpoint.{Checkpoint}
 use Rattle.ec_store.specs.declared.opening.Opened.{Opened}
 
@@ -32,6 +34,11 @@ pub record IsOpened (image : List ℕ) (opened : Opened) : Type 0 where
   pub ends : opened.end ≡ length (records bodies)
   pub steps : StepsTo bodies base opened.state
   pub spares : Spares opened.ids.items base opened.state
+  pub touches : (o : ℕ) → IsUntouched o bodies → member o opened.ids.items ≡ false
+
+-- a disk of version 1, which an opening brings to version 2
+abbrev pub IsOlder : List ℕ → Type 0
+IsOlder image = (places : List (ℕ × ℕ)) × (base : Durable) × (bodies : List (List ℕ)) × IsReadBack image One places base bodies
 
 -- a crash might have left this image, or it stands for the state that a read gave
 abbrev pub WasLeftOrStands : View → List ℕ → Type 0

@@ -1,5 +1,5 @@
 -- Records that are carried out again.
-use Rattle.std.specs.Prelude.{◌≡◌, ◌+◌, ℕ, false, List, ◌∷◌, ◌++◌, length, Ok}
+use Rattle.std.specs.Prelude.{◌≡◌, ◌+◌, ℕ, false, List, [], ◌∷◌, ◌++◌, length, Ok}
 use Rattle.ec_volume.specs.Update.{member}
 use Rattle.ec_volume.specs.Volume.{images}
 use Rattle.ec_durable.specs.declared.state.Durable.{Durable}
@@ -8,6 +8,7 @@ use Rattle.ec_durable.specs.Codes.{said}
 use Rattle.ec_durable.specs.Durable.{step}
 use Rattle.ec_journal.specs.Records.{records}
 use Rattle.ec_stands.specs.Stands.{StepsTo, IsRefused}
+use Rattle.ec_store.specs.Places.{touched}
 
 -- the record of a body steps one state to the other
 abbrev pub Steps : List ℕ → Durable → Durable → Type 0
@@ -27,3 +28,12 @@ pub record HasRefused (at : ℕ) (d : Durable) (bodies : List (List ℕ)) (place
   pub steps : StepsTo before d mid
   pub gate : place ≡ at + length (records before)
   pub refused : IsRefused body mid
+
+-- the record of a body hasn't this object as an operand
+abbrev pub Avoids : ℕ → List ℕ → Type 0
+Avoids o body = (r : Record) → said body ≡ Ok r → member o (touched r) ≡ false
+
+-- none of the records of these bodies has
+abbrev pub IsUntouched : ℕ → List (List ℕ) → Type 0
+IsUntouched o [] = Unit {0}
+IsUntouched o (body ∷ bodies) = Avoids o body × IsUntouched o bodies

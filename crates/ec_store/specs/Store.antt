@@ -1,7 +1,10 @@
 -- When a disk holds what a store has.
-use Rattle.std.specs.Prelude.{◌≡◌, ◌⊎◌, ℕ, true, false, List, Ok, Some}
+use Rattle.std.specs.Prelude.{◌≡◌, ◌⊎◌, ◌<◌, ◌≤◌, ℕ, true, false, List, [], ◌∷◌, Ok, Option, Some}
 use Rattle.ec_base.specs.Tables.{at}
+use Rattle.ec_disk.specs.Calls.{Call}
 use Rattle.ec_disk.specs.Disk.{View}
+use Rattle.ec_disk.specs.declared.disk.DiskAnswer.TheVariants as said
+use Rattle.ec_journal.specs.Ends.{EndsBy, TurnedUpTo}
 use Rattle.ec_volume.specs.Image.{is_gone}
 use Rattle.ec_volume.specs.Update.{member}
 use Rattle.ec_volume.specs.Volume.{images}
@@ -16,6 +19,7 @@ use Rattle.ec_layout.specs.Layout.{Layout, IsFree, IsAmong}
 use Rattle.ec_layout.specs.Selected.{IsOn}
 use Rattle.ec_layout.specs.declared.selected.Selected.{Selected}
 use Rattle.ec_stands.specs.Stands.{slot_code, IsCheckpointIn, StepsTo, StandsFor}
+use Rattle.ec_store.specs.Replay.{IsUntouched}
 use Rattle.ec_store.specs.declared.store.Store.{Store}
 
 -- No slot but the named ones has an image, and those that are kept have those that the objects have now.
@@ -33,6 +37,8 @@ pub record HoldsIn (v : Version) (now : View) (selected : Selected) (named : Lis
   pub steps : StepsTo layout.bodies base state
   pub formed : WellFormed state
   pub keeps : KeepsImages layout.slots named kept state.volume
+  -- in the version that is written, each slot that the table names is kept whose object no record has as an operand
+  pub rest : v ≡ Two → (o s : ℕ) → at o places ≡ Some s → IsUntouched o layout.bodies → at o kept ≡ Some s
 
 abbrev pub Holds : View → Selected → List ℕ → List (ℕ × ℕ) → Durable → Type 0
 Holds now selected named kept state = HoldsIn Two now selected named kept state
@@ -48,3 +54,15 @@ view_of store = store.state
 -- an image stands for the state before a record, or for the stepped one
 abbrev pub StandsForEither : Record → Durable → List ℕ → Type 0
 StandsForEither r d image = StandsFor image d ⊎ ((e : Durable) × (step r d ≡ Ok e) × StandsFor image e)
+
+-- How many reads, writes and syncs of an armed disk a commit made: four where the journal has room, and else those of a checkpoint and
+-- four more. Where it stopped, they go up to the one that stops.
+pub record CommitTurns (need free : ℕ) (old new : Option ℕ) (Going Stopping : Type 0) : Type 0 where
+  pub most : ℕ
+  pub turned : TurnedUpTo most old new Going Stopping
+  pub room : need ≤ free → most ≡ 4
+  pub no_room : free < need → 9 ≤ most
+
+-- behind a want of memory no call was made, or the disk itself lacked it in the last one
+abbrev pub LacksMemory : {D : Type 0} → (D → Call → D → Type 0) → D → D → Type 0
+LacksMemory does old new = (new ≡ old) ⊎ ((most : ℕ) × EndsBy does said.NoMemory most old new)

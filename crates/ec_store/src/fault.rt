@@ -81,6 +81,7 @@ pub(crate) fn done(answer: DiskAnswer) -> Result<(), StoreFault>
     ensures not_done { OnErr result (answer ≡ said.Done → ⊥) }
     ensures failed { IsErrOf result fault.DiskFailed → answer ≡ said.Failed }
     ensures stopped { IsErrOf result fault.DiskStopped → answer ≡ said.Stopped }
+    ensures no_memory { IsErrOf result fault.NoMemory → answer ≡ said.NoMemory }
     ensures disk { IsDiskFault result }
 {
     match answer {

@@ -9,7 +9,7 @@ ghost use Rattle.ec_durable.specs.declared.record.RecordFault.TheVariants as ref
 ghost use Rattle.ec_journal.specs.Records.{records};
 ghost use Rattle.ec_layout.specs.Places.{journal_bytes};
 ghost use Rattle.ec_stands.specs.Stands.{StepsTo, IsRefused};
-ghost use Rattle.ec_store.specs.Replay.{Steps, Spares, HasRefused};
+ghost use Rattle.ec_store.specs.Replay.{Steps, Spares, Avoids, IsUntouched, HasRefused};
 ghost use Rattle.ec_store.specs.declared.fault.StoreFault.TheVariants as fault;
 
 use crate::fault::StoreFault;
@@ -37,6 +37,7 @@ pub(crate) fn replay(
     ensures steps { OnOk result (StepsTo bodies.now state.old state.new) }
     ensures formed { OnOk result (WellFormed state.new) }
     ensures spares { IfOk result (λ ids. Spares ids.items state.old state.new) }
+    ensures touches { IfOk result (λ ids. (o : ℕ) → IsUntouched o bodies.now → member o ids.items ≡ false) }
     ensures bad { (p : ℕ) → IsErrOf result (fault.BadDisk p) → length (records bodies.now) < journal_bytes → HasRefused at state.old bodies.now p }
     ensures no_disk { IsErrOf result fault.DiskFailed → ⊥ }
     ensures no_stop { IsErrOf result fault.DiskStopped → ⊥ }
@@ -63,6 +64,7 @@ fn replay_one(
     ensures ok { OnOk result (Steps body.now state.old state.new) }
     ensures formed { OnOk result (WellFormed state.new) }
     ensures spares { OnOk result ((o : ℕ) → member o ids.new.items ≡ false → (member o ids.old.items ≡ false) × (images state.new.volume o ≡ images state.old.volume o)) }
+    ensures touches { OnOk result ((o : ℕ) → Avoids o body.now → member o ids.old.items ≡ false → member o ids.new.items ≡ false) }
     ensures bad { (p : ℕ) → IsErrOf result (fault.BadDisk p) → (p ≡ gate) × IsRefused body.now state.old }
     ensures no_disk { IsErrOf result fault.DiskFailed → ⊥ }
     ensures no_stop { IsErrOf result fault.DiskStopped → ⊥ }

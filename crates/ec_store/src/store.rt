@@ -1,13 +1,15 @@
 // Records are committed: each is on the disk whole, or not at all.
-ghost use Rattle.std.specs.Prelude.{◌≡◌, ◌≤◌, ℕ, None, if◌then◌else◌, length, OnOk, IsErrOf};
+ghost use Rattle.std.specs.Prelude.{◌≡◌, ◌≤◌, ℕ, None, if◌then◌else◌, length, OnOk, OnErr, IsOk, IsErrOf};
 ghost use Rattle.ec_base.specs.Tables.{at};
 ghost use Rattle.ec_volume.specs.Update.{member};
 ghost use Rattle.ec_volume.specs.Volume.{WellFormed, images};
 ghost use Rattle.ec_durable.specs.WellFormed.{IsInOrder};
 ghost use Rattle.ec_disk.specs.Disk.{IsSynced, LeavesOnly, Counted, Called};
+ghost use Rattle.ec_disk.specs.declared.disk.DiskAnswer.TheVariants as said;
+ghost use Rattle.ec_journal.specs.Ends.{EndsBy, TurnedUpTo};
 ghost use Rattle.ec_journal.specs.Records.{max_record_bytes};
 ghost use Rattle.ec_journal.specs.Journal.{need_of};
-ghost use Rattle.ec_layout.specs.Layout.{Layout};
+ghost use Rattle.ec_layout.specs.Layout.{Layout, Lies};
 ghost use Rattle.ec_layout.specs.Appends.{with_body, LeavesBody};
 ghost use Rattle.ec_layout.specs.Selected.{IsOn, free_now};
 ghost use Rattle.ec_store.specs.Faults.{IsDiskFault};
@@ -21,6 +23,7 @@ use crate::stepping::step;
 use ec_base::{Duplicate, NoMemory, ObjId, SortedMap};
 use ec_disk::Disk;
 use ec_durable::{Durable, Record, encode};
+use ec_journal::Staged;
 use ec_layout::{Selected, Side, prepare, write_head};
 use ec_table::Version;
 use std::alloc::Global;
@@ -55,11 +58,12 @@ impl Drop for Store {
 }
 
 impl Store {
-    ghost use Rattle.std.specs.Prelude.{◌≡◌, ◌⊎◌, ◌<◌, ◌≤◌, ◌+◌, ℕ, Ok, Err, Some, true, false, List, length, IfOk, OnOk, IsErrOf};
+    ghost use Rattle.std.specs.Prelude.{◌≡◌, ◌⊎◌, ◌<◌, ◌≤◌, ◌+◌, ℕ, Ok, Err, None, Some, true, false, if◌then◌else◌, List, length, IfOk, OnOk, OnErr, IsOk, IsErrOf};
     ghost use Rattle.ec_base.specs.Tables.{at};
     ghost use Rattle.ec_sessions.specs.Limits.{ids_per_grant};
     ghost use Rattle.ec_sessions.specs.declared.slot.Slot.{Slot};
-    ghost use Rattle.ec_disk.specs.Disk.{IsSynced, LeavesOnly, Counted, Called};
+    ghost use Rattle.ec_disk.specs.Disk.{IsSynced, Rests, LeavesOnly, Counted, Called};
+    ghost use Rattle.ec_journal.specs.Ends.{TurnedUpTo};
     ghost use Rattle.ec_journal.specs.Journal.{need_of};
     ghost use Rattle.ec_volume.specs.Image.{is_gone};
     ghost use Rattle.ec_volume.specs.Update.{member};
@@ -76,16 +80,17 @@ impl Store {
     ghost use Rattle.std.specs.Ordering.{nat_cmp};
     ghost use Rattle.std.specs.FinMap.{is_sorted};
     ghost use Rattle.ec_table.specs.Codes.{numbers_in};
+    ghost use Rattle.ec_table.specs.declared.table.Version.TheVariants as version;
     ghost use Rattle.ec_layout.specs.Places.{journal_bytes};
     ghost use Rattle.ec_layout.specs.Selected.{IsSelected};
     ghost use Rattle.ec_layout.specs.Traces.{LeavesSinceSync, SyncsFirst};
     ghost use Rattle.ec_stands.specs.Stands.{StandsFor, IsBadAt};
     ghost use Rattle.ec_store.specs.declared.fault.StoreFault.{StoreFault};
-    ghost use Rattle.ec_store.specs.Opening.{IsOpened, WasLeftOrStands, IsSameOrStands, IsBadOrStands};
+    ghost use Rattle.ec_store.specs.Opening.{IsOpened, IsOlder, WasLeftOrStands, IsSameOrStands, IsBadOrStands};
     ghost use Rattle.ec_store.specs.declared.fault.StoreFault.TheVariants as fault;
     ghost use Rattle.ec_store.specs.Places.{touched};
     ghost use Rattle.ec_store.specs.Plan.{PlansFor};
-    ghost use Rattle.ec_store.specs.Store.{IsHeld, StandsForEither, view_of};
+    ghost use Rattle.ec_store.specs.Store.{IsHeld, StandsForEither, CommitTurns, LacksMemory, view_of};
 
     /// The state.
     pub fn view(&self) -> &Durable
@@ -160,6 +165,8 @@ impl Store {
         ensures unchanged { (place : ℕ) → IsErrOf result (fault.BadDisk place) → D.tells → (D.view disk.new).gives ≡ (D.view disk.old).gives }
         // Each image that a crash since might leave is one that it might have left before, or stands for the state that the disk stood for.
         ensures any_moment { D.tells → LeavesOnly (D.view disk.old) (D.view disk.new) (WasLeftOrStands (D.view disk.old)) }
+        // On a disk that isn't of version 1 no call writes.
+        ensures quiet { D.tells → (IsOlder (D.view disk.old).gives → ⊥) → Rests (D.view disk.old) (D.view disk.new) }
         // The first call is a sync. Each image that a crash since then might leave is the one that was there, or stands for the same state.
         ensures sync_first { D.tells → SyncsFirst D.does D.view (IsSameOrStands (D.view disk.old).gives) disk.old disk.new }
         ensures no_refusal { (f : RecordFault) → IsErrOf result (fault.Refused f) → ⊥ }
@@ -178,6 +185,7 @@ impl Store {
         ensures bad { (place : ℕ) → IsErrOf result (fault.BadDisk place) → D.tells → IsBadAt (D.view disk.old).gives place }
         ensures unchanged { (place : ℕ) → IsErrOf result (fault.BadDisk place) → D.tells → (D.view disk.new).gives ≡ (D.view disk.old).gives }
         ensures any_moment { D.tells → LeavesOnly (D.view disk.old) (D.view disk.new) (IsSameOrStands (D.view disk.old).gives) }
+        ensures quiet { D.tells → (IsOlder (D.view disk.old).gives → ⊥) → Rests (D.view disk.old) (D.view disk.new) }
         ensures no_refusal { (f : RecordFault) → IsErrOf result (fault.Refused f) → ⊥ }
         ensures counts { Counted (D.counts disk.old) (D.counts disk.new) (IsErrOf result fault.DiskFailed) (IsErrOf result fault.DiskStopped) }
     {
@@ -197,6 +205,7 @@ impl Store {
     // The store of a disk of version 1: a checkpoint writes each image in version 2 to a slot that isn't named.
     fn renewed<D: Disk>(alloc: Global, disk: &mut D, opened: Opened) -> Result<Store, StoreFault>
         requires synced { D.tells → IsSynced (D.view disk.old) }
+        requires older { opened.version ≡ version.One }
         requires is { D.tells → IsOpened (D.view disk.old).gives opened }
         requires formed { states.WellFormed opened.state }
         requires places { ArePlaces opened.state.max_objects (numbers_in opened.places.items) opened.places.items }
@@ -236,7 +245,7 @@ impl Store {
         requires end { opened.end < journal_bytes }
         ensures view { IfOk result (λ store. view_of store ≡ opened.state) }
         ensures parts { IfOk result (λ store. (store.named.items ≡ numbers_in opened.places.items) × IsSelected opened.side opened.end store.selected) }
-        ensures kept { IfOk result (λ store. (o slot : ℕ) → at o store.kept ≡ Some slot → (at o opened.places.items ≡ Some slot) × (member o opened.ids.items ≡ false)) }
+        ensures kept { IfOk result (λ store. (o : ℕ) → at o store.kept ≡ (if member o opened.ids.items then None else at o opened.places.items)) }
         ensures no_memory { (f : StoreFault) → IsErrOf result f → f ≡ fault.NoMemory }
     {
         let Opened {
@@ -261,8 +270,8 @@ impl Store {
     /// Steps the state by a record whose updates are sound, of which a batch has 1 to 64, and brings the record to the disk: by four calls
     /// where the journal has room, else by a checkpoint before them.
     ///
-    /// A record that is refused makes no call and changes nothing. After a fault of the disk, or want of memory, the record is there whole or
-    /// not at all, and what is shown may be neither: open the disk again.
+    /// A record that is refused makes no call and changes nothing. All memory is taken before the first call. After a fault of the disk, or
+    /// want of memory, the record is there whole or not at all, and what is shown may be neither: open the disk again.
     pub fn commit<D: Disk>(&mut self, disk: &mut D, change: &Record) -> Result<(), StoreFault>
         requires { is_sound_record change.now ≡ true }
         // The stepped state is shown, and the disk stands for it, whatever a crash leaves.
@@ -277,17 +286,22 @@ impl Store {
         ensures no_bad { (place : ℕ) → IsErrOf result (fault.BadDisk place) → ⊥ }
         ensures counts { Counted (D.counts disk.old) (D.counts disk.new) (IsErrOf result fault.DiskFailed) (IsErrOf result fault.DiskStopped) }
         ensures calls { OnOk result (need_of (record_code.spell change.now) ≤ free_now self.old.selected → Called 4 (D.counts disk.old) (D.counts disk.new)) }
+        ensures no_memory { IsErrOf result fault.NoMemory → LacksMemory D.does disk.old disk.new }
+        ensures turned { CommitTurns (need_of (record_code.spell change.now)) (free_now self.old.selected) (D.counts disk.old).armed (D.counts disk.new).armed (IsOk result) (IsErrOf result fault.DiskStopped) }
+        // Whichever call a fault came in, what was synced by then stands for the state before.
+        ensures old { OnErr result (D.tells → IsHeld (D.view disk.old) self.old → StandsFor (D.view disk.new).synced (view_of self.old)) }
         // A live object that neither this record nor one of the journal's names keeps its slot.
         ensures kept { OnOk result ((o slot : ℕ) → at o self.old.kept ≡ Some slot → is_gone (images (view_of self.old).volume o) ≡ false → member o (touched change.now) ≡ false → at o self.new.kept ≡ Some slot) }
     {
         let alloc = *self.kept.allocator();
         let body = encode(alloc, change)?;
         let ids = touched(alloc, change)?;
+        let entry = Staged::of(alloc, body.as_slice())?;
         if self.selected.has_room(body.as_slice()) {
-            self.add(disk, change, body.as_slice(), ids.as_slice())
+            self.add(disk, change, &entry, ids.as_slice())
         } else {
             let plan = self.plan_without(ids.as_slice())?;
-            self.turn_and_add(disk, change, body.as_slice(), ids.as_slice(), plan)
+            self.turn_and_add(disk, change, &entry, ids.as_slice(), plan)
         }
     }
 
@@ -296,15 +310,15 @@ impl Store {
         &mut self,
         disk: &mut D,
         change: &Record,
-        body: &[u8],
+        entry: &Staged,
         ids: &[ObjId],
     ) -> Result<(), StoreFault>
         requires sound { is_sound_record change.now ≡ true }
         requires fits { record_code.fits change.now ≡ true }
-        requires spelled { body.now ≡ record_code.spell change.now }
-        requires short { length body.now ≤ max_record_code }
+        requires spelled { entry.now ≡ record_code.spell change.now }
+        requires short { length entry.now ≤ max_record_code }
         requires ids { ids.now ≡ touched change.now }
-        requires room { need_of body.now ≤ free_now self.old.selected }
+        requires room { need_of entry.now ≤ free_now self.old.selected }
         ensures view { OnOk result (step change.now (view_of self.old) ≡ Ok (view_of self.new)) }
         ensures ok { OnOk result (D.tells → IsHeld (D.view disk.old) self.old → IsHeld (D.view disk.new) self.new) }
         ensures synced { OnOk result (D.tells → IsSynced (D.view disk.new)) }
@@ -314,11 +328,14 @@ impl Store {
         ensures no_bad { (place : ℕ) → IsErrOf result (fault.BadDisk place) → ⊥ }
         ensures counts { Counted (D.counts disk.old) (D.counts disk.new) (IsErrOf result fault.DiskFailed) (IsErrOf result fault.DiskStopped) }
         ensures calls { OnOk result (Called 4 (D.counts disk.old) (D.counts disk.new)) }
+        ensures no_memory { IsErrOf result fault.NoMemory → LacksMemory D.does disk.old disk.new }
+        ensures turned { TurnedUpTo 4 (D.counts disk.old).armed (D.counts disk.new).armed (IsOk result) (IsErrOf result fault.DiskStopped) }
+        ensures old { OnErr result (D.tells → IsHeld (D.view disk.old) self.old → StandsFor (D.view disk.new).synced (view_of self.old)) }
         ensures kept { OnOk result ((o slot : ℕ) → at o self.old.kept ≡ Some slot → is_gone (images (view_of self.old).volume o) ≡ false → member o (touched change.now) ≡ false → at o self.new.kept ≡ Some slot) }
     {
         let alloc = *self.kept.allocator();
         step(alloc, &mut self.state, change, ids)?;
-        append(&mut self.selected, alloc, disk, body)?;
+        append(&mut self.selected, disk, entry)?;
         forget(&mut self.kept, ids);
         Ok(())
     }
@@ -342,15 +359,15 @@ impl Store {
         &mut self,
         disk: &mut D,
         change: &Record,
-        body: &[u8],
+        entry: &Staged,
         ids: &[ObjId],
         plan: Plan,
     ) -> Result<(), StoreFault>
         requires plan { PlansFor self.old.state self.old.named.items self.old.kept ids.now plan }
         requires sound { is_sound_record change.now ≡ true }
         requires fits { record_code.fits change.now ≡ true }
-        requires spelled { body.now ≡ record_code.spell change.now }
-        requires short { length body.now ≤ max_record_code }
+        requires spelled { entry.now ≡ record_code.spell change.now }
+        requires short { length entry.now ≤ max_record_code }
         requires ids { ids.now ≡ touched change.now }
         ensures view { OnOk result (step change.now (view_of self.old) ≡ Ok (view_of self.new)) }
         ensures ok { OnOk result (D.tells → IsHeld (D.view disk.old) self.old → IsHeld (D.view disk.new) self.new) }
@@ -360,6 +377,9 @@ impl Store {
         ensures refuses { (f : RecordFault) → step change.now (view_of self.old) ≡ Err f → (disk.new ≡ disk.old) × (self.new ≡ self.old) × (IsErrOf result (fault.Refused f) ⊎ IsErrOf result fault.NoMemory) }
         ensures no_bad { (place : ℕ) → IsErrOf result (fault.BadDisk place) → ⊥ }
         ensures counts { Counted (D.counts disk.old) (D.counts disk.new) (IsErrOf result fault.DiskFailed) (IsErrOf result fault.DiskStopped) }
+        ensures no_memory { IsErrOf result fault.NoMemory → LacksMemory D.does disk.old disk.new }
+        ensures turned { TurnedUpTo (length plan.pieces.items + 9) (D.counts disk.old).armed (D.counts disk.new).armed (IsOk result) (IsErrOf result fault.DiskStopped) }
+        ensures old { OnErr result (D.tells → IsHeld (D.view disk.old) self.old → StandsFor (D.view disk.new).synced (view_of self.old)) }
         ensures kept { OnOk result ((o slot : ℕ) → at o self.old.kept ≡ Some slot → is_gone (images (view_of self.old).volume o) ≡ false → member o (touched change.now) ≡ false → at o self.new.kept ≡ Some slot) }
     {
         let alloc = *self.kept.allocator();
@@ -376,7 +396,7 @@ impl Store {
         }
         self.named = plan.named;
         self.kept = plan.kept;
-        append(&mut self.selected, alloc, disk, body)?;
+        append(&mut self.selected, disk, entry)?;
         forget(&mut self.kept, ids);
         Ok(())
     }
@@ -392,22 +412,20 @@ fn forget(kept: &mut SortedMap<ObjId, u32>, ids: &[ObjId])
 }
 
 // Adds a record to the selected journal, which has room.
-fn append<D: Disk>(
-    selected: &mut Selected,
-    alloc: Global,
-    disk: &mut D,
-    body: &[u8],
-) -> Result<(), StoreFault>
-    requires short { length body.now ≤ max_record_bytes }
-    requires room { need_of body.now ≤ free_now selected.old }
-    ensures ok { OnOk result (D.tells → (l : Layout) → IsOn (D.view disk.old) selected.old l → IsOn (D.view disk.new) selected.new (with_body body.now l)) }
-    ensures any_moment { D.tells → (l : Layout) → IsOn (D.view disk.old) selected.old l → LeavesOnly (D.view disk.old) (D.view disk.new) (LeavesBody l body.now) }
+fn append<D: Disk>(selected: &mut Selected, disk: &mut D, entry: &Staged) -> Result<(), StoreFault>
+    requires short { length entry.now ≤ max_record_bytes }
+    requires room { need_of entry.now ≤ free_now selected.old }
+    ensures ok { OnOk result (D.tells → (l : Layout) → IsOn (D.view disk.old) selected.old l → IsOn (D.view disk.new) selected.new (with_body entry.now l)) }
+    ensures any_moment { D.tells → (l : Layout) → IsOn (D.view disk.old) selected.old l → LeavesOnly (D.view disk.old) (D.view disk.new) (LeavesBody l entry.now) }
     ensures synced { OnOk result (D.tells → IsSynced (D.view disk.new)) }
     ensures calls { OnOk result (Called 4 (D.counts disk.old) (D.counts disk.new)) }
+    ensures no_memory { IsErrOf result fault.NoMemory → EndsBy D.does said.NoMemory 4 disk.old disk.new }
+    ensures turned { TurnedUpTo 4 (D.counts disk.old).armed (D.counts disk.new).armed (IsOk result) (IsErrOf result fault.DiskStopped) }
+    ensures old { OnErr result (D.tells → (l : Layout) → IsOn (D.view disk.old) selected.old l → Lies (D.view disk.new).synced l) }
     ensures disk { IsDiskFault result }
     ensures counts { Counted (D.counts disk.old) (D.counts disk.new) (IsErrOf result fault.DiskFailed) (IsErrOf result fault.DiskStopped) }
 {
-    match selected.append(alloc, disk, body) {
+    match selected.append(disk, entry) {
         Ok(()) => Ok(()),
         Err(fault) => Err(of_disk(fault)),
     }

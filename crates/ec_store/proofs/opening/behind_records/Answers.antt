@@ -5,7 +5,7 @@ use Rattle.ec_stands.specs.Stands.{IsBadAt, StepsTo}
 use Rattle.ec_store.specs.Places.{ArePlaces}
 use Rattle.std.specs.Prelude.{IsErrOf}
 use Rattle.ec_store.specs.declared.fault.StoreFault.TheVariants.{BadDisk}
-use Rattle.ec_store.specs.Replay.{HasRefused}
+use Rattle.ec_store.specs.Replay.{HasRefused, IsUntouched}
 use Rattle.ec_store.proofs.Holding.{steps_most}
 use Rattle.ec_store.proofs.Heads.{same_place}
 use Rattle.ec_store.proofs.ReadBack.{found_short, record_bad, past_bad, read_back}
@@ -38,6 +38,7 @@ returns-clause-opened c image side read found =
       ends = found.end;
       steps = subst (λ (bs : List (List ℕ)). StepsTo bs k.state c.replay-replayed.new.state) c.as_slice.ensures c.in-Ok.ensures.steps;
       spares = c.in-Ok.ensures.spares;
+      touches = λ o un. c.in-Ok.ensures.touches o (subst (IsUntouched o) (sym c.as_slice.ensures) un);
     }
 
 pub returns-clause-places : goal.returns-clause-places

@@ -1,9 +1,9 @@
-use Rattle.std.proofs.Common.{rules, arith, ℕ, List, length, ap, subst}
+use Rattle.std.proofs.Common.{rules, arith, ℕ, List, length, ap, sym, subst}
 use Rattle.ec_stands.specs.Stands.{IsRefused}
 use Rattle.std.specs.Prelude.{IsErrOf}
 use Rattle.ec_store.specs.declared.fault.StoreFault.TheVariants.{BadDisk}
-use Rattle.ec_store.specs.Replay.{Steps}
-use Rattle.ec_store.proofs.Replaying.{steps_so_far, spares_more, front_shorter, record_more, refused_at}
+use Rattle.ec_store.specs.Replay.{Steps, Avoids}
+use Rattle.ec_store.proofs.Replaying.{steps_so_far, spares_more, touches_more, front_shorter, record_more, refused_at}
 use Rattle.ec_store.proofs.replay.replay.Goals as goal
 
 pub bodies-preserved : goal.bodies-preserved
@@ -15,6 +15,8 @@ bodies-preserved c =
           (subst (λ (b : List ℕ). Steps b c.bodies.state c.replay_one.new.state) c.as_slice.ensures c.in_ok-replay_one.ensures.ok);
       formed = c.in_ok-replay_one.ensures.formed;
       spares = spares_more c.bodies.ids.items c.replay_one.new.ids.items c.args.state.now c.bodies.state c.replay_one.new.state inv.spares c.in_ok-replay_one.ensures.spares;
+      touches = touches_more c.args.bodies.now c.bodies.body-index x c.bodies.ids.items c.replay_one.new.ids.items c.bodies-test.true c.body-item.is inv.touches
+          (λ o avoids. c.in_ok-replay_one.ensures.touches o (subst (Avoids o) (sym c.as_slice.ensures) avoids));
       gate = λ lt. omega (arith, record_more c.args.bodies.now c.bodies.body-index x c.bodies-test.true c.body-item.is, inv.gate (omega (arith, lt, record_more c.args.bodies.now c.bodies.body-index x c.bodies-test.true c.body-item.is)), ap (λ (l : List ℕ). length l) c.as_slice-in-bodies.ensures, c.saturating_add-gate.ensures, lt, c.requires.place);
     }
 

@@ -3,7 +3,7 @@ use Rattle.ec_volume.specs.Update.{member}
 use Rattle.ec_durable.proofs.Kept.{below_kept}
 use Rattle.ec_stands.proofs.Volumes.{step_well}
 use Rattle.ec_store.proofs.Images.{step_images}
-use Rattle.ec_store.proofs.Replaying.{operands_more}
+use Rattle.ec_store.proofs.Replaying.{operands_more, operands_none}
 use Rattle.ec_store.specs.declared.fault.StoreFault.TheVariants.{BadDisk}
 use Rattle.ec_store.proofs.Heads.{same_fault}
 use Rattle.ec_store.proofs.Refusing.{no_code, not_stepped}
@@ -29,3 +29,7 @@ pub returns-clause-spares : goal.returns-clause-spares
 returns-clause-spares c o out =
     let m = operands_more o c.args.ids.now.items c.in-Ok-touched.operands.items c.extend_from_slice.new.self.items (search rules) out in
     (m.0, step_images c.in-Ok.change c.args.state.now c.step-stepped.new.state o c.in-Ok.ensures.sound.1 (ap (λ (l : List ℕ). member o l) (sym c.in-Ok-touched.ensures) ∙ m.1) (search rules))
+
+pub returns-clause-touches : goal.returns-clause-touches
+returns-clause-touches c o avoids out =
+    operands_none o c.args.ids.now.items c.in-Ok-touched.operands.items c.extend_from_slice.new.self.items (search rules) out (ap (λ (l : List ℕ). member o l) c.in-Ok-touched.ensures ∙ avoids c.in-Ok.change (search rules))

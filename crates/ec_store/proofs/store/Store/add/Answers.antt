@@ -1,13 +1,17 @@
-use Rattle.std.proofs.Common.{ℕ, List, ap, sym, subst, inl, ◌∙◌}
+use Rattle.std.proofs.Common.{rules, arith, ℕ, List, cond, None, ap, sym, subst, inl, inr, ◌∙◌}
+use Rattle.std.specs.Prelude.{IsErrOf}
 use Rattle.ec_base.specs.Tables.{at}
 use Rattle.ec_volume.specs.Update.{member}
 use Rattle.ec_durable.specs.CodeLaws.{sound_steps}
 use Rattle.ec_durable.proofs.Kept.{below_kept, step_kept}
 use Rattle.ec_store.specs.Places.{ArePlaces}
-use Rattle.ec_store.specs.Store.{StandsForEither}
+use Rattle.ec_layout.proofs.Calls.{turns_none, turns_within}
+use Rattle.ec_stands.specs.Stands.{StandsFor}
+use Rattle.ec_store.specs.Store.{Holds, StandsForEither}
+use Rattle.ec_store.specs.declared.fault.StoreFault.TheVariants as fault
 use Rattle.ec_store.proofs.Members.{left_kept}
 use Rattle.ec_store.proofs.Images.{step_most}
-use Rattle.ec_store.proofs.Holding.{leaves_none, held_stands, append_leaves, append_holds, fewer_places, still_formed}
+use Rattle.ec_store.proofs.Holding.{leaves_none, held_stands, held_lies, append_leaves, append_holds, fewer_places, still_formed}
 use Rattle.ec_store.proofs.Trying.{left_is}
 use Rattle.ec_store.proofs.store.Store.add.Goals as goal
 
@@ -36,7 +40,7 @@ invariant_of-self-in-Break-branch-2 g c =
 pub returns-in_err-append-clause-any_moment : goal.returns-in_err-append-clause-any_moment
 returns-in_err-append-clause-any_moment g c told held =
     let s = c.args.self.now in
-    append_leaves c.args.change.now c.args.body.now c.requires.fits c.requires.spelled (sound_steps c.args.change.now c.requires.sound) s.state c.step.new.state c.in_ok-step.ensures.ok (g.D.Disk.view c.args.disk.now) (g.D.Disk.view c.append.new.disk) s.selected s.named.items s.kept held (c.append.ensures.any_moment told)
+    append_leaves c.args.change.now c.args.entry.now c.requires.fits c.requires.spelled (sound_steps c.args.change.now c.requires.sound) s.state c.step.new.state c.in_ok-step.ensures.ok (g.D.Disk.view c.args.disk.now) (g.D.Disk.view c.append.new.disk) s.selected s.named.items s.kept held (c.append.ensures.any_moment told)
 
 pub invariant_of-self-2 : goal.invariant_of-self-2
 invariant_of-self-2 g c =
@@ -52,16 +56,41 @@ invariant_of-self-2 g c =
 pub returns-clause-ok : goal.returns-clause-ok
 returns-clause-ok g c told held =
     let s = c.args.self.now in
-    append_holds c.args.change.now c.args.body.now c.requires.fits c.requires.spelled (sound_steps c.args.change.now c.requires.sound) s.state c.step.new.state c.in_ok-step.ensures.ok (g.D.Disk.view c.args.disk.now) (g.D.Disk.view c.append.new.disk) s.selected s.named.items s.kept held c.append.new.selected c.forget.new.kept (c.in_ok-append.ensures.ok told)
-    (λ o slot found. let left = left_kept o slot (member o c.args.ids.now) (at o c.forget.new.kept) (at o s.kept) (c.forget.ensures o) found in (left.0, ap (λ (l : List ℕ). member o l) (sym c.requires.ids) ∙ left.1))
+    append_holds c.args.change.now c.args.entry.now c.requires.fits c.requires.spelled (sound_steps c.args.change.now c.requires.sound) s.state c.step.new.state c.in_ok-step.ensures.ok (g.D.Disk.view c.args.disk.now) (g.D.Disk.view c.append.new.disk) s.selected s.named.items s.kept held c.append.new.selected c.forget.new.kept (c.in_ok-append.ensures.ok told)
+    (λ o. c.forget.ensures o ∙ ap (λ (l : List ℕ). cond (member o l) None (at o s.kept)) c.requires.ids)
 
 pub returns-clause-any_moment : goal.returns-clause-any_moment
 returns-clause-any_moment g c told held =
     let s = c.args.self.now in
-    append_leaves c.args.change.now c.args.body.now c.requires.fits c.requires.spelled (sound_steps c.args.change.now c.requires.sound) s.state c.step.new.state c.in_ok-step.ensures.ok (g.D.Disk.view c.args.disk.now) (g.D.Disk.view c.append.new.disk) s.selected s.named.items s.kept held (c.append.ensures.any_moment told)
+    append_leaves c.args.change.now c.args.entry.now c.requires.fits c.requires.spelled (sound_steps c.args.change.now c.requires.sound) s.state c.step.new.state c.in_ok-step.ensures.ok (g.D.Disk.view c.args.disk.now) (g.D.Disk.view c.append.new.disk) s.selected s.named.items s.kept held (c.append.ensures.any_moment told)
 
 pub invariant_of-self : goal.invariant_of-self
 invariant_of-self g c =
     let s = c.args.self.now in
     let is = left_is s.named.items s.kept s.state c.step.new.state (s.formed, s.order, s.places) c.in_err-step.ensures.err in
     record { formed = is.0; order = is.1; places = is.2 }
+
+pub returns-in_err-step-clause-turned : goal.returns-in_err-step-clause-turned
+returns-in_err-step-clause-turned g c =
+    let a = (g.D.Disk.counts c.args.disk.now).armed in
+    turns_within 0 4 a a (Unit {0}) _ ⊥ _ (omega arith) (turns_none a (Unit {0})) (λ h. search rules) (λ t. search rules)
+
+pub returns-in_err-step-clause-old : goal.returns-in_err-step-clause-old
+returns-in_err-step-clause-old g c =
+    let s = c.args.self.now in
+    let now = g.D.Disk.view c.args.disk.now in
+    let stands : g.D.Disk.tells → Holds now s.selected s.named.items s.kept s.state → StandsFor now.synced s.state = λ told held. held_stands now s.selected s.named.items s.kept s.state held now.synced (g.met.D.Disk.given_synced told c.args.disk.now) in
+    search (rules, stands)
+
+pub returns-in_err-append-clause-no_memory : goal.returns-in_err-append-clause-no_memory
+returns-in_err-append-clause-no_memory g c is =
+    let same : IsErrOf c.append.result fault.NoMemory = search rules in
+    inr (4, c.append.ensures.no_memory same)
+
+pub returns-in_err-append-clause-old : goal.returns-in_err-append-clause-old
+returns-in_err-append-clause-old g c =
+    let s = c.args.self.now in
+    let now = g.D.Disk.view c.args.disk.now in
+    let new = g.D.Disk.view c.append.new.disk in
+    let stands : g.D.Disk.tells → Holds now s.selected s.named.items s.kept s.state → StandsFor new.synced s.state = λ told held. held_lies now s.selected s.named.items s.kept s.state held new.synced (λ l on. c.in_err-append.ensures.old told l on) in
+    search (rules, stands)

@@ -8,9 +8,9 @@ use Rattle.ec_store.proofs.Holding.{fewer_places}
 use Rattle.ec_store.proofs.store.Store.holding.Goals as goal
 
 pub returns-clause-kept : goal.returns-clause-kept
-returns-clause-kept c o slot found =
+returns-clause-kept c o =
     let d = c.args.opened in
-    left_kept o slot (member o d.ids.items) (at o c.forget.new.kept) (at o d.places.items) (c.forget.ensures o ∙ ap (λ (l : List ℕ). cond (member o l) None (at o c.of-kept.result)) c.as_slice-2.ensures.value ∙ ap (λ (l : List (ℕ × ℕ)). cond (member o d.ids.items) None (at o l)) c.of-kept.ensures) found
+    c.forget.ensures o ∙ ap (λ (l : List ℕ). cond (member o l) None (at o c.of-kept.result)) c.as_slice-2.ensures.value ∙ ap (λ (l : List (ℕ × ℕ)). cond (member o d.ids.items) None (at o l)) c.of-kept.ensures
 
 pub invariant_of-result : goal.invariant_of-result
 invariant_of-result c =

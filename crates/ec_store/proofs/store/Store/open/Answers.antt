@@ -1,7 +1,8 @@
 use Rattle.std.proofs.Common.{ℕ, List, subst, refl, ◌∙◌}
 use Rattle.ec_disk.specs.Disk.{LeavesOnly}
 use Rattle.ec_stands.specs.Stands.{IsBadAt}
-use Rattle.ec_store.specs.Opening.{IsSameOrStands}
+use Rattle.ec_store.specs.Opening.{IsOlder, IsSameOrStands}
+use Rattle.ec_store.proofs.Resting.{rests_then}
 use Rattle.ec_store.proofs.Opens.{rests_open, none_leaves, open_leaves, stood_before}
 use Rattle.ec_store.proofs.store.Store.open.Goals as goal
 
@@ -50,3 +51,10 @@ returns-clause-sync_first g c told =
       ends = λ other. absurd (other c.in_ok-done.ensures.ok);
       leaves = λ is. subst (λ (image : List ℕ). LeavesOnly mid new (IsSameOrStands image)) (c.sync.ensures.rests told).gives (c.open_synced.ensures.any_moment told);
     }
+
+pub returns-clause-quiet : goal.returns-clause-quiet
+returns-clause-quiet g c told not_older =
+    let old = g.D.Disk.view c.args.disk.now in
+    let mid = g.D.Disk.view c.sync.new.self in
+    rests_then old mid (g.D.Disk.view c.open_synced.new.disk) (λ t image le left. g.met.D.Disk.counts_now told c.args.disk.now t image le left) (c.sync.ensures.rests told)
+    (c.open_synced.ensures.quiet told (λ is. not_older (subst IsOlder (c.sync.ensures.rests told).gives is)))

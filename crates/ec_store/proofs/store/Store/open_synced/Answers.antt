@@ -2,7 +2,7 @@ use Rattle.std.proofs.Common.{rules, refl}
 use Rattle.std.specs.Prelude.{IsErrOf}
 use Rattle.ec_store.specs.declared.fault.StoreFault.TheVariants.{BadDisk}
 use Rattle.ec_store.proofs.Resting.{rests_synced}
-use Rattle.ec_store.proofs.Opens.{still_stands, is_held, same_leaves, renewed_opens, opened_there}
+use Rattle.ec_store.proofs.Opens.{still_stands, is_held, same_leaves, renewed_opens, opened_there, is_older}
 use Rattle.ec_store.proofs.store.Store.open_synced.Goals as goal
 
 pub returns-in_err-opened-clause-unchanged : goal.returns-in_err-opened-clause-unchanged
@@ -62,3 +62,12 @@ pub returns-in_err-opened-clause-bad : goal.returns-in_err-opened-clause-bad
 returns-in_err-opened-clause-bad g c place is told =
     let one : IsErrOf c.read_back.result (BadDisk place) = search rules in
     c.read_back.ensures.bad place one told
+
+pub renewed-requires-clause-older : goal.renewed-requires-clause-older
+renewed-requires-clause-older g c = c.in-One.is
+
+pub returns-in_err-store-in-One-clause-quiet : goal.returns-in_err-store-in-One-clause-quiet
+returns-in_err-store-in-One-clause-quiet g c told not_older = absurd (not_older (is_older (g.D.Disk.view c.args.disk.now).gives c.in_ok-opened.opened c.in-One.is (c.in_ok-opened.ensures.opened told)))
+
+pub returns-in_ok-store-in-One-clause-quiet : goal.returns-in_ok-store-in-One-clause-quiet
+returns-in_ok-store-in-One-clause-quiet g c told not_older = absurd (not_older (is_older (g.D.Disk.view c.args.disk.now).gives c.in_ok-opened.opened c.in-One.is (c.in_ok-opened.ensures.opened told)))

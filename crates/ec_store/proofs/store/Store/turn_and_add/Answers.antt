@@ -1,4 +1,9 @@
-use Rattle.std.proofs.Common.{◌≡◌, ℕ, List, false, Some, ap, sym, subst, inl, ◌∙◌, ◌*◌}
+use Rattle.std.proofs.Common.{rules, arith, ◌≡◌, ◌+◌, ℕ, List, length, cond, false, None, Some, ap, sym, subst, inl, inr, ◌∙◌, ◌*◌, IsOk, IsErrOf}
+use Rattle.ec_disk.specs.declared.disk.DiskAnswer.TheVariants as said
+use Rattle.ec_journal.specs.Ends.{EndsBy, ends_later, turns_for}
+use Rattle.ec_layout.proofs.Calls.{turns_none, turns_within, turns_then}
+use Rattle.ec_stands.specs.Stands.{StandsFor}
+use Rattle.ec_store.specs.declared.fault.StoreFault.TheVariants as fault
 use Rattle.ec_base.specs.Tables.{at}
 use Rattle.ec_disk.specs.Runs.{leaves_then}
 use Rattle.ec_volume.specs.Update.{member}
@@ -11,12 +16,12 @@ use Rattle.ec_layout.specs.Pieces.{AreApart, pieces_of}
 use Rattle.ec_layout.specs.Places.{other}
 use Rattle.ec_layout.specs.Selected.{side_now}
 use Rattle.ec_store.specs.Places.{ArePlaces}
-use Rattle.ec_store.specs.Store.{StandsForEither}
+use Rattle.ec_store.specs.Store.{Holds, StandsForEither}
 use Rattle.ec_store.proofs.Members.{left_kept, keeps_left}
 use Rattle.ec_store.proofs.Images.{step_most}
 use Rattle.ec_store.proofs.Placing.{placed_keeps}
-use Rattle.ec_store.proofs.Holding.{leaves_none, held_stands, append_leaves, append_holds, fewer_places, still_formed}
-use Rattle.ec_store.proofs.Planning.{pieces_stand_apart, new_places_are, plan_leaves_either, plan_holds}
+use Rattle.ec_store.proofs.Holding.{leaves_none, held_stands, held_lies, append_leaves, append_holds, fewer_places, still_formed}
+use Rattle.ec_store.proofs.Planning.{pieces_stand_apart, new_places_are, plan_leaves_either, plan_lies, plan_holds}
 use Rattle.ec_store.proofs.Trying.{left_is}
 use Rattle.ec_store.proofs.store.Store.turn_and_add.Goals as goal
 
@@ -103,7 +108,7 @@ returns-in_err-append-clause-any_moment g c told held =
     let there = plan_holds s.state s.named.items p.kept s.order are c.args.plan p.is Two p.spelled p.fits old s.selected s.kept fewer held mid c.checkpoint-turned.new.self (λ l m follows on. c.checkpoint-turned.ensures.done told c.in_default-done.ensures.ok l m (subst (λ t. Follows (other (side_now s.selected)) t (pieces_of c.as_slice.result.now) l m) (sym c.as_slice-2.ensures.value) (subst (λ ps. Follows (other (side_now s.selected)) c.args.plan.table.items (pieces_of ps) l m) (sym c.as_slice.ensures.value) follows)) on) in
     leaves_then (StandsForEither c.args.change.now s.state) old mid new
     (plan_leaves_either s.state s.named.items p.kept s.order are c.args.plan p.is Two p.spelled p.fits old s.selected s.kept fewer held c.args.change.now mid (λ l m follows on. c.checkpoint-turned.ensures.any_moment told l m (subst (λ t. Follows (other (side_now s.selected)) t (pieces_of c.as_slice.result.now) l m) (sym c.as_slice-2.ensures.value) (subst (λ ps. Follows (other (side_now s.selected)) c.args.plan.table.items (pieces_of ps) l m) (sym c.as_slice.ensures.value) follows)) on))
-    (append_leaves c.args.change.now c.args.body.now c.requires.fits c.requires.spelled sound s.state c.step.new.state c.in_default.ensures.ok mid new c.checkpoint-turned.new.self c.args.plan.named.items c.args.plan.kept there (c.append.ensures.any_moment told))
+    (append_leaves c.args.change.now c.args.entry.now c.requires.fits c.requires.spelled sound s.state c.step.new.state c.in_default.ensures.ok mid new c.checkpoint-turned.new.self c.args.plan.named.items c.args.plan.kept there (c.append.ensures.any_moment told))
 
 pub returns-clause-any_moment : goal.returns-clause-any_moment
 returns-clause-any_moment g c told held =
@@ -118,7 +123,7 @@ returns-clause-any_moment g c told held =
     let there = plan_holds s.state s.named.items p.kept s.order are c.args.plan p.is Two p.spelled p.fits old s.selected s.kept fewer held mid c.checkpoint-turned.new.self (λ l m follows on. c.checkpoint-turned.ensures.done told c.in_default-done.ensures.ok l m (subst (λ t. Follows (other (side_now s.selected)) t (pieces_of c.as_slice.result.now) l m) (sym c.as_slice-2.ensures.value) (subst (λ ps. Follows (other (side_now s.selected)) c.args.plan.table.items (pieces_of ps) l m) (sym c.as_slice.ensures.value) follows)) on) in
     leaves_then (StandsForEither c.args.change.now s.state) old mid new
     (plan_leaves_either s.state s.named.items p.kept s.order are c.args.plan p.is Two p.spelled p.fits old s.selected s.kept fewer held c.args.change.now mid (λ l m follows on. c.checkpoint-turned.ensures.any_moment told l m (subst (λ t. Follows (other (side_now s.selected)) t (pieces_of c.as_slice.result.now) l m) (sym c.as_slice-2.ensures.value) (subst (λ ps. Follows (other (side_now s.selected)) c.args.plan.table.items (pieces_of ps) l m) (sym c.as_slice.ensures.value) follows)) on))
-    (append_leaves c.args.change.now c.args.body.now c.requires.fits c.requires.spelled sound s.state c.step.new.state c.in_default.ensures.ok mid new c.checkpoint-turned.new.self c.args.plan.named.items c.args.plan.kept there (c.append.ensures.any_moment told))
+    (append_leaves c.args.change.now c.args.entry.now c.requires.fits c.requires.spelled sound s.state c.step.new.state c.in_default.ensures.ok mid new c.checkpoint-turned.new.self c.args.plan.named.items c.args.plan.kept there (c.append.ensures.any_moment told))
 
 pub returns-clause-ok : goal.returns-clause-ok
 returns-clause-ok g c told held =
@@ -131,8 +136,8 @@ returns-clause-ok g c told held =
     let mid = g.D.Disk.view c.checkpoint-turned.new.disk in
     let new = g.D.Disk.view c.append.new.disk in
     let there = plan_holds s.state s.named.items p.kept s.order are c.args.plan p.is Two p.spelled p.fits old s.selected s.kept fewer held mid c.checkpoint-turned.new.self (λ l m follows on. c.checkpoint-turned.ensures.done told c.in_default-done.ensures.ok l m (subst (λ t. Follows (other (side_now s.selected)) t (pieces_of c.as_slice.result.now) l m) (sym c.as_slice-2.ensures.value) (subst (λ ps. Follows (other (side_now s.selected)) c.args.plan.table.items (pieces_of ps) l m) (sym c.as_slice.ensures.value) follows)) on) in
-    append_holds c.args.change.now c.args.body.now c.requires.fits c.requires.spelled sound s.state c.step.new.state c.in_default.ensures.ok mid new c.checkpoint-turned.new.self c.args.plan.named.items c.args.plan.kept there c.append.new.selected c.forget.new.kept (c.in_ok-append.ensures.ok told)
-    (λ o slot found. let left = left_kept o slot (member o c.args.ids.now) (at o c.forget.new.kept) (at o c.args.plan.kept) (c.forget.ensures o) found in (left.0, ap (λ (l : List ℕ). member o l) (sym c.requires.ids) ∙ left.1))
+    append_holds c.args.change.now c.args.entry.now c.requires.fits c.requires.spelled sound s.state c.step.new.state c.in_default.ensures.ok mid new c.checkpoint-turned.new.self c.args.plan.named.items c.args.plan.kept there c.append.new.selected c.forget.new.kept (c.in_ok-append.ensures.ok told)
+    (λ o. c.forget.ensures o ∙ ap (λ (l : List ℕ). cond (member o l) None (at o c.args.plan.kept)) c.requires.ids)
 
 pub returns-clause-kept : goal.returns-clause-kept
 returns-clause-kept g c o slot found live out =
@@ -148,3 +153,79 @@ invariant_of-self g c =
     let s = c.args.self.now in
     let is = left_is s.named.items s.kept s.state c.step.new.state (s.formed, s.order, s.places) c.in-Err.ensures.err in
     record { formed = is.0; order = is.1; places = is.2 }
+
+pub returns-in-Err-clause-turned : goal.returns-in-Err-clause-turned
+returns-in-Err-clause-turned g c =
+    let a = (g.D.Disk.counts c.args.disk.now).armed in
+    turns_within 0 (length c.args.plan.pieces.items + 9) a a (Unit {0}) _ ⊥ _ (omega arith) (turns_none a (Unit {0})) (λ h. search rules) (λ t. search rules)
+
+pub returns-in-Err-clause-old : goal.returns-in-Err-clause-old
+returns-in-Err-clause-old g c told held =
+    let s = c.args.self.now in
+    let now = g.D.Disk.view c.args.disk.now in
+    held_stands now s.selected s.named.items s.kept s.state held now.synced (g.met.D.Disk.given_synced told c.args.disk.now)
+
+pub returns-in-Err-done-clause-no_memory : goal.returns-in-Err-done-clause-no_memory
+returns-in-Err-done-clause-no_memory g c is =
+    let same : c.checkpoint-turned.result ≡ said.NoMemory = search rules in
+    let n = length c.as_slice.result.now + 5 in
+    inr (n, subst (λ a. EndsBy g.D.Disk.does a n c.args.disk.now c.checkpoint-turned.new.disk) same (c.checkpoint-turned.ensures.ends c.in-Err-done.ensures.not_done))
+
+pub returns-in-Err-done-clause-turned : goal.returns-in-Err-done-clause-turned
+returns-in-Err-done-clause-turned g c =
+    let a = (g.D.Disk.counts c.args.disk.now).armed in
+    let b = (g.D.Disk.counts c.checkpoint-turned.new.disk).armed in
+    turns_within (length c.as_slice.result.now + 5) (length c.args.plan.pieces.items + 9) a b (c.checkpoint-turned.result ≡ said.Done) _ (c.checkpoint-turned.result ≡ said.Stopped) _
+    (omega (arith, ap length c.as_slice.ensures.value)) c.checkpoint-turned.ensures.turns (λ h. search rules) (λ t. search rules)
+
+pub returns-in-Err-done-clause-old : goal.returns-in-Err-done-clause-old
+returns-in-Err-done-clause-old g c told held =
+    let s = c.args.self.now in
+    let p = c.requires.plan in
+    let fewer : (o slot : ℕ) → at o p.kept ≡ Some slot → at o s.kept ≡ Some slot = λ o slot found. (left_kept o slot (member o c.args.ids.now) (at o p.kept) (at o s.kept) (p.left o) found).0 in
+    let are = fewer_places s.state.max_objects s.named.items s.kept p.kept s.places fewer in
+    let old = g.D.Disk.view c.args.disk.now in
+    let mid = g.D.Disk.view c.checkpoint-turned.new.disk in
+    plan_lies s.state s.named.items p.kept s.order are c.args.plan p.is Two p.spelled p.fits old s.selected s.kept fewer held mid.synced (λ l m follows on. c.checkpoint-turned.ensures.old told c.in-Err-done.ensures.not_done l m (subst (λ t. Follows (other (side_now s.selected)) t (pieces_of c.as_slice.result.now) l m) (sym c.as_slice-2.ensures.value) (subst (λ ps. Follows (other (side_now s.selected)) c.args.plan.table.items (pieces_of ps) l m) (sym c.as_slice.ensures.value) follows)) on)
+
+pub returns-in_err-append-clause-no_memory : goal.returns-in_err-append-clause-no_memory
+returns-in_err-append-clause-no_memory g c is =
+    let same : IsErrOf c.append.result fault.NoMemory = search rules in
+    let n = length c.as_slice.result.now + 5 in
+    inr (n + 4, ends_later g.D.Disk.does said.NoMemory n 4 c.args.disk.now c.checkpoint-turned.new.disk c.append.new.disk (c.checkpoint-turned.ensures.did c.in_default-done.ensures.ok) (c.append.ensures.no_memory same))
+
+pub returns-in_err-append-clause-turned : goal.returns-in_err-append-clause-turned
+returns-in_err-append-clause-turned g c =
+    let a = (g.D.Disk.counts c.args.disk.now).armed in
+    let b = (g.D.Disk.counts c.checkpoint-turned.new.disk).armed in
+    let d = (g.D.Disk.counts c.append.new.disk).armed in
+    let n = length c.as_slice.result.now + 5 in
+    turns_for (length c.args.plan.pieces.items + 9) a d (IsOk c.append.result) _ (IsErrOf c.append.result fault.DiskStopped) _
+    (turns_then n 4 (length c.args.plan.pieces.items + 9) a b d (c.checkpoint-turned.result ≡ said.Done) (IsOk c.append.result) (c.checkpoint-turned.result ≡ said.Stopped) (IsErrOf c.append.result fault.DiskStopped)
+    (omega (arith, ap length c.as_slice.ensures.value)) c.checkpoint-turned.ensures.turns c.in_default-done.ensures.ok c.append.ensures.turned)
+    (λ h. search rules) (λ t. search rules)
+
+pub returns-clause-turned : goal.returns-clause-turned
+returns-clause-turned g c =
+    let a = (g.D.Disk.counts c.args.disk.now).armed in
+    let b = (g.D.Disk.counts c.checkpoint-turned.new.disk).armed in
+    let d = (g.D.Disk.counts c.append.new.disk).armed in
+    let n = length c.as_slice.result.now + 5 in
+    turns_for (length c.args.plan.pieces.items + 9) a d (IsOk c.append.result) _ (IsErrOf c.append.result fault.DiskStopped) _
+    (turns_then n 4 (length c.args.plan.pieces.items + 9) a b d (c.checkpoint-turned.result ≡ said.Done) (IsOk c.append.result) (c.checkpoint-turned.result ≡ said.Stopped) (IsErrOf c.append.result fault.DiskStopped)
+    (omega (arith, ap length c.as_slice.ensures.value)) c.checkpoint-turned.ensures.turns c.in_default-done.ensures.ok c.append.ensures.turned)
+    (λ h. search rules) (λ t. search rules)
+
+pub returns-in_err-append-clause-old : goal.returns-in_err-append-clause-old
+returns-in_err-append-clause-old g c =
+    let s = c.args.self.now in
+    let p = c.requires.plan in
+    let fewer : (o slot : ℕ) → at o p.kept ≡ Some slot → at o s.kept ≡ Some slot = λ o slot found. (left_kept o slot (member o c.args.ids.now) (at o p.kept) (at o s.kept) (p.left o) found).0 in
+    let are = fewer_places s.state.max_objects s.named.items s.kept p.kept s.places fewer in
+    let old = g.D.Disk.view c.args.disk.now in
+    let mid = g.D.Disk.view c.checkpoint-turned.new.disk in
+    let new = g.D.Disk.view c.append.new.disk in
+    let stands : g.D.Disk.tells → Holds old s.selected s.named.items s.kept s.state → StandsFor new.synced s.state = λ told held.
+    let there = plan_holds s.state s.named.items p.kept s.order are c.args.plan p.is Two p.spelled p.fits old s.selected s.kept fewer held mid c.checkpoint-turned.new.self (λ l m follows on. c.checkpoint-turned.ensures.done told c.in_default-done.ensures.ok l m (subst (λ t. Follows (other (side_now s.selected)) t (pieces_of c.as_slice.result.now) l m) (sym c.as_slice-2.ensures.value) (subst (λ ps. Follows (other (side_now s.selected)) c.args.plan.table.items (pieces_of ps) l m) (sym c.as_slice.ensures.value) follows)) on) in
+    held_lies mid c.checkpoint-turned.new.self c.args.plan.named.items c.args.plan.kept s.state there new.synced (λ l on. c.in_err-append.ensures.old told l on) in
+    search (rules, stands)
