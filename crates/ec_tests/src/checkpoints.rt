@@ -70,6 +70,27 @@ fn checkpoints_write_what_changed(rt: HostRuntime) {
     assert!(rt; tables(rt.alloc()) == Ok((true, 10, true)));
 }
 
+// The same where the store is opened again in front of the last one of these batches: how many steps the opening and the checkpoint take. The
+// root and file 3, which no record of the journal names, keep their slots.
+fn tables_behind_an_opening(alloc: Global) -> Result<(usize, usize, bool), StoreFault> {
+    let mut on = filled(alloc, 15)?;
+    let before = on.disk.steps().len();
+    on.store = Store::open(alloc, &mut on.disk)?;
+    let opened = on.disk.steps().len();
+    if fill_all(alloc, &mut on, 16, 16) {
+        let steps = on.disk.steps().len().saturating_sub(opened);
+        let is_second = ends_so(&on.disk, Side::Even, SECOND);
+        Ok((opened.saturating_sub(before), steps, is_second))
+    } else {
+        Err(StoreFault::NoMemory)
+    }
+}
+
+#[test]
+fn openings_keep_slots_and_write_nothing(rt: HostRuntime) {
+    assert!(rt; tables_behind_an_opening(rt.alloc()) == Ok((1, 10, true)));
+}
+
 fn select_byte(disk: &mut MemDisk) -> Option<u8> {
     let mut head = [0; 16];
     match disk.len() {
