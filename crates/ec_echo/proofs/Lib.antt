@@ -1,3 +1,4 @@
+mod Plain
 mod Judging
 mod Starts
 mod Usage

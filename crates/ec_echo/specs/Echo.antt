@@ -6,6 +6,7 @@ use Rattle.ec_gen.specs.Generator.{script_of}
 use Rattle.ec_drill.specs.Drill.{Outside, Drilled, IsDiskUntouched}
 use Rattle.ec_drill.specs.declared.status.Status as drilled
 use Rattle.ec_promise.specs.Promise.{IsLawful}
+use Rattle.ec_promise.specs.Completes.{Completes}
 use Rattle.ec_serve.specs.Serve.{Outer, Outside as Serving}
 use Rattle.ec_mount.specs.Mount.{Mounts, StartsAs, Outside as Mounting}
 use Rattle.ec_mount.specs.declared.status.Status as mounted
@@ -85,9 +86,9 @@ streams w = record {
 }
 
 -- What each form of words does. The lines that a drill wrote are lawful besides, also those of the drill of `soak`: they stand in one legal history of one uncached
--- volume.
+-- volume. Over a plain script on a new disk a drill ends well, unless something outside of it fails.
 abbrev pub DoesAlone : Command → Status → Outside → Type 0
-DoesAlone (Drill most) st w = (end : drilled.Status) × (st ≡ of_drill end) × (did : Drilled most end w) × IsLawful most end w did
+DoesAlone (Drill most) st w = (end : drilled.Status) × (st ≡ of_drill end) × (did : Drilled most end w) × IsLawful most end w did × Completes most end w did
 DoesAlone (Check most) st w = Judged most st (streams w) × IsDiskUntouched w
 DoesAlone (Make n) st w = Made n st w.held w.held_after w.writes w.writes_after × IsSourceUntouched w × IsDiskUntouched w
 DoesAlone (Soak n) st w = Soaked n st w × IsSourceUntouched w

@@ -8,7 +8,8 @@ use Rattle.ec_script.specs.Lines.{lines_of}
 use Rattle.ec_script.specs.declared.line.LineFault.TheVariants as fault
 use Rattle.ec_shown.specs.Lines.{IsShown, IsUnfit}
 use Rattle.ec_drill.specs.Drill.{Outside, Drilled, IsDiskUntouched}
-use Rattle.ec_promise.specs.Promise.{IsLawful}
+use Rattle.ec_promise.specs.Promise.{HasNewDisk, IsLawful}
+use Rattle.ec_promise.specs.Completes.{EndsPlainly}
 use Rattle.ec_drill.specs.Limits.{most_objects}
 use Rattle.ec_drill.specs.declared.status.Status as drilled
 use Rattle.ec_drill.specs.declared.status.Status.TheVariants as drill
@@ -112,13 +113,15 @@ within number left_after transcript w = record w {
   writes_after = 0;
 }
 
--- The script of this number was drilled over the disk, and what its transcript tells was written. The transcript's lines are lawful.
+-- The script of this number was drilled over the disk, and what its transcript tells was written. The transcript's lines are lawful, and on a new disk the drill is
+-- complete: each made script is plain.
 pub record Drills (number : ℕ) (result : Status) (w : Outside) : Type 0 where
   pub left_after : Option (List ℕ)
   pub transcript : List ℕ
   pub end : drilled.Status
   pub drilled_so : Drilled most_objects end (within number left_after transcript w)
   pub lawful : IsLawful most_objects end (within number left_after transcript w) drilled_so
+  pub complete : HasNewDisk w → EndsPlainly most_objects end (within number left_after transcript w) drilled_so
   pub told : Told number end transcript result w.held w.held_after w.writes w.writes_after
 
 -- there was no memory for the script

@@ -5,6 +5,7 @@ pub mod Left
 pub mod Moments
 mod Plain
 pub mod Lawful
+pub mod Completes
 pub mod Spared
 pub mod Named
 mod Cut

@@ -2,4 +2,5 @@ pub mod Pieces
 pub mod Spared
 pub mod Left
 pub mod Promise
+pub mod Completes
 pub mod Behind
