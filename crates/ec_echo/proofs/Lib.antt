@@ -1,5 +1,6 @@
 mod Plain
 mod Judging
 mod Starts
+mod Greeting
 mod Usage
 pub mod Soaks

@@ -5,4 +5,5 @@ pub mod Check
 pub mod Made
 pub mod Soak
 pub mod Serving
+pub mod Greeting
 pub mod Echo

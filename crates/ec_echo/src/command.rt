@@ -1,5 +1,5 @@
 // What the words of the program ask for.
-ghost use Rattle.std.specs.Prelude.{◌≡◌, [], ◌∷◌, map, MatchOption, MatchBool};
+ghost use Rattle.std.specs.Prelude.{◌≡◌, ℕ, List, [], ◌∷◌, map, MatchOption, MatchBool};
 ghost use Rattle.std.specs.String.{string_bytes};
 ghost use Rattle.ec_echo.specs.Words.{Spells, IsAddress, uses_disk};
 ghost use Rattle.ec_echo.specs.declared.command.Command.{Command};
@@ -104,8 +104,10 @@ fn is_address(word: &[u8]) -> bool
     }
 }
 
-/// The address among the words, which is the second.
-pub fn address_of(words: &[String]) -> &str {
+/// The address among the words, which is the second of three.
+pub fn address_of(words: &[String]) -> &str
+    ensures { (form addr last : List ℕ) → map string_bytes words.now ≡ form ∷ addr ∷ last ∷ [] → result.now ≡ addr }
+{
     match words {
         [_, addr, _] => addr.as_str(),
         _ => "",

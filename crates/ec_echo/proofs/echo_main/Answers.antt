@@ -3,6 +3,7 @@ use Rattle.ec_echo.specs.declared.command.Command.TheVariants.{Drill, Check, Mak
 use Rattle.ec_echo.specs.declared.status.Status.TheVariants as status
 use Rattle.ec_promise.proofs.Completes.{drills-complete}
 use Rattle.ec_promise.proofs.Lawful.{drills-lawful}
+use Rattle.ec_echo.proofs.Greeting.{mounts-greet}
 use Rattle.ec_echo.proofs.Soaks.{soaked_over}
 use Rattle.ec_echo.proofs.Starts.{starts_later}
 use Rattle.ec_echo.proofs.Usage.{answers-usage}
@@ -53,7 +54,7 @@ returns-in-Serve-clause-usage g c = answers-usage _ _ _ _ _ (returns-in-Serve-cl
 
 pub returns-in-Mount-clause-echoes : goal.returns-in-Mount-clause-echoes
 returns-in-Mount-clause-echoes g c =
-    (c.of_mount.result, c.code-in-Mount.ensures, inr (Mount c.in-Mount.clerk, rw c.in-Mount.is at c.in-Some.ensures, (c.mount.result, c.of_mount.ensures, c.mount.ensures.mounted, record { gives = refl; crash = λ image h. h; counts = refl }, c.mount.ensures.starts)))
+    (c.of_mount.result, c.code-in-Mount.ensures, inr (Mount c.in-Mount.clerk, rw c.in-Mount.is at c.in-Some.ensures, (c.mount.result, c.of_mount.ensures, c.mount.ensures.mounted, mounts-greet _ _ c.mount.result _ c.mount.ensures.mounted, record { gives = refl; crash = λ image h. h; counts = refl }, c.mount.ensures.starts)))
 
 pub returns-in-Mount-clause-usage : goal.returns-in-Mount-clause-usage
 returns-in-Mount-clause-usage g c = answers-usage _ _ _ _ _ (returns-in-Mount-clause-echoes g c)

@@ -1,0 +1,49 @@
+-- A mounted clerk's run begins with the greeting of its start.
+use Rattle.std.proofs.Common.{◌≡◌, refl, sym, ap, subst, ◌∙◌, ℕ, Bool, true, false, List, [], ◌∷◌, Option, Some, None}
+use Rattle.std.specs.Prelude.{nat_lt}
+use Rattle.ec_base.specs.Limits.{last_counter}
+use Rattle.ec_base.specs.declared.counter.Counter.{Counter}
+use Rattle.ec_base.specs.declared.counter.Counter.TheVariants as counter
+use Rattle.ec_wire.specs.declared.msg.Msg.TheVariants.{Hello}
+use Rattle.ec_protocol.specs.Clerk.{Doing, doing, hello, new_clerk, spend, start}
+use Rattle.ec_protocol.specs.declared.clerk.Out.{Out}
+use Rattle.ec_protocol.specs.declared.clerk.Out.TheVariants as out
+use Rattle.ec_clerknode.specs.declared.step.Step.{Step}
+use Rattle.ec_mount.specs.Mount.{Mounts, Outside}
+use Rattle.ec_mount.specs.Run.{NetSeen, Ran, Tells}
+use Rattle.ec_mount.specs.declared.status.Status.{Status}
+use Rattle.ec_mount.specs.declared.status.Status.TheVariants as status
+use Rattle.ec_echo.specs.Greeting.{GotGreeting, Greets, IsFirst, greeting_of}
+
+-- a start that spends no counter greets, and no more
+starts-so : (id boot : ℕ) → (start id boot).spent ≡ None → (start id boot).outs ≡ out.Send (Hello id (record { boot = boot; round = 0 })) ∷ []
+starts-so id boot q = go (nat_lt last_counter boot) q
+  where
+    d : Doing
+    d = doing (new_clerk id boot)
+
+    go : (b : Bool) → (elim b as (λ z. Doing) [ true ↦ spend counter.Boot d | false ↦ hello d ]).spent ≡ None
+        → (elim b as (λ z. Doing) [ true ↦ spend counter.Boot d | false ↦ hello d ]).outs ≡ out.Send (Hello id (record { boot = boot; round = 0 })) ∷ []
+    go true s = absurd cc
+    go false s = refl
+
+first-told : (body : List ℕ) (rest : List (List ℕ)) (got : Option (List (List ℕ))) → Tells got (body ∷ rest) → IsFirst body got
+first-told body rest None told = tt
+first-told body rest (Some bodies) told = (rest, told)
+
+ran-greets : (id boot : ℕ) (before after : NetSeen) (steps : List Step) → Ran id boot before after steps → GotGreeting id boot before after
+ran-greets id boot before after steps r = record {
+  given = r.given;
+  got = r.got;
+  ended = r.ended;
+  first = first-told (greeting_of id boot) _ r.got (rw greets at r.sent);
+}
+  where
+    greets : r.outs ≡ out.Send (Hello id (record { boot = boot; round = 0 })) ∷ []
+    greets = sym (ap (λ d. d.outs) r.starts) ∙ starts-so id boot (ap (λ d. d.spent) r.starts)
+
+pub mounts-greet : (id boot : ℕ) (end : Status) (w : Outside) → Mounts id boot end w → Greets id boot end w.net w.net_after
+mounts-greet id boot status.Done w m = ran-greets id boot w.net w.net_after _ (m.1).ran
+mounts-greet id boot status.OldBoot w m = ran-greets id boot w.net w.net_after _ (m.1.1).ran
+mounts-greet id boot status.PeerFault w m = ran-greets id boot w.net w.net_after _ (m.1.3.2.2).ran
+mounts-greet id boot _ w m = tt

@@ -1,0 +1,31 @@
+-- With which start a mounted clerk greets: it's told by what its link got.
+use Rattle.std.specs.Prelude.{◌≡◌, ℕ, List, [], ◌∷◌, ◌++◌, Option, None, Some, ⊤}
+use Rattle.ec_wire.specs.Codes.{msg_code}
+use Rattle.ec_wire.specs.declared.msg.Msg.TheVariants.{Hello}
+use Rattle.ec_link.specs.Links.{Heard}
+use Rattle.ec_mount.specs.Run.{NetSeen}
+use Rattle.ec_mount.specs.declared.status.Status.{Status}
+use Rattle.ec_mount.specs.declared.status.Status.TheVariants as status
+
+-- the bytes of the greeting of a clerk's start with this boot, in its first round
+abbrev pub greeting_of : ℕ → ℕ → List ℕ
+greeting_of id boot = msg_code.spell (Hello id (record { boot = boot; round = 0 }))
+
+-- where it's told, this is the first
+abbrev pub IsFirst : List ℕ → Option (List (List ℕ)) → Type 0
+IsFirst body None = ⊤
+IsFirst body (Some bodies) = (rest : List (List ℕ)) × (bodies ≡ body ∷ rest)
+
+-- one link came back to the net, and got that greeting first
+pub record GotGreeting (id boot : ℕ) (before after : NetSeen) : Type 0 where
+  pub given : Option (List Heard)
+  pub got : Option (List (List ℕ))
+  pub ended : after.ended ≡ before.ended ++ (given, got) ∷ []
+  pub first : IsFirst (greeting_of id boot) got
+
+-- So it is where the mount ended well, and where it ended by what the server sent.
+abbrev pub Greets : ℕ → ℕ → Status → NetSeen → NetSeen → Type 0
+Greets id boot status.Done before after = GotGreeting id boot before after
+Greets id boot status.OldBoot before after = GotGreeting id boot before after
+Greets id boot status.PeerFault before after = GotGreeting id boot before after
+Greets id boot _ before after = ⊤
