@@ -6,6 +6,7 @@ pub mod Moments
 mod Plain
 pub mod Lawful
 pub mod Completes
+pub mod Rooms
 pub mod Spared
 pub mod Named
 mod Cut

@@ -3,4 +3,5 @@ pub mod Spared
 pub mod Left
 pub mod Promise
 pub mod Completes
+pub mod Rooms
 pub mod Behind
