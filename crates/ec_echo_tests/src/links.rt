@@ -1,5 +1,5 @@
 // Servers and mounts over one net in memory, each in a thread of its own.
-use crate::runs::{NONE, NetTypes, await_door, echoed_over, is_so, new_disk, new_net};
+use crate::runs::{Echo, NONE, NetTypes, await_door, echoed_over, is_so, new_disk, new_net};
 use ec_base::NoMemory;
 use ec_link::{Around, FailSpawner, Link, MemNet, Net, Spawner, ThreadSpawner};
 use std::alloc::Global;
@@ -62,20 +62,16 @@ fn serves_a_link(rt: HostRuntime) {
     assert!(rt; is_served_once(&rt, fails, 10));
 }
 
-// Whether a mount of clerk A with this boot, once somebody is there, ends with this status, and writes just this.
-fn is_mounted<R: Around + Eprint>(
+// What a mount of clerk A with these lanes and this boot comes to, once somebody is there.
+fn mounted<R: Around + Eprint>(
     rt: &R,
     net: &mut MemNet,
+    lanes: &[u8],
     boot: u64,
-    status: u8,
-    text: &[u8],
-) -> bool {
+) -> Result<Echo, NoMemory> {
     await_door(rt, net, "here");
-    let Ok(mut disk) = new_disk(rt.alloc(), 0) else {
-        return false;
-    };
-    let mut spawner = Spawner::Fails(FailSpawner::new());
-    let lanes = b"1 stat /\n";
+    let mut disk = new_disk(rt.alloc(), 0)?;
+    let mut spawner = Spawner::Threads(ThreadSpawner::new());
     let echo = echoed_over(
         rt,
         "mount here A",
@@ -88,36 +84,71 @@ fn is_mounted<R: Around + Eprint>(
     );
     drop(spawner);
     drop(disk);
-    is_so(echo, status, text)
+    echo
 }
 
 // A mount with boot 2, and one with boot 1 behind it.
 fn are_mounted<R: Around + Eprint>(rt: &R, mut net: MemNet) -> bool {
+    let lanes = b"1 stat /\n";
     let text = b"1 1 stat / -> stat dir 0755 0 0\nend sync -> ok\n";
-    let first = is_mounted(rt, &mut net, 2, 0, text);
-    let second = is_mounted(rt, &mut net, 1, 13, b"oldboot 2\n");
+    let first = is_so(mounted(rt, &mut net, lanes, 2), 0, text);
+    let second = is_so(mounted(rt, &mut net, lanes, 1), 13, b"oldboot 2\n");
     drop(net);
     first && second
 }
 
-// A server of two links, and these mounts beside it.
-fn are_well<R: Around + Eprint>(rt: &R) -> bool {
+const LANES: &[u8] = b"1 create /f\n1 write /f 0 hi\n2 stat /\n";
+
+// The second lane's call may come before the first lane's.
+const ANSWERS: [&[u8]; 2] = [
+    b"1 1 create /f -> ok op 1\n2 1 write /f 0 hi -> ok op 2\n3 2 stat / -> stat dir 0755 0 0\nend sync -> ok\n",
+    b"1 1 create /f -> ok op 1\n2 1 write /f 0 hi -> ok op 2\n3 2 stat / -> stat dir 0755 0 1\nend sync -> ok\n",
+];
+
+// A mount with two lanes.
+fn is_answered<R: Around + Eprint>(rt: &R, mut net: MemNet) -> bool {
+    let echo = mounted(rt, &mut net, LANES, 1);
+    drop(net);
+    match echo {
+        Ok(echo) => echo.status == 0 && ANSWERS.iter().any(|text| echo.text.as_slice() == *text),
+        Err(_) => false,
+    }
+}
+
+// How many mounts there are beside a server.
+#[derive(Clone, Copy, Drop)]
+enum Mounts {
+    One,
+    Two,
+}
+
+// A server of so many links, and the mounts beside it.
+fn are_well<R: Around + Eprint>(rt: &R, words: &str, mounts: Mounts) -> bool {
     let Ok((mut net, other)) = shared_net(rt.alloc()) else {
         return false;
     };
     let mut spawner = Spawner::Threads(ThreadSpawner::new());
-    let (is_served, are_mounted) = thread::join(
+    let (is_served, is_mounted) = thread::join(
         rt,
-        || is_served(rt, "serve here 2", &mut net, &mut spawner, 0),
-        || are_mounted(rt, other),
+        || is_served(rt, words, &mut net, &mut spawner, 0),
+        || match mounts {
+            Mounts::One => is_answered(rt, other),
+            Mounts::Two => are_mounted(rt, other),
+        },
     );
     drop(net);
     drop(spawner);
-    is_served && are_mounted
+    is_served && is_mounted
+}
+
+#[test]
+fn answers_both_lanes(rt: HostRuntime) {
+    drop::<NetTypes>((None, None));
+    assert!(rt; are_well(&rt, "serve here 1", Mounts::One));
 }
 
 #[test]
 fn tells_a_greater_boot(rt: HostRuntime) {
     drop::<NetTypes>((None, None));
-    assert!(rt; are_well(&rt));
+    assert!(rt; are_well(&rt, "serve here 2", Mounts::Two));
 }

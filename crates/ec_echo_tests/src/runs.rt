@@ -2,7 +2,7 @@
 use ec_base::{MemSink, MemSource, NoMemory};
 use ec_disk::{CrashDisk, MemDisk};
 use ec_echo::echo_main;
-use ec_link::{Around, FailSpawner, MemNet, Spawner};
+use ec_link::{Around, MemNet, Spawner, ThreadSpawner};
 use std::alloc::{AllocError, Global};
 use std::io::Eprint;
 use std::net::{TcpListener, TcpStream};
@@ -111,7 +111,7 @@ pub fn echoed_on<R: Around + Eprint>(
     disk: &mut MemDisk,
 ) -> Result<Echo, NoMemory> {
     let mut net = new_net(rt.alloc(), fails.net)?;
-    let mut spawner = Spawner::Fails(FailSpawner::new());
+    let mut spawner = Spawner::Threads(ThreadSpawner::new());
     let echo = echoed_over(rt, words, input, fails, disk, &mut net, &mut spawner, 1);
     drop(net);
     drop(spawner);
