@@ -47,7 +47,7 @@ all-front : (h g : History) → T (list_all (λ e. is_bounded_entry e.1) (h ++ g
 all-front [] g t = tt
 all-front (e ∷ h) g t = both (is_bounded_entry e.1) _ (left (is_bounded_entry e.1) _ t) (all-front h g (right (is_bounded_entry e.1) _ t))
 
-lines-front : (h g : History) → AreAtLines (h ++ g) → AreAtLines h
+pub lines-front : (h g : History) → AreAtLines (h ++ g) → AreAtLines h
 lines-front h g a = record {
   from_one = each-front (λ p. 1 ≤ p) (places h) (places g) (subst (Each (λ p. 1 ≤ p)) (places-append h g) a.from_one);
   apart = distinct-front (places h) (places g) (subst (λ l. T (distinct l)) (places-append h g) a.apart);

@@ -5,3 +5,4 @@ mod Told
 mod Judged
 pub mod Begun
 pub mod Tried
+pub mod Before

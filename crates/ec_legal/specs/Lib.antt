@@ -3,3 +3,4 @@ pub mod Placed
 pub mod Bounded
 pub mod Ahead
 pub mod Tried
+pub mod Fronts

@@ -1,17 +1,19 @@
 // Histories, and the transcripts that they come from.
 ghost use Rattle.std.specs.Prelude.{◌≡◌, ◌≤◌, ◌<◌, ◌^◌, ◌++◌, [], ℕ, List as Listed, T, take, length, IfOk, OnOk, IfErr};
 ghost use Rattle.std.specs.List.{list_all};
-ghost use Rattle.ec_history.specs.History.{updates, kept, owed};
+ghost use Rattle.ec_history.specs.History.{History as Entries, updates, kept, owed};
 ghost use Rattle.ec_history.specs.declared.shown.Shown.{Shown as Line};
 ghost use Rattle.ec_history.specs.Legal.{IsLegal, from_formatted};
 ghost use Rattle.ec_judge.specs.Fault.{IsEntryFault};
 ghost use Rattle.ec_legal.specs.Ahead.{IsSettled, placed_from};
 ghost use Rattle.ec_legal.specs.Bounded.{is_bounded_line};
+ghost use Rattle.ec_legal.specs.Fronts.{IsLegalFront};
 ghost use Rattle.ec_history.specs.Placing.{place, ArePlaceable};
 ghost use Rattle.ec_lines.specs.Index.{AreBegins};
 ghost use Rattle.ec_legal.specs.Placed.{IsPlaceFault};
 ghost use Rattle.ec_watch.specs.Watches.{AreWatched};
 
+use crate::fronts::{kept_of, owed_of};
 use crate::placing;
 use ec_base::{ClerkId, NoMemory, ObjId, OpNo};
 use ec_history::{Entry, Shown};
@@ -63,21 +65,23 @@ impl History {
         ec_judge::check(*self.entries.allocator(), &self.entries, max_objects)
     }
 
-    /// The updates that a legal history keeps, in the order of issue.
+    /// The updates that the history keeps, in the order of issue. Where it isn't legal, they are those
+    /// that its entries keep before the first one that breaks a rule.
     pub fn kept(&self) -> Result<Vec<Update>, NoMemory>
-        requires { (most : ℕ) × IsLegal from_formatted most self.now }
-        ensures { IfOk result (λ list. list.items ≡ updates (kept from_formatted self.now)) }
+        ensures legal { (most : ℕ) → IsLegal from_formatted most self.now → IfOk result (λ list. list.items ≡ updates (kept from_formatted self.now)) }
+        ensures front { IfOk result (λ list. (front : Entries) × IsLegalFront self.now front × (list.items ≡ updates (kept from_formatted front))) }
     {
-        ec_judge::kept(*self.entries.allocator(), &self.entries)
+        kept_of(*self.entries.allocator(), &self.entries)
     }
 
-    /// What a start owes after a legal history: pairs of a lost operation and one of its operands,
-    /// in the order of issue.
+    /// What a start owes after the history: pairs of a lost operation and one of its operands, in the
+    /// order of issue. Where the history isn't legal, it's what the start owes before the first entry
+    /// that breaks a rule.
     pub fn owed(&self, clerk: ClerkId, boot: u64) -> Result<Vec<(OpNo, ObjId)>, NoMemory>
-        requires { (most : ℕ) × IsLegal from_formatted most self.now }
-        ensures { IfOk result (λ pairs. pairs.items ≡ owed from_formatted self.now clerk boot) }
+        ensures legal { (most : ℕ) → IsLegal from_formatted most self.now → IfOk result (λ pairs. pairs.items ≡ owed from_formatted self.now clerk boot) }
+        ensures front { IfOk result (λ pairs. (front : Entries) × IsLegalFront self.now front × (pairs.items ≡ owed from_formatted front clerk boot)) }
     {
-        ec_judge::owed(*self.entries.allocator(), &self.entries, clerk, boot)
+        owed_of(*self.entries.allocator(), &self.entries, clerk, boot)
     }
 }
 

@@ -2,6 +2,7 @@
 #![tactic(auto)]
 
 mod ahead;
+mod fronts;
 mod history;
 mod judging;
 mod placing;
