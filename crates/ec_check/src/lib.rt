@@ -2,6 +2,8 @@
 #![tactic(auto)]
 
 mod checking;
+#[cfg(test)]
+mod histories;
 mod judged;
 mod lines;
 mod parts;
