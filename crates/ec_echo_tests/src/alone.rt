@@ -3,13 +3,14 @@ ghost use Rattle.std.specs.Prelude.{IfSome};
 ghost use Rattle.ec_server.specs.Servers.{StandsOn};
 
 use crate::serving::keeper;
-use ec_base::{Age, ClerkId, OpNo, Path};
+use ec_base::{Age, ClerkId, Hold, List, NoMemory, ObjId, OpNo, Path, SessionNo};
 use ec_clerk::Clerk;
 use ec_durable::Record;
 use ec_log::Asked;
 use ec_plain::Call;
 use ec_protocol::{ClerkFault, Flushed, Out, Served};
 use ec_server::{InMemory, Server, ServerFault};
+use ec_volume::Update;
 use ec_wire::Msg;
 use std::alloc::Global;
 
@@ -64,6 +65,129 @@ fn session_ends_once(rt: HostRuntime) {
         Noted::Nothing,
     ];
     assert!(rt; session(rt.alloc()) == Some(wanted));
+}
+
+// How many messages a step sends: none, or an end of this session with nothing of its window, or others.
+#[derive(Clone, Copy, Drop, PartialEq)]
+enum Told {
+    Nobody,
+    Ended(u8, u64),
+    Others,
+}
+
+fn what_was_told(served: &Result<Served, ServerFault>) -> Told {
+    match served {
+        Ok(served) => match served.sent.as_slice() {
+            [] => Told::Nobody,
+            [(clerk, Msg::Ended(session, 0, 0))] => Told::Ended(clerk.get(), session.0),
+            _ => Told::Others,
+        },
+        Err(_) => Told::Others,
+    }
+}
+
+// What a step of a server sends and writes down.
+fn step(server: &mut Server, keeper: &mut InMemory, clerk: ClerkId, msg: &Msg) -> (Told, Noted)
+    requires { StandsOn keeper.old server.old }
+    ensures { StandsOn keeper.new server.new }
+{
+    if !msg.sound() {
+        return (Told::Others, Noted::Other);
+    }
+    let served = server.take(keeper, clerk, msg);
+    (what_was_told(&served), recorded(served))
+}
+
+fn greets_as(server: &mut Server, keeper: &mut InMemory, clerk: ClerkId) -> Noted
+    requires { StandsOn keeper.old server.old }
+    ensures { StandsOn keeper.new server.new }
+{
+    step(
+        server,
+        keeper,
+        clerk,
+        &Msg::Hello(clerk, Age { boot: 1, round: 0 }),
+    )
+    .1
+}
+
+// A batch of a stamp on the root, in the first session.
+fn stamps_the_root(alloc: Global) -> Result<Msg, NoMemory> {
+    let stamp = Update::Stamp {
+        obj: ObjId::root(),
+        stamp: 7,
+    };
+    let mut ops = Vec::with_capacity(alloc, 1)?;
+    ops.push((OpNo(1), stamp))?;
+    Ok(Msg::Flush(SessionNo(1), 1, 1, List::of(ops)))
+}
+
+// A clerk that flushes where it holds no token.
+fn flushes_unheld(alloc: Global) -> Option<(Noted, (Told, Noted))> {
+    let clerk = ClerkId::new(0)?;
+    let flush = stamps_the_root(alloc).ok()?;
+    let (mut server, mut keeper, _) = start(alloc)?;
+    let opened = greets_as(&mut server, &mut keeper, clerk);
+    let flushed = step(&mut server, &mut keeper, clerk, &flush);
+    Some((opened, flushed))
+}
+
+#[test]
+fn flush_without_a_token_ends_the_session(rt: HostRuntime) {
+    let wanted = (Noted::Opened(1), (Told::Ended(0, 1), Noted::Ended(1)));
+    assert!(rt; flushes_unheld(rt.alloc()) == Some(wanted));
+}
+
+// A claim on the root for writing, by this session in the second epoch.
+fn claims_the_root(alloc: Global, session: u64) -> Result<Msg, NoMemory> {
+    let mut tokens = Vec::with_capacity(alloc, 1)?;
+    tokens.push((ObjId::root(), Hold::Write))?;
+    Ok(Msg::Claim(SessionNo(session), 2, List::of(tokens)))
+}
+
+fn claims(
+    alloc: Global,
+    server: &mut Server,
+    keeper: &mut InMemory,
+    clerk: ClerkId,
+    session: u64,
+) -> Option<(Told, Noted)>
+    requires { StandsOn keeper.old server.old }
+    ensures { StandsOn keeper.new server.new }
+{
+    let Ok(claim) = claims_the_root(alloc, session) else {
+        return None;
+    };
+    Some(step(server, keeper, clerk, &claim))
+}
+
+// The keeper of a server with sessions of both clerks.
+fn with_sessions(alloc: Global, first: ClerkId, second: ClerkId) -> Option<InMemory> {
+    let (mut server, mut keeper, _) = start(alloc)?;
+    let is_first = greets_as(&mut server, &mut keeper, first) == Noted::Opened(1);
+    let is_second = greets_as(&mut server, &mut keeper, second) == Noted::Opened(2);
+    drop(server);
+    (is_first && is_second).then_some(keeper)
+}
+
+// Two clerks that claim the same object behind a restart: what the later claim comes to.
+fn both_claim(alloc: Global) -> Option<[(Told, Noted); 2]> {
+    let first = ClerkId::new(0)?;
+    let second = ClerkId::new(1)?;
+    let mut keeper = with_sessions(alloc, first, second)?;
+    let (mut server, _) = Server::start(alloc, &mut keeper).ok()?;
+    let one = claims(alloc, &mut server, &mut keeper, first, 1)?;
+    let other = claims(alloc, &mut server, &mut keeper, second, 2)?;
+    Some([one, other])
+}
+
+#[test]
+fn claim_against_a_claim_ends_the_session(rt: HostRuntime) {
+    let wanted = [
+        (Told::Nobody, Noted::Nothing),
+        (Told::Ended(1, 2), Noted::Ended(2)),
+    ];
+    assert!(rt; both_claim(rt.alloc()) == Some(wanted));
 }
 
 // Whether a greeting is all that goes out.

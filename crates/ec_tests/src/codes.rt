@@ -79,13 +79,30 @@ fn holds_old_directory(alloc: Global, code: &[u8]) -> bool {
     }
 }
 
+// Whether the code is that of an object that is gone, and is written so again.
+fn holds_nothing(alloc: Global, code: &[u8]) -> bool {
+    match get_image(alloc, code, 0) {
+        Ok((image, place)) => {
+            let mut bytes = Vec::new(alloc);
+            let is_put = put_image(&image, &mut bytes).is_ok();
+            let is_same = bytes.as_slice() == code;
+            drop(bytes);
+            let is_gone = matches!(&image, Image::Gone);
+            drop(image);
+            is_put && is_same && is_gone && place == code.len()
+        }
+        Err(_) => false,
+    }
+}
+
 #[test]
 fn codes_that_are_read(rt: HostRuntime) {
     let made = makes(rt.alloc(), &[1, 0, 0, 0, 1, 0, 0, 0, 2, 1, 1, 102]);
     let file = b"\x01\x01\xa4\0\0\0\0\0\0\0\0\0\0\0\x07\0\0\0\x02hi";
     let held = holds_file(rt.alloc(), file);
     let old = holds_old_directory(rt.alloc(), b"\x02\x01\xed\0\0\0\0\0\0\0\0\0");
-    assert!(rt; made && held && old);
+    let gone = holds_nothing(rt.alloc(), &[0]);
+    assert!(rt; made && held && old && gone);
 }
 
 // Each refusal of an update once.

@@ -1,6 +1,7 @@
 //! Messages by their bytes, and bytes that are no message.
 
 use ec_base::{Age, ClerkId, NoMemory, SessionNo};
+use ec_frame::frame;
 use ec_wire::{Msg, WireFault, decode, encode};
 use std::alloc::Global;
 
@@ -25,13 +26,25 @@ fn is_kept(alloc: Global, bytes: &[u8]) -> bool {
     matches!(decode(alloc, bytes), Ok(Msg::Kept(SessionNo(1), 1, 1)))
 }
 
+// Whether the message is framed so: its length in four bytes, and itself.
+fn is_framed(alloc: Global, code: &[u8], head: &[u8]) -> Result<bool, NoMemory> {
+    let Ok(framed) = frame(alloc, code) else {
+        return Err(NoMemory);
+    };
+    Ok(framed.starts_with(head) && &framed[head.len()..] == code)
+}
+
 #[test]
 fn messages(rt: HostRuntime) {
     let clerk = ClerkId::new(0).expect(&rt, "a clerk");
     let hello = Msg::Hello(clerk, Age { boot: 1, round: 0 });
     let is_hello = writes(rt.alloc(), &hello, &HELLO);
     drop(hello);
-    assert!(rt; is_hello && is_kept(rt.alloc(), &KEPT));
+    let kept = Msg::Kept(SessionNo(1), 1, 1);
+    let is_written = writes(rt.alloc(), &kept, &KEPT);
+    drop(kept);
+    assert!(rt; is_hello && is_written && is_kept(rt.alloc(), &KEPT));
+    assert!(rt; is_framed(rt.alloc(), &KEPT, &[0, 0, 0, 25]) == Ok(true));
 }
 
 // What a message is refused for: its kind, so many bytes 1, and these behind.
@@ -47,13 +60,14 @@ fn refused(alloc: Global, kind: u8, ones: u8, rest: &[u8]) -> Result<Option<Wire
 // rise, ids past the last one, and an image that is none.
 #[test]
 fn refused_messages(rt: HostRuntime) {
-    let rows: [(u8, u8, &[u8], WireFault); 21] = [
+    let rows: [(u8, u8, &[u8], WireFault); 22] = [
         (0, 0, b"", WireFault::Kind(0)),
         (1, 0, b"", WireFault::Kind(1)),
         (9, 0, b"", WireFault::Kind(9)),
         (74, 0, b"", WireFault::Kind(74)),
         (7, 15, b"", WireFault::Short(16)),
         (7, 17, b"", WireFault::Trailing(17)),
+        (68, 24, b"\0", WireFault::Trailing(25)),
         (8, 0, b"\x10", WireFault::Field(1)),
         (2, 16, b"\0\0\0\0", WireFault::Field(17)),
         (2, 20, b"\0", WireFault::Field(21)),
