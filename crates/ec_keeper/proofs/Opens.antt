@@ -1,8 +1,12 @@
 -- A disk that is asked for its length, and then opened.
-use Rattle.std.proofs.Common.{◌≡◌, ℕ, ◌≤◌, List, subst, arith, inl, inr, ⊎_elim}
+use Rattle.std.proofs.Common.{◌≡◌, ℕ, List, Result, Ok, Err, subst, arith, inl, inr, ⊎_elim}
+use Rattle.std.specs.Prelude.{IfOk}
 use Rattle.ec_disk.specs.Disk.{View, Rests, LeavesOnly}
 use Rattle.ec_stands.specs.Stands.{StandsFor}
 use Rattle.ec_store.specs.Opening.{WasLeftOrStands}
+use Rattle.ec_store.specs.Store.{view_of}
+use Rattle.ec_store.specs.declared.fault.StoreFault.{StoreFault}
+use Rattle.ec_store.specs.declared.store.Store.{Store}
 
 -- a call that writes nothing
 pub rests_leave : (old mid : View) → ((c : List ℕ) → old.left_since old.moment c → old.may_leave c) → Rests old mid → LeavesOnly old mid (WasLeftOrStands old)
@@ -26,3 +30,8 @@ rests_open old mid new only rests leaves = record {
   where
     moved : (c : List ℕ) → WasLeftOrStands mid c → WasLeftOrStands old c
     moved c is = ⊎_elim (λ was. inl (rests.crash c was)) (λ same. inr (same.0, subst (λ (xs : List ℕ). StandsFor xs same.0) rests.gives same.1, same.2)) is
+
+-- what was opened stood there before
+pub stood_there : (r : Result Store StoreFault) (Tells Full : Type 0) (here before : List ℕ) → (Tells → here ≡ before) → IfOk r (λ store. Tells → StandsFor here (view_of store)) → IfOk r (λ store. Tells → Full → StandsFor before (view_of store))
+stood_there (Ok store) Tells Full here before same stands = λ told full. subst (λ (image : List ℕ). StandsFor image (view_of store)) (same told) (stands told)
+stood_there (Err e) Tells Full here before same stands = tt
