@@ -1,6 +1,6 @@
 -- What a server's run makes of a store and its disk, both lent to its keeper.
-use Rattle.std.proofs.Common.{◌≡◌, ◌≤◌, ℕ, List, Ok, refl, ◌∙◌, subst}
-use Rattle.ec_disk.specs.Disk.{View, Counts, Called}
+use Rattle.std.proofs.Common.{◌≡◌, ◌<◌, ◌≤◌, ℕ, List, Ok, refl, ◌∙◌, subst}
+use Rattle.ec_disk.specs.Disk.{View, Counts, Called, Turned}
 use Rattle.ec_durable.specs.Codes.{record_code}
 use Rattle.ec_durable.specs.Durable.{step}
 use Rattle.ec_durable.specs.declared.state.Durable.{Durable}
@@ -13,6 +13,7 @@ use Rattle.ec_protocol.specs.Server.{start}
 use Rattle.ec_servernode.specs.Node.{ChainInDoubt}
 use Rattle.ec_servernode.specs.Run.{record_of}
 use Rattle.ec_stands.specs.Laws.{lies_stands}
+use Rattle.ec_stands.specs.Stands.{StandsFor}
 use Rattle.ec_store.specs.Store.{IsHeld, view_of}
 use Rattle.ec_store.specs.declared.store.Store.{Store}
 use Rattle.ec_serve.specs.Serve.{HoldsState, Outer, AllBack, RanWhole, EndsAs, EndsBy, Spends, RanOn, ServesOn, boxes_of}
@@ -87,11 +88,15 @@ module _ {D : Type 0} (tells : Type 0) (view : D → View) (counts : D → Count
       × (step r (view_of old.store.now) ≡ Ok (view_of new.store.now))
       × (tells → IsHeld (view old.disk.now) old.store.now → Keeps r old.store.now new.store.now (view old.disk.now) (view new.disk.now))
       × (need_of (record_code.spell r) ≤ free_now old.store.now.selected → Called 4 (counts old.disk.now) (counts new.disk.now))
+      × ((turns : ℕ) × Turned turns (counts old.disk.now).armed (counts new.disk.now).armed (Unit {0}) ⊥
+      × (need_of (record_code.spell r) ≤ free_now old.store.now.selected → turns ≡ 4) × (free_now old.store.now.selected < need_of (record_code.spell r) → 9 ≤ turns))
 
   abbrev pub disk_broke : DiskKeeper D → Record → DiskKeeper D → Type 0
   disk_broke old r new =
       (new.store.ghost_name ≡ old.store.ghost_name) × (new.disk.ghost_name ≡ old.disk.ghost_name)
       × (tells → IsHeld (view old.disk.now) old.store.now → Leaves r old.store.now (view old.disk.now) (view new.disk.now))
+      × ((turns : ℕ) × Turned turns (counts old.disk.now).armed (counts new.disk.now).armed ⊥ ⊥ × (need_of (record_code.spell r) ≤ free_now old.store.now.selected → turns ≤ 4))
+      × (tells → IsHeld (view old.disk.now) old.store.now → StandsFor (view new.disk.now).synced (view_of old.store.now))
 
   disk_steps : Steps tells view counts disk_did disk_broke
   disk_steps a b r d = ((d.0, d.1), d.2, λ told held. (d.3 told held).held)

@@ -3,7 +3,7 @@ use Rattle.std.proofs.Common.{◌≡◌, ◌⊎◌, ◌<◌, ◌≤◌, inl, inr
 use Rattle.std.specs.Prelude.{IfOk, IfErr}
 use Rattle.ec_base.specs.Outside.{Rose}
 use Rattle.ec_base.specs.declared.counter.Counter.{Counter}
-use Rattle.ec_disk.specs.Disk.{View, LeavesOnly, Counts, Counted, Called}
+use Rattle.ec_disk.specs.Disk.{View, LeavesOnly, Counts, Counted, Called, Turned}
 use Rattle.ec_durable.specs.Durable.{step}
 use Rattle.ec_durable.specs.declared.state.Durable.{Durable}
 use Rattle.ec_durable.specs.declared.record.Record.{Record}
@@ -275,7 +275,9 @@ disk_did tells view counts k r l =
     ((l.keeper.store.ghost_name ≡ k.keeper.store.ghost_name) × (l.keeper.disk.ghost_name ≡ k.keeper.disk.ghost_name)
     × (step r (view_of k.keeper.store.now) ≡ Ok (view_of l.keeper.store.now))
     × (tells → IsHeld (view k.keeper.disk.now) k.keeper.store.now → Keeps r k.keeper.store.now l.keeper.store.now (view k.keeper.disk.now) (view l.keeper.disk.now))
-    × (need_of (record_code.spell r) ≤ free_now k.keeper.store.now.selected → Called 4 (counts k.keeper.disk.now) (counts l.keeper.disk.now)))
+    × (need_of (record_code.spell r) ≤ free_now k.keeper.store.now.selected → Called 4 (counts k.keeper.disk.now) (counts l.keeper.disk.now))
+    × ((turns : ℕ) × Turned turns (counts k.keeper.disk.now).armed (counts l.keeper.disk.now).armed (Unit {0}) ⊥
+    × (need_of (record_code.spell r) ≤ free_now k.keeper.store.now.selected → turns ≡ 4) × (free_now k.keeper.store.now.selected < need_of (record_code.spell r) → 9 ≤ turns)))
     × (l.marks.ghost_name ≡ k.marks.ghost_name)
     × HasMarked l.marks.now.mark r (view_of k.keeper.store.now) k.records.now.items (counts k.keeper.disk.now) (counts l.keeper.disk.now)
 
@@ -284,7 +286,9 @@ disk_broke tells view counts k r l =
     (l.marks.ghost_name ≡ k.marks.ghost_name)
     × MayHaveMarked (l.keeper ≡ k.keeper)
     ((l.keeper.store.ghost_name ≡ k.keeper.store.ghost_name) × (l.keeper.disk.ghost_name ≡ k.keeper.disk.ghost_name)
-    × (tells → IsHeld (view k.keeper.disk.now) k.keeper.store.now → Leaves r k.keeper.store.now (view k.keeper.disk.now) (view l.keeper.disk.now)))
+    × (tells → IsHeld (view k.keeper.disk.now) k.keeper.store.now → Leaves r k.keeper.store.now (view k.keeper.disk.now) (view l.keeper.disk.now))
+    × ((turns : ℕ) × Turned turns (counts k.keeper.disk.now).armed (counts l.keeper.disk.now).armed ⊥ ⊥ × (need_of (record_code.spell r) ≤ free_now k.keeper.store.now.selected → turns ≤ 4))
+    × (tells → IsHeld (view k.keeper.disk.now) k.keeper.store.now → StandsFor (view l.keeper.disk.now).synced (view_of k.keeper.store.now)))
     k.marks.now.stopped.items l.marks.now.stopped.items l.marks.now.mark r (view_of k.keeper.store.now) k.records.now.items (counts k.keeper.disk.now) (counts l.keeper.disk.now)
 
 -- what a crash leaves now is among what it might have left since

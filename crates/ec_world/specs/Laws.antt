@@ -23,6 +23,7 @@ held_rests old new s rests h = record {
   steps = h.steps;
   formed = h.formed;
   keeps = h.keeps;
+  rest = h.rest;
 }
 
 pub in_step_rests : (tells : Type 0) (old new : View) (w : World) → (tells → Rests old new) → IsInStep tells old w → IsInStep tells new w
