@@ -6,13 +6,14 @@ use Rattle.ec_lock.specs.Passes.{front, IsPassOf}
 use Rattle.ec_lock.specs.Steps.{of}
 use Rattle.ec_lock.specs.declared.types.Pass.{Pass}
 use Rattle.ec_lock.specs.declared.types.TracedLock.{TracedLock}
+use Rattle.ec_outs.specs.Outs.{Reply}
 use Rattle.ec_clerknode.specs.declared.state.Node.{Node}
 use Rattle.ec_clerknode.specs.declared.fault.NodeFault.{NodeFault}
 use Rattle.ec_clerknode.specs.declared.fault.NodeFault.TheVariants as fault
 use Rattle.ec_clerknode.specs.declared.step.Step.{Step}
 use Rattle.ec_clerknode.specs.Closed.{Caused}
 use Rattle.ec_clerknode.specs.Node.{AnsweredAt}
-use Rattle.ec_clerknode.specs.Run.{Reply, old_boot}
+use Rattle.ec_clerknode.specs.Run.{old_boot}
 use Rattle.ec_clerknode.specs.Turns.{number_of, calls_by, BeganAt, Failed, Called, Stays, Turned}
 use Rattle.ec_clerknode.specs.Lanes.{AreReplied, IsFront, LaneDone, LaneRan}
 use Rattle.ec_clerknode.proofs.Lists.{prefix_self, prefix_get, prefix_trans, prefix_length, of-append}

@@ -1,6 +1,4 @@
 pub mod Lists
-pub mod Each
-pub mod Told
 pub mod Ends
 pub mod Acts
 pub mod Nodes

@@ -9,19 +9,20 @@ use Rattle.ec_protocol.specs.declared.clerk.Out.{Out}
 use Rattle.ec_link.specs.declared.link.Got.{Got}
 use Rattle.ec_link.specs.declared.link.Got.TheVariants as gave
 use Rattle.ec_link.specs.Links.{Heard, heard, added, failed}
+use Rattle.ec_outs.specs.Outs.{Reply, each, told, sends, old_boots, first_of, answers, kept_at, first_known}
 use Rattle.ec_clerknode.specs.declared.act.Act.{Act}
 use Rattle.ec_clerknode.specs.declared.fault.NodeFault.{NodeFault}
 use Rattle.ec_clerknode.specs.declared.step.Deed.{Deed}
 use Rattle.ec_clerknode.specs.declared.step.Step.{Step}
-use Rattle.ec_clerknode.specs.declared.state.Kept.{Kept}
+use Rattle.ec_outs.specs.declared.kept.Kept.{Kept}
 use Rattle.ec_clerknode.specs.declared.state.Node.{Node}
 use Rattle.ec_clerknode.specs.Folded.{floor_of}
-use Rattle.ec_clerknode.specs.Run.{Reply, highest, each, after, outs_of, IsDeed, IsStep, leads, IsRun, heard_of, heard_by, IsSaid, AreSaid, Came, said_in, said_by, told, told_in, told_by, net_of, nets, sends, old_boots, old_boots_in, first_of, old_boot, answers, Among}
-use Rattle.ec_clerknode.specs.Node.{AnsweredAt, AnsweredFrom, kept_at, Since, Keeps}
-use Rattle.ec_clerknode.specs.Closed.{Acts, IsOwn, Closed, Moved, Breaks, Begun, Works, Waited, first_known}
+use Rattle.ec_clerknode.specs.Run.{highest, after, outs_of, IsDeed, IsStep, leads, IsRun, heard_of, heard_by, IsSaid, AreSaid, Came, said_in, said_by, told_in, told_by, net_of, nets, old_boots_in, old_boot, Among}
+use Rattle.ec_clerknode.specs.Node.{AnsweredAt, AnsweredFrom, Since, Keeps}
+use Rattle.ec_clerknode.specs.Closed.{Acts, IsOwn, Closed, Moved, Breaks, Begun, Works, Waited}
 use Rattle.ec_clerknode.proofs.Lists.{get_longer, get_last}
-use Rattle.ec_clerknode.proofs.Each.{each-push}
-use Rattle.ec_clerknode.proofs.Told.{added-nil, added-added}
+use Rattle.ec_outs.proofs.Each.{each-push}
+use Rattle.ec_outs.proofs.Told.{added-nil, added-added}
 
 pub leads-push : (c : Clerk) (xs : List Step) (s : Step) → leads c (xs ++ s ∷ []) ≡ after (leads c xs) s.deed
 leads-push c [] s = refl

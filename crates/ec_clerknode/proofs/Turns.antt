@@ -14,19 +14,20 @@ use Rattle.ec_lock.specs.Passes.{first, front, numbers, raised, IsPassOf, Same, 
 use Rattle.ec_lock.specs.Steps.{Member, of}
 use Rattle.ec_lock.specs.declared.types.Pass.{Pass}
 use Rattle.ec_lock.specs.declared.types.TracedLock.{TracedLock}
+use Rattle.ec_outs.specs.Outs.{Reply}
 use Rattle.ec_clerknode.specs.declared.fault.NodeFault.{NodeFault}
 use Rattle.ec_clerknode.specs.declared.fault.NodeFault.TheVariants as fault
 use Rattle.ec_clerknode.specs.declared.step.Step.{Step}
 use Rattle.ec_clerknode.specs.declared.state.Node.{Node}
 use Rattle.ec_clerknode.specs.Floors.{highest_grows}
 use Rattle.ec_clerknode.specs.Folded.{answer_to}
-use Rattle.ec_clerknode.specs.Run.{Reply, told_by, heard_by, said_by, nets, AreSaid, Came, call_of, calls, marks, mark_of_deed, mark_of_end, Among, IsRun, leads, highest, old_boot}
+use Rattle.ec_clerknode.specs.Run.{told_by, heard_by, said_by, nets, AreSaid, Came, call_of, calls, marks, mark_of_deed, mark_of_end, Among, IsRun, leads, highest, old_boot}
 use Rattle.ec_clerknode.specs.Node.{Since, By, AnsweredAt, AnsweredFrom}
 use Rattle.ec_clerknode.specs.Closed.{More, Caused, Fails, Begun, Works, Flushes, ReadsFlushes, Started, Waited}
 use Rattle.ec_clerknode.specs.Turns.{number_of, calls_by, Replied, Failed, Called, Worked, Stays, Turned, Pending, Starts, Waits, PickedLast, Asks, FlushTurned, Finished}
 use Rattle.ec_clerknode.proofs.Lists.{prefix_trans, prefix_length, prefix_get, get_last, of-append}
-use Rattle.ec_clerknode.proofs.Each.{each-append}
-use Rattle.ec_clerknode.proofs.Told.{added-nil}
+use Rattle.ec_outs.proofs.Each.{each-append}
+use Rattle.ec_outs.proofs.Told.{added-nil}
 
 pub of_own : (pass : ℕ) (more : List Step) → By pass more → of number_of pass more ≡ more
 of_own pass [] h = refl

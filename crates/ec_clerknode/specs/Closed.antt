@@ -12,6 +12,7 @@ use Rattle.ec_link.specs.declared.link.Sent.TheVariants as sent
 use Rattle.ec_link.specs.declared.link.Got.{Got}
 use Rattle.ec_link.specs.declared.link.Got.TheVariants as gave
 use Rattle.ec_link.specs.Links.{Heard, heard, added, failed, fault_of, close_of}
+use Rattle.ec_outs.specs.Outs.{first_known, Reply, told, answers, sends, old_boots, kept_at}
 use Rattle.ec_clerknode.specs.declared.act.Act.{Act}
 use Rattle.ec_clerknode.specs.declared.fault.NodeFault.{NodeFault}
 use Rattle.ec_clerknode.specs.declared.fault.NodeFault.TheVariants as fault
@@ -20,12 +21,8 @@ use Rattle.ec_clerknode.specs.declared.step.Deed.TheVariants.{Began, Picked}
 use Rattle.ec_clerknode.specs.declared.step.Step.{Step}
 use Rattle.ec_clerknode.specs.declared.state.Node.{Node}
 use Rattle.ec_clerknode.specs.Folded.{floor_of, answer_to}
-use Rattle.ec_clerknode.specs.Run.{Reply, after, outs_of, IsDeed, heard_of, net_of, call_of, mark_of_deed, calls, marks, Among, said_in, told, answers, sends, old_boots, first_of, IsSaid, Came}
-use Rattle.ec_clerknode.specs.Node.{kept_at, AnsweredFrom, Since, By}
-
-abbrev pub first_known : Option Age → List Age → Option Age
-first_known None l = first_of l
-first_known (Some age) l = Some age
+use Rattle.ec_clerknode.specs.Run.{after, outs_of, IsDeed, heard_of, net_of, call_of, mark_of_deed, calls, marks, Among, said_in, IsSaid, Came}
+use Rattle.ec_clerknode.specs.Node.{AnsweredFrom, Since, By}
 
 module _ {L : Type 0} (counts : L → ℕ) (given : L → Option (List Heard)) (got : L → Option (List (List ℕ))) where
   -- the step was added. Where memory was wanting for an answer or a message, the clerk is followed no more.

@@ -6,6 +6,7 @@ use Rattle.ec_lock.specs.Passes.{front, numbers, IsPassOf, Same}
 use Rattle.ec_lock.specs.Steps.{Member, of}
 use Rattle.ec_lock.specs.declared.types.Pass.{Pass}
 use Rattle.ec_lock.specs.declared.types.TracedLock.{TracedLock}
+use Rattle.ec_outs.specs.Outs.{Reply}
 use Rattle.ec_clerknode.specs.declared.fault.NodeFault.{NodeFault}
 use Rattle.ec_clerknode.specs.declared.state.Node.{Node}
 use Rattle.ec_clerknode.specs.declared.step.Step.{Step}
@@ -13,7 +14,6 @@ use Rattle.ec_clerknode.specs.declared.fault.NodeFault.TheVariants as fault
 use Rattle.ec_clerknode.specs.declared.jobs.AllReplied.{AllReplied}
 use Rattle.ec_clerknode.specs.declared.lane.Replied.{Replied}
 use Rattle.ec_clerknode.specs.Lanes.{AreReplied, IsFront, LaneFault, lists_of}
-use Rattle.ec_clerknode.specs.Run.{Reply}
 use Rattle.ec_clerknode.specs.Turns.{number_of, calls_by}
 
 -- passes were drawn beside this one, whose own steps are as before

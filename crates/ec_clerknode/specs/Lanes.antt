@@ -10,13 +10,14 @@ use Rattle.ec_lock.specs.Passes.{first, front, numbers, raised, answered, IsPass
 use Rattle.ec_lock.specs.Steps.{Member, Distinct, of}
 use Rattle.ec_lock.specs.declared.types.Pass.{Pass}
 use Rattle.ec_lock.specs.declared.types.TracedLock.{TracedLock}
+use Rattle.ec_outs.specs.Outs.{Reply}
 use Rattle.ec_clerknode.specs.declared.fault.NodeFault.{NodeFault}
 use Rattle.ec_clerknode.specs.declared.fault.NodeFault.TheVariants as fault
 use Rattle.ec_clerknode.specs.declared.state.Node.{Node}
 use Rattle.ec_clerknode.specs.declared.step.Step.{Step}
 use Rattle.ec_clerknode.specs.Closed.{Caused}
 use Rattle.ec_clerknode.specs.Node.{AnsweredAt}
-use Rattle.ec_clerknode.specs.Run.{Reply, Among, marks, old_boot, highest}
+use Rattle.ec_clerknode.specs.Run.{Among, marks, old_boot, highest}
 use Rattle.ec_clerknode.specs.Turns.{number_of, calls_by, BeganAt, Stays, Goes}
 
 -- The pass has begun these calls at this place or behind it, one after another, each behind the answer of the one before, and they have these answers.

@@ -6,4 +6,3 @@ pub mod Floors
 pub mod Turns
 pub mod Lanes
 pub mod Jobs
-pub mod Patience

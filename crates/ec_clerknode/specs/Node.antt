@@ -2,10 +2,10 @@
 use Rattle.std.specs.Prelude.{◌≡◌, ℕ, ◌+◌, ◌≤◌, false, List, [], ◌∷◌, length, Option, Some, slice_get}
 use Rattle.std.specs.List.{All}
 use Rattle.ec_link.specs.Links.{Heard, added}
+use Rattle.ec_outs.specs.Outs.{Reply, answers}
 use Rattle.ec_clerknode.specs.declared.step.Step.{Step}
-use Rattle.ec_clerknode.specs.declared.state.Kept.{Kept}
 use Rattle.ec_clerknode.specs.declared.state.Node.{Node}
-use Rattle.ec_clerknode.specs.Run.{Reply, highest, IsRun, leads, heard_by, said_by, told_by, nets, old_boot, answers, Among, AreSaid, Came}
+use Rattle.ec_clerknode.specs.Run.{highest, IsRun, leads, heard_by, said_by, told_by, nets, old_boot, Among, AreSaid, Came}
 
 -- the step at this place answers the call of this number
 abbrev pub AnsweredAt : List Step → ℕ → ℕ → Reply → Type 0
@@ -14,9 +14,6 @@ AnsweredAt steps at number reply = (s : Step) × (slice_get steps at ≡ Some s)
 -- the step at this place, or behind it, answers the call of this number
 abbrev pub AnsweredFrom : List Step → ℕ → ℕ → Reply → Type 0
 AnsweredFrom steps place number reply = (at : ℕ) × (place ≤ at) × AnsweredAt steps at number reply
-
-abbrev pub kept_at : ℕ → ℕ × Reply → Kept
-kept_at at a = record { number = a.0; at = at; reply = a.1 }
 
 module _ {L : Type 0} (counts : L → ℕ) (given : L → Option (List Heard)) (got : L → Option (List (List ℕ))) where
   -- how the value stands to the one that the lock was made with

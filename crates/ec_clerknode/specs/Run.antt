@@ -1,72 +1,22 @@
 -- A clerk run: a list of steps from a clerk, each with what came out.
 use Rattle.std.specs.Prelude.{◌≡◌, ℕ, ◌+◌, ◌≤◌, List, [], ◌∷◌, ◌++◌, length, map, take, max, Option, Some, None, Ok, Err, ◌⊎◌}
 use Rattle.ec_base.specs.declared.ids.Age.{Age}
-use Rattle.ec_history.specs.declared.entry.Answer.{Answer}
 use Rattle.ec_plain.specs.declared.call.Call.{Call}
 use Rattle.ec_wire.specs.declared.msg.Msg.{Msg}
-use Rattle.ec_wire.specs.Codes.{said, msg_code}
+use Rattle.ec_wire.specs.Codes.{said}
 use Rattle.ec_protocol.specs.declared.clerk.Clerk.{Clerk}
 use Rattle.ec_protocol.specs.declared.clerk.Out.{Out}
-use Rattle.ec_protocol.specs.declared.clerk.Out.TheVariants as out
 use Rattle.ec_protocol.specs.Clerk.{Doing}
 use Rattle.ec_link.specs.declared.link.Sent.{Sent}
 use Rattle.ec_link.specs.declared.link.Sent.TheVariants as sent
 use Rattle.ec_link.specs.Links.{Heard, body, long, failed, added}
+use Rattle.ec_outs.specs.Outs.{each, sends, told, old_boots, first_of, encoded}
 use Rattle.ec_clerknode.specs.declared.step.Deed.{Deed}
 use Rattle.ec_clerknode.specs.declared.step.Deed.TheVariants.{Began, Took, Picked, Parted, Net, Peer, Long, NotBegun, NotTaken, NotPicked}
 use Rattle.ec_clerknode.specs.declared.step.Step.{Step}
 use Rattle.ec_clerknode.specs.declared.fault.NodeFault.{NodeFault}
 use Rattle.ec_clerknode.specs.declared.fault.NodeFault.TheVariants as fault
 use Rattle.ec_clerknode.specs.Folded.{begun, taken, picked, parted, floor_of}
-
--- what each element gives, one after another
-abbrev pub each : {A B : Type 0} → (A → List B) → List A → List B
-each f [] = []
-each f (x ∷ xs) = f x ++ each f xs
-
--- an answer, with its operation's number
-abbrev pub Reply : Type 0
-Reply = Answer × Option ℕ
-
--- What came out of a step.
-
-abbrev pub send_of : Out → List Msg
-send_of (out.Answer number answer op) = []
-send_of (out.Send msg) = msg ∷ []
-send_of (out.Told ops) = []
-send_of (out.OldBoot age) = []
-
-abbrev pub sends : List Out → List Msg
-sends = each send_of
-
--- the answers, by the numbers of their calls
-abbrev pub answer_of : Out → List (ℕ × Reply)
-answer_of (out.Answer number answer op) = (number, (answer, op)) ∷ []
-answer_of (out.Send msg) = []
-answer_of (out.Told ops) = []
-answer_of (out.OldBoot age) = []
-
-abbrev pub answers : List Out → List (ℕ × Reply)
-answers = each answer_of
-
-abbrev pub told_of : Out → List (List ℕ)
-told_of (out.Answer number answer op) = []
-told_of (out.Send msg) = []
-told_of (out.Told ops) = ops ∷ []
-told_of (out.OldBoot age) = []
-
--- the operations that were told lost, as each session ended
-abbrev pub told : List Out → List (List ℕ)
-told = each told_of
-
-abbrev pub old_boot_of : Out → List Age
-old_boot_of (out.Answer number answer op) = []
-old_boot_of (out.Send msg) = []
-old_boot_of (out.Told ops) = []
-old_boot_of (out.OldBoot age) = age ∷ []
-
-abbrev pub old_boots : List Out → List Age
-old_boots = each old_boot_of
 
 -- What a step makes of the clerk.
 
@@ -161,10 +111,6 @@ heard_by = each (λ s. heard_of s.deed)
 abbrev pub Came : Option (List Heard) → List Heard → Option (List Heard) → Type 0
 Came before heard now = (lost : List Heard) × (length lost ≤ 1) × (now ≡ added before (heard ++ lost))
 
--- the bytes of a message
-abbrev pub encoded : Msg → List ℕ
-encoded msg = msg_code.spell msg
-
 -- the bodies that were sent: of each step's messages as many as it says
 abbrev pub said_in : Step → List (List ℕ)
 said_in s = map encoded (take s.sent (sends s.outs.value.items))
@@ -234,10 +180,6 @@ Among x (y ∷ ys) = (y ≡ x) ⊎ Among x ys
 
 abbrev pub old_boots_in : Step → List Age
 old_boots_in s = old_boots s.outs.value.items
-
-abbrev pub first_of : {A : Type 0} → List A → Option A
-first_of [] = None
-first_of (x ∷ xs) = Some x
 
 -- the first greater age that came out
 abbrev pub old_boot : List Step → Option Age

@@ -12,6 +12,7 @@ use Rattle.ec_lock.specs.Passes.{first, front, numbers, raised, answered, IsPass
 use Rattle.ec_lock.specs.Steps.{Member, of}
 use Rattle.ec_lock.specs.declared.types.Pass.{Pass}
 use Rattle.ec_lock.specs.declared.types.TracedLock.{TracedLock}
+use Rattle.ec_outs.specs.Outs.{Reply}
 use Rattle.ec_clerknode.specs.declared.fault.NodeFault.{NodeFault}
 use Rattle.ec_clerknode.specs.declared.step.Step.{Step}
 use Rattle.ec_clerknode.specs.declared.step.Deed.TheVariants.{Began, Picked}
@@ -19,7 +20,7 @@ use Rattle.ec_clerknode.specs.declared.state.Node.{Node}
 use Rattle.ec_clerknode.specs.Closed.{Caused}
 use Rattle.ec_clerknode.specs.Folded.{answer_to}
 use Rattle.ec_clerknode.specs.Node.{AnsweredAt, AnsweredFrom}
-use Rattle.ec_clerknode.specs.Run.{Reply, highest, IsRun, leads, calls, old_boot, nets, said_by, heard_by}
+use Rattle.ec_clerknode.specs.Run.{highest, IsRun, leads, calls, old_boot, nets, said_by, heard_by}
 
 abbrev pub number_of : Step → Option ℕ
 number_of s = Some s.pass

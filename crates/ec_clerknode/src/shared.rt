@@ -12,7 +12,6 @@ ghost use Rattle.ec_clerknode.specs.Run.{highest, old_boot, told_by, heard_by, A
 ghost use Rattle.ec_clerknode.specs.Turns.{number_of, Stays, Turned, Starts, Waits, Called, CalledPlain, Worked, Asks, FlushTurned, Finished};
 
 use crate::fault::NodeFault;
-use crate::patience::Patience;
 use crate::state::{Closing, Node, State};
 use crate::step::Step;
 use ec_base::{Age, Counter, List, OpNo};
@@ -21,6 +20,7 @@ use ec_history::Answer;
 use ec_link::{Bell, Link};
 use ec_lock::{Note, Pass, Traced, TracedLock, Turn};
 use ec_log::Asked;
+use ec_outs::Patience;
 use ec_plain::Call;
 use ec_protocol::Flushed;
 use ec_trace::Trace;

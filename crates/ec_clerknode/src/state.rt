@@ -1,21 +1,10 @@
 // The value behind the lock.
-use crate::patience::Patience;
 use crate::step::Step;
 use ec_base::{Age, List, OpNo};
 use ec_clerk::Clerk;
-use ec_history::Answer;
+use ec_outs::{Kept, Patience};
 use ec_trace::Trace;
 use std::marker::Model;
-
-/// An answer that no lane has taken yet.
-#[derive(Drop)]
-pub struct Kept {
-    pub number: u64,
-    /// The place of the step that gave it.
-    pub at: u64,
-    /// With its operation's number.
-    pub reply: (Answer, Option<OpNo>),
-}
 
 /// The clerk, the link, the answers that other lanes have yet to take, and the list of steps.
 #[derive(Drop)]

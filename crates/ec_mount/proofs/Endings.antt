@@ -8,12 +8,12 @@ use Rattle.ec_history.specs.declared.shown.Shown.TheVariants as shown
 use Rattle.ec_streams.specs.declared.streams.WriteFault.{WriteFault}
 use Rattle.ec_streams.specs.declared.streams.WriteFault.TheVariants as write
 use Rattle.ec_text.specs.Lines.{shown_text}
+use Rattle.ec_outs.specs.Outs.{Reply}
 use Rattle.ec_clerknode.specs.declared.fault.NodeFault.{NodeFault}
 use Rattle.ec_clerknode.specs.declared.fault.NodeFault.TheVariants as fault
 use Rattle.ec_mount.specs.Mount.{Outside, Ends, Mounts}
 use Rattle.ec_mount.specs.Run.{place_in}
 use Rattle.ec_mount.specs.Script.{most_bytes, GivesRows, Withholds, lanes_of}
-use Rattle.ec_clerknode.specs.Run.{Reply}
 use Rattle.ec_mount.specs.Shown.{came_text, mount_text, old_boot_text, peer_text}
 use Rattle.ec_mount.specs.Work.{Given, Works, WorksTo}
 use Rattle.ec_mount.specs.Writes.{Wrote, WroteAs, Silent, Refuses, TellsEnd, TellsWork, ended_by}

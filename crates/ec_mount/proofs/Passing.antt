@@ -9,11 +9,12 @@ use Rattle.ec_lock.specs.Passes.{front, numbers, IsPassOf, Same}
 use Rattle.ec_lock.specs.Steps.{Member, of}
 use Rattle.ec_lock.specs.declared.types.Pass.{Pass}
 use Rattle.ec_lock.specs.declared.types.TracedLock.{TracedLock}
+use Rattle.ec_outs.specs.Outs.{Reply}
 use Rattle.ec_clerknode.specs.declared.fault.NodeFault.{NodeFault}
 use Rattle.ec_clerknode.specs.declared.fault.NodeFault.TheVariants as fault
 use Rattle.ec_clerknode.specs.declared.state.Node.{Node}
 use Rattle.ec_clerknode.specs.declared.step.Step.{Step}
-use Rattle.ec_clerknode.specs.Run.{Reply, calls}
+use Rattle.ec_clerknode.specs.Run.{calls}
 use Rattle.ec_clerknode.specs.Turns.{number_of, calls_by, Turned, Replied, Failed, Worked}
 use Rattle.ec_clerknode.specs.declared.jobs.AllReplied.{AllReplied}
 use Rattle.ec_clerknode.specs.Lanes.{AreFronts, IfTold, LanesCame, LanesMade}

@@ -12,14 +12,15 @@ use Rattle.ec_lock.specs.declared.types.Pass.{Pass}
 use Rattle.ec_lock.specs.declared.types.TracedLock.{TracedLock}
 use Rattle.ec_link.specs.Links.{Heard, added}
 use Rattle.ec_link.specs.Nets.{is_bad, IsEmpty}
+use Rattle.ec_outs.specs.Outs.{Reply, encoded, sends}
 use Rattle.ec_clerknode.specs.declared.fault.NodeFault.{NodeFault}
 use Rattle.ec_clerknode.specs.declared.fault.NodeFault.TheVariants as fault
 use Rattle.ec_clerknode.specs.declared.state.Node.{Node}
 use Rattle.ec_clerknode.specs.declared.step.Step.{Step}
-use Rattle.ec_clerknode.specs.Run.{Reply, IsRun, calls, encoded, sends, heard_by, said_by, told_by, old_boot}
+use Rattle.ec_clerknode.specs.Run.{IsRun, calls, heard_by, said_by, told_by, old_boot}
 use Rattle.ec_clerknode.specs.Turns.{number_of, Finished}
 use Rattle.ec_clerknode.proofs.Lists.{prefix_trans}
-use Rattle.ec_clerknode.proofs.Told.{added-added, added-nil}
+use Rattle.ec_outs.proofs.Told.{added-added, added-nil}
 use Rattle.ec_mount.specs.Run.{NetSeen, Ran, Holds, HoldsFronts, Has, Met, Lost, Spends, Unheard}
 use Rattle.ec_mount.specs.Run as run
 use Rattle.ec_mount.specs.Calls.{HoldsAll, FrontsStand, IfSaid, CallsEnd, Called}

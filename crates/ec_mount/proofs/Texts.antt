@@ -10,13 +10,13 @@ use Rattle.ec_base.specs.Outside.{Rose}
 use Rattle.ec_streams.specs.Streams.{WriteFailed, WrotePart}
 use Rattle.ec_streams.specs.declared.streams.WriteFault.{WriteFault}
 use Rattle.ec_streams.specs.declared.streams.WriteFault.TheVariants as write
-use Rattle.ec_clerknode.specs.Run.{Reply}
 use Rattle.ec_mount.specs.Mount.{WroteFront}
 use Rattle.ec_mount.specs.Script.{rows_of}
 use Rattle.ec_mount.specs.Shown.{row_text, answers_text, lanes_text, told_text, end_text, came_text}
 use Rattle.ec_mount.specs.Writes.{Wrote, WroteAs}
 use Rattle.ec_mount.specs.declared.script.Row.{Row}
 use Rattle.ec_mount.specs.declared.status.Status.{Status}
+use Rattle.ec_outs.specs.Outs.{Reply}
 
 rose_later : (f g h : ℕ) → f ≤ g → Rose g h → Rose f h
 rose_later f g h le r = later last_count f g h le r

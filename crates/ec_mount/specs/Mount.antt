@@ -10,10 +10,11 @@ use Rattle.ec_history.specs.declared.shown.Shown.TheVariants as shown
 use Rattle.ec_plain.specs.declared.call.Call.{Call}
 use Rattle.ec_script.specs.Lines.{lines_of}
 use Rattle.ec_text.specs.Lines.{shown_text}
+use Rattle.ec_outs.specs.Outs.{Reply}
 use Rattle.ec_clerknode.specs.declared.fault.NodeFault.{NodeFault}
 use Rattle.ec_clerknode.specs.declared.fault.NodeFault.TheVariants as fault
 use Rattle.ec_clerknode.specs.declared.step.Step.{Step}
-use Rattle.ec_clerknode.specs.Run.{Reply, old_boot, told_by}
+use Rattle.ec_clerknode.specs.Run.{old_boot, told_by}
 use Rattle.ec_mount.specs.Script.{most_bytes, most_lines, IsScript, GivesRows, IsBadAt, lanes_of}
 use Rattle.ec_mount.specs.Shown.{came_text, mount_text, old_boot_text, peer_text}
 use Rattle.ec_mount.specs.Run.{NetSeen, Ran, Holds, Has, Met, Lost, Spends, IsPeerFault}

@@ -12,10 +12,11 @@ use Rattle.ec_protocol.specs.declared.clerk.Out.{Out}
 use Rattle.ec_lock.specs.Steps.{Member, Distinct, of}
 use Rattle.ec_link.specs.Links.{Heard}
 use Rattle.ec_link.specs.Nets.{Ended}
+use Rattle.ec_outs.specs.Outs.{Reply, encoded, sends}
 use Rattle.ec_clerknode.specs.declared.fault.NodeFault.{NodeFault}
 use Rattle.ec_clerknode.specs.declared.fault.NodeFault.TheVariants as fault
 use Rattle.ec_clerknode.specs.declared.step.Step.{Step}
-use Rattle.ec_clerknode.specs.Run.{Reply, IsRun, Among, encoded, sends, heard_by, said_by, told_by, marks, old_boot}
+use Rattle.ec_clerknode.specs.Run.{IsRun, Among, heard_by, said_by, told_by, marks, old_boot}
 use Rattle.ec_clerknode.specs.Turns.{number_of, calls_by, Replied}
 use Rattle.ec_clerknode.specs.Lanes.{AreLanes, AreFronts}
 

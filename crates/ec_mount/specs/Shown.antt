@@ -6,9 +6,9 @@ use Rattle.ec_base.specs.declared.ids.Age.{Age}
 use Rattle.ec_text.specs.Answers.{answered_text}
 use Rattle.ec_text.specs.Calls.{call_text}
 use Rattle.ec_text.specs.Pieces.{numbers_text}
-use Rattle.ec_clerknode.specs.Run.{Reply}
 use Rattle.ec_mount.specs.Script.{rows_of}
 use Rattle.ec_mount.specs.declared.script.Row.{Row}
+use Rattle.ec_outs.specs.Outs.{Reply}
 
 -- a row with its answer
 abbrev pub row_text : Row → Reply → List ℕ

@@ -5,10 +5,11 @@ use Rattle.ec_plain.specs.declared.call.Call.{Call}
 use Rattle.ec_protocol.specs.declared.clerk.Clerk.{Clerk}
 use Rattle.ec_protocol.specs.declared.clerk.Out.{Out}
 use Rattle.ec_link.specs.Links.{Heard, added}
+use Rattle.ec_outs.specs.Outs.{Reply, encoded, sends}
 use Rattle.ec_clerknode.specs.declared.fault.NodeFault.{NodeFault}
 use Rattle.ec_clerknode.specs.declared.fault.NodeFault.TheVariants as fault
 use Rattle.ec_clerknode.specs.declared.step.Step.{Step}
-use Rattle.ec_clerknode.specs.Run.{Reply, IsRun, encoded, sends, nets, heard_by, said_by, told_by, old_boot}
+use Rattle.ec_clerknode.specs.Run.{IsRun, nets, heard_by, said_by, told_by, old_boot}
 use Rattle.ec_clerknode.specs.Lanes.{lists_of}
 use Rattle.ec_mount.specs.Run.{NetSeen, Ran, Holds, HoldsFronts, Has, Met, Lost, Spends}
 use Rattle.ec_mount.specs.declared.work.Answers.{Answers}

@@ -7,9 +7,9 @@ use Rattle.ec_streams.specs.Streams.{WriteFailed}
 use Rattle.ec_streams.specs.declared.streams.WriteFault.{WriteFault}
 use Rattle.ec_streams.specs.declared.streams.WriteFault.TheVariants as write
 use Rattle.ec_text.specs.Lines.{shown_text}
+use Rattle.ec_outs.specs.Outs.{Reply}
 use Rattle.ec_clerknode.specs.declared.fault.NodeFault.{NodeFault}
 use Rattle.ec_clerknode.specs.declared.fault.NodeFault.TheVariants as fault
-use Rattle.ec_clerknode.specs.Run.{Reply}
 use Rattle.ec_mount.specs.Mount.{WroteFront}
 use Rattle.ec_mount.specs.Run.{place_in}
 use Rattle.ec_mount.specs.Script.{most_bytes}

@@ -4,7 +4,7 @@ use Rattle.ec_wire.specs.declared.msg.Msg.{Msg}
 use Rattle.ec_wire.specs.declared.msg.Msg.TheVariants as msg
 use Rattle.ec_protocol.specs.declared.clerk.Out.{Out}
 use Rattle.ec_protocol.specs.declared.clerk.Out.TheVariants as out
-use Rattle.ec_clerknode.specs.Run.{answers, sends}
+use Rattle.ec_outs.specs.Outs.{answers, sends}
 
 -- a message that gives this object back
 abbrev pub is_back_of : ℕ → Msg → Bool

@@ -1,7 +1,7 @@
 use Rattle.std.proofs.Common.{◌≡◌, ◌+◌, ◌≤◌, length, map, take}
 use Rattle.ec_link.specs.Links.{added}
-use Rattle.ec_clerknode.specs.Run.{encoded, sends}
-use Rattle.ec_clerknode.proofs.kept.send_resting.Given as goal
+use Rattle.ec_outs.specs.Outs.{encoded, sends}
+use Rattle.ec_outs.proofs.sending.send_resting.Given as goal
 
 abbrev pub invariant-loop-out : goal.invariant-loop-out
 invariant-loop-out g l =

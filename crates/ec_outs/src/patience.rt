@@ -1,7 +1,7 @@
 // How long a clerk leaves to others what a call of its own lost.
 ghost use Rattle.std.specs.Prelude.{◌≡◌, ◌-◌, ◌<◌, ◌≤◌, ◌^◌, true, false, length, IfSome, IfNone};
-ghost use Rattle.ec_clerknode.specs.Patience as patience;
-ghost use Rattle.ec_clerknode.specs.Run.{answers, sends};
+ghost use Rattle.ec_outs.specs.Patience as patience;
+ghost use Rattle.ec_outs.specs.Outs.{answers, sends};
 
 use ec_base::{ObjId, SessionNo};
 use ec_protocol::Out;

@@ -1,7 +1,7 @@
 use Rattle.std.proofs.Common.{◌∙◌, sym, ap}
-use Rattle.ec_clerknode.specs.Run.{old_boot_of, first_of}
-use Rattle.ec_clerknode.proofs.Each.{each-first}
-use Rattle.ec_clerknode.proofs.kept.first_old.Goals as goal
+use Rattle.ec_outs.specs.Outs.{old_boot_of, first_of}
+use Rattle.ec_outs.proofs.Each.{each-first}
+use Rattle.ec_outs.proofs.kept.first_old.Goals as goal
 
 pub returns-in-OldBoot : goal.returns-in-OldBoot
 returns-in-OldBoot c =

@@ -2,8 +2,8 @@
 use Rattle.std.proofs.Common.{◌≡◌, ℕ, List, [], ◌++◌, length, map, take, Option, Some, None, sym, refl, ap, ◌∙◌, append_assoc, append-nil}
 use Rattle.ec_link.specs.Links.{added}
 use Rattle.ec_protocol.specs.declared.clerk.Out.{Out}
-use Rattle.ec_clerknode.specs.Run.{encoded, send_of, sends}
-use Rattle.ec_clerknode.proofs.Each.{each-take}
+use Rattle.ec_outs.specs.Outs.{encoded, send_of, sends}
+use Rattle.ec_outs.proofs.Each.{each-take}
 
 pub added-nil : {A : Type 0} (o : Option (List A)) → added o [] ≡ o
 added-nil None = refl

@@ -1,0 +1,74 @@
+-- What came out of a step, and what is kept of it.
+use Rattle.std.specs.Prelude.{ℕ, List, [], ◌∷◌, ◌++◌, Option, Some, None}
+use Rattle.ec_base.specs.declared.ids.Age.{Age}
+use Rattle.ec_history.specs.declared.entry.Answer.{Answer}
+use Rattle.ec_wire.specs.declared.msg.Msg.{Msg}
+use Rattle.ec_wire.specs.Codes.{msg_code}
+use Rattle.ec_protocol.specs.declared.clerk.Out.{Out}
+use Rattle.ec_protocol.specs.declared.clerk.Out.TheVariants as out
+use Rattle.ec_outs.specs.declared.kept.Kept.{Kept}
+
+-- what each element gives, one after another
+abbrev pub each : {A B : Type 0} → (A → List B) → List A → List B
+each f [] = []
+each f (x ∷ xs) = f x ++ each f xs
+
+-- an answer, with its operation's number
+abbrev pub Reply : Type 0
+Reply = Answer × Option ℕ
+
+abbrev pub send_of : Out → List Msg
+send_of (out.Answer number answer op) = []
+send_of (out.Send msg) = msg ∷ []
+send_of (out.Told ops) = []
+send_of (out.OldBoot age) = []
+
+abbrev pub sends : List Out → List Msg
+sends = each send_of
+
+-- the answers, by the numbers of their calls
+abbrev pub answer_of : Out → List (ℕ × Reply)
+answer_of (out.Answer number answer op) = (number, (answer, op)) ∷ []
+answer_of (out.Send msg) = []
+answer_of (out.Told ops) = []
+answer_of (out.OldBoot age) = []
+
+abbrev pub answers : List Out → List (ℕ × Reply)
+answers = each answer_of
+
+abbrev pub told_of : Out → List (List ℕ)
+told_of (out.Answer number answer op) = []
+told_of (out.Send msg) = []
+told_of (out.Told ops) = ops ∷ []
+told_of (out.OldBoot age) = []
+
+-- the operations that were told lost, as each session ended
+abbrev pub told : List Out → List (List ℕ)
+told = each told_of
+
+abbrev pub old_boot_of : Out → List Age
+old_boot_of (out.Answer number answer op) = []
+old_boot_of (out.Send msg) = []
+old_boot_of (out.Told ops) = []
+old_boot_of (out.OldBoot age) = age ∷ []
+
+abbrev pub old_boots : List Out → List Age
+old_boots = each old_boot_of
+
+-- the bytes of a message
+abbrev pub encoded : Msg → List ℕ
+encoded msg = msg_code.spell msg
+
+-- the first of all
+abbrev pub first_of : {A : Type 0} → List A → Option A
+first_of [] = None
+first_of (x ∷ xs) = Some x
+
+-- the first greater age that is known, where these come behind
+abbrev pub first_known : Option Age → List Age → Option Age
+first_known None l = first_of l
+first_known (Some age) l = Some age
+
+-- an answer of the step at this place
+abbrev pub kept_at : ℕ → ℕ × Reply → Kept
+kept_at at a = record { number = a.0; at = at; reply = a.1 }
