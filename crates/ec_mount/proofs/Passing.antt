@@ -172,14 +172,24 @@ module _ {L : Type 0} (lock : TracedLock (Node L) Step) where
       is_said f (FrontsStand lock joined lanes all) (fronts (whole_fronts (front one) (front back) ran.done.0 lanes all d)),
     )
 
+    worker_told : (f : NodeFault) → LanesMade ran.done.0 lanes (front one) (front back) all (Err fault.Net) → met ≡ Some f → LanesEnd lock joined lanes all (Err f)
+    worker_told f d e = (
+      has_longer (front worker) (front joined) q.other_later f (subst (λ m. IfSome m (λ g. Has g (front worker))) e flushed.has),
+      is_said f (FrontsStand lock joined lanes all) (fronts d.1),
+    )
+
     ends : (result : Result (Unit {0}) NodeFault) → Judges end met result → LanesEnd lock joined lanes all result
     ends (Ok u) j = stand u (subst (LanesMade ran.done.0 lanes (front one) (front back) all) j ran.done.4)
     ends (Err f) j =
         ⊎_elim (λ (e : f ≡ fault.NoMemory). subst (λ g. LanesEnd lock joined lanes all (Err g)) (sym e) (tt, tt))
-        (λ (h : ((end ≡ Err f) × (f ≡ fault.Spent counter.Pass → ⊥)) ⊎ ((u : Unit {0}) × (end ≡ Ok u) × (met ≡ Some f))).
+        (λ (h : ((end ≡ Err f) × (f ≡ fault.Spent counter.Pass → ⊥)) ⊎ ((((u : Unit {0}) × (end ≡ Ok u)) ⊎ (end ≡ Err fault.Net)) × (met ≡ Some f))).
         ⊎_elim
         (λ (a : (end ≡ Err f) × (f ≡ fault.Spent counter.Pass → ⊥)). lanes_failed f a.1 (subst (LanesMade ran.done.0 lanes (front one) (front back) all) a.0 ran.done.4))
-        (λ (b : (u : Unit {0}) × (end ≡ Ok u) × (met ≡ Some f)). worker_failed f b.0 (subst (LanesMade ran.done.0 lanes (front one) (front back) all) b.1 ran.done.4) b.2)
+        (λ (b : (((u : Unit {0}) × (end ≡ Ok u)) ⊎ (end ≡ Err fault.Net)) × (met ≡ Some f)).
+        ⊎_elim
+        (λ (c : (u : Unit {0}) × (end ≡ Ok u)). worker_failed f c.0 (subst (LanesMade ran.done.0 lanes (front one) (front back) all) c.1 ran.done.4) b.1)
+        (λ (c : end ≡ Err fault.Net). worker_told f (subst (LanesMade ran.done.0 lanes (front one) (front back) all) c ran.done.4) b.1)
+        b.0)
         h)
         j
 

@@ -43,7 +43,7 @@ IfSaid fault.NoMemory P = Unit {0}
 -- how the lanes ended, where the worker beside them met this fault
 abbrev pub Judges : Result (Unit {0}) NodeFault → Option NodeFault → Result (Unit {0}) NodeFault → Type 0
 Judges end flushed (Ok u) = end ≡ Ok u
-Judges end flushed (Err f) = (f ≡ fault.NoMemory) ⊎ (((end ≡ Err f) × (f ≡ fault.Spent counter.Pass → ⊥)) ⊎ ((u : Unit {0}) × (end ≡ Ok u) × (flushed ≡ Some f)))
+Judges end flushed (Err f) = (f ≡ fault.NoMemory) ⊎ (((end ≡ Err f) × (f ≡ fault.Spent counter.Pass → ⊥)) ⊎ ((((u : Unit {0}) × (end ≡ Ok u)) ⊎ (end ≡ Err fault.Net)) × (flushed ≡ Some f)))
 
 module _ {L : Type 0} (lock : TracedLock (Node L) Step) where
   -- a pass made flush turns, up to its first fault

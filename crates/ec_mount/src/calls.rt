@@ -80,8 +80,9 @@ fn flush_all<L: Link, R: Wait + Clock + Eprint>(
     unreachable!()
 }
 
-// How the lanes ended. A counter that the worker found spent is a fault of the mount; what else the worker met is met by the
-// calls that it concerns. The passes of a mount can't use up all numbers.
+// How the lanes ended. A counter that the worker found spent is a fault of the mount, and where the worker read what is no
+// message, that's why the link has ended; what else the worker met is met by the calls that it concerns. The passes of a
+// mount can't use up all numbers.
 fn judged(end: Result<(), NodeFault>, flushed: Option<NodeFault>) -> Result<(), NodeFault>
     ensures { Judges end flushed result }
 {
@@ -91,6 +92,11 @@ fn judged(end: Result<(), NodeFault>, flushed: Option<NodeFault>) -> Result<(), 
             _ => Ok(()),
         },
         Err(NodeFault::Spent(Counter::Pass)) => Err(NodeFault::NoMemory),
+        Err(NodeFault::Net) => match flushed {
+            Some(NodeFault::Peer(why)) => Err(NodeFault::Peer(why)),
+            Some(NodeFault::Long(length)) => Err(NodeFault::Long(length)),
+            _ => Err(NodeFault::Net),
+        },
         Err(fault) => Err(fault),
     }
 }
