@@ -3,4 +3,4 @@
 
 mod update;
 
-pub use update::is_overwrite;
+pub use update::{before, is_overwrite, under};
