@@ -92,7 +92,7 @@ fn does_beside<K: Keeper + Send + Drop, R: Around>(rt: &R, keeper: K, work: Work
             requires { IsSync R.row × IsPassOf clerk.lock pass }
         { does(rt, clerk, pass, work, &turn) },
         || -> bool
-            requires { IsSync R.row × IsServerPass K.kept server.lock other.pass other.clerk }
+            requires { IsSync R.row × IsServerPass K.kept server.lock other }
         { serve(rt, &server, other, far, &turn) },
     );
     drop(server);

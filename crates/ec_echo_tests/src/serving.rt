@@ -19,7 +19,7 @@ pub fn shared_server<K: Keeper + Drop>(
     alloc: Global,
     keeper: K,
 ) -> Option<(SharedServer<K>, ServerPass<K>)>
-    ensures { IfSome result (λ made. IsServerPass K.kept made.0.lock made.1.pass made.1.clerk) }
+    ensures { IfSome result (λ made. IsServerPass K.kept made.0.lock made.1) }
 {
     let mut keeper = keeper;
     let (server, begun) = Server::start(alloc, &mut keeper).ok()?;
@@ -35,8 +35,8 @@ fn take_turn<K: Keeper + Drop, R: Around>(
     bell: &MemBell,
     turn: &Mutex<bool>,
 ) -> Option<bool>
-    requires { IsServerPass K.kept server.now.lock pass.old.pass pass.old.clerk }
-    ensures { IsServerPass K.kept server.now.lock pass.new.pass pass.new.clerk }
+    requires { IsServerPass K.kept server.now.lock pass.old }
+    ensures { IsServerPass K.kept server.now.lock pass.new }
 {
     let seen = bell.rings();
     let turned = {
@@ -44,7 +44,7 @@ fn take_turn<K: Keeper + Drop, R: Around>(
         server.serve_one(rt, pass, link)
     };
     match turned {
-        Ok(Turned::Closed) => Some(true),
+        Ok(Turned::Closed | Turned::Replaced) => Some(true),
         Ok(Turned::Idle) => {
             bell.wait(rt, seen);
             None
@@ -63,7 +63,7 @@ fn take_turns<K: Keeper + Drop, R: Around>(
     bell: &MemBell,
     turn: &Mutex<bool>,
 ) -> bool
-    requires { IsServerPass K.kept server.now.lock pass.old.pass pass.old.clerk }
+    requires { IsServerPass K.kept server.now.lock pass.old }
 {
     for _ in rt.forever() {
         if let Some(is_well) = take_turn(rt, server, pass, link, bell, turn) {
@@ -81,7 +81,7 @@ pub fn serve<K: Keeper + Drop, R: Around>(
     link: MemLink,
     turn: &Mutex<bool>,
 ) -> bool
-    requires { IsServerPass K.kept server.now.lock pass.pass pass.clerk }
+    requires { IsServerPass K.kept server.now.lock pass }
 {
     let mut own = pass;
     let mut link = link;

@@ -6,7 +6,8 @@ use Rattle.ec_base.specs.declared.ids.Age.{Age}
 use Rattle.ec_wire.specs.declared.msg.Msg.{Msg}
 use Rattle.ec_wire.specs.declared.msg.Msg.TheVariants as msg
 use Rattle.ec_servernode.specs.declared.state.Outbox.{Outbox}
-use Rattle.ec_servernode.specs.Run.{put, put_all, for_clerk, first_of, is_for, hello_in}
+use Rattle.ec_servernode.specs.Callers.{hello_in, refusal_of}
+use Rattle.ec_servernode.specs.Run.{put, put_all, for_clerk, first_of, is_for}
 use Rattle.ec_servernode.specs.Node.{queue_at, owner_at}
 
 -- the box at a place
@@ -143,6 +144,25 @@ no_hello (msg.NoRoom a b c d e) never = refl
 no_hello (msg.Ended a b c) never = refl
 no_hello (msg.Restarted a b) never = refl
 no_hello (msg.OldBoot a b) never = refl
+
+-- a message that is no OldBoot is no refusal
+pub no_refusal : (m : Msg) → ((asked greatest : Age) → m ≡ msg.OldBoot asked greatest → ⊥) → refusal_of m ≡ None
+no_refusal (msg.OldBoot asked greatest) never = absurd (never asked greatest refl)
+no_refusal (msg.Hello a b) never = refl
+no_refusal (msg.Want a b c d e) never = refl
+no_refusal (msg.Back a b c d e) never = refl
+no_refusal (msg.Flush a b c d) never = refl
+no_refusal (msg.Room a b c d) never = refl
+no_refusal (msg.Claim a b c) never = refl
+no_refusal (msg.Bye a b) never = refl
+no_refusal (msg.Opened a b c) never = refl
+no_refusal (msg.Grant a b c d e f) never = refl
+no_refusal (msg.Recall a b c d e) never = refl
+no_refusal (msg.Kept a b c) never = refl
+no_refusal (msg.Ids a b c d e) never = refl
+no_refusal (msg.NoRoom a b c d e) never = refl
+no_refusal (msg.Ended a b c) never = refl
+no_refusal (msg.Restarted a b) never = refl
 
 -- one outbox more, with nothing in it
 pub push_empty : (bs : List Outbox) (b : Outbox) → ((c : ℕ) → (queue_at bs c ≡ []) × (owner_at bs c ≡ None)) → b.msgs.items ≡ [] → b.owner ≡ None → (c : ℕ) → (queue_at (bs ++ b ∷ []) c ≡ []) × (owner_at (bs ++ b ∷ []) c ≡ None)

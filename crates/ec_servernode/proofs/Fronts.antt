@@ -12,7 +12,10 @@ use Rattle.ec_lock.specs.declared.types.Pass.{Pass}
 use Rattle.ec_lock.specs.declared.types.TracedLock.{TracedLock}
 use Rattle.ec_servernode.specs.declared.step.Step.{Step}
 use Rattle.ec_servernode.specs.declared.state.Node.{Node}
-use Rattle.ec_servernode.specs.Run.{number_of, last_hello, clerk_by, leads, records, halted, box_from, owner, IsRun}
+use Rattle.ec_servernode.specs.declared.caller.Caller.{Caller}
+use Rattle.ec_servernode.specs.declared.passes.ServerPass.{ServerPass}
+use Rattle.ec_servernode.specs.Callers.{nobody}
+use Rattle.ec_servernode.specs.Run.{number_of, caller_from, caller_by, leads, records, halted, box_from, owner, IsRun}
 use Rattle.ec_servernode.specs.Node.{queue_at, owner_at, Chain, ChainInDoubt, CountsUp, state_of, Since}
 use Rattle.ec_servernode.specs.Turns.{More, RunsFrom, IsServerPass, Finished}
 use Rattle.ec_servernode.proofs.Lists.{prefix_trans}
@@ -30,22 +33,22 @@ either P f g h e p q = ⊎_elim (λ (x : h ≡ f). subst P (sym x) p) (λ (x : h
 
 module _ {K : Type 0} (kept : K → Durable) (lock : TracedLock (Node K) Step) where
   -- a pass whose front has grown by steps of others
-  pub still : (old new : Pass (Node K) Step) (clerk : ℕ) → IsServerPass kept lock old clerk → IsPassOf lock new → new.number ≡ old.number → RunsFrom kept (first lock) (front new) → of number_of old.number (front old) ≡ of number_of old.number (front new)
-      → IsServerPass kept lock new clerk
-  still old new clerk p is number run own = record {
+  pub still : (old new : ServerPass K) → IsServerPass kept lock old → IsPassOf lock new.pass → new.pass.number ≡ old.pass.number → RunsFrom kept (first lock) (front new.pass) → of number_of old.pass.number (front old.pass) ≡ of number_of old.pass.number (front new.pass)
+      → new.caller ≡ old.caller → IsServerPass kept lock new
+  still old new p is number run own same = record {
     is_pass = is;
     run = run;
-    clerk_is = p.clerk_is ∙ (ap (last_hello 0) own ∙ ap (λ n. clerk_by n (front new)) (sym number));
-    below = p.below;
+    caller_is = same ∙ (p.caller_is ∙ (ap (caller_from nobody) own ∙ ap (λ n. caller_by n (front new.pass)) (sym number)));
+    below = subst (λ (k : Caller). k.clerk < clerk_count) (sym same) p.below;
   }
 
   -- a pass that has made no step
-  pub begins_as : (new : Pass (Node K) Step) (clerk : ℕ) (steps : List Step) → IsPassOf lock new → front new ≡ steps → RunsFrom kept (first lock) steps → of number_of new.number steps ≡ [] → clerk ≡ 0 → IsServerPass kept lock new clerk
-  begins_as new clerk steps is list run none e = record {
+  pub begins_as : (new : ServerPass K) (steps : List Step) → IsPassOf lock new.pass → front new.pass ≡ steps → RunsFrom kept (first lock) steps → of number_of new.pass.number steps ≡ [] → new.caller ≡ nobody → IsServerPass kept lock new
+  begins_as new steps is list run none e = record {
     is_pass = is;
     run = subst (RunsFrom kept (first lock)) (sym list) run;
-    clerk_is = e ∙ sym (ap (clerk_by new.number) list ∙ ap (last_hello 0) none);
-    below = subst (λ n. n < clerk_count) (sym e) (omega arith);
+    caller_is = e ∙ sym (ap (caller_by new.pass.number) list ∙ ap (caller_from nobody) none);
+    below = subst (λ (k : Caller). k.clerk < clerk_count) (sym e) (omega arith);
   }
 
 module _ {K : Type 0} (kept : K → Durable) (counts : K → Counts) (did breaks : K → Record → K → Type 0) where

@@ -1,4 +1,5 @@
 pub mod Lists
+pub mod Callers
 pub mod Runs
 pub mod Counts
 pub mod Nodes

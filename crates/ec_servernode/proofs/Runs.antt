@@ -6,7 +6,9 @@ use Rattle.ec_protocol.specs.declared.server.Server.{Server}
 use Rattle.ec_server.specs.Keepers.{Did}
 use Rattle.ec_lock.specs.Steps.{of}
 use Rattle.ec_servernode.specs.declared.step.Step.{Step}
-use Rattle.ec_servernode.specs.Run.{each, first_of, number_of, hello_of, or_else, last_hello, clerk_by, owner_after, owner_from, box_after, box_from, after, leads, record_of, halts_of, halted, IsStep, IsRun}
+use Rattle.ec_servernode.specs.Run.{each, first_of, number_of, caller_after, caller_from, caller_by, owner_after, owner_from, box_after, box_from, after, leads, record_of, halts_of, halted, IsStep, IsRun}
+use Rattle.ec_servernode.specs.declared.caller.Caller.{Caller}
+use Rattle.ec_servernode.specs.Callers.{nobody}
 use Rattle.ec_servernode.specs.Node.{Chain}
 use Rattle.ec_servernode.proofs.Lists.{of-append, of_own, each-push, last_or_before}
 
@@ -32,13 +34,13 @@ pub owner-push : (c : ℕ) (o : Option ℕ) (xs : List Step) (x : Step) → owne
 owner-push c o [] x = refl
 owner-push c o (y ∷ xs) x = owner-push c (owner_after c o y) xs x
 
-hello-push : (c : ℕ) (xs : List Step) (x : Step) → last_hello c (xs ++ x ∷ []) ≡ or_else (hello_of x.deed) (last_hello c xs)
-hello-push c [] x = refl
-hello-push c (y ∷ xs) x = hello-push (or_else (hello_of y.deed) c) xs x
+own-push : (k : Caller) (xs : List Step) (x : Step) → caller_from k (xs ++ x ∷ []) ≡ caller_after (caller_from k xs) x.deed
+own-push k [] x = refl
+own-push k (y ∷ xs) x = own-push (caller_after k y.deed) xs x
 
--- the clerk of a link, with one step more of its pass
-pub clerk-push : (pass : ℕ) (xs : List Step) (x : Step) → x.pass ≡ pass → clerk_by pass (xs ++ x ∷ []) ≡ or_else (hello_of x.deed) (clerk_by pass xs)
-clerk-push pass xs x is = ap (last_hello 0) (of-append number_of pass xs (x ∷ []) ∙ ap (λ l. of number_of pass xs ++ l) (of_own pass (x ∷ []) (is, tt))) ∙ hello-push 0 (of number_of pass xs) x
+-- the other end of a link, with one step more of its pass
+pub caller-push : (pass : ℕ) (xs : List Step) (x : Step) → x.pass ≡ pass → caller_by pass (xs ++ x ∷ []) ≡ caller_after (caller_by pass xs) x.deed
+caller-push pass xs x is = ap (caller_from nobody) (of-append number_of pass xs (x ∷ []) ∙ ap (λ l. of number_of pass xs ++ l) (of_own pass (x ∷ []) (is, tt))) ∙ own-push nobody (of number_of pass xs) x
 
 none_first : {A : Type 0} (xs : List A) → first_of xs ≡ None → xs ≡ []
 none_first [] e = refl

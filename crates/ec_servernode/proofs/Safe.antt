@@ -6,17 +6,17 @@ use Rattle.ec_durable.specs.Durable.{steps}
 use Rattle.ec_durable.specs.declared.record.Record.{Record}
 use Rattle.ec_durable.specs.declared.record.RecordFault.{RecordFault}
 use Rattle.ec_durable.specs.declared.state.Durable.{Durable}
-use Rattle.ec_protocol.specs.Server.{Serving, take}
+use Rattle.ec_protocol.specs.Server.{Serving, take, end}
 use Rattle.ec_protocol.specs.declared.server.Server.{Server}
 use Rattle.ec_once.specs.Safe.{IsSafe, IsSafeBehind}
 use Rattle.ec_once.proofs.Once.{once}
-use Rattle.ec_once.proofs.Steps.{take-safe, steps-append}
-use Rattle.ec_once.proofs.Walk.{Led, take-goes}
+use Rattle.ec_once.proofs.Steps.{take-safe, end-safe, steps-append}
+use Rattle.ec_once.proofs.Walk.{Led, take-goes, end-goes}
 use Rattle.ec_servernode.specs.declared.state.Node.{Node}
 use Rattle.ec_servernode.specs.declared.step.Deed.{Deed}
-use Rattle.ec_servernode.specs.declared.step.Deed.TheVariants.{Took, Gave, Halted}
+use Rattle.ec_servernode.specs.declared.step.Deed.TheVariants.{Took, Gave, Refused, Halted, Ended, HaltedEnd}
 use Rattle.ec_servernode.specs.declared.step.Step.{Step}
-use Rattle.ec_servernode.specs.Folded.{taken}
+use Rattle.ec_servernode.specs.Folded.{taken, ended}
 use Rattle.ec_servernode.specs.Node.{state_of, queue_at}
 use Rattle.ec_servernode.specs.Run.{IsRun, IsDeed, leads, after, records, records_of, record_of}
 use Rattle.ec_servernode.specs.Safe.{StaysSafe}
@@ -31,6 +31,10 @@ taken-is : (c : ℕ) (m : Msg) (s : Server) → taken c m s ≡ take c m s
 unfolding taken
 taken-is c m s = refl
 
+ended-is : (c : ℕ) (s : Server) → ended c s ≡ end c s
+unfolding ended
+ended-is c s = refl
+
 stepped : (o : Option Record) (d e : Durable) → Led o d e → steps (record_of o) d ≡ Ok e
 stepped None d e r = ap (λ (z : Durable). Ok z) (sym r)
 stepped (Some k) d e r = ap (λ (z : Result Durable RecordFault). elim z as (λ y. Result Durable RecordFault) [ Err fault ↦ Err fault | Ok m ↦ Ok m ]) r.0
@@ -38,7 +42,17 @@ stepped (Some k) d e r = ap (λ (z : Result Durable RecordFault). elim z as (λ 
 on-deed : (s : Server) (boxes : ℕ → List Msg) (pass : ℕ) (before : List Step) (x : Deed) → IsDeed s boxes pass before x → IsSafe (leads s before)
     → IsSafe (after (leads s before) x) × (steps (records_of x) (leads s before).durable ≡ Ok (after (leads s before) x).durable)
 on-deed s boxes pass before (Gave c m) deed h = (h, refl)
+on-deed s boxes pass before (Refused m) deed h = (h, refl)
 on-deed s boxes pass before (Halted c bytes m halt) deed h = (h, refl)
+on-deed s boxes pass before (HaltedEnd c halt) deed h = (h, refl)
+on-deed s boxes pass before (Ended c served) deed h =
+    let v = leads s before in
+    let goes = end-goes c v (record { sound = h.tokens; held = h.wants }) in
+    let is : end c v ≡ ended c v = sym (ended-is c v) in (
+      subst (λ (t : Serving). IsSafe t.server) is (end-safe c v h),
+      subst (λ (o : Option Record). steps (record_of o) v.durable ≡ Ok (ended c v).server.durable) deed.1
+          (subst (λ (t : Serving). steps (record_of t.rec) v.durable ≡ Ok t.server.durable) is (stepped (end c v).rec v.durable (end c v).server.durable goes.1)),
+    )
 on-deed s boxes pass before (Took c bytes m served) deed h =
     let v = leads s before in
     let sound : T _ = subst T (sym deed.3) tt in

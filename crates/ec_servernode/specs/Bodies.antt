@@ -3,7 +3,7 @@ use Rattle.std.specs.Prelude.{ℕ, List, [], ◌∷◌}
 use Rattle.ec_wire.specs.Codes.{msg_code}
 use Rattle.ec_link.specs.Links.{Heard, body}
 use Rattle.ec_servernode.specs.declared.step.Deed.{Deed}
-use Rattle.ec_servernode.specs.declared.step.Deed.TheVariants.{Took, Gave, Halted}
+use Rattle.ec_servernode.specs.declared.step.Deed.TheVariants.{Took, Gave, Refused, Halted, Ended, HaltedEnd}
 use Rattle.ec_servernode.specs.declared.step.Step.{Step}
 use Rattle.ec_servernode.specs.Run.{each}
 
@@ -11,7 +11,10 @@ use Rattle.ec_servernode.specs.Run.{each}
 abbrev pub heard_of : Deed → List Heard
 heard_of (Took c bytes m served) = body bytes.value.items ∷ []
 heard_of (Gave c m) = []
+heard_of (Refused m) = []
 heard_of (Halted c bytes m h) = body bytes.value.items ∷ []
+heard_of (Ended c served) = []
+heard_of (HaltedEnd c h) = []
 
 abbrev pub heard_by : List Step → List Heard
 heard_by = each (λ s. heard_of s.deed)
@@ -20,7 +23,10 @@ heard_by = each (λ s. heard_of s.deed)
 abbrev pub said_of : Deed → List (List ℕ)
 said_of (Took c bytes m served) = []
 said_of (Gave c m) = msg_code.spell m.value ∷ []
+said_of (Refused m) = msg_code.spell m.value ∷ []
 said_of (Halted c bytes m h) = []
+said_of (Ended c served) = []
+said_of (HaltedEnd c h) = []
 
 abbrev pub said_by : List Step → List (List ℕ)
 said_by = each (λ s. said_of s.deed)

@@ -1,4 +1,4 @@
--- The server's step, by the function of the protocol. It stays folded: what stands above needs no more than that it's a function.
+-- The server's steps, by the functions of the protocol. They stay folded: what stands above needs no more than that they're functions.
 use Rattle.std.specs.Prelude.{ℕ}
 use Rattle.ec_wire.specs.declared.msg.Msg.{Msg}
 use Rattle.ec_protocol.specs.Server as protocol
@@ -7,3 +7,6 @@ use Rattle.ec_protocol.specs.declared.server.Server.{Server}
 
 unfoldable pub taken : ℕ → Msg → Server → Serving
 taken c m s = protocol.take c m s
+
+unfoldable pub ended : ℕ → Server → Serving
+ended c s = protocol.end c s

@@ -1,3 +1,4 @@
+pub mod Callers
 pub mod Folded
 pub mod Run
 pub mod Node

@@ -1,7 +1,6 @@
 -- A server run: a list of steps from a server and its outboxes.
 use Rattle.std.specs.Prelude.{◌≡◌, ◌==◌, ℕ, Bool, true, cond, nat_lt, List, [], ◌∷◌, ◌++◌, length, drop, Option, Some, None, Ok}
 use Rattle.ec_wire.specs.declared.msg.Msg.{Msg}
-use Rattle.ec_wire.specs.declared.msg.Msg.TheVariants as msg
 use Rattle.ec_wire.specs.Codes.{said}
 use Rattle.ec_wire.specs.Messages.{is_sound}
 use Rattle.ec_durable.specs.declared.record.Record.{Record}
@@ -12,9 +11,11 @@ use Rattle.ec_lock.specs.Steps.{of}
 use Rattle.ec_servernode.specs.declared.step.Halt.{Halt}
 use Rattle.ec_servernode.specs.declared.step.Halt.TheVariants as halt
 use Rattle.ec_servernode.specs.declared.step.Deed.{Deed}
-use Rattle.ec_servernode.specs.declared.step.Deed.TheVariants.{Took, Gave, Halted}
+use Rattle.ec_servernode.specs.declared.step.Deed.TheVariants.{Took, Gave, Refused, Halted, Ended, HaltedEnd}
 use Rattle.ec_servernode.specs.declared.step.Step.{Step}
-use Rattle.ec_servernode.specs.Folded.{taken}
+use Rattle.ec_servernode.specs.declared.caller.Caller.{Caller}
+use Rattle.ec_servernode.specs.Callers.{hello_in, accepted, refusal_in, posted, nobody, behind, answered, IsRefusal}
+use Rattle.ec_servernode.specs.Folded.{taken, ended}
 
 -- what each element gives, one after another
 abbrev pub each : {A B : Type 0} → (A → List B) → List A → List B
@@ -30,15 +31,35 @@ number_of s = Some s.pass
 
 -- Whose message it is.
 
--- a Hello tells its clerk
-abbrev pub hello_in : Msg → Option ℕ
-hello_in (msg.Hello c age) = Some c
-hello_in _ = None
-
+-- a Hello tells its clerk, where it isn't refused
 abbrev pub hello_of : Deed → Option ℕ
-hello_of (Took c bytes m served) = hello_in m.value
+hello_of (Took c bytes m served) = accepted (refusal_in served.value.sent) (hello_in m.value)
 hello_of (Gave c m) = None
+hello_of (Refused m) = None
 hello_of (Halted c bytes m h) = None
+hello_of (Ended c served) = None
+hello_of (HaltedEnd c h) = None
+
+-- the other end of a link behind a deed of the link's pass
+abbrev pub caller_after : Caller → Deed → Caller
+caller_after k (Took c bytes m served) = behind (accepted (refusal_in served.value.sent) (hello_in m.value)) (refusal_in served.value.sent) k
+caller_after k (Gave c m) = k
+caller_after k (Refused m) = answered k
+caller_after k (Halted c bytes m h) = k
+caller_after k (Ended c served) = k
+caller_after k (HaltedEnd c h) = k
+
+abbrev pub caller_from : Caller → List Step → Caller
+caller_from k [] = k
+caller_from k (s ∷ ss) = caller_from (caller_after k s.deed) ss
+
+-- the other end of the link that has this pass beside it, by what was taken and sent with its number
+abbrev pub caller_by : ℕ → List Step → Caller
+caller_by pass steps = caller_from nobody (of number_of pass steps)
+
+-- its clerk: that of the last Hello that wasn't refused, and A before the first one
+abbrev pub clerk_by : ℕ → List Step → ℕ
+clerk_by pass steps = (caller_by pass steps).clerk
 
 abbrev pub or_else : Option ℕ → ℕ → ℕ
 or_else None c = c
@@ -47,15 +68,6 @@ or_else (Some d) c = d
 -- the clerk of a message from a link of the clerk c
 abbrev pub sender : Msg → ℕ → ℕ
 sender m c = or_else (hello_in m) c
-
--- the clerk of the last Hello
-abbrev pub last_hello : ℕ → List Step → ℕ
-last_hello c [] = c
-last_hello c (s ∷ ss) = last_hello (or_else (hello_of s.deed) c) ss
-
--- the clerk of the link that has this pass beside it: that of the last Hello taken with its number, and A before the first one
-abbrev pub clerk_by : ℕ → List Step → ℕ
-clerk_by pass steps = last_hello 0 (of number_of pass steps)
 
 -- Outboxes.
 
@@ -71,7 +83,7 @@ abbrev pub owner_from : ℕ → Option ℕ → List Step → Option ℕ
 owner_from c o [] = o
 owner_from c o (s ∷ ss) = owner_from c (owner_after c o s) ss
 
--- the pass of the clerk's last Hello, to which its outbox belongs
+-- the pass of the clerk's last Hello that wasn't refused, to which its outbox belongs
 abbrev pub owner : ℕ → List Step → Option ℕ
 owner c steps = owner_from c None steps
 
@@ -99,9 +111,12 @@ for_clerk c (x ∷ xs) = cond (x.0 == c) (x.1 ∷ for_clerk c xs) (for_clerk c x
 
 -- the clerk's outbox behind a step
 abbrev pub box_after : ℕ → List Msg → Deed → List Msg
-box_after c q (Took d bytes m served) = put_all q (for_clerk c served.value.sent)
+box_after c q (Took d bytes m served) = put_all q (for_clerk c (posted served.value.sent))
 box_after c q (Gave d m) = cond (d == c) (drop 1 q) q
+box_after c q (Refused m) = q
 box_after c q (Halted d bytes m h) = q
+box_after c q (Ended d served) = put_all q (for_clerk c served.value.sent)
+box_after c q (HaltedEnd d h) = q
 
 abbrev pub box_from : ℕ → List Msg → List Step → List Msg
 box_from c q [] = q
@@ -112,7 +127,10 @@ box_from c q (s ∷ ss) = box_from c (box_after c q s.deed) ss
 abbrev pub after : Server → Deed → Server
 after s (Took c bytes m served) = (taken c m.value s).server
 after s (Gave c m) = s
+after s (Refused m) = s
 after s (Halted c bytes m h) = s
+after s (Ended c served) = (ended c s).server
+after s (HaltedEnd c h) = s
 
 -- the server to which the steps lead
 abbrev pub leads : Server → List Step → Server
@@ -126,7 +144,10 @@ record_of (Some r) = r ∷ []
 abbrev pub records_of : Deed → List Record
 records_of (Took c bytes m served) = record_of served.value.rec
 records_of (Gave c m) = []
+records_of (Refused m) = []
 records_of (Halted c bytes m h) = []
+records_of (Ended c served) = record_of served.value.rec
+records_of (HaltedEnd c h) = []
 
 -- the records that were committed
 abbrev pub records : List Step → List Record
@@ -135,7 +156,10 @@ records = each (λ s. records_of s.deed)
 abbrev pub halts_of : Deed → List Halt
 halts_of (Took c bytes m served) = []
 halts_of (Gave c m) = []
+halts_of (Refused m) = []
 halts_of (Halted c bytes m h) = h ∷ []
+halts_of (Ended c served) = []
+halts_of (HaltedEnd c h) = h ∷ []
 
 -- the fault of the disk or spent counter that stands in the list
 abbrev pub halted : List Step → Option Halt
@@ -151,12 +175,15 @@ Halts halt.DiskFailed done = Unit {0}
 Halts halt.DiskStopped done = Unit {0}
 Halts (halt.Spent n) done = done.spent ≡ Some n
 
--- A message is what its body says, sound, and comes from the link's clerk. What is sent stands first in the outbox of the link's clerk, which belongs to this pass or to
--- any.
+-- A message is what its body says, sound, and comes from the link's clerk. A refusal goes first to the link whose Hello it answers. Else what is sent stands first in the outbox of the
+-- link's clerk, which belongs to this pass or to any.
 abbrev pub IsDeed : Server → (ℕ → List Msg) → ℕ → List Step → Deed → Type 0
 IsDeed s boxes pass before (Took c bytes m served) = (said bytes.value.items ≡ Ok m.value) × (c ≡ sender m.value (clerk_by pass before)) × Came (taken c m.value (leads s before)) served.value × (is_sound m.value ≡ true)
-IsDeed s boxes pass before (Gave c m) = (c ≡ clerk_by pass before) × (is_for pass (owner c before) ≡ true) × (first_of (box_from c (boxes c) before) ≡ Some m.value)
+IsDeed s boxes pass before (Gave c m) = ((caller_by pass before).refusal ≡ None) × (c ≡ clerk_by pass before) × (is_for pass (owner c before) ≡ true) × (first_of (box_from c (boxes c) before) ≡ Some m.value)
+IsDeed s boxes pass before (Refused m) = IsRefusal (caller_by pass before).refusal m.value
 IsDeed s boxes pass before (Halted c bytes m h) = (said bytes.value.items ≡ Ok m.value) × (c ≡ sender m.value (clerk_by pass before)) × Halts h (taken c m.value (leads s before))
+IsDeed s boxes pass before (Ended c served) = Came (ended c (leads s before)) served.value
+IsDeed s boxes pass before (HaltedEnd c h) = Halts h (ended c (leads s before))
 
 -- the step comes behind these, among which is no halt
 abbrev pub IsStep : Server → (ℕ → List Msg) → List Step → Step → Type 0

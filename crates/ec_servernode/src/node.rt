@@ -1,6 +1,8 @@
 // What is done in one turn at the lock.
-ghost use Rattle.std.specs.Prelude.{◌≡◌, ℕ, ◌+◌, ◌<◌, ◌≤◌, ◌⊎◌, false, [], ◌∷◌, ◌++◌, length, Ok, Some, None, IfOk, IfErr, IfSome, IfNone, IsTrue};
+ghost use Rattle.std.specs.Prelude.{◌≡◌, ℕ, ◌+◌, ◌<◌, ◌≤◌, ◌⊎◌, true, false, [], ◌∷◌, ◌++◌, length, Ok, Some, None, IfOk, IfErr, IfSome, IfNone, IsTrue};
 ghost use Rattle.ec_base.specs.Limits.{clerk_count, last_counter};
+ghost use Rattle.ec_durable.specs.Durable.{slot};
+ghost use Rattle.ec_sessions.specs.Slots.{is_open};
 ghost use Rattle.ec_wire.specs.Codes.{said, msg_code};
 ghost use Rattle.ec_wire.specs.Messages.{is_sound};
 ghost use Rattle.ec_link.specs.Links.{added, carried, failed};
@@ -8,16 +10,19 @@ ghost use Rattle.ec_servernode.specs.declared.step.Halt.{Halt as Stop};
 ghost use Rattle.ec_servernode.specs.declared.step.Step.{Step as Made};
 ghost use Rattle.ec_servernode.specs.declared.state.Node.{Node as Value};
 ghost use Rattle.ec_servernode.specs.declared.fault.ServeFault.TheVariants as fault;
-ghost use Rattle.ec_servernode.specs.Node.{Since, Keeps};
-ghost use Rattle.ec_servernode.specs.Run.{sender, clerk_by};
-ghost use Rattle.ec_servernode.specs.Steps.{Grew, Stops, halt_in, spends};
+ghost use Rattle.ec_servernode.specs.Callers.{accepted, hello_in, posted, refusal_in};
+ghost use Rattle.ec_servernode.specs.Node.{Since, Keeps, owner_at};
+ghost use Rattle.ec_servernode.specs.Run.{sender, clerk_by, caller_by, is_for};
+ghost use Rattle.ec_servernode.specs.Steps.{Grew, TookAs, EndedAs, Stops, halt_in, spends, told_in, taken_by, told_by};
 ghost use Rattle.ec_servernode.specs.Told.{IsToldOf};
-ghost use Rattle.ec_servernode.specs.Turns.{Takes, Gives, fault_of};
+ghost use Rattle.ec_servernode.specs.Turns.{Takes, Ends, Gives, fault_of};
 
+use crate::caller::{Caller, Refusal, accepted, hello_in, posted, refusal_in};
 use crate::fault::{ServeFault, halted};
-use crate::outbox::{drop_first, next_for, own, post_all, told_of};
-use crate::server::take;
-use crate::state::{Node, Told};
+use crate::outbox::{drop_first, is_others, next_for, own, post_all, told_of};
+use crate::server::{end, take};
+use crate::shared::Turned;
+use crate::state::{Node, Taking, Told};
 use crate::step::{Deed, Halt, Step};
 use ec_base::{ClerkId, LAST_COUNTER};
 use ec_link::{Link, Sent};
@@ -84,8 +89,22 @@ impl<K: Keeper + Drop> Node<K> {
         self.steps += 1;
     }
 
-    // Ends the taking of a message: what is sent goes to the outboxes, and the step is added. Where memory is wanting for that, nothing is done any
-    // more.
+    // Adds a step, and what is sent by it goes to the outboxes. Where memory is wanting for that, nothing is done any more.
+    fn grow(&mut self, pass: u64, deed: Deed, hello: Option<ClerkId>, sent: Vec<(ClerkId, Msg)>)
+        requires steps { self.old.steps < last_counter }
+        requires sized { length self.old.boxes.items ≡ clerk_count }
+        ensures { Grew pass deed hello sent.items self.old self.new }
+    {
+        own(&mut self.boxes, hello, pass);
+        let posted = post_all(&mut self.boxes, sent);
+        self.add(Step { pass, deed });
+        match posted {
+            Ok(()) => {}
+            Err(_) => self.broken = true,
+        }
+    }
+
+    // Ends the taking of a message.
     fn took(
         &mut self,
         pass: u64,
@@ -93,45 +112,36 @@ impl<K: Keeper + Drop> Node<K> {
         body: Snapshot<Vec<u8>>,
         msg: &Msg,
         served: Served,
-    ) -> Told
+    ) -> Taking
         requires steps { self.old.steps < last_counter }
         requires sized { length self.old.boxes.items ≡ clerk_count }
-        ensures grew { Grew pass from body msg.now served self.old self.new }
-        ensures told { IsToldOf result served.sent }
+        ensures grew { TookAs pass from body msg.now served self.old self.new }
+        ensures told { IsToldOf result.told (posted served.sent) }
+        ensures hello { result.hello ≡ accepted (refusal_in served.sent) (hello_in msg.now) }
+        ensures refusal { result.refusal ≡ refusal_in served.sent }
     {
         let deed = Deed::Took(from, body, Snapshot::of(msg), Snapshot::of(&served));
         let Served { sent, rec } = served;
         drop(rec);
-        let told = told_of(sent.as_slice());
-        own(&mut self.boxes, msg, pass);
-        let posted = post_all(&mut self.boxes, sent.into_vec());
-        self.add(Step { pass, deed });
-        match posted {
-            Ok(()) => told,
-            Err(_) => {
-                self.broken = true;
-                told
-            }
-        }
+        let refusal = refusal_in(sent.as_slice());
+        let hello = accepted(&refusal, hello_in(msg));
+        let sent = posted(sent.into_vec());
+        let taking = Taking {
+            told: told_of(sent.as_slice()),
+            hello,
+            refusal,
+        };
+        self.grow(pass, deed, taking.hello, sent);
+        taking
     }
 
-    // The server takes no message any more.
-    fn stop(
-        &mut self,
-        pass: u64,
-        from: ClerkId,
-        body: Snapshot<Vec<u8>>,
-        msg: Snapshot<Msg>,
-        halt: Halt,
-    ) -> ServeFault
+    // The server does nothing any more.
+    fn stop(&mut self, pass: u64, deed: Deed, halt: Halt) -> ServeFault
         requires { self.old.steps < last_counter }
         ensures result { result ≡ fault_of halt }
-        ensures stops { Stops pass from body msg halt self.old self.new }
+        ensures stops { Stops pass deed halt self.old self.new }
     {
-        self.add(Step {
-            pass,
-            deed: Deed::Halted(from, body, msg, halt),
-        });
+        self.add(Step { pass, deed });
         self.halt = Some(halt);
         self.broken = !is_spent(halt);
         halted(halt)
@@ -144,21 +154,23 @@ impl<K: Keeper + Drop> Node<K> {
         from: ClerkId,
         body: Snapshot<Vec<u8>>,
         msg: &Msg,
-    ) -> Result<Told, ServeFault>
+    ) -> Result<Taking, ServeFault>
         requires sound { IsTrue (is_sound msg.now) }
         requires said { said body.value.items ≡ Ok msg.now }
         requires from { from ≡ sender msg.now (clerk_by pass self.old.trace.items) }
         requires since { (first : Value K) × Since K.kept K.counts K.did K.broke first self.old }
         ensures keeps { Keeps K.kept K.counts K.did K.broke self.old self.new }
-        ensures takes { Takes pass body.value.items self.old self.new result }
-        ensures clerk { IfOk result (λ _. clerk_by pass self.new.trace.items ≡ from) }
-        ensures same_clerk { IfErr result (λ _. clerk_by pass self.new.trace.items ≡ clerk_by pass self.old.trace.items) }
+        ensures takes { Takes pass body.value.items self.old self.new (told_in result) }
+        ensures caller { caller_by pass self.new.trace.items ≡ taken_by result (caller_by pass self.old.trace.items) }
     {
         self.check()?;
         match take(&mut self.server, &mut self.keeper, from, msg) {
             Ok(served) => Ok(self.took(pass, from, body, msg, served)),
             Err(fault) => match halt_of(fault) {
-                Some(halt) => Err(self.stop(pass, from, body, Snapshot::of(msg), halt)),
+                Some(halt) => {
+                    let deed = Deed::Halted(from, body, Snapshot::of(msg), halt);
+                    Err(self.stop(pass, deed, halt))
+                }
                 None => {
                     self.broken = true;
                     Err(ServeFault::NoMemory)
@@ -167,37 +179,171 @@ impl<K: Keeper + Drop> Node<K> {
         }
     }
 
-    /// Sends the first message of the clerk's outbox, where that belongs to the pass. False where there is none.
+    /// Ends the clerk's open session.
+    pub fn end(&mut self, pass: u64, clerk: ClerkId) -> Result<Told, ServeFault>
+        requires { (first : Value K) × Since K.kept K.counts K.did K.broke first self.old }
+        ensures keeps { Keeps K.kept K.counts K.did K.broke self.old self.new }
+        ensures ends { Ends pass clerk self.old self.new result }
+        ensures caller { caller_by pass self.new.trace.items ≡ caller_by pass self.old.trace.items }
+    {
+        self.check()?;
+        match end(&mut self.server, &mut self.keeper, clerk) {
+            Ok(served) => Ok(self.ended(pass, clerk, served)),
+            Err(fault) => match halt_of(fault) {
+                Some(halt) => Err(self.stop(pass, Deed::HaltedEnd(clerk, halt), halt)),
+                None => {
+                    self.broken = true;
+                    Err(ServeFault::NoMemory)
+                }
+            },
+        }
+    }
+
+    fn ended(&mut self, pass: u64, clerk: ClerkId, served: Served) -> Told
+        requires steps { self.old.steps < last_counter }
+        requires sized { length self.old.boxes.items ≡ clerk_count }
+        ensures grew { EndedAs pass clerk served self.old self.new }
+        ensures told { IsToldOf result served.sent }
+    {
+        let deed = Deed::Ended(clerk, Snapshot::of(&served));
+        let Served { sent, rec } = served;
+        drop(rec);
+        let told = told_of(sent.as_slice());
+        self.grow(pass, deed, None, sent.into_vec());
+        told
+    }
+
+    /// Whether the clerk has an open session.
+    pub fn is_open(&self, clerk: ClerkId) -> Result<bool, ServeFault>
+        ensures ok { IfOk result (λ o. (o ≡ is_open (slot (K.kept self.now.keeper) clerk)) × (self.now.halt ≡ None) × (self.now.broken ≡ false)) }
+        ensures err { IfErr result (λ f. ((f ≡ fault.Down) × ((h : Stop) × (self.now.halt ≡ Some h))) ⊎ (f ≡ fault.NoMemory)) }
+    {
+        self.check()?;
+        match self.server.view(&self.keeper).sessions.slot(clerk) {
+            Some(slot) => Ok(slot.is_open),
+            None => Ok(false),
+        }
+    }
+
+    /// Sends what is there for the link's other end: a refusal, or the first message of its clerk's outbox, where that belongs to the
+    /// pass.
     pub fn give<L: Link, R: Wait + Clock>(
         &mut self,
         rt: &R,
         alloc: Global,
         pass: u64,
-        clerk: ClerkId,
+        caller: &Caller,
         link: &mut L,
-    ) -> Result<bool, ServeFault>
-        requires clerk { clerk ≡ clerk_by pass self.old.trace.items }
-        requires below { clerk < clerk_count }
+    ) -> Result<Turned, ServeFault>
+        requires caller { caller.now ≡ caller_by pass self.old.trace.items }
+        requires below { caller.now.clerk < clerk_count }
         requires since { (first : Value K) × Since K.kept K.counts K.did K.broke first self.old }
         ensures keeps { Keeps K.kept K.counts K.did K.broke self.old self.new }
-        ensures gives { Gives L.faults L.got pass clerk self.old self.new link.old link.new result }
-        ensures same_clerk { clerk_by pass self.new.trace.items ≡ clerk_by pass self.old.trace.items }
+        ensures gives { Gives L.faults L.got pass caller.now self.old self.new link.old link.new result }
+        ensures caller { caller_by pass self.new.trace.items ≡ told_by result caller.now }
         ensures given { (L.given link.new ≡ L.given link.old) × (L.held link.new ≡ L.held link.old) }
         ensures counts { (L.faults link.old ≤ L.faults link.new) × (L.closes link.old ≤ L.closes link.new) }
     {
         self.check()?;
-        match next_for(&self.boxes, clerk, pass) {
-            None => Ok(false),
+        match caller.refusal {
+            Some(refusal) => self.refuse(rt, alloc, pass, caller, refusal, link),
+            None => self.give_own(rt, alloc, pass, caller, link),
+        }
+    }
+
+    // Sends a refusal.
+    fn refuse<L: Link, R: Wait + Clock>(
+        &mut self,
+        rt: &R,
+        alloc: Global,
+        pass: u64,
+        caller: &Caller,
+        refusal: Refusal,
+        link: &mut L,
+    ) -> Result<Turned, ServeFault>
+        requires caller { caller.now ≡ caller_by pass self.old.trace.items }
+        requires refusal { caller.now.refusal ≡ Some refusal }
+        requires up { (self.old.halt ≡ None) × (self.old.broken ≡ false) × (self.old.steps < last_counter) }
+        ensures keeps { Keeps K.kept K.counts K.did K.broke self.old self.new }
+        ensures gives { Gives L.faults L.got pass caller.now self.old self.new link.old link.new result }
+        ensures caller { caller_by pass self.new.trace.items ≡ told_by result caller.now }
+        ensures given { (L.given link.new ≡ L.given link.old) × (L.held link.new ≡ L.held link.old) }
+        ensures counts { (L.faults link.old ≤ L.faults link.new) × (L.closes link.old ≤ L.closes link.new) }
+    {
+        let msg = Msg::OldBoot(refusal.asked, refusal.greatest);
+        match send_one(rt, alloc, link, &msg) {
+            Sent::Done => {
+                self.add(Step {
+                    pass,
+                    deed: Deed::Refused(Snapshot::of(&msg)),
+                });
+                Ok(Turned::Gave)
+            }
+            Sent::Failed => Err(ServeFault::Net),
+            Sent::NoMemory => Err(ServeFault::NoMemory),
+        }
+    }
+
+    // Sends the first message of the clerk's outbox, unless that is another link's by now.
+    fn give_own<L: Link, R: Wait + Clock>(
+        &mut self,
+        rt: &R,
+        alloc: Global,
+        pass: u64,
+        caller: &Caller,
+        link: &mut L,
+    ) -> Result<Turned, ServeFault>
+        requires caller { caller.now ≡ caller_by pass self.old.trace.items }
+        requires below { caller.now.clerk < clerk_count }
+        requires refusal { caller.now.refusal ≡ None }
+        requires up { (self.old.halt ≡ None) × (self.old.broken ≡ false) × (self.old.steps < last_counter) }
+        requires sized { length self.old.boxes.items ≡ clerk_count }
+        ensures keeps { Keeps K.kept K.counts K.did K.broke self.old self.new }
+        ensures gives { Gives L.faults L.got pass caller.now self.old self.new link.old link.new result }
+        ensures caller { caller_by pass self.new.trace.items ≡ told_by result caller.now }
+        ensures given { (L.given link.new ≡ L.given link.old) × (L.held link.new ≡ L.held link.old) }
+        ensures counts { (L.faults link.old ≤ L.faults link.new) × (L.closes link.old ≤ L.closes link.new) }
+    {
+        if is_others(&self.boxes, caller, pass) {
+            Ok(Turned::Replaced)
+        } else {
+            self.give_next(rt, alloc, pass, caller, link)
+        }
+    }
+
+    // Sends the first message of the clerk's outbox, where that belongs to the pass.
+    fn give_next<L: Link, R: Wait + Clock>(
+        &mut self,
+        rt: &R,
+        alloc: Global,
+        pass: u64,
+        caller: &Caller,
+        link: &mut L,
+    ) -> Result<Turned, ServeFault>
+        requires caller { caller.now ≡ caller_by pass self.old.trace.items }
+        requires below { caller.now.clerk < clerk_count }
+        requires refusal { caller.now.refusal ≡ None }
+        requires mine { caller.now.has_greeted ≡ true → is_for pass (owner_at self.old.boxes.items caller.now.clerk) ≡ true }
+        requires up { (self.old.halt ≡ None) × (self.old.broken ≡ false) × (self.old.steps < last_counter) }
+        requires sized { length self.old.boxes.items ≡ clerk_count }
+        ensures keeps { Keeps K.kept K.counts K.did K.broke self.old self.new }
+        ensures gives { Gives L.faults L.got pass caller.now self.old self.new link.old link.new result }
+        ensures caller { caller_by pass self.new.trace.items ≡ told_by result caller.now }
+        ensures given { (L.given link.new ≡ L.given link.old) × (L.held link.new ≡ L.held link.old) }
+        ensures counts { (L.faults link.old ≤ L.faults link.new) × (L.closes link.old ≤ L.closes link.new) }
+    {
+        match next_for(&self.boxes, caller.clerk, pass) {
+            None => Ok(Turned::Idle),
             Some(msg) => {
                 let shot = Snapshot::of(msg);
                 match send_one(rt, alloc, link, msg) {
                     Sent::Done => {
-                        drop_first(&mut self.boxes, clerk);
+                        drop_first(&mut self.boxes, caller.clerk);
                         self.add(Step {
                             pass,
-                            deed: Deed::Gave(clerk, shot),
+                            deed: Deed::Gave(caller.clerk, shot),
                         });
-                        Ok(true)
+                        Ok(Turned::Gave)
                     }
                     Sent::Failed => Err(ServeFault::Net),
                     Sent::NoMemory => Err(ServeFault::NoMemory),

@@ -2,9 +2,10 @@
 ghost use Rattle.std.specs.Prelude.{◌≡◌, ◌==◌, ℕ, ◌<◌, ◌⊎◌, [], ◌∷◌, ◌++◌, Bool, true, false, cond, List, drop, length, IfOk, IfSome, IfNone, Some, Option};
 ghost use Rattle.ec_base.specs.Limits.{clerk_count};
 ghost use Rattle.ec_servernode.specs.Node.{queue_at, owner_at};
-ghost use Rattle.ec_servernode.specs.Run.{put, put_all, for_clerk, is_for, first_of, hello_in, owner_now};
+ghost use Rattle.ec_servernode.specs.Run.{put, put_all, for_clerk, is_for, first_of, owner_now};
 ghost use Rattle.ec_servernode.specs.Told.{IsToldOf};
 
+use crate::caller::Caller;
 use crate::state::{Outbox, Told};
 use ec_base::{CLERK_COUNT, ClerkId, NoMemory};
 use ec_wire::Msg;
@@ -108,15 +109,36 @@ pub fn filled_boxes(alloc: Global, sent: Vec<(ClerkId, Msg)>) -> Result<Vec<Outb
 }
 
 /// A Hello makes its clerk's outbox this pass's.
-pub fn own(boxes: &mut Vec<Outbox>, msg: &Msg, pass: u64)
+pub fn own(boxes: &mut Vec<Outbox>, hello: Option<ClerkId>, pass: u64)
     requires { length boxes.old.items ≡ clerk_count }
     ensures sized { length boxes.new.items ≡ clerk_count }
     ensures same { (c : ℕ) → queue_at boxes.new.items c ≡ queue_at boxes.old.items c }
-    ensures owners { (c : ℕ) → c < clerk_count → owner_at boxes.new.items c ≡ owner_now c (hello_in msg.now) pass (owner_at boxes.old.items c) }
+    ensures owners { (c : ℕ) → c < clerk_count → owner_at boxes.new.items c ≡ owner_now c hello pass (owner_at boxes.old.items c) }
 {
-    if let Msg::Hello(clerk, _) = msg {
+    if let Some(clerk) = hello {
         boxes[clerk.get() as usize].owner = Some(pass);
     }
+}
+
+// Whether the clerk's outbox belongs to the pass, or to any.
+fn is_for(boxes: &[Outbox], clerk: ClerkId, pass: u64) -> bool
+    requires { length boxes.now ≡ clerk_count }
+    ensures { result ≡ is_for pass (owner_at boxes.now clerk) }
+{
+    let outbox = &boxes[clerk.get() as usize];
+    match outbox.owner {
+        Some(owner) => owner == pass,
+        None => true,
+    }
+}
+
+/// Whether the link's other end has greeted, and its clerk's outbox is another pass's by now.
+pub fn is_others(boxes: &[Outbox], caller: &Caller, pass: u64) -> bool
+    requires { length boxes.now ≡ clerk_count }
+    ensures others { result ≡ true → (caller.now.has_greeted ≡ true) × (is_for pass (owner_at boxes.now caller.now.clerk) ≡ false) }
+    ensures own { result ≡ false → (caller.now.has_greeted ≡ true → is_for pass (owner_at boxes.now caller.now.clerk) ≡ true) }
+{
+    caller.has_greeted && !is_for(boxes, caller.clerk, pass)
 }
 
 /// The first message in the clerk's outbox, where that belongs to the pass.

@@ -7,6 +7,7 @@ ghost use Rattle.ec_lock.specs.Steps.{Member, of};
 ghost use Rattle.ec_servernode.specs.Run.{number_of};
 ghost use Rattle.ec_servernode.specs.Turns.{IsServerPass, IsServerNote};
 
+use crate::caller::Caller;
 use crate::shared::SharedServer;
 use crate::state::Node;
 use ec_base::ClerkId;
@@ -17,9 +18,9 @@ use std::sync::Wait;
 /// A pass of the lock, for one link.
 pub struct ServerPass<K: Keeper + Drop> {
     pub(crate) pass: Pass<Node<K>>,
-    /// The clerk of the last Hello that the link gave, and `A` before the first one.
-    pub(crate) clerk: ClerkId,
-    /// The last message that it took was a Hello.
+    /// Who is at the other end of the link.
+    pub(crate) caller: Caller,
+    /// The last message that it took was a Hello that wasn't refused.
     pub(crate) greets: bool,
 }
 
@@ -28,7 +29,7 @@ impl<K: Keeper + Drop> Drop for ServerPass<K> {
     fn drop(self) {
         let ServerPass {
             pass,
-            clerk: _,
+            caller: _,
             greets: _,
         } = self;
         drop(pass);
@@ -44,12 +45,13 @@ pub struct ServerNote<K: Keeper + Drop> {
 impl<K: Keeper + Drop> ServerPass<K> {
     /// The clerk of its link.
     pub fn clerk(&self) -> ClerkId
-        ensures { result ≡ self.now.clerk }
+        ensures { result ≡ self.now.caller.clerk }
     {
-        self.clerk
+        self.caller.clerk
     }
 
-    /// Whether the last message that it took was a Hello, so that what is sent to its clerk is for its link from now on.
+    /// Whether the last message that it took was a Hello that wasn't refused, so that what is sent to its clerk is for its link from now
+    /// on.
     pub fn greets(&self) -> bool {
         self.greets
     }
@@ -59,7 +61,7 @@ impl<K: Keeper + Drop> ServerPass<K> {
     {
         let ServerPass {
             pass,
-            clerk: _,
+            caller: _,
             greets: _,
         } = self;
         pass
@@ -79,13 +81,13 @@ pub fn first_clerk() -> ClerkId
 impl<K: Keeper + Drop> SharedServer<K> {
     /// A new pass, for another link. `None` where all numbers are drawn.
     pub fn split<R: Wait>(&self, rt: &R, pass: &mut ServerPass<K>) -> Option<ServerPass<K>>
-        requires pass { IsServerPass K.kept self.now.lock pass.old.pass pass.old.clerk }
-        ensures pass { IsServerPass K.kept self.now.lock pass.new.pass pass.new.clerk }
-        ensures same { Same pass.old.pass pass.new.pass × (pass.new.clerk ≡ pass.old.clerk) }
+        requires pass { IsServerPass K.kept self.now.lock pass.old }
+        ensures pass { IsServerPass K.kept self.now.lock pass.new }
+        ensures same { Same pass.old.pass pass.new.pass × (pass.new.caller ≡ pass.old.caller) }
         ensures later { IsPrefix (front pass.old.pass) (front pass.new.pass) }
         ensures own { (n : ℕ) → Member n (numbers pass.old.pass) → of number_of n (front pass.old.pass) ≡ of number_of n (front pass.new.pass) }
         ensures mark { Marked pass.old.pass 0 }
-        ensures new { IfSome result (λ new. IsServerPass K.kept self.now.lock new.pass new.clerk) }
+        ensures new { IfSome result (λ new. IsServerPass K.kept self.now.lock new) }
         ensures new_front { IfSome result (λ new. (front new.pass ≡ front pass.new.pass) × (numbers new.pass ≡ new.pass.number ∷ [])) }
         ensures new_number { IfSome result (λ new. (of number_of new.pass.number (front pass.new.pass) ≡ []) × (next_number pass.new.pass ≡ new.pass.number + 1) × (new.pass.number < last_counter)) }
         ensures new_mark { IfSome result (λ new. (raised new.pass ≡ raised pass.old.pass) × (answered new.pass ≡ answered pass.old.pass) × (next_number new.pass ≡ new.pass.number + 1)) }
@@ -95,17 +97,17 @@ impl<K: Keeper + Drop> SharedServer<K> {
         let new = self.lock.split(rt, &mut pass.pass)?;
         Some(ServerPass {
             pass: new,
-            clerk: first_clerk(),
+            caller: Caller::nobody(),
             greets: false,
         })
     }
 
     /// The other pass goes into this one, with its numbers. The longer front stays.
     pub fn join(&self, pass: &mut ServerPass<K>, other: ServerPass<K>)
-        requires pass { IsServerPass K.kept self.now.lock pass.old.pass pass.old.clerk }
-        requires other { IsServerPass K.kept self.now.lock other.pass other.clerk }
-        ensures pass { IsServerPass K.kept self.now.lock pass.new.pass pass.new.clerk }
-        ensures number { (pass.new.pass.number ≡ pass.old.pass.number) × (pass.new.clerk ≡ pass.old.clerk) }
+        requires pass { IsServerPass K.kept self.now.lock pass.old }
+        requires other { IsServerPass K.kept self.now.lock other }
+        ensures pass { IsServerPass K.kept self.now.lock pass.new }
+        ensures number { (pass.new.pass.number ≡ pass.old.pass.number) × (pass.new.caller ≡ pass.old.caller) }
         ensures front { (front pass.new.pass ≡ front pass.old.pass) ⊎ (front pass.new.pass ≡ front other.pass) }
         ensures later { IsPrefix (front pass.old.pass) (front pass.new.pass) }
         ensures other { IsPrefix (front other.pass) (front pass.new.pass) }
@@ -120,9 +122,9 @@ impl<K: Keeper + Drop> SharedServer<K> {
 
     /// A note of the pass's front. It waits for nobody.
     pub fn note(&self, pass: &mut ServerPass<K>) -> ServerNote<K>
-        requires pass { IsServerPass K.kept self.now.lock pass.old.pass pass.old.clerk }
-        ensures pass { IsServerPass K.kept self.now.lock pass.new.pass pass.new.clerk }
-        ensures same { Same pass.old.pass pass.new.pass × (pass.new.clerk ≡ pass.old.clerk) }
+        requires pass { IsServerPass K.kept self.now.lock pass.old }
+        ensures pass { IsServerPass K.kept self.now.lock pass.new }
+        ensures same { Same pass.old.pass pass.new.pass × (pass.new.caller ≡ pass.old.caller) }
         ensures front { front pass.new.pass ≡ front pass.old.pass }
         ensures next { next_number pass.new.pass ≡ next_number pass.old.pass }
         ensures note { IsServerNote K.kept self.now.lock result.note × ((note_view result.note).front ≡ front pass.old.pass) }
@@ -134,10 +136,10 @@ impl<K: Keeper + Drop> SharedServer<K> {
 
     /// The pass meets the note: both fronts begin the pass's new one. It waits for nobody.
     pub fn meet(&self, pass: &mut ServerPass<K>, note: ServerNote<K>)
-        requires pass { IsServerPass K.kept self.now.lock pass.old.pass pass.old.clerk }
+        requires pass { IsServerPass K.kept self.now.lock pass.old }
         requires note { IsServerNote K.kept self.now.lock note.note }
-        ensures pass { IsServerPass K.kept self.now.lock pass.new.pass pass.new.clerk }
-        ensures number { (pass.new.pass.number ≡ pass.old.pass.number) × (pass.new.clerk ≡ pass.old.clerk) }
+        ensures pass { IsServerPass K.kept self.now.lock pass.new }
+        ensures number { (pass.new.pass.number ≡ pass.old.pass.number) × (pass.new.caller ≡ pass.old.caller) }
         ensures same { (numbers pass.new.pass ≡ numbers pass.old.pass) × (raised pass.new.pass ≡ max (raised pass.old.pass) (note_view note.note).raised) × (answered pass.new.pass ≡ max (answered pass.old.pass) (note_view note.note).answered) }
         ensures next { next_number pass.new.pass ≡ next_number pass.old.pass }
         ensures front { (front pass.new.pass ≡ front pass.old.pass) ⊎ (front pass.new.pass ≡ (note_view note.note).front) }

@@ -5,7 +5,7 @@ ghost use Rattle.ec_wire.specs.Messages.{is_sound};
 ghost use Rattle.ec_server.specs.Servers.{standing, Does, StandsOn};
 ghost use Rattle.ec_server.specs.Keepers.{Did, Hurts, SpendsNothing};
 ghost use Rattle.ec_server.specs.declared.fault.ServerFault.TheVariants as fault;
-ghost use Rattle.ec_servernode.specs.Folded.{taken};
+ghost use Rattle.ec_servernode.specs.Folded.{taken, ended};
 ghost use Rattle.ec_servernode.specs.Steps.{Refuses};
 
 use ec_base::ClerkId;
@@ -31,4 +31,22 @@ pub fn take<K: Keeper>(
     ensures stands { StandsOn (K.kept keeper.new) server.new }
 {
     server.take(keeper, from, msg)
+}
+
+/// Ends the open session of a clerk.
+#[tactic(auto, unfolding(crate::specs::Folded::ended))]
+pub fn end<K: Keeper>(
+    server: &mut Server,
+    keeper: &mut K,
+    clerk: ClerkId,
+) -> Result<Served, ServerFault>
+    requires { StandsOn (K.kept keeper.old) server.old }
+    ensures ok { IfOk result (λ served. Does (ended clerk (standing (K.kept keeper.old) server.old)) (K.kept keeper.new) server.new served) }
+    ensures did { IfOk result (λ served. Did K.did served.rec keeper.old keeper.new) }
+    ensures err { IfErr result (λ f. Refuses f (ended clerk (standing (K.kept keeper.old) server.old)) (standing (K.kept keeper.old) server.old) (standing (K.kept keeper.new) server.new) keeper.old keeper.new) }
+    ensures hurts { IfErr result (λ f. Hurts SpendsNothing K.did K.broke f (ended clerk (standing (K.kept keeper.old) server.old)) keeper.old keeper.new) }
+    ensures counts { Counted (K.counts keeper.old) (K.counts keeper.new) (result ≡ Err fault.DiskFailed) (result ≡ Err fault.DiskStopped) }
+    ensures stands { StandsOn (K.kept keeper.new) server.new }
+{
+    server.end(keeper, clerk)
 }

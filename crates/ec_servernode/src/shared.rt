@@ -2,21 +2,25 @@
 ghost use Rattle.std.specs.Prelude.{◌≡◌, ℕ, ◌+◌, ◌<◌, ◌≤◌, cond, List, [], ◌∷◌, Some, None, Ok, Err, IfOk, IfErr, IsTrue, MatchResult, Option};
 ghost use mathlib.Core.List.{IsPrefix};
 ghost use Rattle.ec_base.specs.Limits.{clerk_count};
+ghost use Rattle.ec_durable.specs.Durable.{slot};
+ghost use Rattle.ec_sessions.specs.Slots.{is_open};
 ghost use Rattle.ec_wire.specs.Codes.{said};
 ghost use Rattle.ec_wire.specs.Messages.{is_sound};
 ghost use Rattle.ec_lock.specs.Passes.{first, front, numbers, Same};
 ghost use Rattle.ec_lock.specs.Steps.{Member, of};
 ghost use Rattle.ec_server.specs.Servers.{StandsOn};
 ghost use Rattle.ec_servernode.specs.Floors.{no_floor};
-ghost use Rattle.ec_servernode.specs.Node.{Since, queue_at};
+ghost use Rattle.ec_servernode.specs.Node.{Since, queue_at, state_of};
 ghost use Rattle.ec_servernode.specs.Safe.{StaysSafe};
-ghost use Rattle.ec_servernode.specs.Run.{number_of, sender, put_all, for_clerk, halted};
-ghost use Rattle.ec_servernode.specs.Turns.{IsServerPass, Looked, peer_of, turned_of, Hears, TakesMessage, GivesNext, Serves, RunsFrom, Finished};
+ghost use Rattle.ec_servernode.specs.Run.{number_of, sender, put_all, for_clerk, halted, leads};
+ghost use Rattle.ec_servernode.specs.Steps.{told_in, taken_by, told_by};
+ghost use Rattle.ec_servernode.specs.Turns.{IsServerPass, Adds, Looked, peer_of, Hears, TakesMessage, GivesNext, Serves, EndsSession, RunsFrom, Finished};
 
+use crate::caller::{Caller, hello_in};
 use crate::fault::ServeFault;
 use crate::outbox::filled_boxes;
-use crate::passes::{ServerPass, first_clerk};
-use crate::state::{Node, Told};
+use crate::passes::ServerPass;
+use crate::state::{Node, Taking, Told};
 use crate::step::{Halt, Step};
 use ec_base::{ClerkId, NoMemory};
 use ec_link::{Got, Link};
@@ -67,10 +71,12 @@ impl<K: Keeper + Drop> Drop for SharedServer<K> {
 pub enum Turned {
     /// A message was taken. These are the clerks to which something was sent, whose outboxes have something.
     Took(Told),
-    /// The first message of the outbox was sent.
+    /// A refusal was sent, or the first message of the outbox.
     Gave,
     /// The link gave nothing, and there was nothing for it.
     Idle,
+    /// The link gave nothing, and its clerk has greeted on another link since.
+    Replaced,
     /// The link gave nothing, and it still keeps back what it got before.
     Busy,
     /// The other end is gone.
@@ -81,14 +87,10 @@ pub enum Turned {
 fn sender_of(msg: &Msg, clerk: ClerkId) -> ClerkId
     ensures { result ≡ sender msg.now clerk }
 {
-    match msg {
-        Msg::Hello(from, _) => *from,
-        _ => clerk,
+    match hello_in(msg) {
+        Some(from) => from,
+        None => clerk,
     }
-}
-
-fn is_hello(msg: &Msg) -> bool {
-    matches!(msg, Msg::Hello(_, _))
 }
 
 // Why a body is no message.
@@ -101,25 +103,44 @@ fn refused(fault: WireFault) -> ServeFault
     }
 }
 
-// What a turn did in which the link may have got a message.
-fn gave_or_idle(gave: Result<bool, ServeFault>) -> Result<Turned, ServeFault>
-    ensures { result ≡ turned_of gave }
+// The other end of a link behind a message of it.
+fn taken_by(taken: &Result<Taking, ServeFault>, caller: &Caller) -> Caller
+    requires { caller.now.clerk < clerk_count }
+    ensures value { result ≡ taken_by taken.now caller.now }
+    ensures below { result.clerk < clerk_count }
+{
+    match taken {
+        Ok(taking) => caller.behind(taking.hello, taking.refusal),
+        Err(_) => *caller,
+    }
+}
+
+// The other end of a link behind what may have been sent to it.
+fn told_by(gave: &Result<Turned, ServeFault>, caller: &Caller) -> Caller
+    requires { caller.now.clerk < clerk_count }
+    ensures value { result ≡ told_by gave.now caller.now }
+    ensures below { result.clerk < clerk_count }
 {
     match gave {
-        Ok(true) => Ok(Turned::Gave),
-        Ok(false) => Ok(Turned::Idle),
+        Ok(Turned::Gave) => caller.answered(),
+        _ => *caller,
+    }
+}
+
+// The clerks that a message told.
+fn told_in(taken: Result<Taking, ServeFault>) -> Result<Told, ServeFault>
+    ensures { result ≡ told_in taken }
+{
+    match taken {
+        Ok(taking) => Ok(taking.told),
         Err(fault) => Err(fault),
     }
 }
 
-// The clerk of a link behind a message from this one.
-fn clerk_behind(told: &Result<Told, ServeFault>, from: ClerkId, clerk: ClerkId) -> ClerkId
-    ensures behind { MatchResult told.now (λ _. result ≡ from) (λ _. result ≡ clerk) }
-    ensures below { result < clerk_count }
-{
-    match told {
-        Ok(_) => from,
-        Err(_) => clerk,
+fn is_greeting(taken: &Result<Taking, ServeFault>) -> bool {
+    match taken {
+        Ok(taking) => taking.hello.is_some(),
+        Err(_) => false,
     }
 }
 
@@ -159,7 +180,7 @@ impl<K: Keeper + Drop> SharedServer<K> {
         keeper: K,
     ) -> Result<(SharedServer<K>, ServerPass<K>), NoMemory>
         requires { StandsOn (K.kept keeper) server }
-        ensures pass { IfOk result (λ made. IsServerPass K.kept made.0.lock made.1.pass made.1.clerk) }
+        ensures pass { IfOk result (λ made. IsServerPass K.kept made.0.lock made.1) }
         ensures number { IfOk result (λ made. (front made.1.pass ≡ []) × (made.1.pass.number ≡ 0) × (numbers made.1.pass ≡ 0 ∷ [])) }
         ensures server { IfOk result (λ made. ((first made.0.lock).server ≡ server) × ((first made.0.lock).keeper ≡ keeper)) }
         ensures boxes { IfOk result (λ made. (c : ℕ) → queue_at (first made.0.lock).boxes.items c ≡ put_all [] (for_clerk c begun.sent)) }
@@ -179,7 +200,7 @@ impl<K: Keeper + Drop> SharedServer<K> {
         keeper: K,
     ) -> Result<(SharedServer<K>, ServerPass<K>), K>
         requires { StandsOn (K.kept keeper) server }
-        ensures pass { IfOk result (λ made. IsServerPass K.kept made.0.lock made.1.pass made.1.clerk) }
+        ensures pass { IfOk result (λ made. IsServerPass K.kept made.0.lock made.1) }
         ensures number { IfOk result (λ made. (front made.1.pass ≡ []) × (made.1.pass.number ≡ 0) × (numbers made.1.pass ≡ 0 ∷ [])) }
         ensures server { IfOk result (λ made. ((first made.0.lock).server ≡ server) × ((first made.0.lock).keeper ≡ keeper)) }
         ensures boxes { IfOk result (λ made. (c : ℕ) → queue_at (first made.0.lock).boxes.items c ≡ put_all [] (for_clerk c begun.sent)) }
@@ -202,10 +223,9 @@ impl<K: Keeper + Drop> SharedServer<K> {
         };
         match TracedLock::new(alloc, node) {
             Ok((lock, pass)) => {
-                let clerk = first_clerk();
                 let pass = ServerPass {
                     pass,
-                    clerk,
+                    caller: Caller::nobody(),
                     greets: false,
                 };
                 Ok((SharedServer { lock, alloc }, pass))
@@ -221,8 +241,8 @@ impl<K: Keeper + Drop> SharedServer<K> {
         pass: &mut ServerPass<K>,
         otherwise: Result<Turned, ServeFault>,
     ) -> Result<Turned, ServeFault>
-        requires pass { IsServerPass K.kept self.now.lock pass.old.pass pass.old.clerk }
-        ensures pass { IsServerPass K.kept self.now.lock pass.new.pass pass.new.clerk }
+        requires pass { IsServerPass K.kept self.now.lock pass.old }
+        ensures pass { IsServerPass K.kept self.now.lock pass.new }
         ensures same { Same pass.old.pass pass.new.pass }
         ensures later { IsPrefix (front pass.old.pass) (front pass.new.pass) }
         ensures looked { Looked pass.old.pass.number (front pass.old.pass) (front pass.new.pass) otherwise result }
@@ -244,22 +264,22 @@ impl<K: Keeper + Drop> SharedServer<K> {
         body: Snapshot<Vec<u8>>,
         msg: &Msg,
     ) -> Result<Told, ServeFault>
-        requires pass { IsServerPass K.kept self.now.lock pass.old.pass pass.old.clerk }
+        requires pass { IsServerPass K.kept self.now.lock pass.old }
         requires sound { IsTrue (is_sound msg.now) }
         requires said { said body.value.items ≡ Ok msg.now }
-        ensures pass { IsServerPass K.kept self.now.lock pass.new.pass pass.new.clerk }
+        ensures pass { IsServerPass K.kept self.now.lock pass.new }
         ensures same { Same pass.old.pass pass.new.pass }
         ensures later { IsPrefix (front pass.old.pass) (front pass.new.pass) }
         ensures takes { TakesMessage pass.old.pass.number body.value.items (front pass.old.pass) (front pass.new.pass) result }
     {
-        let from = sender_of(msg, pass.clerk);
+        let from = sender_of(msg, pass.caller.clerk);
         let number = pass.pass.number();
         let mut turn = self.lock.enter(rt, &mut pass.pass);
-        let told = turn.value.take(number, from, body, msg);
+        let taken = turn.value.take(number, from, body, msg);
         self.lock.leave(turn, &mut pass.pass);
-        pass.clerk = clerk_behind(&told, from, pass.clerk);
-        pass.greets = is_hello(msg);
-        told
+        pass.caller = taken_by(&taken, &pass.caller);
+        pass.greets = is_greeting(&taken);
+        told_in(taken)
     }
 
     // Takes what the link gave.
@@ -269,8 +289,8 @@ impl<K: Keeper + Drop> SharedServer<K> {
         pass: &mut ServerPass<K>,
         body: &Vec<u8>,
     ) -> Result<Turned, ServeFault>
-        requires pass { IsServerPass K.kept self.now.lock pass.old.pass pass.old.clerk }
-        ensures pass { IsServerPass K.kept self.now.lock pass.new.pass pass.new.clerk }
+        requires pass { IsServerPass K.kept self.now.lock pass.old }
+        ensures pass { IsServerPass K.kept self.now.lock pass.new }
         ensures same { Same pass.old.pass pass.new.pass }
         ensures later { IsPrefix (front pass.old.pass) (front pass.new.pass) }
         ensures hears { Hears pass.old.pass.number body.now.items (front pass.old.pass) (front pass.new.pass) result }
@@ -293,20 +313,20 @@ impl<K: Keeper + Drop> SharedServer<K> {
         pass: &mut ServerPass<K>,
         link: &mut L,
     ) -> Result<Turned, ServeFault>
-        requires pass { IsServerPass K.kept self.now.lock pass.old.pass pass.old.clerk }
-        ensures pass { IsServerPass K.kept self.now.lock pass.new.pass pass.new.clerk }
+        requires pass { IsServerPass K.kept self.now.lock pass.old }
+        ensures pass { IsServerPass K.kept self.now.lock pass.new }
         ensures same { Same pass.old.pass pass.new.pass }
         ensures later { IsPrefix (front pass.old.pass) (front pass.new.pass) }
         ensures given { (L.given link.new ≡ L.given link.old) × (L.held link.new ≡ L.held link.old) }
         ensures counts { (L.faults link.old ≤ L.faults link.new) × (L.closes link.old ≤ L.closes link.new) }
-        ensures gives { GivesNext L.faults L.got (queue_at (first self.now.lock).boxes.items) pass.old.pass.number pass.old.clerk (front pass.old.pass) (front pass.new.pass) link.old link.new result }
+        ensures gives { GivesNext L.faults L.got (queue_at (first self.now.lock).boxes.items) pass.old.pass.number pass.old.caller (front pass.old.pass) (front pass.new.pass) link.old link.new result }
     {
         let number = pass.pass.number();
-        let clerk = pass.clerk;
         let mut turn = self.lock.enter(rt, &mut pass.pass);
-        let gave = turn.value.give(rt, self.alloc, number, clerk, link);
+        let gave = turn.value.give(rt, self.alloc, number, &pass.caller, link);
         self.lock.leave(turn, &mut pass.pass);
-        gave_or_idle(gave)
+        pass.caller = told_by(&gave, &pass.caller);
+        gave
     }
 
     /// One turn with a link, which has a pass of its own: takes the message that the link gives. Where it gives none, the link gets the first
@@ -317,12 +337,12 @@ impl<K: Keeper + Drop> SharedServer<K> {
         pass: &mut ServerPass<K>,
         link: &mut L,
     ) -> Result<Turned, ServeFault>
-        requires pass { IsServerPass K.kept self.now.lock pass.old.pass pass.old.clerk }
-        ensures pass { IsServerPass K.kept self.now.lock pass.new.pass pass.new.clerk }
+        requires pass { IsServerPass K.kept self.now.lock pass.old }
+        ensures pass { IsServerPass K.kept self.now.lock pass.new }
         ensures same { Same pass.old.pass pass.new.pass }
         ensures later { IsPrefix (front pass.old.pass) (front pass.new.pass) }
         ensures counts { (L.faults link.old ≤ L.faults link.new) × (L.closes link.old ≤ L.closes link.new) }
-        ensures serves { Serves L.faults L.closes L.given L.got L.held L.clear (queue_at (first self.now.lock).boxes.items) pass.old.pass.number pass.old.clerk (front pass.old.pass) (front pass.new.pass) link.old link.new result }
+        ensures serves { Serves L.faults L.closes L.given L.got L.held L.clear (queue_at (first self.now.lock).boxes.items) pass.old.pass.number pass.old.caller (front pass.old.pass) (front pass.new.pass) link.old link.new result }
         ensures safe { StaysSafe K.kept (first self.now.lock) (front pass.new.pass) }
     {
         match link.recv(rt) {
@@ -341,10 +361,55 @@ impl<K: Keeper + Drop> SharedServer<K> {
         }
     }
 
+    /// The administrator's end of the clerk's open session: one step. The clerks to which it sent something.
+    pub fn end<R: Wait>(
+        &self,
+        rt: &R,
+        pass: &mut ServerPass<K>,
+        clerk: ClerkId,
+    ) -> Result<Told, ServeFault>
+        requires pass { IsServerPass K.kept self.now.lock pass.old }
+        ensures pass { IsServerPass K.kept self.now.lock pass.new }
+        ensures same { Same pass.old.pass pass.new.pass }
+        ensures later { IsPrefix (front pass.old.pass) (front pass.new.pass) }
+        ensures ends { EndsSession pass.old.pass.number clerk (front pass.old.pass) (front pass.new.pass) result }
+        ensures safe { StaysSafe K.kept (first self.now.lock) (front pass.new.pass) }
+    {
+        let number = pass.pass.number();
+        let mut turn = self.lock.enter(rt, &mut pass.pass);
+        let told = turn.value.end(number, clerk);
+        self.lock.leave(turn, &mut pass.pass);
+        told
+    }
+
+    /// Whether the clerk has an open session.
+    pub fn is_open<R: Wait>(
+        &self,
+        rt: &R,
+        pass: &mut ServerPass<K>,
+        clerk: ClerkId,
+    ) -> Result<bool, ServeFault>
+        requires pass { IsServerPass K.kept self.now.lock pass.old }
+        ensures pass { IsServerPass K.kept self.now.lock pass.new }
+        ensures same { Same pass.old.pass pass.new.pass }
+        ensures later { IsPrefix (front pass.old.pass) (front pass.new.pass) }
+        ensures none { Adds pass.old.pass.number (front pass.old.pass) (front pass.new.pass) [] }
+        ensures opened { IfOk result (λ o. o ≡ is_open (slot (leads (state_of K.kept (first self.now.lock)) (front pass.new.pass)).durable clerk)) }
+    {
+        let turn = self.lock.enter(rt, &mut pass.pass);
+        let answer = turn.value.is_open(clerk);
+        self.lock.leave(turn, &mut pass.pass);
+        answer
+    }
+
     /// Hands the server and its keeper back, and tells whether the server is down and why. The pass's front is the whole list then. There is no
     /// server where memory was wanting or the disk failed in a step.
-    pub fn end<R: Wait>(self, rt: &R, pass: &mut ServerPass<K>) -> (Option<Server>, K, Option<Halt>)
-        requires pass { IsServerPass K.kept self.lock pass.old.pass pass.old.clerk }
+    pub fn close<R: Wait>(
+        self,
+        rt: &R,
+        pass: &mut ServerPass<K>,
+    ) -> (Option<Server>, K, Option<Halt>)
+        requires pass { IsServerPass K.kept self.lock pass.old }
         ensures same { Same pass.old.pass pass.new.pass }
         ensures later { IsPrefix (front pass.old.pass) (front pass.new.pass) }
         ensures own { (n : ℕ) → Member n (numbers pass.old.pass) → of number_of n (front pass.old.pass) ≡ of number_of n (front pass.new.pass) }
@@ -366,16 +431,16 @@ impl<K: Keeper + Drop> SharedServer<K> {
         (unless(broken, server), keeper, halt)
     }
 
-    /// As `end`, without the reason.
+    /// As `close`, without the reason.
     pub fn finish<R: Wait>(self, rt: &R, pass: &mut ServerPass<K>) -> (Option<Server>, K)
-        requires pass { IsServerPass K.kept self.lock pass.old.pass pass.old.clerk }
+        requires pass { IsServerPass K.kept self.lock pass.old }
         ensures same { Same pass.old.pass pass.new.pass }
         ensures later { IsPrefix (front pass.old.pass) (front pass.new.pass) }
         ensures own { (n : ℕ) → Member n (numbers pass.old.pass) → of number_of n (front pass.old.pass) ≡ of number_of n (front pass.new.pass) }
         ensures run { RunsFrom K.kept (first self.lock) (front pass.new.pass) }
         ensures finished { Finished K.kept K.counts K.did K.broke (first self.lock) (front pass.new.pass) result.0 result.1 }
     {
-        let (server, keeper, _) = self.end(rt, pass);
+        let (server, keeper, _) = self.close(rt, pass);
         (server, keeper)
     }
 }

@@ -2,6 +2,7 @@
 ghost use Rattle.std.specs.Prelude.{◌≡◌, ◌==◌, ◌||◌, ℕ, false};
 ghost use Rattle.ec_servernode.specs.Told.{tells};
 
+use crate::caller::Refusal;
 use crate::step::{Halt, Step};
 use ec_base::ClerkId;
 use ec_server::{Keeper, Server};
@@ -29,6 +30,15 @@ pub struct Node<K: Keeper + Drop> {
     pub broken: bool,
     pub steps: u64,
     pub trace: Trace<Step>,
+}
+
+/// What came of the taking of a message.
+#[derive(Clone, Copy, Drop)]
+pub struct Taking {
+    pub told: Told,
+    /// The clerk of a Hello that wasn't refused.
+    pub hello: Option<ClerkId>,
+    pub refusal: Option<Refusal>,
 }
 
 /// The clerks to which a step sent something.

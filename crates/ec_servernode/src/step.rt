@@ -5,7 +5,7 @@ use ec_protocol::Served;
 use ec_wire::Msg;
 use std::snapshot::Snapshot;
 
-/// Why a server took no message, and takes none any more.
+/// Why a server did nothing, and does nothing any more.
 #[derive(Clone, Copy, Drop)]
 pub enum Halt {
     DiskFailed,
@@ -20,8 +20,14 @@ pub enum Deed {
     Took(ClerkId, Snapshot<Vec<u8>>, Snapshot<Msg>, Snapshot<Served>),
     /// The first message of the clerk's outbox was sent to it.
     Gave(ClerkId, Snapshot<Msg>),
+    /// A refusal was sent to the link whose Hello it answers.
+    Refused(Snapshot<Msg>),
     /// The taking of a message of the clerk ended so.
     Halted(ClerkId, Snapshot<Vec<u8>>, Snapshot<Msg>, Halt),
+    /// The administrator ended the clerk's open session, and this came of it.
+    Ended(ClerkId, Snapshot<Served>),
+    /// The end of the clerk's open session ended so.
+    HaltedEnd(ClerkId, Halt),
 }
 
 #[derive(Drop)]

@@ -1,4 +1,4 @@
-use Rattle.std.proofs.Common.{◌≡◌, ◌⊎◌, ℕ, ◌++◌, sym, subst}
+use Rattle.std.proofs.Common.{◌≡◌, ◌⊎◌, ℕ, ◌++◌, refl, sym, subst}
 use Rattle.std.specs.Prelude.{max}
 use mathlib.Core.List.{IsPrefix}
 use Rattle.ec_lock.specs.Passes.{first, front, numbers, raised, answered, IsPassOf}
@@ -13,11 +13,12 @@ join-requires-clause-other g c = subst (IsPassOf c.args.self.now.lock) (sym c.in
 
 pub returns-clause-pass : goal.returns-clause-pass
 returns-clause-pass g c =
-    let pass = c.args.pass.now.pass in
+    let own = c.args.pass.now in
+    let pass = own.pass in
     let lock = c.args.self.now.lock in
     let run = subst (λ p. RunsFrom g.K.Keeper.kept (first lock) (front p)) (sym c.into_pass.ensures) c.requires.other.run in
-    still g.K.Keeper.kept lock pass c.join.new.pass c.args.pass.now.clerk c.requires.pass c.join.ensures.pass c.join.ensures.number
-    (either (RunsFrom g.K.Keeper.kept (first lock)) (front pass) (front c.into_pass.result) (front c.join.new.pass) c.join.ensures.front c.requires.pass.run run) (c.join.ensures.own pass.number c.requires.pass.is_pass.1)
+    still g.K.Keeper.kept lock own (record own { pass = c.join.new.pass }) c.requires.pass c.join.ensures.pass c.join.ensures.number
+    (either (RunsFrom g.K.Keeper.kept (first lock)) (front pass) (front c.into_pass.result) (front c.join.new.pass) c.join.ensures.front c.requires.pass.run run) (c.join.ensures.own pass.number c.requires.pass.is_pass.1) refl
 
 pub returns-clause-front : goal.returns-clause-front
 returns-clause-front g c = subst (λ p. (front c.join.new.pass ≡ front c.args.pass.now.pass) ⊎ (front c.join.new.pass ≡ front p)) c.into_pass.ensures c.join.ensures.front

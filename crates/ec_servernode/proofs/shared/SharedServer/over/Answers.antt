@@ -15,4 +15,4 @@ new-requires-2-clause-begins g c = begins g.K.Keeper.kept g.K.Keeper.counts g.K.
 pub returns-in-Ok-new-clause-pass : goal.returns-in-Ok-new-clause-pass
 returns-in-Ok-new-clause-pass g c =
     let start = first c.in-Ok-new.lock in
-    begins_as g.K.Keeper.kept c.in-Ok-new.lock c.in-Ok-new.pass c.first_clerk-clerk.result [] c.in-Ok-new.ensures.pass (ap (λ v. v.front) c.in-Ok-new.ensures.view.0) (no_run (state_of g.K.Keeper.kept start) (queue_at start.boxes.items)) refl c.first_clerk-clerk.ensures
+    begins_as g.K.Keeper.kept c.in-Ok-new.lock _ [] c.in-Ok-new.ensures.pass (ap (λ v. v.front) c.in-Ok-new.ensures.view.0) (no_run (state_of g.K.Keeper.kept start) (queue_at start.boxes.items)) refl c.nobody.ensures.value

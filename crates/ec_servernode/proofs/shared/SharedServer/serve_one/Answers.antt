@@ -15,7 +15,7 @@ pub returns-in-Body-clause-serves : goal.returns-in-Body-clause-serves
 returns-in-Body-clause-serves g c =
     let pass = c.args.pass.now.pass in
     let boxes = queue_at (first c.args.self.now.lock).boxes.items in
-    heard_body g.L.Link.faults g.L.Link.closes g.L.Link.given g.L.Link.got g.L.Link.held g.L.Link.clear boxes pass.number c.args.pass.now.clerk (front pass) (front c.hear.new.pass.pass) c.args.link.now c.recv.new.self c.in-Body.body.items c.hear.result
+    heard_body g.L.Link.faults g.L.Link.closes g.L.Link.given g.L.Link.got g.L.Link.held g.L.Link.clear boxes pass.number c.args.pass.now.caller (front pass) (front c.hear.new.pass.pass) c.args.link.now c.recv.new.self c.in-Body.body.items c.hear.result
     (c.in-Body.ensures.given, c.recv.ensures.got, c.in-Body.ensures.read) c.hear.ensures.hears
 
 pub returns-then-is_clear-clause-counts : goal.returns-then-is_clear-clause-counts
@@ -25,7 +25,7 @@ pub returns-then-is_clear-clause-serves : goal.returns-then-is_clear-clause-serv
 returns-then-is_clear-clause-serves g c =
     let pass = c.args.pass.now.pass in
     let boxes = queue_at (first c.args.self.now.lock).boxes.items in
-    heard_none g.L.Link.faults g.L.Link.closes g.L.Link.given g.L.Link.got g.L.Link.held g.L.Link.clear boxes pass.number c.args.pass.now.clerk (front pass) (front c.give.new.pass.pass) c.args.link.now c.give.new.link c.recv.new.self
+    heard_none g.L.Link.faults g.L.Link.closes g.L.Link.given g.L.Link.got g.L.Link.held g.L.Link.clear boxes pass.number c.args.pass.now.caller (front pass) (front c.give.new.pass.pass) c.args.link.now c.give.new.link c.recv.new.self
     c.in-Nothing.ensures.given c.in-Nothing.ensures.read c.recv.ensures.got (grows _ _ _ c.recv.ensures.faults) c.give.ensures.given.0 c.give.ensures.given.1 (sym c.is_clear.ensures ∙ c.if-is_clear.true) c.give.result c.give.ensures.gives
 
 pub returns-else-is_clear-clause-counts : goal.returns-else-is_clear-clause-counts
@@ -35,7 +35,7 @@ pub returns-else-is_clear-clause-serves : goal.returns-else-is_clear-clause-serv
 returns-else-is_clear-clause-serves g c =
     let pass = c.args.pass.now.pass in
     let boxes = queue_at (first c.args.self.now.lock).boxes.items in
-    looked g.L.Link.faults g.L.Link.closes g.L.Link.given g.L.Link.got g.L.Link.held g.L.Link.clear boxes pass.number c.args.pass.now.clerk (front pass) (front c.unless_down.new.pass.pass) c.args.link.now c.recv.new.self (Ok turned.Busy) c.unless_down.result
+    looked g.L.Link.faults g.L.Link.closes g.L.Link.given g.L.Link.got g.L.Link.held g.L.Link.clear boxes pass.number c.args.pass.now.caller (front pass) (front c.unless_down.new.pass.pass) c.args.link.now c.recv.new.self (Ok turned.Busy) c.unless_down.result
     c.recv.ensures.got (λ added none. (added, sym c.is_clear.ensures ∙ c.if-is_clear.false, (c.in-Nothing.ensures.given, c.in-Nothing.ensures.read), c.recv.ensures.got, none)) c.unless_down.ensures.looked
 
 pub returns-in-Long-clause-counts : goal.returns-in-Long-clause-counts
@@ -45,7 +45,7 @@ pub returns-in-Long-clause-serves : goal.returns-in-Long-clause-serves
 returns-in-Long-clause-serves g c =
     let pass = c.args.pass.now.pass in
     let boxes = queue_at (first c.args.self.now.lock).boxes.items in
-    looked g.L.Link.faults g.L.Link.closes g.L.Link.given g.L.Link.got g.L.Link.held g.L.Link.clear boxes pass.number c.args.pass.now.clerk (front pass) (front c.unless_down-in-Long.new.pass.pass) c.args.link.now c.recv.new.self
+    looked g.L.Link.faults g.L.Link.closes g.L.Link.given g.L.Link.got g.L.Link.held g.L.Link.clear boxes pass.number c.args.pass.now.caller (front pass) (front c.unless_down-in-Long.new.pass.pass) c.args.link.now c.recv.new.self
     (Err (fault.Long c.in-Long.length)) c.unless_down-in-Long.result c.recv.ensures.got (λ added none. (added, c.in-Long.ensures.given, c.recv.ensures.got, none)) c.unless_down-in-Long.ensures.looked
 
 pub returns-in-Closed-clause-counts : goal.returns-in-Closed-clause-counts
@@ -55,7 +55,7 @@ pub returns-in-Closed-clause-serves : goal.returns-in-Closed-clause-serves
 returns-in-Closed-clause-serves g c =
     let pass = c.args.pass.now.pass in
     let boxes = queue_at (first c.args.self.now.lock).boxes.items in
-    looked g.L.Link.faults g.L.Link.closes g.L.Link.given g.L.Link.got g.L.Link.held g.L.Link.clear boxes pass.number c.args.pass.now.clerk (front pass) (front c.unless_down-in-Closed.new.pass.pass) c.args.link.now c.recv.new.self
+    looked g.L.Link.faults g.L.Link.closes g.L.Link.given g.L.Link.got g.L.Link.held g.L.Link.clear boxes pass.number c.args.pass.now.caller (front pass) (front c.unless_down-in-Closed.new.pass.pass) c.args.link.now c.recv.new.self
     (Ok turned.Closed) c.unless_down-in-Closed.result c.recv.ensures.got (λ added none. (added, c.in-Closed.ensures.closes, c.in-Closed.ensures.given, c.recv.ensures.got, none)) c.unless_down-in-Closed.ensures.looked
 
 pub returns-in-Failed-clause-counts : goal.returns-in-Failed-clause-counts
@@ -65,7 +65,7 @@ pub returns-in-Failed-clause-serves : goal.returns-in-Failed-clause-serves
 returns-in-Failed-clause-serves g c =
     let pass = c.args.pass.now.pass in
     let boxes = queue_at (first c.args.self.now.lock).boxes.items in
-    looked g.L.Link.faults g.L.Link.closes g.L.Link.given g.L.Link.got g.L.Link.held g.L.Link.clear boxes pass.number c.args.pass.now.clerk (front pass) (front c.unless_down-in-Failed.new.pass.pass) c.args.link.now c.recv.new.self
+    looked g.L.Link.faults g.L.Link.closes g.L.Link.given g.L.Link.got g.L.Link.held g.L.Link.clear boxes pass.number c.args.pass.now.caller (front pass) (front c.unless_down-in-Failed.new.pass.pass) c.args.link.now c.recv.new.self
     (Err fault.Net) c.unless_down-in-Failed.result c.recv.ensures.got (λ added none. (added, c.in-Failed.ensures.faults, c.recv.ensures.got, inl (c.in-Failed.ensures.given, c.in-Failed.ensures.read), none)) c.unless_down-in-Failed.ensures.looked
 
 pub returns-in-NoMemory-clause-later : goal.returns-in-NoMemory-clause-later

@@ -22,10 +22,9 @@ leave-requires-clause-since g c = c.enter-turn.ensures.since
 
 pub returns-in-Some-clause-pass : goal.returns-in-Some-clause-pass
 returns-in-Some-clause-pass g c =
-    let pass = c.args.pass.now.pass in
     let v = c.enter-turn.result.value in
-    pass_is g.K.Keeper.kept g.K.Keeper.counts g.K.Keeper.did g.K.Keeper.broke c.args.self.now.lock pass c.leave.new.pass c.args.pass.now.clerk c.args.pass.now.clerk v v c.requires.pass c.leave.ensures.pass (c.leave.ensures.same.0 ∙ c.enter-turn.ensures.same.0)
-    c.leave.ensures.front (c.enter-turn.ensures.own pass.number c.requires.pass.is_pass.1) c.enter-turn.ensures.since c.requires.pass.below (λ e. e)
+    pass_is g.K.Keeper.kept g.K.Keeper.counts g.K.Keeper.did g.K.Keeper.broke c.args.self.now.lock c.args.pass.now (record c.args.pass.now { pass = c.leave.new.pass }) v v c.requires.pass c.leave.ensures.pass (c.leave.ensures.same.0 ∙ c.enter-turn.ensures.same.0)
+    c.leave.ensures.front (c.enter-turn.ensures.own c.args.pass.now.pass.number c.requires.pass.is_pass.1) c.enter-turn.ensures.since c.requires.pass.below (λ e. e)
 
 pub returns-in-Some-clause-same : goal.returns-in-Some-clause-same
 returns-in-Some-clause-same g c = same_both c.args.pass.now.pass c.enter-turn.new.pass c.leave.new.pass c.enter-turn.ensures.same c.leave.ensures.same
@@ -42,10 +41,9 @@ returns-in-Some-clause-looked g c =
 
 pub returns-in-None-clause-pass : goal.returns-in-None-clause-pass
 returns-in-None-clause-pass g c =
-    let pass = c.args.pass.now.pass in
     let v = c.enter-turn.result.value in
-    pass_is g.K.Keeper.kept g.K.Keeper.counts g.K.Keeper.did g.K.Keeper.broke c.args.self.now.lock pass c.leave.new.pass c.args.pass.now.clerk c.args.pass.now.clerk v v c.requires.pass c.leave.ensures.pass (c.leave.ensures.same.0 ∙ c.enter-turn.ensures.same.0)
-    c.leave.ensures.front (c.enter-turn.ensures.own pass.number c.requires.pass.is_pass.1) c.enter-turn.ensures.since c.requires.pass.below (λ e. e)
+    pass_is g.K.Keeper.kept g.K.Keeper.counts g.K.Keeper.did g.K.Keeper.broke c.args.self.now.lock c.args.pass.now (record c.args.pass.now { pass = c.leave.new.pass }) v v c.requires.pass c.leave.ensures.pass (c.leave.ensures.same.0 ∙ c.enter-turn.ensures.same.0)
+    c.leave.ensures.front (c.enter-turn.ensures.own c.args.pass.now.pass.number c.requires.pass.is_pass.1) c.enter-turn.ensures.since c.requires.pass.below (λ e. e)
 
 pub returns-in-None-clause-same : goal.returns-in-None-clause-same
 returns-in-None-clause-same g c = same_both c.args.pass.now.pass c.enter-turn.new.pass c.leave.new.pass c.enter-turn.ensures.same c.leave.ensures.same

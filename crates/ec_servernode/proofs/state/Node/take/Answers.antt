@@ -4,7 +4,7 @@ use Rattle.ec_servernode.specs.declared.step.Step.{Step}
 use Rattle.ec_servernode.specs.Folded.{taken}
 use Rattle.ec_servernode.specs.Node.{state_of}
 use Rattle.ec_servernode.proofs.Nodes.{took, stopped, broke, halting, in_doubt}
-use Rattle.ec_servernode.proofs.Ends.{no_fault_up, same_clerk, next_clerk, no_more, grew_takes, stop_fails, check_takes}
+use Rattle.ec_servernode.proofs.Ends.{no_fault_up, same_caller, next_caller, no_more, grew_takes, stop_fails, check_takes}
 use Rattle.ec_servernode.proofs.state.Node.take.Goals as goal
 
 pub take-requires-clause-stands : goal.take-requires-clause-stands
@@ -39,15 +39,15 @@ returns-in-Ok-clause-keeps g c =
 
 pub returns-in-Ok-clause-takes : goal.returns-in-Ok-clause-takes
 returns-in-Ok-clause-takes g c =
-    grew_takes c.args.pass c.args.from c.args.body c.args.msg.now c.in-Ok.served c.args.self.now c.took.new.self c.take.new.server c.take.new.keeper c.took.result c.in_ok-check.ensures.ok.0 c.took.ensures.grew c.took.ensures.told
+    grew_takes c.args.pass c.args.from c.args.body c.args.msg.now c.in-Ok.served c.args.self.now c.took.new.self c.take.new.server c.take.new.keeper c.took.result.told c.in_ok-check.ensures.ok.0 c.took.ensures.grew c.took.ensures.told
 
-pub returns-in-Ok-clause-clerk : goal.returns-in-Ok-clause-clerk
-returns-in-Ok-clause-clerk g c = next_clerk c.args.pass c.args.from c.args.body c.args.msg.now c.in-Ok.served c.args.self.now c.took.new.self c.take.new.server c.take.new.keeper c.took.ensures.grew c.requires.from
+pub returns-in-Ok-clause-caller : goal.returns-in-Ok-clause-caller
+returns-in-Ok-clause-caller g c = next_caller c.args.pass c.args.from c.args.body c.args.msg.now c.in-Ok.served c.args.self.now c.took.new.self c.take.new.server c.take.new.keeper c.took.result.hello c.took.result.refusal c.took.ensures.grew c.took.ensures.hello c.took.ensures.refusal
 
 pub returns-in-Some-clause-keeps : goal.returns-in-Some-clause-keeps
 returns-in-Some-clause-keeps g c =
-    stopped g.K.Keeper.kept g.K.Keeper.counts g.K.Keeper.did g.K.Keeper.broke c.args.pass c.args.from c.args.body c.args.msg.now c.of.result c.in-Some.halt c.args.self.now c.stop.new.self c.take.new.server c.take.new.keeper c.of.ensures
-    (halting g.K.Keeper.kept g.K.Keeper.counts g.K.Keeper.did g.K.Keeper.broke c.args.pass c.args.from c.args.body c.args.msg.now c.in-Err.fault c.in-Some.halt c.args.self.now c.take.new.server c.take.new.keeper c.take.result c.in_ok-check.ensures.ok.1 c.in_ok-check.ensures.ok.0
+    stopped g.K.Keeper.kept g.K.Keeper.counts g.K.Keeper.did g.K.Keeper.broke c.args.pass (Halted c.args.from c.args.body c.of.result c.in-Some.halt) c.in-Some.halt c.args.self.now c.stop.new.self c.take.new.server c.take.new.keeper
+    (halting g.K.Keeper.kept g.K.Keeper.counts g.K.Keeper.did g.K.Keeper.broke c.args.pass c.args.from c.args.body c.args.msg.now c.of.result c.in-Err.fault c.in-Some.halt c.args.self.now c.take.new.server c.take.new.keeper c.take.result c.of.ensures c.in_ok-check.ensures.ok.1 c.in_ok-check.ensures.ok.0
     c.requires.said c.requires.from c.in-Err.is (sym c.halt_of.ensures ∙ c.in-Some.is) c.in-Err.ensures.err c.take.ensures.counts c.take.ensures.stands c.in-Err.ensures.hurts)
     c.stop.ensures.stops
 
@@ -55,10 +55,10 @@ pub returns-in-Some-clause-takes : goal.returns-in-Some-clause-takes
 returns-in-Some-clause-takes g c =
     stop_fails c.args.pass c.args.from c.args.body c.of.result c.in-Some.halt c.args.self.now c.stop.new.self c.take.new.server c.take.new.keeper c.stop.result c.stop.ensures.result c.stop.ensures.stops
 
-pub returns-in-Some-clause-same_clerk : goal.returns-in-Some-clause-same_clerk
-returns-in-Some-clause-same_clerk g c =
+pub returns-in-Some-clause-caller : goal.returns-in-Some-clause-caller
+returns-in-Some-clause-caller g c =
     let x : Step = record { pass = c.args.pass; deed = Halted c.args.from c.args.body c.of.result c.in-Some.halt } in
-    same_clerk c.args.pass c.args.self.now.trace.items c.stop.new.self.trace.items x c.stop.ensures.stops.list refl refl
+    same_caller c.args.pass c.args.self.now.trace.items c.stop.new.self.trace.items x c.stop.ensures.stops.list refl refl
 
 pub returns-in-None-clause-keeps : goal.returns-in-None-clause-keeps
 returns-in-None-clause-keeps g c =
