@@ -1,5 +1,6 @@
 -- Why a server ends so, from the parts of its work.
 use Rattle.std.proofs.Common.{◌≡◌, ◌⊎◌, ◌≤◌, ℕ, Bool, true, false, List, [], ◌++◌, Option, Some, None, is_some, Result, Err, refl, sym, ◌∙◌, subst, inl, inr, arith}
+use mathlib.Core.List.{IsPrefix}
 use Rattle.ec_disk.specs.Disk.{Counts, Counted}
 use Rattle.ec_durable.specs.declared.state.Durable.{Durable}
 use Rattle.ec_durable.specs.declared.record.Record.{Record}
@@ -34,16 +35,15 @@ has_some None b is e = absurd (cc (sym is ∙ e))
 has_some (Some x) b is e = (x, refl)
 
 -- the whole list has the steps of each link's pass as the server's own pass knew them
-back_later : (count : ℕ) (joined : List ℕ) (steps run : List Step) (old later : Outer) → ((n : ℕ) → Member n joined → of number_of n steps ≡ of number_of n run) → Tends count tended.Done joined steps old later → AllBack count run old later
-back_later count joined steps run old later same t = record {
+back_later : (count : ℕ) (joined : List ℕ) (steps run : List Step) (old later : Outer) → IsPrefix steps run → ((n : ℕ) → Member n joined → of number_of n steps ≡ of number_of n run) → Tends count tended.Done joined steps old later → AllBack count run old later
+back_later count joined steps run old later pre same t = record {
   links = t.0.links;
   number = t.0.number;
   ended = t.0.ended;
   bad = t.0.bad;
-  over = t.0.over;
   passes = t.0.passes;
   distinct = t.0.distinct;
-  own = served_later steps run t.0.passes t.0.links (λ n m. same n (t.1 n m)) t.0.own;
+  own = served_later steps run t.0.passes t.0.links pre (λ n m. same n (t.1 n m)) t.0.own;
 }
 
 module _ {K : Type 0} (kept : K → Durable) (counts : K → Counts) (did breaks : K → Record → K → Type 0) where
@@ -53,8 +53,8 @@ module _ {K : Type 0} (kept : K → Durable) (counts : K → Counts) (did breaks
 
   -- The shared server was ended.
   pub ends : (first : Node K) (run : List Step) (back : Option Server) (new : K) (h : Option Halt) (t : Tended) (count : ℕ) (is_back : Bool) (old later : Outer) (joined : List ℕ) (steps : List Step) → RunsFrom kept first run → Finished kept counts did breaks first run back new → h ≡ halted run
-      → ((n : ℕ) → Member n joined → of number_of n steps ≡ of number_of n run) → Tends count t joined steps old later → (is_back ≡ true → (server : Server) × (back ≡ Some server)) → Ran kept counts did breaks (state_of kept first) (queue_at first.boxes.items) count (ending_of h is_back t) first.keeper new old later
-  ends first run back new h t count is_back old later joined steps is_run finished is same tends has = (keeper_ends back finished, by h t is_back is tends has)
+      → IsPrefix steps run → ((n : ℕ) → Member n joined → of number_of n steps ≡ of number_of n run) → Tends count t joined steps old later → (is_back ≡ true → (server : Server) × (back ≡ Some server)) → Ran kept counts did breaks (state_of kept first) (queue_at first.boxes.items) count (ending_of h is_back t) first.keeper new old later
+  ends first run back new h t count is_back old later joined steps is_run finished is pre same tends has = (keeper_ends back finished, by h t is_back is tends has)
     where
       up_of : (b : Option Server) → Finished kept counts did breaks first run b new → CountsUp (halted run) (counts first.keeper) (counts new)
       up_of None f = f.1
@@ -77,7 +77,7 @@ module _ {K : Type 0} (kept : K → Durable) (counts : K → Counts) (did breaks
       by (Some (halt.Spent n)) t is_back is tends has = record { run = run; is_run = is_run; spent = sym is }
       by None tended.Done true is tends has =
           let some = has refl in
-          (record { run = run; is_run = is_run; up = sym is; chain = chain_of back some.0 some.1 finished }, back_later count joined steps run old later same tends)
+          (record { run = run; is_run = is_run; up = sym is; chain = chain_of back some.0 some.1 finished }, back_later count joined steps run old later pre same tends)
       by None tended.NetFailed true is tends has = tends
       by None tended.NotStarted true is tends has = tends
       by None tended.Cut true is tends has = tt

@@ -2,16 +2,14 @@
 use Rattle.std.proofs.Common.{◌≡◌, ◌⊎◌, ◌≤◌, ◌<◌, ◌+◌, ℕ, Bool, true, false, List, [], ◌∷◌, ◌++◌, map, length, refl, sym, ap, ◌∙◌, subst, ⊎_elim, arith}
 use Rattle.std.specs.declared.snapshot.Snapshot.{Snapshot}
 use Rattle.std.proofs.lemmas.List.{length-map}
-use Rattle.std.proofs.lemmas.List.Elements.{All-map}
 use Rattle.ec_link.specs.Happenings.{total}
 use Rattle.ec_link.specs.Nets.{Ended}
 use Rattle.ec_link.specs.Spawns.{refused}
 use Rattle.ec_link.specs.declared.spawn.Spawned.{Spawned}
 use Rattle.ec_link.specs.declared.spawn.Spawned.TheVariants as spawned
 use Rattle.ec_lock.specs.Steps.{Member}
-use Rattle.ec_lock.proofs.Numbers.{member_right}
 use Rattle.ec_servernode.specs.declared.step.Step.{Step}
-use Rattle.ec_serve.specs.Links.{Back, IsOver, Moment, GoesOn}
+use Rattle.ec_serve.specs.Links.{Back, Moment, GoesOn}
 use Rattle.ec_serve.specs.Serve.{Outer, AllBack, Tends, tended_of}
 use Rattle.ec_serve.specs.declared.ending.Tended.{Tended as Ends}
 use Rattle.ec_serve.specs.declared.ending.Tended.TheVariants as tended
@@ -39,7 +37,6 @@ tends_before count tended.Done joined steps old mid later faults bad ended start
     number = h.0.number;
     ended = h.0.ended ∙ ap (λ l. l ++ map (λ (b : Back). b.0) h.0.links) ended;
     bad = h.0.bad ∙ ap (λ n. n + total (λ (b : Back). b.1) h.0.links) bad;
-    over = h.0.over;
     passes = h.0.passes;
     distinct = h.0.distinct;
     own = h.0.own;
@@ -58,7 +55,7 @@ module _ {N L : Type 0} (faults_of bad_of : N → ℕ) (ended_of : N → List En
     pub begun : a.begun ≡ 0
     pub back : a.back ≡ []
     pub failed : a.failed ≡ false
-    pub each : b.begun + length a.back ≡ a.begun + length b.back + refused s
+    pub each : s ≡ spawned.All → b.begun + length a.back ≡ a.begun + length b.back
     pub over : s ≡ spawned.All → (b.left ≡ 0) ⊎ ((b.failed ≡ true) ⊎ (b.wants ≡ true))
     pub spawns : starts_later ≡ starts + refused s
 
@@ -73,12 +70,11 @@ module _ {N L : Type 0} (faults_of bad_of : N → ℕ) (ended_of : N → List En
           number = length-map t.goes.more back_of ∙ all;
           ended = back.ended ∙ ap (λ l. ended_of a.net ++ l) (map_both back_of (λ l. l.0) t.goes.more);
           bad = back.bad ∙ ap (λ n. bad_of a.net + n) (total_both back_of (λ l. l.1) t.goes.more);
-          over = All-map IsOver back_of t.goes.more back.over;
           passes = t.goes.passes;
           distinct = t.goes.distinct;
           own = back.own;
         },
-        (λ n m. subst (Member n) (sym t.goes.joined) (member_right n a.joined t.goes.passes m)),
+        t.goes.joined,
       ) where
         none_left : b.left ≡ 0
         none_left = ⊎_elim (λ (e : b.left ≡ 0). e) (λ (e : (b.failed ≡ true) ⊎ (b.wants ≡ true)). ⊎_elim (λ (f : b.failed ≡ true). absurd (cc (sym up ∙ f))) (λ (w : b.wants ≡ true). absurd (cc (sym rich ∙ w))) e) (t.over refl)
@@ -88,7 +84,7 @@ module _ {N L : Type 0} (faults_of bad_of : N → ℕ) (ended_of : N → List En
             let number = t.goes.number in
             let left = t.left in
             let begun = t.begun in
-            let each = t.each in
+            let each = t.each refl in
             let empty : length a.back ≡ 0 = ap length t.back in
             let more : length b.back ≡ length t.goes.more = ap length t.goes.back ∙ ap (λ l. length (l ++ t.goes.more)) t.back in
             let none = none_left in

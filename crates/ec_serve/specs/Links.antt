@@ -1,22 +1,27 @@
 -- How a link ends that is served, and what becomes of a server's links.
 use Rattle.std.specs.Prelude.{◌≡◌, ◌⊎◌, ◌+◌, ◌<◌, ◌≤◌, ℕ, Bool, true, false, List, ◌∷◌, [], ◌++◌, map, length, Option, Some, None, IfSome, Result, Ok, Err}
-use Rattle.std.specs.List.{All}
+use mathlib.Core.List.{IsPrefix}
 use Rattle.std.specs.declared.snapshot.Snapshot.{Snapshot}
 use Rattle.slab.specs.Slab.{Slab, get}
 use Rattle.ec_wire.specs.Codes.{said}
 use Rattle.ec_wire.specs.declared.fault.WireFault.{WireFault}
 use Rattle.ec_link.specs.Links.{Heard, body, long, added}
 use Rattle.ec_link.specs.Happenings.{total}
-use Rattle.ec_link.specs.Nets.{Ended, is_bad}
+use Rattle.ec_link.specs.Nets.{Ended as Bodies, is_bad}
 use Rattle.ec_lock.specs.Passes.{front, numbers}
 use Rattle.ec_lock.specs.Steps.{Member, Distinct, of}
 use Rattle.ec_lock.specs.declared.types.Pass.{Pass}
 use Rattle.ec_servernode.specs.declared.state.Node.{Node}
+use Rattle.ec_servernode.specs.declared.step.Deed.{Deed}
+use Rattle.ec_servernode.specs.declared.step.Deed.TheVariants.{Took, Gave, Refused, Halted, Ended, HaltedEnd}
 use Rattle.ec_servernode.specs.declared.step.Step.{Step}
 use Rattle.ec_servernode.specs.declared.fault.ServeFault.{ServeFault}
 use Rattle.ec_servernode.specs.declared.fault.ServeFault.TheVariants as fault
 use Rattle.ec_servernode.specs.Bodies.{heard_by, said_by}
-use Rattle.ec_servernode.specs.Run.{number_of}
+use Rattle.ec_servernode.specs.Run.{number_of, caller_by}
+use Rattle.ec_servernode.specs.Turns.{IsReplaced}
+use Rattle.ec_serve.specs.declared.connection.Gone.{Gone}
+use Rattle.ec_serve.specs.declared.connection.Gone.TheVariants as gone
 
 -- a body that is no message, or a length above the limit
 abbrev pub IsRefused : Heard → Type 0
@@ -27,19 +32,26 @@ IsRefused (long n) = Unit {0}
 abbrev pub Refuses : Option (List Heard) → Type 0
 Refuses given = (before : Option (List Heard)) × (last : Heard) × (given ≡ added before (last ∷ [])) × IsRefused last
 
--- Why a link isn't served any more: it was closed, it failed, or it gave what is no message. Else the server is down, or memory was wanting.
-abbrev pub IsOverBy : ℕ → ℕ → Option (List Heard) → Result (Unit {0}) ServeFault → Type 0
-IsOverBy faults closes given (Ok u) = 1 ≤ closes
-IsOverBy faults closes given (Err fault.Net) = 1 ≤ faults
-IsOverBy faults closes given (Err (fault.Peer why)) = Refuses given
-IsOverBy faults closes given (Err (fault.Long n)) = Refuses given
-IsOverBy faults closes given (Err fault.DiskFailed) = Unit {0}
-IsOverBy faults closes given (Err fault.DiskStopped) = Unit {0}
-IsOverBy faults closes given (Err (fault.Spent n)) = Unit {0}
-IsOverBy faults closes given (Err fault.Down) = Unit {0}
-IsOverBy faults closes given (Err fault.NoMemory) = Unit {0}
+-- At some point of the run the link of this pass had greeted, and the outbox of its clerk was another pass's: its clerk had greeted with that one since.
+pub record WasReplaced (pass : ℕ) (run : List Step) : Type 0 where
+  pub before : List Step
+  pub later : IsPrefix before run
+  pub replaced : IsReplaced pass (caller_by pass before) before
 
-abbrev pub is_over : Result (Unit {0}) ServeFault → Bool
+-- Why a link isn't served any more: it was closed or replaced, it failed, or it gave what is no message. Else the server is down, or memory was wanting.
+abbrev pub IsOverBy : ℕ → ℕ → Option (List Heard) → Type 0 → Result Gone ServeFault → Type 0
+IsOverBy faults closes given Replaced (Ok gone.Closed) = 1 ≤ closes
+IsOverBy faults closes given Replaced (Ok gone.Replaced) = Replaced
+IsOverBy faults closes given Replaced (Err fault.Net) = 1 ≤ faults
+IsOverBy faults closes given Replaced (Err (fault.Peer why)) = Refuses given
+IsOverBy faults closes given Replaced (Err (fault.Long n)) = Refuses given
+IsOverBy faults closes given Replaced (Err fault.DiskFailed) = Unit {0}
+IsOverBy faults closes given Replaced (Err fault.DiskStopped) = Unit {0}
+IsOverBy faults closes given Replaced (Err (fault.Spent n)) = Unit {0}
+IsOverBy faults closes given Replaced (Err fault.Down) = Unit {0}
+IsOverBy faults closes given Replaced (Err fault.NoMemory) = Unit {0}
+
+abbrev pub is_over : Result Gone ServeFault → Bool
 is_over (Ok u) = true
 is_over (Err fault.Net) = true
 is_over (Err (fault.Peer why)) = true
@@ -52,16 +64,16 @@ is_over (Err fault.NoMemory) = false
 
 -- a link that came back: what it gave and got, where told, and whether it was bad
 abbrev pub Back : Type 0
-Back = Ended × ℕ
+Back = Bodies × ℕ
 
--- it had failed or closed, or the last that it gave was refused
-abbrev pub IsOver : Back → Type 0
-IsOver b = (b.1 ≡ 1) ⊎ Refuses b.0.0
+-- It had failed or closed, or the last that it gave was refused, or its clerk greeted on another link.
+abbrev pub IsOver : ℕ → List Step → Back → Type 0
+IsOver pass run b = (b.1 ≡ 1) ⊎ (Refuses b.0.0 ⊎ WasReplaced pass run)
 
 module _ {L : Type 0} (faults closes : L → ℕ) (given : L → Option (List Heard)) where
-  abbrev pub EndsSo : Bool → L → Type 0
-  EndsSo true link = (is_bad (faults link) (closes link) ≡ 1) ⊎ Refuses (given link)
-  EndsSo false link = Unit {0}
+  abbrev pub EndsSo : {K : Type 0} → Bool → Pass (Node K) Step → L → Type 0
+  EndsSo true pass link = (is_bad (faults link) (closes link) ≡ 1) ⊎ (Refuses (given link) ⊎ WasReplaced pass.number (front pass))
+  EndsSo false pass link = Unit {0}
 
   abbrev pub back_of : (L → Option (List (List ℕ))) → Snapshot L → Back
   back_of got link = ((given link.value, got link.value), is_bad (faults link.value) (closes link.value))
@@ -73,9 +85,22 @@ abbrev pub Tells : {A : Type 0} → Option (List A) → List A → Type 0
 Tells None xs = Unit {0}
 Tells (Some ys) xs = ys ≡ xs
 
--- the link gave the bodies that these steps took, and got those that they sent, in order
+-- no session was ended by these steps but by what a link said
+abbrev pub IsNoEnd : Deed → Type 0
+IsNoEnd (Took c bytes m served) = Unit {0}
+IsNoEnd (Gave c m) = Unit {0}
+IsNoEnd (Refused m) = Unit {0}
+IsNoEnd (Halted c bytes m h) = Unit {0}
+IsNoEnd (Ended c served) = ⊥
+IsNoEnd (HaltedEnd c h) = ⊥
+
+abbrev pub HasNoEnd : List Step → Type 0
+HasNoEnd [] = Unit {0}
+HasNoEnd (s ∷ ss) = IsNoEnd s.deed × HasNoEnd ss
+
+-- the link gave the bodies that these steps took, and got those that they sent, in order, and they did nothing else
 abbrev pub IsSoFar : List Step → Option (List Heard) → Option (List (List ℕ)) → Type 0
-IsSoFar own given got = Tells given (heard_by own) × Tells got (said_by own)
+IsSoFar own given got = Tells given (heard_by own) × Tells got (said_by own) × HasNoEnd own
 
 -- nothing, or one body or length that was refused
 abbrev pub IsRest : List Heard → Type 0
@@ -83,24 +108,25 @@ IsRest [] = Unit {0}
 IsRest (x ∷ []) = IsRefused x
 IsRest (x ∷ y ∷ more) = ⊥
 
--- The link gave the bodies that these steps took, in order, and perhaps one more that was refused and ended it. It got the bodies that they sent, in order.
+-- The link gave the bodies that these steps took, in order, and perhaps one more that was refused and ended it. It got the bodies that they sent, in order. They did nothing else: it's not for a link to end sessions.
 pub record Carries (own : List Step) (given : Option (List Heard)) (got : Option (List (List ℕ))) : Type 0 where
   pub rest : List Heard
   pub refused : IsRest rest
   pub heard : Tells given (heard_by own ++ rest)
   pub said : Tells got (said_by own)
+  pub no_end : HasNoEnd own
 
 -- The same of a link that isn't served any more. It isn't told where the server is down or memory was wanting.
 abbrev pub CarriesSo : Bool → List Step → Option (List Heard) → Option (List (List ℕ)) → Type 0
 CarriesSo true own given got = Carries own given got
 CarriesSo false own given got = Unit {0}
 
--- Each of these links was served by the pass that stands at its place: the steps of the run with this number are those for the bodies that the link gave and got.
+-- Each of these links was served by the pass that stands at its place: the steps of the run with this number are those for the bodies that the link gave and got. It's over.
 abbrev pub AreServed : List Step → List ℕ → List Back → Type 0
 AreServed run [] [] = Unit {0}
 AreServed run [] (l ∷ ls) = ⊥
 AreServed run (n ∷ ns) [] = ⊥
-AreServed run (n ∷ ns) (l ∷ ls) = Carries (of number_of n run) l.0.0 l.0.1 × AreServed run ns ls
+AreServed run (n ∷ ns) (l ∷ ls) = Carries (of number_of n run) l.0.0 l.0.1 × IsOver n run l × AreServed run ns ls
 
 -- the steps of a pass, in what it knows of the list
 abbrev pub own_steps : {K : Type 0} → Pass (Node K) Step → List Step
@@ -126,7 +152,7 @@ abbrev pub AllServe : {T S : Type 0} → (T → S) → S → Slab T → Type 0
 AllServe server_of server live = (key : ℕ) → IfSome (get live key) (λ one. server_of one ≡ server)
 
 -- a server's links at one moment: the net, how many are still to come, how many came, those that came back, whether the net failed, whether memory was wanting or the server is down, the
--- numbers of the server's own pass, into which go those of the links that came back, and the beginning of the list that it knows
+-- numbers of the server's own pass, into which go those of the links that came back and the warden's, and the beginning of the list that it knows
 pub record Moment (N L : Type 0) : Type 0 where
   pub net : N
   pub left : ℕ
@@ -140,13 +166,12 @@ pub record Moment (N L : Type 0) : Type 0 where
 abbrev pub moment : {N L K : Type 0} → N → ℕ → List ℕ → List (Snapshot L) → Bool → Bool → Pass (Node K) Step → Moment N L
 moment net left begun back failed wants pass = record { net = net; left = left; begun = length begun; back = back; failed = failed; wants = wants; joined = numbers pass; steps = front pass }
 
-module _ {N L : Type 0} (faults_of bad_of : N → ℕ) (ended_of : N → List Ended) (back_of : Snapshot L → Back) where
+module _ {N L : Type 0} (faults_of bad_of : N → ℕ) (ended_of : N → List Bodies) (back_of : Snapshot L → Back) where
   -- these links came back between two moments, served by these passes
   pub record CameBack (a b : Moment N L) (more : List (Snapshot L)) (passes : List ℕ) : Type 0 where
     pub wants : a.wants ≡ false
     pub ended : ended_of b.net ≡ ended_of a.net ++ map (λ l. (back_of l).0) more
     pub bad : bad_of b.net ≡ bad_of a.net + total (λ l. (back_of l).1) more
-    pub over : All (λ l. IsOver (back_of l)) more
     pub own : AreServed b.steps passes (map back_of more)
 
   -- what becomes of them
@@ -157,7 +182,9 @@ module _ {N L : Type 0} (faults_of bad_of : N → ℕ) (ended_of : N → List En
     pub more : List (Snapshot L)
     pub back : b.back ≡ a.back ++ more
     pub passes : List ℕ
-    pub joined : b.joined ≡ a.joined ++ passes
+    pub kept : (n : ℕ) → Member n a.joined → Member n b.joined
+    pub joined : (n : ℕ) → Member n passes → Member n b.joined
+    pub later : IsPrefix a.steps b.steps
     pub distinct : Distinct passes
     pub apart : (n : ℕ) → Member n a.joined → Member n passes → ⊥
     pub same : (n : ℕ) → Member n a.joined → of number_of n a.steps ≡ of number_of n b.steps

@@ -1,6 +1,5 @@
 -- What a server does with its disk and its net.
 use Rattle.std.specs.Prelude.{◌≡◌, ◌⊎◌, ◌≤◌, ◌<◌, ◌+◌, ℕ, Bool, true, false, List, [], ◌++◌, length, map, Some, None, Ok}
-use Rattle.std.specs.List.{All}
 use Rattle.ec_base.specs.Outside.{Rose}
 use Rattle.ec_base.specs.declared.counter.Counter.{Counter}
 use Rattle.ec_disk.specs.Disk.{View, Counts}
@@ -23,7 +22,7 @@ use Rattle.ec_servernode.specs.declared.step.Halt.TheVariants as halt
 use Rattle.ec_servernode.specs.declared.step.Step.{Step}
 use Rattle.ec_servernode.specs.Run.{IsRun, halted, records, record_of, put_all, for_clerk}
 use Rattle.ec_servernode.specs.Node.{Chain, ChainInDoubt}
-use Rattle.ec_serve.specs.Links.{Back, IsOver, AreServed}
+use Rattle.ec_serve.specs.Links.{Back, AreServed}
 use Rattle.ec_serve.specs.declared.ending.Ending.{Ending}
 use Rattle.ec_serve.specs.declared.ending.Ending.TheVariants as ending
 use Rattle.ec_serve.specs.declared.ending.Tended.{Tended}
@@ -56,13 +55,12 @@ pub record Outside : Type 1 where
   pub links : Outer
   pub links_after : Outer
 
--- So many links came and were given back, each closed, failed or refused. Each was served by a pass of its own: the steps of the run with its number are those for the bodies that this link gave and got.
+-- So many links came and were given back, each closed, failed, refused or replaced. Each was served by a pass of its own: the steps of the run with its number are those for the bodies that this link gave and got.
 pub record AllBack (count : ℕ) (run : List Step) (old new : Outer) : Type 0 where
   pub links : List Back
   pub number : length links ≡ count
   pub ended : new.ended ≡ old.ended ++ map (λ l. l.0) links
   pub bad : new.bad ≡ old.bad + total (λ l. l.1) links
-  pub over : All IsOver links
   pub passes : List ℕ
   pub distinct : Distinct passes
   pub own : AreServed run passes links

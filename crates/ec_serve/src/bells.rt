@@ -4,8 +4,9 @@ use ec_link::Bell;
 use ec_servernode::Told;
 use std::alloc::Global;
 use std::collections::BTreeMap;
-use std::sync::atomic::{AtomicBool, Ordering};
+use std::sync::atomic::{AtomicBool, AtomicU64, Ordering};
 use std::sync::{Arc, Mutex, Wait};
+use std::time::{Clock, Duration};
 
 // A link that is served.
 #[derive(Drop)]
@@ -32,6 +33,8 @@ pub struct Bells<B: Bell + Drop, D: Bell + Drop> {
     ended: Mutex<Vec<usize>>,
     door: D,
     is_over: AtomicBool,
+    /// 1 where no link is served any more, and none is to come.
+    is_done: AtomicU64,
 }
 
 impl<B: Bell + Drop, D: Bell + Drop> Bells<B, D> {
@@ -46,6 +49,7 @@ impl<B: Bell + Drop, D: Bell + Drop> Bells<B, D> {
             ended: Mutex::new(Vec::new(alloc)),
             door,
             is_over: AtomicBool::new(false),
+            is_done: AtomicU64::new(0),
         })
     }
 
@@ -64,15 +68,26 @@ impl<B: Bell + Drop, D: Bell + Drop> Bells<B, D> {
         table.posts.remove(&number)?.clerk
     }
 
-    /// The link of this number is now the clerk's. True where it was nobody's before.
+    /// The link of this number is now the clerk's, and the one that it had looks, since it's at its end. True where this one was nobody's
+    /// before.
     pub fn greet<R: Wait>(&self, rt: &R, number: u64, clerk: ClerkId) -> bool {
         let mut table = self.table.lock(rt);
+        ring_clerk(&table, number, clerk);
         if let Some(has) = table.by_clerk.get_mut(clerk.get() as usize) {
             *has = Some(number);
         }
         match table.posts.get_mut(&number) {
             Some(post) => post.clerk.replace(clerk).is_none(),
             None => false,
+        }
+    }
+
+    /// Whether the clerk has a link.
+    pub fn has_link<R: Wait>(&self, rt: &R, clerk: ClerkId) -> bool {
+        let table = self.table.lock(rt);
+        match table.by_clerk.get(clerk.get() as usize) {
+            Some(Some(link)) => table.posts.get(link).is_some(),
+            _ => false,
         }
     }
 
@@ -95,6 +110,22 @@ impl<B: Bell + Drop, D: Bell + Drop> Bells<B, D> {
     /// Whether no further link is to be served.
     pub fn is_over(&self) -> bool {
         self.is_over.load(Ordering::SeqCst)
+    }
+
+    /// No link is served any more, and none is to come.
+    pub fn finish(&self) {
+        self.is_done.store(1, Ordering::SeqCst);
+        self.is_done.wake_all();
+    }
+
+    /// Whether that is so.
+    pub fn is_done(&self) -> bool {
+        self.is_done.load(Ordering::SeqCst) == 1
+    }
+
+    /// Waits for that, but no longer than this.
+    pub fn wait_done<R: Wait + Clock>(&self, rt: &R, longest: Duration) {
+        self.is_done.park_timeout(rt, 0, longest);
     }
 
     /// Makes room for the keys of so many links.

@@ -1,8 +1,8 @@
 // One link of a server, which is served in a thread of its own.
 ghost use Rattle.std.specs.Prelude.{◌≡◌, ◌≤◌, IfSome, IfNone};
-ghost use Rattle.ec_lock.specs.Passes.{Same};
+ghost use Rattle.ec_lock.specs.Passes.{Same, front};
 ghost use Rattle.ec_servernode.specs.Turns.{IsServerPass};
-ghost use Rattle.ec_serve.specs.Links.{IsOverBy, is_over, EndsSo, IsServed, WasServed, BeginsSo, GoneSo};
+ghost use Rattle.ec_serve.specs.Links.{IsOverBy, is_over, EndsSo, WasReplaced, IsServed, WasServed, BeginsSo, GoneSo};
 
 use crate::bells::Bells;
 use crate::telling::{tell_end, tell_greeting};
@@ -12,6 +12,9 @@ use ec_server::Keeper;
 use ec_servernode::{ServeFault, ServerPass, SharedServer, Told, Turned};
 use std::io::Eprint;
 use std::sync::Arc;
+
+// So many messages are taken behind a fault of their link.
+const MOST_REST: u32 = 256;
 
 /// A link that is to be served.
 #[derive(Drop)]
@@ -23,12 +26,21 @@ pub struct Connection<'s, 'b, K: Keeper + Drop, L: Link + Drop, D: Bell + Drop> 
     pub link: L,
 }
 
+/// How a link ends that doesn't fail.
+#[derive(Clone, Copy, Drop)]
+pub enum Gone {
+    /// Its other end is gone.
+    Closed,
+    /// Its clerk has greeted on another link since.
+    Replaced,
+}
+
 /// A link that isn't served any more.
 #[derive(Drop)]
 pub struct Ended<K: Keeper + Drop, L: Link + Drop> {
     pub pass: ServerPass<K>,
     pub link: L,
-    /// It was closed, or failed, or gave what is no message. Else the server is down, or memory was wanting.
+    /// It was closed or replaced, or failed, or gave what is no message. Else the server is down, or memory was wanting.
     pub is_over: bool,
 }
 
@@ -38,8 +50,8 @@ pub fn serve_connection<K: Keeper + Drop, L: Link + Drop, D: Bell + Drop, R: Aro
     connection: Connection<'_, '_, K, L, D>,
     key: usize,
 ) -> Ended<K, L>
-    requires { IsServerPass K.kept connection.server.now.lock connection.pass.pass connection.pass.clerk × BeginsSo L.given L.got connection.pass.pass connection.link }
-    ensures { IsServerPass K.kept connection.entry.server.now.lock result.pass.pass result.pass.clerk × EndsSo L.faults L.closes L.given result.is_over result.link × GoneSo L.given L.got result.is_over result.pass.pass result.link }
+    requires { IsServerPass K.kept connection.server.now.lock connection.pass × BeginsSo L.given L.got connection.pass.pass connection.link }
+    ensures { IsServerPass K.kept connection.entry.server.now.lock result.pass × EndsSo L.faults L.closes L.given result.is_over result.pass.pass result.link × GoneSo L.given L.got result.is_over result.pass.pass result.link }
 {
     let Connection {
         server,
@@ -64,11 +76,11 @@ pub fn serve_connection<K: Keeper + Drop, L: Link + Drop, D: Bell + Drop, R: Aro
 }
 
 // Whether the link is at its end, and nothing else.
-fn is_over(end: &Result<(), ServeFault>) -> bool
+fn is_over(end: &Result<Gone, ServeFault>) -> bool
     ensures { result ≡ is_over end.now }
 {
     match end {
-        Ok(()) => true,
+        Ok(_) => true,
         Err(ServeFault::Net | ServeFault::Peer(_) | ServeFault::Long(_)) => true,
         Err(_) => false,
     }
@@ -82,12 +94,12 @@ fn serve_link<K: Keeper + Drop, L: Link, D: Bell + Drop, R: Around + Eprint>(
     number: u64,
     pass: &mut ServerPass<K>,
     link: &mut L,
-) -> Result<(), ServeFault>
-    requires pass { IsServerPass K.kept server.now.lock pass.old.pass pass.old.clerk }
+) -> Result<Gone, ServeFault>
+    requires pass { IsServerPass K.kept server.now.lock pass.old }
     requires served { IsServed L.given L.got pass.old.pass link.old }
-    ensures pass { IsServerPass K.kept server.now.lock pass.new.pass pass.new.clerk }
+    ensures pass { IsServerPass K.kept server.now.lock pass.new }
     ensures same { Same pass.old.pass pass.new.pass }
-    ensures over { IsOverBy (L.faults link.new) (L.closes link.new) (L.given link.new) result }
+    ensures over { IsOverBy (L.faults link.new) (L.closes link.new) (L.given link.new) (WasReplaced pass.new.pass.number (front pass.new.pass)) result }
     ensures served { WasServed L.given L.got (is_over result) pass.new.pass link.new }
 {
     let bell = match link.bell(rt) {
@@ -122,12 +134,12 @@ fn take_turns<K: Keeper + Drop, L: Link, D: Bell + Drop, R: Around + Eprint>(
     bell: &L::Bell,
     pass: &mut ServerPass<K>,
     link: &mut L,
-) -> Result<(), ServeFault>
-    requires pass { IsServerPass K.kept server.now.lock pass.old.pass pass.old.clerk }
+) -> Result<Gone, ServeFault>
+    requires pass { IsServerPass K.kept server.now.lock pass.old }
     requires served { IsServed L.given L.got pass.old.pass link.old }
-    ensures pass { IsServerPass K.kept server.now.lock pass.new.pass pass.new.clerk }
+    ensures pass { IsServerPass K.kept server.now.lock pass.new }
     ensures same { Same pass.old.pass pass.new.pass }
-    ensures over { IsOverBy (L.faults link.new) (L.closes link.new) (L.given link.new) result }
+    ensures over { IsOverBy (L.faults link.new) (L.closes link.new) (L.given link.new) (WasReplaced pass.new.pass.number (front pass.new.pass)) result }
     ensures served { WasServed L.given L.got (is_over result) pass.new.pass link.new }
 {
     for _ in rt.forever() {
@@ -147,12 +159,12 @@ fn turn<K: Keeper + Drop, L: Link, D: Bell + Drop, R: Around + Eprint>(
     bell: &L::Bell,
     pass: &mut ServerPass<K>,
     link: &mut L,
-) -> Option<Result<(), ServeFault>>
-    requires pass { IsServerPass K.kept server.now.lock pass.old.pass pass.old.clerk }
+) -> Option<Result<Gone, ServeFault>>
+    requires pass { IsServerPass K.kept server.now.lock pass.old }
     requires served { IsServed L.given L.got pass.old.pass link.old }
-    ensures pass { IsServerPass K.kept server.now.lock pass.new.pass pass.new.clerk }
+    ensures pass { IsServerPass K.kept server.now.lock pass.new }
     ensures same { Same pass.old.pass pass.new.pass }
-    ensures over { IfSome result (λ end. IsOverBy (L.faults link.new) (L.closes link.new) (L.given link.new) end) }
+    ensures over { IfSome result (λ end. IsOverBy (L.faults link.new) (L.closes link.new) (L.given link.new) (WasReplaced pass.new.pass.number (front pass.new.pass)) end) }
     ensures goes { IfNone result (IsServed L.given L.got pass.new.pass link.new) }
     ensures served { IfSome result (λ end. WasServed L.given L.got (is_over end) pass.new.pass link.new) }
 {
@@ -171,9 +183,38 @@ fn turn<K: Keeper + Drop, L: Link, D: Bell + Drop, R: Around + Eprint>(
             bell.wait(rt, seen);
             None
         }
-        Ok(Turned::Closed) => Some(Ok(())),
+        Ok(Turned::Replaced) => Some(Ok(Gone::Replaced)),
+        Ok(Turned::Closed) => Some(Ok(Gone::Closed)),
+        Err(ServeFault::Net) => Some(take_rest(rt, server, bells, number, pass, link)),
         Err(fault) => Some(Err(fault)),
     }
+}
+
+// The link failed. What it gave before that is taken, a goodbye among it.
+fn take_rest<K: Keeper + Drop, L: Link, D: Bell + Drop, R: Around + Eprint>(
+    rt: &R,
+    server: &SharedServer<K>,
+    bells: &Bells<L::Bell, D>,
+    number: u64,
+    pass: &mut ServerPass<K>,
+    link: &mut L,
+) -> Result<Gone, ServeFault>
+    requires pass { IsServerPass K.kept server.now.lock pass.old }
+    requires served { IsServed L.given L.got pass.old.pass link.old }
+    requires failed { 1 ≤ L.faults link.old }
+    ensures pass { IsServerPass K.kept server.now.lock pass.new }
+    ensures same { Same pass.old.pass pass.new.pass }
+    ensures over { IsOverBy (L.faults link.new) (L.closes link.new) (L.given link.new) (WasReplaced pass.new.pass.number (front pass.new.pass)) result }
+    ensures served { WasServed L.given L.got (is_over result) pass.new.pass link.new }
+{
+    for _ in 0..MOST_REST {
+        match server.serve_one(rt, pass, link) {
+            Ok(Turned::Took(told)) => ring(rt, bells, number, pass, told),
+            Ok(_) => return Err(ServeFault::Net),
+            Err(fault) => return Err(fault),
+        }
+    }
+    Err(ServeFault::Net)
 }
 
 // A message was taken. A Hello says whose link it is.

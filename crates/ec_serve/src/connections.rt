@@ -1,6 +1,7 @@
 // The links that come to a server.
 ghost use Rattle.std.specs.Prelude.{◌≡◌, ◌⊎◌, ◌+◌, ◌<◌, ℕ, [], ◌∷◌, ◌++◌, length, true, false, IfSome, IfNone};
 ghost use Rattle.std.specs.declared.snapshot.Snapshot.{Snapshot as Shot};
+ghost use mathlib.Core.List.{IsPrefix};
 ghost use Rattle.ec_link.specs.Nets.{IsEmpty, is_bad};
 ghost use Rattle.ec_link.specs.Spawns.{taken};
 ghost use Rattle.ec_lock.specs.Passes.{front, numbers};
@@ -12,6 +13,7 @@ ghost use Rattle.ec_serve.specs.Links.{EndsSo, BeginsSo, GoneSo, back_of, moment
 use crate::bells::Bells;
 use crate::connection::{Connection, Ended};
 use crate::telling::tell_begin;
+use crate::warden::Watch;
 use ec_link::{Around, Link, Net, NetFault};
 use ec_server::Keeper;
 use ec_servernode::{ServerPass, SharedServer};
@@ -35,6 +37,8 @@ pub struct Connections<'s, 'b, K: Keeper + Drop, N: Net> {
     pub wants: bool,
     pub begun: Trace<u64>,
     pub back: Trace<Snapshot<N::Link>>,
+    /// What the warden begins with, until it was started.
+    pub watch: Option<Watch>,
 }
 
 impl<'s, 'b, K: Keeper + Drop, N: Net> Connections<'s, 'b, K, N> {
@@ -45,19 +49,20 @@ impl<'s, 'b, K: Keeper + Drop, N: Net> Connections<'s, 'b, K, N> {
         pass: &mut ServerPass<K>,
         link: N::Link,
     ) -> Option<Connection<'s, 'b, K, N::Link, N::DoorBell>>
-        requires pass { IsServerPass K.kept self.old.server.now.lock pass.old.pass pass.old.clerk }
+        requires pass { IsServerPass K.kept self.old.server.now.lock pass.old }
         requires left { 0 < self.old.left }
         requires link { IsEmpty (N.Link.given link) × IsEmpty (N.Link.got link) }
         ensures server { self.new.server ≡ self.old.server }
         ensures others { (self.new.back ≡ self.old.back) × (self.new.failed ≡ self.old.failed) }
-        ensures pass { IsServerPass K.kept self.old.server.now.lock pass.new.pass pass.new.clerk }
+        ensures pass { IsServerPass K.kept self.old.server.now.lock pass.new }
         ensures joined { numbers pass.new.pass ≡ numbers pass.old.pass }
+        ensures later { IsPrefix (front pass.old.pass) (front pass.new.pass) }
         ensures own { (n : ℕ) → Member n (numbers pass.old.pass) → of number_of n (front pass.old.pass) ≡ of number_of n (front pass.new.pass) }
         ensures left { self.new.left + length self.new.begun.items ≡ self.old.left + length self.old.begun.items }
         ensures begun { length self.new.begun.items ≡ length self.old.begun.items + taken result }
         ensures wants { self.new.wants ≡ false → self.old.wants ≡ false }
         ensures none { IfNone result (self.new.wants ≡ true) }
-        ensures some { IfSome result (λ c. (c.server ≡ self.old.server) × IsServerPass K.kept self.old.server.now.lock c.pass.pass c.pass.clerk × BeginsSo N.Link.given N.Link.got c.pass.pass c.link) }
+        ensures some { IfSome result (λ c. (c.server ≡ self.old.server) × IsServerPass K.kept self.old.server.now.lock c.pass × BeginsSo N.Link.given N.Link.got c.pass.pass c.link) }
     {
         if self.bells.is_over() {
             self.wants = true;
@@ -122,15 +127,15 @@ impl<'s, 'b, K: Keeper + Drop, N: Net> Connections<'s, 'b, K, N> {
         net: &mut N,
         pass: &mut ServerPass<K>,
     ) -> Option<Connection<'s, 'b, K, N::Link, N::DoorBell>>
-        requires pass { IsServerPass K.kept self.old.server.now.lock pass.old.pass pass.old.clerk }
-        ensures pass { IsServerPass K.kept self.new.server.now.lock pass.new.pass pass.new.clerk }
+        requires pass { IsServerPass K.kept self.old.server.now.lock pass.old }
+        ensures pass { IsServerPass K.kept self.new.server.now.lock pass.new }
         ensures server { self.new.server ≡ self.old.server }
         ensures goes { GoesOn N.faults N.bad N.ended (back_of N.Link.faults N.Link.closes N.Link.given N.Link.got)
             (moment net.old self.old.left self.old.begun.items self.old.back.items self.old.failed self.old.wants pass.old.pass)
             (moment net.new self.new.left self.new.begun.items self.new.back.items self.new.failed self.new.wants pass.new.pass) }
         ensures begun { length self.new.begun.items ≡ length self.old.begun.items + taken result }
         ensures back { self.new.back ≡ self.old.back }
-        ensures some { IfSome result (λ c. (c.server ≡ self.old.server) × IsServerPass K.kept self.old.server.now.lock c.pass.pass c.pass.clerk × BeginsSo N.Link.given N.Link.got c.pass.pass c.link) }
+        ensures some { IfSome result (λ c. (c.server ≡ self.old.server) × IsServerPass K.kept self.old.server.now.lock c.pass × BeginsSo N.Link.given N.Link.got c.pass.pass c.link) }
     {
         if self.left == 0 {
             return None;
@@ -151,9 +156,9 @@ impl<'s, 'b, K: Keeper + Drop, N: Net> Connections<'s, 'b, K, N> {
 
     /// A link isn't served any more: its pass goes into the server's own, and the net gets it back.
     pub fn done(&mut self, net: &mut N, pass: &mut ServerPass<K>, out: Ended<K, N::Link>)
-        requires pass { IsServerPass K.kept self.old.server.now.lock pass.old.pass pass.old.clerk }
-        requires out { IsServerPass K.kept self.old.server.now.lock out.pass.pass out.pass.clerk × EndsSo N.Link.faults N.Link.closes N.Link.given out.is_over out.link × GoneSo N.Link.given N.Link.got out.is_over out.pass.pass out.link }
-        ensures pass { IsServerPass K.kept self.new.server.now.lock pass.new.pass pass.new.clerk }
+        requires pass { IsServerPass K.kept self.old.server.now.lock pass.old }
+        requires out { IsServerPass K.kept self.old.server.now.lock out.pass × EndsSo N.Link.faults N.Link.closes N.Link.given out.is_over out.pass.pass out.link × GoneSo N.Link.given N.Link.got out.is_over out.pass.pass out.link }
+        ensures pass { IsServerPass K.kept self.new.server.now.lock pass.new }
         ensures server { self.new.server ≡ self.old.server }
         ensures goes { GoesOn N.faults N.bad N.ended (back_of N.Link.faults N.Link.closes N.Link.given N.Link.got)
             (moment net.old self.old.left self.old.begun.items self.old.back.items self.old.failed self.old.wants pass.old.pass)

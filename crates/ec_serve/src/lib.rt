@@ -10,6 +10,7 @@ mod serving;
 mod telling;
 mod tending;
 mod threads;
+mod warden;
 
 pub use ending::Ending;
 pub use serving::serve;

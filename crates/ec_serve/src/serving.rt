@@ -163,14 +163,14 @@ fn serve_shared<K: Keeper + Send + Drop, N: Net, R: Around + Eprint>(
     addr: &str,
     count: u32,
 ) -> (K, Ending)
-    requires { IsServerPass K.kept server.lock pass.pass pass.clerk }
+    requires { IsServerPass K.kept server.lock pass }
     ensures later { (N.faults net.old ≤ N.faults net.new) × (faults_of spawner.old ≤ faults_of spawner.new) }
     ensures ends { Ran K.kept K.counts K.did K.broke (state_of K.kept (first server.lock)) (queue_at (first server.lock).boxes.items) count result.1 (first server.lock).keeper result.0
         (record { faults = N.faults net.old; bad = N.bad net.old; ended = N.ended net.old; starts = faults_of spawner.old })
         (record { faults = N.faults net.new; bad = N.bad net.new; ended = N.ended net.new; starts = faults_of spawner.new }) }
 {
     let tended = tend(rt, &server, &mut pass, net, spawner, addr, count);
-    let (back, keeper, halt) = server.end(rt, &mut pass);
+    let (back, keeper, halt) = server.close(rt, &mut pass);
     let is_back = back.is_some();
     drop(back);
     (keeper, ending_of(halt, is_back, tended))

@@ -1,4 +1,5 @@
 // What a server says on standard error, one line each. What can't be said there is no fault.
+use crate::connection::Gone;
 use ec_base::ClerkId;
 use ec_servernode::ServeFault;
 use std::io::{self, Eprint};
@@ -34,18 +35,41 @@ pub fn tell_end<R: Eprint>(
     rt: &R,
     number: u64,
     clerk: Option<ClerkId>,
-    end: &Result<(), ServeFault>,
+    end: &Result<Gone, ServeFault>,
 ) {
     let _ = match (clerk, end) {
-        (None, Ok(())) => eprintln!(rt; "echofs: link {number} was closed"),
+        (None, Ok(_)) => eprintln!(rt; "echofs: link {number} was closed"),
         (None, Err(fault)) => eprintln!(rt; "echofs: link {number} ended: {fault}"),
-        (Some(clerk), Ok(())) => {
+        (Some(clerk), Ok(Gone::Closed)) => {
             eprintln!(rt; "echofs: link {number} of {} was closed", letter(clerk))
+        }
+        (Some(clerk), Ok(Gone::Replaced)) => {
+            eprintln!(rt;
+                "echofs: link {number} of {} was hung up: {} has a newer one",
+                letter(clerk),
+                letter(clerk)
+            )
         }
         (Some(clerk), Err(fault)) => {
             eprintln!(rt; "echofs: link {number} of {} ended: {fault}", letter(clerk))
         }
     };
+}
+
+/// A clerk's session is open, and the clerk has no link.
+pub fn tell_wait<R: Eprint>(rt: &R, clerk: ClerkId, seconds: u64) {
+    let _ = eprintln!(rt;
+        "echofs: {} has an open session and no link: waits {seconds} s for it",
+        letter(clerk)
+    );
+}
+
+/// Its session was ended.
+pub fn tell_session_end<R: Eprint>(rt: &R, clerk: ClerkId) {
+    let _ = eprintln!(rt;
+        "echofs: {} didn't link again: its session was ended",
+        letter(clerk)
+    );
 }
 
 fn letter(clerk: ClerkId) -> char {

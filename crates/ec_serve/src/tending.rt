@@ -13,6 +13,7 @@ use crate::connections::Connections;
 use crate::ending::Tended;
 use crate::telling::{tell_door, tell_no_door};
 use crate::threads::run_all;
+use crate::warden::Watch;
 use ec_link::{Around, Net, NetFault, Spawned, Spawner};
 use ec_server::Keeper;
 use ec_servernode::{ServerPass, SharedServer};
@@ -29,13 +30,16 @@ pub fn tend<K: Keeper + Send + Drop, N: Net, R: Around + Eprint>(
     addr: &str,
     count: u32,
 ) -> Tended
-    requires pass { IsServerPass K.kept server.now.lock pass.old.pass pass.old.clerk }
-    ensures pass { IsServerPass K.kept server.now.lock pass.new.pass pass.new.clerk }
+    requires pass { IsServerPass K.kept server.now.lock pass.old }
+    ensures pass { IsServerPass K.kept server.now.lock pass.new }
     ensures later { (N.faults net.old ≤ N.faults net.new) × (faults_of spawner.old ≤ faults_of spawner.new) }
     ensures tends { Tends count result (numbers pass.new.pass) (front pass.new.pass)
         (record { faults = N.faults net.old; bad = N.bad net.old; ended = N.ended net.old; starts = faults_of spawner.old })
         (record { faults = N.faults net.new; bad = N.bad net.new; ended = N.ended net.new; starts = faults_of spawner.new }) }
 {
+    let Ok(watch) = Watch::new(rt, rt.alloc()) else {
+        return Tended::Cut;
+    };
     let (door, bell) = match open(rt, net, addr) {
         Ok(opened) => opened,
         Err(NetFault::Failed) => return Tended::NetFailed,
@@ -54,6 +58,7 @@ pub fn tend<K: Keeper + Send + Drop, N: Net, R: Around + Eprint>(
         wants: false,
         begun: Trace::new(),
         back: Trace::new(),
+        watch: Some(watch),
     };
     let ran = run_all(rt, spawner, net, pass, &mut connections);
     tended_of(ran.spawned, ran.failed, ran.wants)

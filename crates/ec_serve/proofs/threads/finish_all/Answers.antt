@@ -14,7 +14,7 @@ done-requires-clause-out g c = λ κs within.
     let server = c.args.connections.now.server.now in
     let kept = All-head (λ e. e.1.handle.promise.0.value ≡ server) c.in-Some.entry c.next.new.self (subst (All (λ e. e.1.handle.promise.0.value ≡ server)) c.in-Some.ensures.steps inv.6) in
     let out = c.join-ended.result in (
-      subst (λ s. IsServerPass g.K.Keeper.kept s.lock out.pass.pass out.pass.clerk) (kept ∙ ap (λ s. s.now) (sym inv.1)) c.join-ended.ensures.0,
+      subst (λ s. IsServerPass g.K.Keeper.kept s.lock out.pass) (kept ∙ ap (λ s. s.now) (sym inv.1)) c.join-ended.ensures.0,
       c.join-ended.ensures.1,
       c.join-ended.ensures.2,
     )

@@ -7,7 +7,7 @@ use Rattle.ec_serve.proofs.threads.finish_all.Given as goal
 
 abbrev pub invariant-loop-entry : goal.invariant-loop-entry
 invariant-loop-entry g l =
-    IsServerPass g.K.Keeper.kept l.connections.server.now.lock l.pass.pass l.pass.clerk
+    IsServerPass g.K.Keeper.kept l.connections.server.now.lock l.pass
     × (l.connections.server ≡ l.fn.connections.server)
     × GoesOn g.N.Net.faults g.N.Net.bad g.N.Net.ended (back_of g.N.Link.Link.faults g.N.Link.Link.closes g.N.Link.Link.given g.N.Link.Link.got)
     (moment l.fn.net l.fn.connections.left l.fn.connections.begun.items l.fn.connections.back.items l.fn.connections.failed l.fn.connections.wants l.fn.pass.pass)

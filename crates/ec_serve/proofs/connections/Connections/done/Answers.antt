@@ -28,10 +28,10 @@ returns-clause-goes g c =
     (moment c.args.net.now self.left self.begun.items self.back.items self.failed self.wants pass)
     (moment c.give_back.new.net new.left new.begun.items new.back.items new.failed new.wants joined)
     shot other.number back.faults back.others.0 (ap (λ t. length t.items) back.others.1) back.others.2 back.back.2
-    (join.same.0 ∙ ap (λ l. numbers pass ++ l) alone) (λ m. join.apart other.number m in_own) join.own
+    (join.same.0 ∙ ap (λ l. numbers pass ++ l) alone) (λ m. join.apart other.number m in_own) join.later join.own
     (λ e.
     let came = back.came e in
-    let gone = gone_back faults closes given got out.is_over other (front joined) out.link shot came.1 back.back.1 (join.others other.number in_own) c.requires.out.1 c.requires.out.2.1 in (
+    let gone = gone_back faults closes given got out.is_over other (front joined) out.link shot came.1 back.back.1 (join.others other.number in_own) join.other c.requires.out.1 c.requires.out.2.1 in (
       came.0,
       subst (λ x. g.N.Net.ended c.give_back.new.net ≡ g.N.Net.ended c.args.net.now ++ (given x, got x) ∷ []) (sym back.back.1) came.2,
       came.3 ∙ ap (λ x. g.N.Net.bad c.args.net.now + is_bad (faults x) (closes x)) (sym back.back.1),
