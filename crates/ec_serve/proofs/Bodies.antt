@@ -166,12 +166,27 @@ replaced_pass kept lock old new is same added r =
     let own = own_after n (front old.pass) (front new) [] added ∙ append-nil (of number_of n (front old.pass)) in
     subst (λ k. WasReplaced k (front new)) (sym same.0) (replaced_so n old.caller (front new) (is.caller_is ∙ ap (caller_from nobody) (sym own)) r)
 
+-- the same, where what the turn did is told by its name
+pub replaced_as : {K L : Type 0} (kept : K → Durable) (lock : TracedLock (Node K) Step) (faults closes : L → ℕ) (given : L → Option (List Heard)) (got : L → Option (List (List ℕ))) (held : L → List ℕ) (clear : L → Bool) (boxes : ℕ → List Msg) (old : ServerPass K) (new : Pass (Node K) Step) (before after : L)
+    (did : Turned) → did ≡ turned.Replaced → IsServerPass kept lock old → Same old.pass new → Serves faults closes given got held clear boxes old.pass.number old.caller (front old.pass) (front new) before after (Ok did) → WasReplaced new.number (front new)
+replaced_as kept lock faults closes given got held clear boxes old new before after did named is same h =
+    by (subst (λ (t : Turned). Serves faults closes given got held clear boxes old.pass.number old.caller (front old.pass) (front new) before after (Ok t)) named h)
+  where
+    by : Serves faults closes given got held clear boxes old.pass.number old.caller (front old.pass) (front new) before after (Ok turned.Replaced) → WasReplaced new.number (front new)
+    by h = replaced_pass kept lock old new is same h.0 h.1
+
 module _ {K L : Type 0} (given : L → Option (List Heard)) (got : L → Option (List (List ℕ))) where
   -- a link that failed may go on to be read
   pub failed_pass : (faults closes : L → ℕ) (held : L → List ℕ) (boxes : ℕ → List Msg) (caller : Caller) (old new : Pass (Node K) Step) (before after : L) → Same old new
       → ServeFails faults closes given got held boxes old.number caller (front old) (front new) before after fault.Net → IsServed given got old before → IsServed given got new after
   failed_pass faults closes held boxes caller old new before after same h so =
       subst (λ n. IsSoFar (of number_of n (front new)) (given after) (got after)) (sym same.0) (failed_so faults closes given got held boxes old.number caller (front old) (front new) before after h so)
+
+  -- the same, where the fault is told by its name
+  pub failed_as : (faults closes : L → ℕ) (held : L → List ℕ) (boxes : ℕ → List Msg) (caller : Caller) (old new : Pass (Node K) Step) (before after : L) (f : ServeFault) → f ≡ fault.Net → Same old new
+      → ServeFails faults closes given got held boxes old.number caller (front old) (front new) before after f → IsServed given got old before → IsServed given got new after
+  failed_as faults closes held boxes caller old new before after f named same h so =
+      failed_pass faults closes held boxes caller old new before after same (subst (λ (x : ServeFault). ServeFails faults closes given got held boxes old.number caller (front old) (front new) before after x) named h) so
 
   -- a link that came, and the pass that was drawn for it
   pub begins_so : (pass : Pass (Node K) Step) (steps : List Step) (link : L) → numbers pass ≡ pass.number ∷ [] → front pass ≡ steps → of number_of pass.number steps ≡ [] → IsEmpty (given link) → IsEmpty (got link) → BeginsSo given got pass link

@@ -2,7 +2,7 @@ use Rattle.std.proofs.Common.{Err, rules}
 use Rattle.ec_lock.specs.Passes.{first}
 use Rattle.ec_servernode.specs.Node.{queue_at}
 use Rattle.ec_servernode.specs.declared.shared.Turned.TheVariants as turned
-use Rattle.ec_serve.proofs.Bodies.{turned_pass, turned_as, failed_pass, replaced_pass}
+use Rattle.ec_serve.proofs.Bodies.{turned_pass, turned_as, failed_as, replaced_as}
 use Rattle.ec_serve.proofs.connection.turn.Goals as goal
 
 pub returns-in-Ok-Took-clause-goes : goal.returns-in-Ok-Took-clause-goes
@@ -30,7 +30,9 @@ returns-in-Ok-Busy-clause-goes g c =
     c.in-Ok-Busy.field-0 turned.Busy (search rules) c.serve_one.ensures.same c.in-Ok-Busy.ensures.serves c.requires.served
 
 pub returns-in-Ok-Replaced-clause-over : goal.returns-in-Ok-Replaced-clause-over
-returns-in-Ok-Replaced-clause-over g c = replaced_pass g.K.Keeper.kept c.args.server.now.lock c.args.pass.now c.serve_one.new.pass.pass c.requires.pass c.serve_one.ensures.same c.in-Ok-Replaced.ensures.serves.0 c.in-Ok-Replaced.ensures.serves.1
+returns-in-Ok-Replaced-clause-over g c =
+    replaced_as g.K.Keeper.kept c.args.server.now.lock g.L.Link.faults g.L.Link.closes g.L.Link.given g.L.Link.got g.L.Link.held g.L.Link.clear (queue_at (first c.args.server.now.lock).boxes.items) c.args.pass.now c.serve_one.new.pass.pass c.args.link.now c.serve_one.new.link
+    c.in-Ok-Replaced.field-0 (search rules) c.requires.pass c.serve_one.ensures.same c.in-Ok-Replaced.ensures.serves
 
 pub returns-in-Ok-Replaced-clause-served : goal.returns-in-Ok-Replaced-clause-served
 returns-in-Ok-Replaced-clause-served g c =
@@ -53,4 +55,5 @@ returns-in-Err-clause-served g c =
 pub take_rest-requires-clause-served : goal.take_rest-requires-clause-served
 take_rest-requires-clause-served g c =
     let old = c.args.pass.now in
-    failed_pass g.L.Link.given g.L.Link.got g.L.Link.faults g.L.Link.closes g.L.Link.held (queue_at (first c.args.server.now.lock).boxes.items) old.caller old.pass c.serve_one.new.pass.pass c.args.link.now c.serve_one.new.link c.serve_one.ensures.same c.in-Err-Net.ensures.serves c.requires.served
+    failed_as g.L.Link.given g.L.Link.got g.L.Link.faults g.L.Link.closes g.L.Link.held (queue_at (first c.args.server.now.lock).boxes.items) old.caller old.pass c.serve_one.new.pass.pass c.args.link.now c.serve_one.new.link
+    c.in-Err-Net.field-0 (search rules) c.serve_one.ensures.same c.in-Err-Net.ensures.serves c.requires.served
