@@ -14,7 +14,7 @@ returns-clause-later g c =
     let ran_so = c.run_all-ran.result in
     let last = c.run_all-ran.new.net in
     let net = c.open.new.net in
-    (later_by (faults c.args.net.now) (faults net) (faults last) (faults_of c.args.spawner.now) (faults_of c.run_all-ran.new.spawner) _ (no_fault (faults c.args.net.now) (faults net) 0 c.in-Ok.ensures.faults) ran.goes.counts ran.faults)
+    (later_by (faults c.args.net.now) (faults net) (faults last) (faults_of c.args.spawner.now) (faults_of c.run_all-ran.new.spawner) _ (no_fault (faults c.args.net.now) (faults net) _ c.open.ensures.faults) ran.goes.counts ran.faults)
 
 pub returns-clause-tends : goal.returns-clause-tends
 returns-clause-tends g c =
@@ -30,12 +30,12 @@ returns-clause-tends g c =
     let starts = faults_of c.args.spawner.now in
     let later = faults_of c.run_all-ran.new.spawner in
     let pass = c.run_all-ran.new.pass.pass in
-    let first = moment net c.args.count c.new-2.result.items c.new-3.result.items false false c.args.pass.now.pass in
+    let first = moment net c.args.count c.new-3.result.items c.new-4.result.items false false c.args.pass.now.pass in
     let final = moment last ran_so.left ran_so.begun.value.items ran_so.back.value.items ran_so.failed ran_so.wants pass in
-    let opened = c.in-Ok.ensures in
+    let opened = c.open.ensures in
     let old : Outer = record { faults = faults c.args.net.now; bad = bad c.args.net.now; ended = ended c.args.net.now; starts = starts } in
     let t : Tended faults bad ended back first final c.args.count spawned starts later =
-    record { goes = ran.goes; left = refl; begun = ap length c.new-2.ensures; back = c.new-3.ensures; failed = refl; each = ran.each; over = ran.over; spawns = ran.faults } in
-    let all = tends_before c.args.count (tended_of spawned ran_so.failed ran_so.wants) (numbers pass) (front pass) old (outer faults bad ended back starts net) (outer faults bad ended back later last) (no_fault (faults c.args.net.now) (faults net) 0 opened.faults) opened.same.0 opened.same.1 refl
+    record { goes = ran.goes; left = refl; begun = ap length c.new-3.ensures; back = c.new-4.ensures; failed = refl; each = ran.each; over = ran.over; spawns = ran.faults } in
+    let all = tends_before c.args.count (tended_of spawned ran_so.failed ran_so.wants) (numbers pass) (front pass) old (outer faults bad ended back starts net) (outer faults bad ended back later last) (no_fault (faults c.args.net.now) (faults net) _ opened.faults) opened.same.0 opened.same.1 refl
     (tends faults bad ended back first final c.args.count spawned starts later t) in
     subst (λ r. Tends c.args.count r (numbers pass) (front pass) old (outer faults bad ended back later last)) (sym c.tended_of.ensures) all

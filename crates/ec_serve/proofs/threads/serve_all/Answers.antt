@@ -15,14 +15,14 @@ loop-preserved g c =
     let next = c.serve_next.ensures in
     let watch = c.start_warden.ensures in
     let none = ap refused_by c.in_default.is in
-    let begun_none = ap refused_by c.in_default-2.is in
+    let begun_none = ap refused_by c.in_default-start_warden.is in
     let server = next.server ∙ (ended.server ∙ inv.3) in
     let same = watch.others in (
       tt,
       tt,
       watch.pass,
       ap (λ x. x.server) same ∙ server,
-      goes_watched g.N.Net.faults g.N.Net.bad g.N.Net.ended (back_of g.N.Link.Link.faults g.N.Link.Link.closes g.N.Link.Link.given g.N.Link.Link.got) _ _ _ _ _ _ _ _ _ _ _ _ _ _
+      goes_watched g.N.Net.faults g.N.Net.bad g.N.Net.ended (back_of g.N.Link.Link.faults g.N.Link.Link.closes g.N.Link.Link.given g.N.Link.Link.got) _ _ _ _ _ _ _ _ _ _ _ _ c.serve_next.new.pass.pass c.start_warden.new.pass.pass
           (goes_onward g.N.Net.faults g.N.Net.bad g.N.Net.ended (back_of g.N.Link.Link.faults g.N.Link.Link.closes g.N.Link.Link.given g.N.Link.Link.got) _ _ _ (goes_onward g.N.Net.faults g.N.Net.bad g.N.Net.ended (back_of g.N.Link.Link.faults g.N.Link.Link.closes g.N.Link.Link.given g.N.Link.Link.got) _ _ _ inv.4 ended.goes) next.goes)
           (ap (λ x. x.left) same) (ap (λ x. x.begun.items) same) (ap (λ x. x.back.items) same) (ap (λ x. x.failed) same) (ap (λ x. x.wants) same) watch.joined watch.later watch.own,
       (let before = inv.5 in let begun = ap (λ t. length t.items) ended.begun in let each = ended.each in let more = next.each in let back = ap (λ t. length t.items) next.back in
@@ -43,6 +43,6 @@ returns-in-Some-start_warden-clause-goes g c =
     let next = c.serve_next.ensures in
     let watch = c.start_warden.ensures in
     let same = watch.others in
-    goes_watched g.N.Net.faults g.N.Net.bad g.N.Net.ended (back_of g.N.Link.Link.faults g.N.Link.Link.closes g.N.Link.Link.given g.N.Link.Link.got) _ _ _ _ _ _ _ _ _ _ _ _ _ _
+    goes_watched g.N.Net.faults g.N.Net.bad g.N.Net.ended (back_of g.N.Link.Link.faults g.N.Link.Link.closes g.N.Link.Link.given g.N.Link.Link.got) _ _ _ _ _ _ _ _ _ _ _ _ c.serve_next.new.pass.pass c.start_warden.new.pass.pass
     (goes_onward g.N.Net.faults g.N.Net.bad g.N.Net.ended (back_of g.N.Link.Link.faults g.N.Link.Link.closes g.N.Link.Link.given g.N.Link.Link.got) _ _ _ (goes_onward g.N.Net.faults g.N.Net.bad g.N.Net.ended (back_of g.N.Link.Link.faults g.N.Link.Link.closes g.N.Link.Link.given g.N.Link.Link.got) _ _ _ inv.4 ended.goes) next.goes)
     (ap (λ x. x.left) same) (ap (λ x. x.begun.items) same) (ap (λ x. x.back.items) same) (ap (λ x. x.failed) same) (ap (λ x. x.wants) same) watch.joined watch.later watch.own
