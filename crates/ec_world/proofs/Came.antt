@@ -1,6 +1,7 @@
 -- What came of a server's step over a keeper that marks its records.
 use Rattle.std.proofs.Common.{◌≡◌, ◌⊎◌, ◌<◌, ◌≤◌, inl, inr, ⊎_elim, ℕ, Bool, true, false, List, [], length, Option, None, Some, Result, Ok, Err, refl, sym, ap, subst, ◌∙◌, arith}
 use Rattle.std.specs.Prelude.{IfOk, IfErr}
+use Rattle.std.proofs.lemmas.Bool.Decides.{leb_tells}
 use Rattle.ec_base.specs.Outside.{Rose}
 use Rattle.ec_base.specs.declared.counter.Counter.{Counter}
 use Rattle.ec_disk.specs.Disk.{View, LeavesOnly, Counts, Counted, Called, Turned}
@@ -22,7 +23,9 @@ use Rattle.ec_server.specs.declared.fault.ServerFault.TheVariants as server
 use Rattle.ec_store.specs.Store.{IsHeld, StandsForEither, view_of}
 use Rattle.ec_store.specs.declared.store.Store.{Store}
 use Rattle.ec_world.specs.Cutting.{LeavesEither}
-use Rattle.ec_world.specs.Keeping.{IsDone, InDoubt, LeavesSome, CameOf, Unchanged, HasMark, Turns, IsStop}
+use Rattle.ec_world.specs.Keeping.{IsDone, InDoubt, LeavesSome, CameOf, Unchanged, HasMark, Turns, IsStop, RunsIn}
+use Rattle.ec_world.specs.Steps.{HasRun}
+use Rattle.ec_world.proofs.Arms.{run_same}
 use Rattle.ec_keeper.specs.Keeps.{Keeps, Leaves}
 use Rattle.ec_keeper.specs.declared.keeper.DiskKeeper.{DiskKeeper}
 use Rattle.ec_codes.specs.Formats.{Format}
@@ -43,10 +46,12 @@ pub record Committed (tells : Type 0) (old new : Store) (now : View) (mark : Opt
   pub held : tells → IsHeld now new
   pub marked : Marked mark r (view_of old) before
   pub counted : Counted a b ⊥ ⊥
+  pub ran : HasRun (view_of old) (view_of new) a b
 
 -- Behind one that may be there: where the disk stopped, it's marked.
 pub record Doubted (tells : Type 0) (old : Store) (now : View) (mark : Option Mark) (before : List Record) (a b : Counts) (stops : ℕ) (r : Record) : Type 0 where
   pub leaves : tells → LeavesEither r (view_of old) now
+  pub synced : tells → StandsFor now.synced (view_of old)
   pub marked : ((stops ≡ 0) × Counted a b ⊥ ⊥) ⊎ (Marked mark r (view_of old) before × Counted a b ⊥ (Unit {0}))
 
 -- Behind none.
@@ -55,6 +60,7 @@ pub record Same (tells : Type 0) (old new : Store) (now : View) (mark : Option M
   pub held : tells → IsHeld now new
   pub none : mark ≡ None
   pub counted : Counted a b ⊥ ⊥
+  pub ran : HasRun (view_of old) (view_of new) a b
 
 -- What a keeper's words mean.
 pub record Means (K : Type 0) (did broke : K → Record → K → Type 0) (k l : K) (tells : Type 0) (old new : Store) (now : View) (mark : Option Mark) (before : List Record) (a b : Counts) (stops : ℕ) : Type 0 where
@@ -117,8 +123,8 @@ either_some : (done : Serving) (d : Durable) (now : View) (r : Record) → done.
 either_some done d now r none is steps h image left =
     ⊎_elim (λ x. inl x) (λ e. inr (none, subst (λ (x : Durable). StandsFor image x) (is_behind done d e.0 r is steps e.1) e.2)) (h image left)
 
-in_doubt : (tells : Type 0) (done : Serving) (d : Durable) (now : View) (r : Record) → done.rec ≡ Some r → done.spent ≡ None → Records done.rec d done.server.durable → (tells → LeavesEither r d now) → InDoubt tells done d now r
-in_doubt tells done d now r is none steps leaves = record { rec_is = is; unspent = none; steps = subst (λ (o : Option Record). Records o d done.server.durable) is steps; leaves = leaves }
+in_doubt : (tells : Type 0) (done : Serving) (d : Durable) (now : View) (r : Record) → done.rec ≡ Some r → done.spent ≡ None → Records done.rec d done.server.durable → (tells → LeavesEither r d now) → (tells → StandsFor now.synced d) → InDoubt tells done d now r
+in_doubt tells done d now r is none steps leaves synced = record { rec_is = is; unspent = none; steps = subst (λ (o : Option Record). Records o d done.server.durable) is steps; leaves = leaves; synced = synced }
 
 -- a stop counts
 no_stop : (n : ℕ) → Rose 0 n → n ≡ 0 → ⊥
@@ -137,11 +143,11 @@ undone T K did broke k l tells old new now mark before a b stops done m (Err (se
     let s = m.same hurts in record { spent = spends; store = s.store; held = s.held }
 undone T K did broke k l tells old new now mark before a b stops done m (Err server.DiskFailed) hurts spends steps rose =
     let s = m.doubted hurts.1.0 hurts.1.2 in
-    (hurts.1.0, in_doubt tells done (view_of old) now hurts.1.0 hurts.1.1 hurts.0 steps s.leaves)
+    (hurts.1.0, in_doubt tells done (view_of old) now hurts.1.0 hurts.1.1 hurts.0 steps s.leaves s.synced)
 undone T K did broke k l tells old new now mark before a b stops done m (Err server.DiskStopped) hurts spends steps rose =
     let s = m.doubted hurts.1.0 hurts.1.2 in
     let marked : Marked mark hurts.1.0 (view_of old) before × Counted a b ⊥ (Unit {0}) = was_marked stops (rose refl) s.marked in
-    (hurts.1.0, in_doubt tells done (view_of old) now hurts.1.0 hurts.1.1 hurts.0 steps s.leaves, marked.0)
+    (hurts.1.0, in_doubt tells done (view_of old) now hurts.1.0 hurts.1.1 hurts.0 steps s.leaves s.synced, marked.0)
 undone T K did broke k l tells old new now mark before a b stops done m (Err server.NoMemory) hurts spends steps rose =
     let still : l ≡ k → tells → LeavesSome done (view_of old) now = λ is. let s = m.same is in held_some tells done (view_of old) new now s.held (ap view_of s.store) in
     ⊎_elim still
@@ -211,6 +217,24 @@ ok_counted T gives K did broke k l tells old new now mark before a b stops m (Ok
     go None h = (m.same h).counted
     go (Some r) h = (m.committed r h).counted
 
+-- No turn was due where the step is done.
+pub ok_ran : (T : Type 0) (gives : T → Served) (K : Type 0) (did broke : K → Record → K → Type 0) (k l : K) (tells : Type 0) (old new : Store) (now : View) (mark : Option Mark) (before : List Record) (a b : Counts) (stops : ℕ)
+    → Means K did broke k l tells old new now mark before a b stops → (answer : Result T ServerFault) → IfOk answer (λ x. Did did (gives x).rec k l) → IfOk answer (λ x. HasRun (view_of old) (view_of new) a b)
+ok_ran T gives K did broke k l tells old new now mark before a b stops m (Err f) h = tt
+ok_ran T gives K did broke k l tells old new now mark before a b stops m (Ok x) h = go (gives x).rec h
+  where
+    go : (rec : Option Record) → Did did rec k l → HasRun (view_of old) (view_of new) a b
+    go None h = (m.same h).ran
+    go (Some r) h = (m.committed r h).ran
+
+pub came_ran : (T : Type 0) (d e : Durable) (a b : Counts) (mark : Option Mark) (answer : Result T ServerFault) (to : Result (Came T) Counter) → Turns answer mark to → IfOk answer (λ x. HasRun d e a b) → IfOk to (λ came. RunsIn came d e a b)
+came_ran T d e a b mark (Ok x) to is h = subst (λ (t : Result (Came T) Counter). IfOk t (λ came. RunsIn came d e a b)) (sym is) h
+came_ran T d e a b mark (Err (server.Spent n)) to is h = subst (λ (t : Result (Came T) Counter). IfOk t (λ came. RunsIn came d e a b)) (sym is) tt
+came_ran T d e a b mark (Err server.DiskFailed) to is h = subst (λ (t : Result (Came T) Counter). IfOk t (λ came. RunsIn came d e a b)) (sym is) tt
+came_ran T d e a b None (Err server.DiskStopped) to is h = absurd is
+came_ran T d e a b (Some mark) (Err server.DiskStopped) to is h = subst (λ (t : Result (Came T) Counter). IfOk t (λ came. RunsIn came d e a b)) (sym is) tt
+came_ran T d e a b mark (Err server.NoMemory) to is h = subst (λ (t : Result (Came T) Counter). IfOk t (λ came. RunsIn came d e a b)) (sym is) tt
+
 not_stopped : (a b : Counts) (A B C : Type 0) → (A × Counted a b ⊥ ⊥) ⊎ (B × Counted a b ⊥ C) → Counted a b ⊥ ⊥
 not_stopped a b A B C h = ⊎_elim (λ x. x.1) (λ x. counted_less a b ⊥ C x.1) h
 
@@ -277,7 +301,8 @@ disk_did tells view counts k r l =
     × (tells → IsHeld (view k.keeper.disk.now) k.keeper.store.now → Keeps r k.keeper.store.now l.keeper.store.now (view k.keeper.disk.now) (view l.keeper.disk.now))
     × (need_of (record_code.spell r) ≤ free_now k.keeper.store.now.selected → Called 4 (counts k.keeper.disk.now) (counts l.keeper.disk.now))
     × ((turns : ℕ) × Turned turns (counts k.keeper.disk.now).armed (counts l.keeper.disk.now).armed (Unit {0}) ⊥
-    × (need_of (record_code.spell r) ≤ free_now k.keeper.store.now.selected → turns ≡ 4) × (free_now k.keeper.store.now.selected < need_of (record_code.spell r) → 9 ≤ turns)))
+    × (need_of (record_code.spell r) ≤ free_now k.keeper.store.now.selected → turns ≡ 4)
+    × (free_now k.keeper.store.now.selected < need_of (record_code.spell r) → 9 ≤ turns)))
     × (l.marks.ghost_name ≡ k.marks.ghost_name)
     × HasMarked l.marks.now.mark r (view_of k.keeper.store.now) k.records.now.items (counts k.keeper.disk.now) (counts l.keeper.disk.now)
 
@@ -302,25 +327,35 @@ held_either : (now : View) (s : Store) (r : Record) → IsHeld now s → LeavesE
 held_either now s r h image left = inl (held_stands now s h image left)
 
 doubted_by : (tells : Type 0) (old : Store) (now : View) (mark : Option Mark) (before : List Record) (a b : Counts) (r : Record) (A B : Type 0) (stopped more : List Record) → stopped ≡ []
-    → (A → tells → LeavesEither r (view_of old) now) → (B → tells → LeavesEither r (view_of old) now) → MayHaveMarked A B stopped more mark r (view_of old) before a b → Doubted tells old now mark before a b (length more) r
+    → (A → tells → LeavesEither r (view_of old) now × StandsFor now.synced (view_of old)) → (B → tells → LeavesEither r (view_of old) now × StandsFor now.synced (view_of old)) → MayHaveMarked A B stopped more mark r (view_of old) before a b → Doubted tells old now mark before a b (length more) r
 doubted_by tells old now mark before a b r A B stopped more none same broke (inl h) =
-    record { leaves = ⊎_elim same broke h.broke; marked = inl (h.stopped_are ∙ ap (λ (rs : List Record). length rs) none, h.counted) }
-doubted_by tells old now mark before a b r A B stopped more none same broke (inr h) = record { leaves = broke h.broke; marked = inr (h.marked, h.counted) }
+    record { leaves = λ told. (⊎_elim same broke h.broke told).0; synced = λ told. (⊎_elim same broke h.broke told).1; marked = inl (h.stopped_are ∙ ap (λ (rs : List Record). length rs) none, h.counted) }
+doubted_by tells old now mark before a b r A B stopped more none same broke (inr h) = record { leaves = λ told. (broke h.broke told).0; synced = λ told. (broke h.broke told).1; marked = inr (h.marked, h.counted) }
+
+-- the turns of a commit, by the room for its record
+turns_are : (need free turns : ℕ) → (need ≤ free → turns ≡ 4) → (free < need → 9 ≤ turns) → (turns ≡ 4) ⊎ (9 ≤ turns)
+turns_are need free turns room none = ⊎_elim (λ h. inl (room h.1)) (λ h. inr (none h.1)) (leb_tells need free)
+
+has_run : (before after : Durable) (a b : Counts) (r : Record) (need free turns : ℕ) → step r before ≡ Ok after → Turned turns a.armed b.armed (Unit {0}) ⊥ → (need ≤ free → turns ≡ 4) → (free < need → 9 ≤ turns) → HasRun before after a b
+has_run before after a b r need free turns steps h room none = record { turns = turns; takes = inr (r, steps, turns_are need free turns room none); next = h.next; none_due = h.goes tt }
 
 pub means : {D : Type 0} (tells : Type 0) (view : D → View) (counts : D → Counts) (k l : Marking (DiskKeeper D)) → (tells → NowCounts (view k.keeper.disk.now) (view l.keeper.disk.now))
-    → (tells → IsHeld (view k.keeper.disk.now) k.keeper.store.now) → k.marks.now.mark ≡ None → k.marks.now.stopped.items ≡ []
+    → (tells → (view k.keeper.disk.now).may_leave (view k.keeper.disk.now).synced) → (tells → IsHeld (view k.keeper.disk.now) k.keeper.store.now) → k.marks.now.mark ≡ None → k.marks.now.stopped.items ≡ []
     → Means (Marking (DiskKeeper D)) (disk_did tells view counts) (disk_broke tells view counts) k l tells k.keeper.store.now l.keeper.store.now (view l.keeper.disk.now) l.marks.now.mark k.records.now.items
     (counts k.keeper.disk.now) (counts l.keeper.disk.now) (length l.marks.now.stopped.items)
-means {D} tells view counts k l law held none_marked none_stopped = record {
-  committed = λ r h. record { steps = h.0.2; held = λ told. (h.0.3 told (held told)).held; marked = h.2.marked; counted = h.2.counted };
+means {D} tells view counts k l law given held none_marked none_stopped = record {
+  committed = λ r h. record { steps = h.0.2; held = λ told. (h.0.3 told (held told)).held; marked = h.2.marked; counted = h.2.counted; ran = has_run (view_of k.keeper.store.now) (view_of l.keeper.store.now) (counts k.keeper.disk.now) (counts l.keeper.disk.now) r _ _ h.0.5.0 h.0.2 h.0.5.1 h.0.5.2 h.0.5.3 };
   doubted = λ r h.
       doubted_by tells k.keeper.store.now (view l.keeper.disk.now) l.marks.now.mark k.records.now.items (counts k.keeper.disk.now) (counts l.keeper.disk.now) r _ _ k.marks.now.stopped.items l.marks.now.stopped.items none_stopped
-      (λ same told. subst (λ (x : DiskKeeper D). LeavesEither r (view_of k.keeper.store.now) (view x.disk.now)) (sym same) (held_either (view k.keeper.disk.now) k.keeper.store.now r (held told)))
-      (λ b told. either_now (view k.keeper.disk.now) (view l.keeper.disk.now) r (view_of k.keeper.store.now) (law told) (b.2 told (held told)))
+      (λ same told.
+      let held_now = held told in
+      subst (λ (x : DiskKeeper D). LeavesEither r (view_of k.keeper.store.now) (view x.disk.now) × StandsFor (view x.disk.now).synced (view_of k.keeper.store.now)) (sym same)
+      (held_either (view k.keeper.disk.now) k.keeper.store.now r held_now, held_stands (view k.keeper.disk.now) k.keeper.store.now held_now (view k.keeper.disk.now).synced (given told)))
+      (λ b told. (either_now (view k.keeper.disk.now) (view l.keeper.disk.now) r (view_of k.keeper.store.now) (law told) (b.2 told (held told)), b.4 told (held told)))
       h.1;
   same = λ e.
       let to : Marking (DiskKeeper D) → Type 0 = λ x. Same tells k.keeper.store.now x.keeper.store.now (view x.keeper.disk.now) x.marks.now.mark (counts k.keeper.disk.now) (counts x.keeper.disk.now) in
-      subst to (sym e) (record { store = refl; held = held; none = none_marked; counted = counted_same (counts k.keeper.disk.now) });
+      subst to (sym e) (record { store = refl; held = held; none = none_marked; counted = counted_same (counts k.keeper.disk.now); ran = run_same (view_of k.keeper.store.now) (view_of k.keeper.store.now) (counts k.keeper.disk.now) refl });
 }
 
 -- A server's faults.

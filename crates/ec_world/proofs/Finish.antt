@@ -1,10 +1,11 @@
 -- A world goes on behind what came of its server's step.
 use Rattle.std.proofs.Common.{◌≡◌, ◌⊎◌, ◌<◌, ◌≤◌, inl, inr, ⊎_elim, ℕ, Bool, true, false, List, [], ◌∷◌, ◌++◌, Option, None, Some, Result, Ok, Err, refl, sym, ap, subst, ◌∙◌, arith}
 use Rattle.std.specs.Prelude.{OnOk, IfOk, IfErr}
-use Rattle.ec_base.specs.Outside.{Rose}
 use Rattle.ec_base.specs.declared.counter.Counter.{Counter}
 use Rattle.ec_disk.specs.Counting.{counted_both}
 use Rattle.ec_disk.specs.Disk.{View, Counts, Counted}
+use Rattle.ec_disk.specs.declared.disk.Choice.{Choice}
+use Rattle.ec_disk.specs.declared.disk.Choice.TheVariants as choice
 use Rattle.ec_durable.specs.Durable.{step}
 use Rattle.ec_durable.specs.declared.state.Durable.{Durable}
 use Rattle.ec_durable.specs.declared.record.Record.{Record}
@@ -23,13 +24,13 @@ use Rattle.ec_protocol.specs.World.{Fate, runs, stops_without, stops_with, Movin
 use Rattle.ec_server.specs.Servers.{standing}
 use Rattle.ec_server.specs.declared.server.Server.{Server}
 use Rattle.ec_store.specs.Store.{IsHeld, view_of as state_of}
-use Rattle.ec_world.specs.Cutting.{LeavesEither}
+use Rattle.ec_world.specs.Cutting.{LeavesEither, TakesBack}
 use Rattle.ec_world.specs.Faults.{of_step}
-use Rattle.ec_world.specs.Keeping.{IsDone, InDoubt, LeavesSome, HasStoppedIn, IsStop}
+use Rattle.ec_world.specs.Keeping.{IsDone, InDoubt, LeavesSome, HasStoppedIn, IsStop, RunsIn}
 use Rattle.ec_world.specs.Laws.{held_stands, in_step_keeps}
 use Rattle.ec_world.specs.Marks.{IsMark, gone}
-use Rattle.ec_world.specs.Serving.{serves, IsDoneBy, CameTo, FateIn, Finishes, Breaks, FailsSince, stopped_in, with_durable}
-use Rattle.ec_world.specs.Steps.{HasStopped, FateOf, IsTold, Fated, IsLeft, as_before, as_behind, under}
+use Rattle.ec_world.specs.Serving.{serves, IsDoneBy, CameTo, FateIn, Finishes, ArmsBehind, Breaks, FailsSince, stopped_in, with_durable}
+use Rattle.ec_world.specs.Steps.{IsTold, IsShown, Fated, IsLeft, as_before, as_behind, under}
 use Rattle.ec_world.specs.Worlds.{view_of, server_of, Stands, IsInStep, Keeps}
 use Rattle.ec_world.specs.declared.fault.StepFault.{StepFault}
 use Rattle.ec_world.specs.declared.fault.StepFault.TheVariants as step_fault
@@ -37,6 +38,7 @@ use Rattle.ec_world.specs.declared.keeping.Came.{Came}
 use Rattle.ec_world.specs.declared.keeping.Came.TheVariants as came
 use Rattle.ec_world.specs.declared.marks.Mark.{Mark}
 use Rattle.ec_world.specs.declared.world.World.{World}
+use Rattle.ec_world.proofs.Arms.{fate_is}
 use Rattle.ec_world.proofs.Came.{same_ok}
 use Rattle.ec_world.proofs.Fresh.{fresh}
 use Rattle.ec_world.proofs.Served.{goes_on}
@@ -100,13 +102,33 @@ unfolding fate_of
 came_fate false = tt
 came_fate true = tt
 
+-- the choice of the world allows it
+pub chosen_by : (ch : Choice) (d : Durable) (now : View) (there : Bool) (before after : List Shown) → after ≡ before ++ show.Stopped ∷ [] → StandsFor now.synced d → TakesBack ch d now there → IsShown (fate_of there) ch before after
+unfolding fate_of
+chosen_by choice.Old d now false before after is synced back = is
+chosen_by choice.Old d now true before after is synced back = absurd (apart (back synced))
+  where
+    apart : true ≡ false → ⊥
+    apart e = cc
+chosen_by choice.New d now false before after is synced back = is
+chosen_by choice.New d now true before after is synced back = (is, tt)
+chosen_by choice.Torn d now false before after is synced back = is
+chosen_by choice.Torn d now true before after is synced back = (is, tt)
+
+stop_line : (there : Bool) (r : Record) (w : Moved) → (show_line show.Stopped (moving (stopped_in there r w))).world.shown ≡ w.shown ++ show.Stopped ∷ []
+stop_line false r w = refl
+stop_line true r w = refl
+
 pub stop_finishes : (tells : Type 0) (done : Serving) (d : Durable) (s : Option State) (now : View) (r : Record) (there : Bool) (old new : World) → InDoubt tells done d now r
-    → (tells → show_line show.Stopped (moving (stopped_in there r (with_durable d (view_of old)))) ≡ under new)
-    → Finishes tells (Unit {0}) (λ fate. served fate done (serves s d (view_of old))) (under new)
-stop_finishes tells done d s now r there old new h shows = (
+    → (tells → show_line show.Stopped (moving (stopped_in there r (with_durable d (view_of old)))) ≡ under new) → (tells → TakesBack old.choice d now there)
+    → Finishes tells (Unit {0}) old.choice (view_of old).shown (λ fate. served fate done (serves s d (view_of old))) (under new)
+stop_finishes tells done d s now r there old new h shows back = (
   fate_of there,
   came_fate there,
   λ told. served_commits (fate_of there) r done (serves s d (view_of old)) h.unspent h.rec_is ∙ stop_shows there r done d s (view_of old) ∙ shows (told_fate there tells told),
+  λ told.
+      chosen_by old.choice d now there (view_of old).shown (view_of new).shown (ap (λ (m : Moving). m.world.shown) (sym (shows told)) ∙ stop_line there r (with_durable d (view_of old)))
+      (h.synced told) (back told),
 )
 
 -- What is left at a fault.
@@ -156,16 +178,9 @@ done_leaves tells done d w now served' mark h told = done_some tells done d w.re
 
 -- Counts.
 
-rose-later : (a b c : ℕ) → Rose a b → b ≤ c → Rose a c
-rose-later a b c rose le = omega (arith, rose, le)
-
-pub fate_is : (fate : Fate) (S F G : Type 0) (a b c : Counts) → FateIn fate S → Counted a b F S → Counted b c G ⊥ → FateOf fate a c
-fate_is runs S F G a b c h one two = tt
-fate_is stops_without S F G a b c h one two = record { stops = rose-later a.stops b.stops c.stops (one.stopped h) two.stops_later; armed = one.armed h }
-fate_is stops_with S F G a b c h one two = record { stops = rose-later a.stops b.stops c.stops (one.stopped h) two.stops_later; armed = one.armed h }
-
-pub finished : (tells S F G : Type 0) (a b c : Counts) (steps others : Fate → Moving) (m : Moving) → Finishes tells S steps m → ((fate : Fate) → others fate ≡ steps fate) → Counted a b F S → Counted b c G ⊥ → Fated tells a c others m
-finished tells S F G a b c steps others m h same one two = (h.0, fate_is h.0 S F G a b c h.1 one two, λ told. same h.0 ∙ h.2 told)
+pub finished : {T : Type 0} (x : Came T) (tells F G : Type 0) (before mid : Durable) (a b c : Counts) (ch : Choice) (lines : List Shown) (steps others : Fate → Moving) (m : Moving) → Finishes tells (HasStoppedIn x) ch lines steps m → ((fate : Fate) → others fate ≡ steps fate)
+    → Counted a b F (HasStoppedIn x) → Counted b c G ⊥ → RunsIn x before mid a b → ArmsBehind x mid m.world.durable b.armed c.armed → Fated tells before lines a c ch others m
+finished x tells F G before mid a b c ch lines steps others m h same one two ran arms = (h.0, fate_is x h.0 F G before mid m.world.durable a b c h.1 one two ran arms, λ told. same h.0 ∙ h.2 told, h.3)
 
 -- the disk failed in the step, or behind it
 pub counts_on : (T : Type 0) (x : Came T) (done : Result (Unit {0}) StepFault) (a b c : Counts) → Counted a b (◌≡◌ {A = Result (Came T) Counter} (Ok x) (Ok came.DiskFailed)) (IsStop (Ok x)) → Counted b c (FailsSince x done) ⊥ → Counted a c (done ≡ Err step_fault.DiskFailed) ⊥
@@ -177,9 +192,9 @@ counts_on T came.NoMemory done a b c one two = counted_both a b c _ _ _ _ _ _ on
 -- What came, as a value of which the case is known.
 
 pub done_finishes : (tells : Type 0) (done : Serving) (d : Durable) (s : Option State) (w new : World) (now : View) (x : Came Served) (served' : Served) (mark : Option Mark) → x ≡ came.Done served' mark → w.piece.items ≡ [] → CameTo tells done d w now x
-    → under new ≡ with_world (send_all served'.sent) (gone mark (under w)) → Finishes tells (HasStoppedIn x) (λ fate. served fate done (serves s d (view_of w))) (under new)
+    → under new ≡ with_world (send_all served'.sent) (gone mark (under w)) → Finishes tells (HasStoppedIn x) w.choice (view_of w).shown (λ fate. served fate done (serves s d (view_of w))) (under new)
 done_finishes tells done d s w new now x served' mark is none h shown =
-    (runs, tt, λ told. done_shows tells done d s w now served' mark none (subst (CameTo tells done d w now) is h) ∙ sym shown)
+    (runs, λ stop. subst (λ (y : Came Served). HasStoppedIn y) is stop, λ told. done_shows tells done d s w now served' mark none (subst (CameTo tells done d w now) is h) ∙ sym shown, λ told. tt)
 
 pub done_steps : (tells : Type 0) (done : Serving) (d : Durable) (old new : World) (now : View) (x : Came Served) (served' : Served) (mark : Option Mark) → x ≡ came.Done served' mark → Stands (state_of old.store) old.server → CameTo tells done d old now x
     → Keeps old new → IsInStep tells now new
@@ -191,13 +206,13 @@ done_left tells done d s w now x served' mark image is h told left =
     some_left done d (served runs done (serves s d (view_of w))) image (behind done (serves s d (view_of w))) (done_leaves tells done d w now served' mark (subst (CameTo tells done d w now) is h) told image left)
 
 pub stopped_finishes : (tells : Type 0) (done : Serving) (d : Durable) (s : Option State) (w new : World) (now : View) (x : Came Served) (mark : Mark) → x ≡ came.Stopped mark → CameTo tells done d w now x
-    → ((r : Record) (c e : Durable) → IsMark mark r c w.records.items → step r c ≡ Ok e → (tells → LeavesEither r c now) → (there : Bool) × (tells → show_line show.Stopped (moving (stopped_in there r (with_durable c (view_of w)))) ≡ under new))
-    → Finishes tells (HasStoppedIn x) (λ fate. served fate done (serves s d (view_of w))) (under new)
+    → ((r : Record) (c e : Durable) → IsMark mark r c w.records.items → step r c ≡ Ok e → (tells → LeavesEither r c now) → (there : Bool) × (tells → show_line show.Stopped (moving (stopped_in there r (with_durable c (view_of w)))) ≡ under new) × (tells → TakesBack w.choice c now there))
+    → Finishes tells (HasStoppedIn x) w.choice (view_of w).shown (λ fate. served fate done (serves s d (view_of w))) (under new)
 stopped_finishes tells done d s w new now x mark is h shows =
     let came_to : CameTo tells done d w now (came.Stopped mark) = subst (CameTo tells done d w now) is h in
     let doubt = came_to.1 in
     let found = shows came_to.0 d done.server.durable came_to.2 doubt.steps doubt.leaves in
-    subst (λ (y : Came Served). Finishes tells (HasStoppedIn y) (λ fate. served fate done (serves s d (view_of w))) (under new)) (sym is) (stop_finishes tells done d s now came_to.0 found.0 w new doubt found.1)
+    subst (λ (y : Came Served). Finishes tells (HasStoppedIn y) w.choice (view_of w).shown (λ fate. served fate done (serves s d (view_of w))) (under new)) (sym is) (stop_finishes tells done d s now came_to.0 found.0 w new doubt found.1 found.2)
 
 pub stopped_left : (tells : Type 0) (done : Serving) (d : Durable) (s : Option State) (w : World) (before now : View) (x : Came Served) (mark : Mark) (image : List ℕ) → x ≡ came.Stopped mark
     → (tells → (r : Record) (c : Durable) → LeavesEither r c before → LeavesEither r c now) → CameTo tells done d w before x → tells → now.may_leave image → IsLeft d (served runs done (serves s d (view_of w))) image
@@ -218,6 +233,10 @@ wants_left tells done d s w now x image is h told left =
 pub on_ok : {P Q : Type 0} (res : Result (Unit {0}) StepFault) → OnOk res P → (P → Q) → OnOk res Q
 on_ok (Ok u) h to = to h
 on_ok (Err f) h to = tt
+
+pub on_both : {P Q R : Type 0} (res : Result (Unit {0}) StepFault) → OnOk res P → OnOk res Q → (P → Q → R) → OnOk res R
+on_both (Ok u) p q to = to p q
+on_both (Err f) p q to = tt
 
 pub if_err : {P Q : StepFault → Type 0} (res : Result (Unit {0}) StepFault) → IfErr res P → ((f : StepFault) → P f → Q f) → IfErr res Q
 if_err (Ok u) h to = tt

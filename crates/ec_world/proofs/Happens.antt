@@ -13,16 +13,32 @@ use Rattle.ec_server.specs.declared.server.Server.{Server}
 use Rattle.ec_store.specs.Store.{IsHeld, view_of as state_of}
 use Rattle.ec_store.specs.declared.store.Store.{Store}
 use Rattle.ec_world.specs.Faults.{of_step}
-use Rattle.ec_world.specs.Steps.{under, Fated, Refuses, Declines, CountsOf, IsLeft}
+use Rattle.ec_world.specs.Steps.{under, HasRun, Fated, Refuses, Declines, behind_arm, CountsOf, IsLeft}
 use Rattle.ec_world.specs.Worlds.{view_of, Stands, IsInStep}
 use Rattle.ec_world.specs.declared.fault.StepFault.{StepFault}
 use Rattle.ec_world.specs.declared.fault.StepFault.TheVariants as step
 use Rattle.ec_world.specs.declared.world.World.{World}
+use Rattle.ec_world.proofs.Arms.{run_same}
 use Rattle.ec_world.proofs.Quiet.{refuses}
 
-pub acts : {A : Type 0} (r : Result A StepFault) (tells : Type 0) (old new : Counts) (e this : Event) (w : State) (m : Moving) → e ≡ this → OnOk r (happen runs this w ≡ m) → OnOk r (Fated tells old new (λ fate. happen fate e w) m)
-acts (Ok x) tells old new e this w m is h = (runs, tt, λ told. ap (λ (x : Event). happen runs x w) is ∙ h)
-acts (Err f) tells old new e this w m is h = tt
+-- an event that comes to this on a disk that isn't called behind the arm
+pub acted : (tells : Type 0) (old new : Counts) (e this : Event) (w : State) (m : Moving) → e ≡ this → new ≡ behind_arm this old → m.world.durable ≡ w.durable → happen runs this w ≡ m → Fated tells w.durable w.shown (behind_arm e old) new w.choice (λ fate. happen fate e w) m
+acted tells old new e this w m is same still h = (
+  runs,
+  subst (λ (c : Counts). HasRun w.durable m.world.durable c new) (same ∙ ap (λ (x : Event). behind_arm x old) (sym is)) (run_same w.durable m.world.durable new still),
+  λ told. ap (λ (x : Event). happen runs x w) is ∙ h,
+  λ told. tt,
+)
+
+pub acts : {A : Type 0} (r : Result A StepFault) (tells : Type 0) (old new : Counts) (e this : Event) (w : State) (m : Moving) → e ≡ this → new ≡ behind_arm this old → m.world.durable ≡ w.durable → OnOk r (happen runs this w ≡ m)
+    → OnOk r (Fated tells w.durable w.shown (behind_arm e old) new w.choice (λ fate. happen fate e w) m)
+acts (Ok x) tells old new e this w m is same still h = acted tells old new e this w m is same still h
+acts (Err f) tells old new e this w m is same still h = tt
+
+-- one that calls it
+pub happens : {A : Type 0} (r : Result A StepFault) (tells : Type 0) (old new : Counts) (e this : Event) (w : State) (m : Moving) → e ≡ this → OnOk r (Fated tells w.durable w.shown (behind_arm this old) new w.choice (λ fate. happen fate this w) m)
+    → OnOk r (Fated tells w.durable w.shown (behind_arm e old) new w.choice (λ fate. happen fate e w) m)
+happens r tells old new e this w m is h = subst (λ (x : Event). OnOk r (Fated tells w.durable w.shown (behind_arm x old) new w.choice (λ fate. happen fate x w) m)) (sym is) h
 
 pub acts_not : {A : Type 0} (r : Result A StepFault) (e this : Event) (old new : State) (S : Type 0) → e ≡ this → IfErr r (λ why. Declines why (happen runs this old) old new) → S → IfErr r (λ why. Refuses (of_step why) (happen runs e old) old new S)
 acts_not r e this old new S is h s =
@@ -57,5 +73,9 @@ armed n ch e w is fresh =
     let on : List Shown → Moving = λ lines. record { world = view_of (record w { choice = ch }); shown = lines; fault = None } in
     ap (λ (x : Event). happen runs x (view_of w)) is ∙ ap on (sym fresh)
 
-pub arm_counts : (n : ℕ) (ch : Choice) (e : Event) (old new : Counts) (F : Type 0) → e ≡ event.Arm n ch → new ≡ record old { armed = Some n } → (F → ⊥) → CountsOf e old new F
-arm_counts n ch e old new F is arms never = subst (λ (x : Event). CountsOf x old new F) (sym is) (inl arms, never)
+pub arm_counts : (n : ℕ) (ch : Choice) (e : Event) (old new : Counts) (F N : Type 0) → e ≡ event.Arm n ch → new ≡ record old { armed = Some n } → (F → ⊥) → CountsOf e old new F N
+arm_counts n ch e old new F N is arms never = subst (λ (x : Event). CountsOf x old new F N) (sym is) (inl arms, never)
+
+-- an event that doesn't arm, on a disk that isn't called
+pub still_counts : (e this : Event) (n : Counts) (F N : Type 0) → e ≡ this → CountsOf this n n F N → CountsOf e n n F N
+still_counts e this n F N is h = subst (λ (x : Event). CountsOf x n n F N) (sym is) h

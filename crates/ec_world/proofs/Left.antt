@@ -1,7 +1,10 @@
 -- What a power cut leaves of a record, and what is read back of it.
 use Rattle.std.proofs.Common.{◌≡◌, ◌≤◌, inl, inr, ⊎_elim, sym, ◌∙◌, ap, subst, ℕ, true, false, List}
 use Rattle.std.specs.Prelude.{Result, Ok}
+use Rattle.ec_disk.specs.Choices.{cut}
 use Rattle.ec_disk.specs.Disk.{View, Cut, LeavesOnly}
+use Rattle.ec_disk.specs.declared.disk.Choice.{Choice}
+use Rattle.ec_disk.specs.declared.disk.Choice.TheVariants as choice
 use Rattle.ec_durable.specs.Durable.{step}
 use Rattle.ec_durable.specs.declared.record.Record.{Record}
 use Rattle.ec_durable.specs.declared.record.RecordFault.{RecordFault}
@@ -11,7 +14,7 @@ use Rattle.ec_stands.specs.Stands.{StandsFor, IsBadAt}
 use Rattle.ec_store.specs.Opening.{WasLeftOrStands}
 use Rattle.ec_store.specs.Store.{StandsForEither}
 use Rattle.ec_world.proofs.Telling.{signs_tell}
-use Rattle.ec_world.specs.Cutting.{LeavesEither, left_of}
+use Rattle.ec_world.specs.Cutting.{LeavesEither, TakesBack, left_of}
 use Rattle.ec_world.specs.Signs.{sign_of, is_there}
 use Rattle.ec_world.specs.declared.signs.Sign.{Sign}
 
@@ -65,3 +68,14 @@ sign_tells s r d e left image is takes either stands =
 
     as_behind : left ≡ e → left ≡ left_of (is_there s left) d e
     as_behind p = p ∙ sym (ap (λ b. left_of b d e) (seen e p ∙ tell.1))
+
+-- what stands for the state before isn't stepped by the record
+pub sign_tells_not : (s : Sign) (r : Record) (d e left : Durable) (image : List ℕ) → s ≡ sign_of r → step r d ≡ Ok e → StandsFor image left → StandsFor image d → is_there s left ≡ false
+sign_tells_not s r d e left image is takes stands before =
+    ap (λ (t : Sign). is_there t left) is ∙ ap (λ (y : Durable). is_there (sign_of r) y) (one_state image left d stands before) ∙ (signs_tell r d e takes).0
+
+-- a power cut takes back what wasn't synced, where its choice says so
+pub takes_back : (ch : Choice) (s : Sign) (r : Record) (d e left : Durable) (now : View) (gives : List ℕ) → s ≡ sign_of r → step r d ≡ Ok e → gives ≡ cut ch now.gives now.synced → StandsFor gives left → TakesBack ch d now (is_there s left)
+takes_back choice.Old s r d e left now gives is takes leaves stands = λ before. sign_tells_not s r d e left now.synced is takes (subst (λ (image : List ℕ). StandsFor image left) leaves stands) before
+takes_back choice.New s r d e left now gives is takes leaves stands = tt
+takes_back choice.Torn s r d e left now gives is takes leaves stands = tt

@@ -1,4 +1,5 @@
-pub mod Begun
+pub mod Arms
+mod Begun
 pub mod Boots
 pub mod Calls
 pub mod Came

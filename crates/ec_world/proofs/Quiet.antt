@@ -2,7 +2,9 @@
 use Rattle.std.proofs.Common.{◌≡◌, ℕ, List, Result, Ok, Err, refl, arith, inl}
 use Rattle.std.specs.Prelude.{IfErr, OnOk}
 use Rattle.ec_disk.specs.Disk.{View, Counts, Counted}
+use Rattle.ec_disk.specs.declared.disk.Choice.{Choice}
 use Rattle.ec_durable.specs.declared.state.Durable.{Durable}
+use Rattle.ec_history.specs.declared.shown.Shown.{Shown}
 use Rattle.ec_stands.specs.Stands.{StandsFor}
 use Rattle.ec_protocol.specs.World.{Fate, runs, Moving}
 use Rattle.ec_protocol.specs.declared.world.World.{World as State}
@@ -15,10 +17,12 @@ use Rattle.ec_world.specs.Worlds.{view_of, IsInStep, Keeps}
 use Rattle.ec_world.specs.declared.fault.StepFault.{StepFault}
 use Rattle.ec_world.specs.declared.fault.StepFault.TheVariants as step
 use Rattle.ec_world.specs.declared.world.World.{World}
+use Rattle.ec_world.proofs.Arms.{run_same}
 
-pub fated : {A : Type 0} (r : Result A StepFault) (tells : Type 0) (old new : Counts) (steps : Fate → Moving) (m : Moving) → OnOk r (steps runs ≡ m) → OnOk r (Fated tells old new steps m)
-fated (Ok x) tells old new steps m is = (runs, tt, λ told. is)
-fated (Err f) tells old new steps m is = tt
+-- a step that makes no call of the disk
+pub fated : {A : Type 0} (r : Result A StepFault) (tells : Type 0) (before : Durable) (lines : List Shown) (counts : Counts) (ch : Choice) (steps : Fate → Moving) (m : Moving) → m.world.durable ≡ before → OnOk r (steps runs ≡ m) → OnOk r (Fated tells before lines counts counts ch steps m)
+fated (Ok x) tells before lines counts ch steps m same is = (runs, run_same before m.world.durable counts same, λ told. is, λ told. tt)
+fated (Err f) tells before lines counts ch steps m same is = tt
 
 pub in_step : {A : Type 0} (r : Result A StepFault) (tells : Type 0) (now : View) (old new : World) → Keeps old new → IsInStep tells now old → OnOk r (IsInStep tells now new)
 in_step (Ok x) tells now old new same h = in_step_keeps tells now old new same h

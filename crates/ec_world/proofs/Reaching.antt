@@ -3,6 +3,7 @@ use Rattle.std.proofs.Common.{◌≡◌, refl, sym, ap, subst, ◌∙◌, ℕ, L
 use Rattle.std.proofs.Math.Logic.{∥∥₁_map}
 use Rattle.std.specs.Prelude.{IfOk, OnOk}
 use Rattle.ec_disk.specs.Disk.{Counts}
+use Rattle.ec_disk.specs.declared.disk.Choice.{Choice}
 use Rattle.ec_history.specs.declared.shown.Shown.{Shown}
 use Rattle.ec_history.specs.declared.shown.Shown.TheVariants.{Unsettled}
 use Rattle.ec_durable.specs.declared.state.Durable.{Durable}
@@ -13,7 +14,7 @@ use Rattle.ec_protocol.specs.declared.world.WorldFault.{WorldFault}
 use Rattle.ec_lawful.specs.Reached.{Reached, opens, happens, forgets, unsettles}
 use Rattle.ec_lawful.proofs.Worlds.{reached-in-order}
 use Rattle.ec_world.specs.Reaching.{IsReached, Leads, LeadsKnown, Stays}
-use Rattle.ec_world.specs.Steps.{FateOf, IsTold, IsWhole, Opens}
+use Rattle.ec_world.specs.Steps.{FateOf, IsTold, IsShown, IsWhole, Opens}
 use Rattle.ec_world.specs.Worlds.{view_of}
 use Rattle.ec_world.specs.declared.world.World.{World}
 
@@ -24,10 +25,10 @@ pub leads : (fate : Fate) (e : Event) (old : State) (m : Moving) → happen fate
 leads fate e old m q f d is r may = is_reached d is m.world (subst (λ x. Reached d x.world) q (happens old r fate e may (ap (λ x. x.fault) q ∙ f)))
 
 -- a step that was done
-pub leads_known : {A : Type 0} (result : Result A WorldFault) (shown_of : A → List Shown) (tells : Type 0) (before behind : Counts) (e : Event) (old : State) (end : World)
-    → IfOk result (λ a. (fate : Fate) × FateOf fate before behind × (IsTold fate tells → happen fate e old ≡ record { world = view_of end; shown = shown_of a; fault = None })) → OnOk result (LeadsKnown tells before behind old e (view_of end))
-leads_known (Ok a) shown_of tells before behind e old end is = (is.0, is.1, λ told. leads is.0 e old (record { world = view_of end; shown = shown_of a; fault = None }) (is.2 told) refl)
-leads_known (Err f) shown_of tells before behind e old end is = tt
+pub leads_known : {A : Type 0} (result : Result A WorldFault) (shown_of : A → List Shown) (tells : Type 0) (before behind : Counts) (ch : Choice) (e : Event) (old : State) (end : World)
+    → IfOk result (λ a. (fate : Fate) × FateOf fate old.durable (view_of end).durable before behind × (IsTold fate tells → happen fate e old ≡ record { world = view_of end; shown = shown_of a; fault = None }) × (tells → IsShown fate ch old.shown (view_of end).shown)) → OnOk result (LeadsKnown tells before behind old e (view_of end))
+leads_known (Ok a) shown_of tells before behind ch e old end is = (is.0, is.1, λ told. leads is.0 e old (record { world = view_of end; shown = shown_of a; fault = None }) (is.2 told) refl)
+leads_known (Err f) shown_of tells before behind ch e old end is = tt
 
 -- a world that was opened
 pub opened : {A : Type 0} (result : Result World A) (tells : Type 0) (gives : List ℕ) (most : ℕ)

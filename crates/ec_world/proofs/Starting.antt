@@ -14,6 +14,7 @@ use Rattle.ec_durable.specs.declared.record.RecordFault.TheVariants as record_fa
 use Rattle.ec_protocol.specs.Server.{Serving, start, new_server, serving, spend, commit, stay, tell_all}
 use Rattle.ec_protocol.specs.declared.server.Server.{Server as State}
 use Rattle.ec_server.specs.ServeLaws.{told_all}
+use Rattle.ec_history.specs.declared.shown.Shown.{Shown}
 use Rattle.ec_history.specs.declared.shown.Shown.TheVariants as show
 use Rattle.ec_stands.specs.Stands.{StandsFor}
 use Rattle.ec_protocol.specs.World.{Fate, runs, Moving, moving, fails, with_world, show_line, show_noted, send_all, come_up, restarted, restart, on_disk}
@@ -26,9 +27,9 @@ use Rattle.ec_server.specs.Servers.{standing}
 use Rattle.ec_server.specs.declared.server.Server.{Server}
 use Rattle.ec_store.specs.Store.{view_of as state_of}
 use Rattle.ec_wire.specs.declared.msg.Msg.{Msg}
-use Rattle.ec_world.proofs.Finish.{fate_of, told_fate, came_fate, sends_keep, IsTaken, left_behind, some_left, either_behind, done_leaves}
+use Rattle.ec_world.proofs.Finish.{chosen_by, fate_of, told_fate, came_fate, sends_keep, IsTaken, left_behind, some_left, either_behind, done_leaves}
 use Rattle.ec_world.proofs.Fresh.{fresh}
-use Rattle.ec_world.specs.Cutting.{LeavesEither}
+use Rattle.ec_world.specs.Cutting.{LeavesEither, TakesBack}
 use Rattle.ec_world.specs.Faults.{of_step}
 use Rattle.ec_world.specs.Keeping.{IsDone, InDoubt, LeavesSome, HasStoppedIn}
 use Rattle.ec_world.specs.Marks.{IsMark, MarkOf}
@@ -138,10 +139,14 @@ stops_up true r t w is = ap (λ (q : Record). show_line show.Stopped (moving (on
 
 pub stop_restarts : (tells : Type 0) (d : Durable) (now : View) (r : Record) (there : Bool) (old cut new : World) → old.server ≡ None → InDoubt tells (start d) d now r
     → (tells → view_of cut ≡ left_in there r (with_durable d (view_of old))) → cut.piece.items ≡ [] → under new ≡ show_line show.Stopped (under cut)
-    → Finishes tells (Unit {0}) (λ fate. restart fate (serves None d (view_of old))) (under new)
+    → (tells → TakesBack old.choice d now there) → Finishes tells (Unit {0}) old.choice (view_of old).shown (λ fate. restart fate (serves None d (view_of old))) (under new)
 unfolding by_spent
-stop_restarts tells d now r there old cut new none h left fresh_piece shown =
-    (fate_of there, came_fate there, λ told. go (told_fate there tells told))
+stop_restarts tells d now r there old cut new none h left fresh_piece shown back = (
+  fate_of there,
+  came_fate there,
+  λ told. go (told_fate there tells told),
+  λ told. chosen_by old.choice d now there (view_of old).shown (view_of new).shown (lines told) (h.synced told) (back told),
+)
   where
     t : Serving
     t = start d
@@ -162,6 +167,13 @@ stop_restarts tells d now r there old cut new none h left fresh_piece shown =
         ∙ ap (λ (x : Moved). show_line show.Stopped (moving x)) (sym (left told ∙ ap (left_in there r) same))
         ∙ ap (λ (x : Moving). show_line show.Stopped x) (sym (fresh cut fresh_piece))
         ∙ sym shown
+
+    cut_lines : (there : Bool) (w : Moved) → (left_in there r w).shown ≡ w.shown
+    cut_lines false w = refl
+    cut_lines true w = refl
+
+    lines : tells → (view_of new).shown ≡ (view_of old).shown ++ show.Stopped ∷ []
+    lines told = ap (λ (m : Moving). m.world.shown) shown ∙ ap (λ (ls : List Shown). ls ++ show.Stopped ∷ []) (ap (λ (x : Moved). x.shown) (left told) ∙ cut_lines there (with_durable d (view_of old)))
 
 -- What is left at a fault.
 
@@ -188,21 +200,23 @@ doubt_restarts tells d before now r u image is h e left = left_behind d (start d
 
 pub done_restarts : (tells : Type 0) (d : Durable) (w : World) (now : View) (x : Came (Server × Served)) (made : Server × Served) (mark : Option Mark) (m : Mark) (new : World) → x ≡ came.Done made mark → mark ≡ Some m → w.piece.items ≡ [] → CameUp tells d w now x
     → under new ≡ with_world (send_all made.1.sent) (show_line show.Started (show_noted w.unshown (with_world (λ y. record y { unshown = None }) (under (record w { server = Some made.0; records = m.records })))))
-    → Finishes tells (HasStoppedIn x) (λ fate. restart fate (serves None d (view_of w))) (under new)
+    → Finishes tells (HasStoppedIn x) w.choice (view_of w).shown (λ fate. restart fate (serves None d (view_of w))) (under new)
 done_restarts tells d w now x made mark m new is some none h shown =
     let on : Option Mark → Came (Server × Served) = λ o. came.Done made o in
     let up : CameUp tells d w now (on (Some m)) = subst (λ (y : Came (Server × Served)). CameUp tells d w now y) (is ∙ ap on some) h in
-    (runs, tt, λ told. start_shows tells d w now made.0 made.1 m none up ∙ sym shown)
+    (runs, λ stop. subst (λ (y : Came (Server × Served)). HasStoppedIn y) is stop, λ told. start_shows tells d w now made.0 made.1 m none up ∙ sym shown, λ told. tt)
 
 pub stopped_restarts : (tells : Type 0) (d : Durable) (old cut new : World) (now : View) (x : Came (Server × Served)) (mark : Mark) (there : Bool) → x ≡ came.Stopped mark → old.server ≡ None → CameUp tells d old now x
     → (tells → (r : Record) (c e : Durable) → mark.sign ≡ sign_of r → mark.records.items ≡ old.records.items ++ r ∷ [] → step r c ≡ Ok e → LeavesEither r c now → view_of cut ≡ left_in there r (with_durable c (view_of old)))
     → cut.piece.items ≡ [] → under new ≡ show_line show.Stopped (under cut)
-    → Finishes tells (HasStoppedIn x) (λ fate. restart fate (serves None d (view_of old))) (under new)
-stopped_restarts tells d old cut new now x mark there is none h left fresh_piece shown =
+    → (tells → (r : Record) (c e : Durable) → mark.sign ≡ sign_of r → step r c ≡ Ok e → TakesBack old.choice c now there)
+    → Finishes tells (HasStoppedIn x) old.choice (view_of old).shown (λ fate. restart fate (serves None d (view_of old))) (under new)
+stopped_restarts tells d old cut new now x mark there is none h left fresh_piece shown back =
     let up : CameUp tells d old now (came.Stopped mark) = subst (λ (y : Came (Server × Served)). CameUp tells d old now y) is h in
     let doubt = up.1 in
     let found : tells → view_of cut ≡ left_in there up.0 (with_durable d (view_of old)) = λ told. left told up.0 d (start d).server.durable up.2.sign_is up.2.records_are doubt.steps (doubt.leaves told) in
-    subst (λ (y : Came (Server × Served)). Finishes tells (HasStoppedIn y) (λ fate. restart fate (serves None d (view_of old))) (under new)) (sym is) (stop_restarts tells d now up.0 there old cut new none doubt found fresh_piece shown)
+    subst (λ (y : Came (Server × Served)). Finishes tells (HasStoppedIn y) old.choice (view_of old).shown (λ fate. restart fate (serves None d (view_of old))) (under new)) (sym is)
+    (stop_restarts tells d now up.0 there old cut new none doubt found fresh_piece shown (λ told. back told up.0 d (start d).server.durable up.2.sign_is doubt.steps))
 
 pub err_is : {P Q : StepFault → Type 0} (res : Result (Unit {0}) StepFault) → IsErrAnd res P → ((f : StepFault) → P f → Q f) → IfErr res Q
 err_is (Ok u) h by = absurd h

@@ -1,7 +1,7 @@
 -- What a server's step makes of the store and its disk, with the mark of its record.
 use Rattle.std.specs.Prelude.{◌≡◌, ◌⊎◌, ℕ, List, Option, None, Some, Result, Ok, Err}
 use Rattle.ec_base.specs.declared.counter.Counter.{Counter}
-use Rattle.ec_disk.specs.Disk.{View}
+use Rattle.ec_disk.specs.Disk.{View, Counts}
 use Rattle.ec_durable.specs.Durable.{step}
 use Rattle.ec_durable.specs.declared.state.Durable.{Durable}
 use Rattle.ec_durable.specs.declared.record.Record.{Record}
@@ -17,6 +17,7 @@ use Rattle.ec_store.specs.Store.{IsHeld, view_of}
 use Rattle.ec_store.specs.declared.store.Store.{Store}
 use Rattle.ec_world.specs.Cutting.{LeavesEither}
 use Rattle.ec_world.specs.Marks.{IsMark, MarkOf, Marked}
+use Rattle.ec_world.specs.Steps.{HasRun}
 use Rattle.ec_world.specs.declared.keeping.Came.{Came}
 use Rattle.ec_world.specs.declared.keeping.Came.TheVariants.{Done, Stopped, DiskFailed, NoMemory}
 use Rattle.ec_world.specs.declared.marks.Mark.{Mark}
@@ -35,6 +36,8 @@ pub record InDoubt (tells : Type 0) (done : Serving) (d : Durable) (now : View) 
   pub unspent : done.spent ≡ None
   pub steps : step r d ≡ Ok done.server.durable
   pub leaves : tells → LeavesEither r d now
+  -- what was synced stands for the state before it
+  pub synced : tells → StandsFor now.synced d
 
 -- Whatever a crash leaves stands for the state, or for the one behind the machine's step, where that spends no counter.
 abbrev pub LeavesSome : Serving → Durable → View → Type 0
@@ -74,6 +77,11 @@ HasStoppedIn _ = ⊥
 abbrev pub IsStop : {T : Type 0} → Result (Came T) Counter → Type 0
 IsStop (Ok came) = HasStoppedIn came
 IsStop (Err n) = ⊥
+
+-- No turn of the disk was due in a step that is done.
+abbrev pub RunsIn : {T : Type 0} → Came T → Durable → Durable → Counts → Counts → Type 0
+RunsIn (Done x mark) before after old new = HasRun before after old new
+RunsIn _ before after old new = Unit {0}
 
 abbrev pub IfDone : {T : Type 0} → Came T → (T → Type 0) → Type 0
 IfDone (Done x mark) P = P x

@@ -20,7 +20,7 @@ Leads old e new = (d : Durable) → IsWhole d → Reached d old → MayHappen ol
 
 -- So it is where it's known what the disk did in the step.
 abbrev pub LeadsKnown : Type 0 → Counts → Counts → State → Event → State → Type 0
-LeadsKnown tells old_counts new_counts old e new = (fate : Fate) × FateOf fate old_counts new_counts × (IsTold fate tells → Leads old e new)
+LeadsKnown tells old_counts new_counts old e new = (fate : Fate) × FateOf fate old.durable new.durable old_counts new_counts × (IsTold fate tells → Leads old e new)
 
 -- A call that is no event leads to one, too.
 abbrev pub Stays : State → State → Type 0

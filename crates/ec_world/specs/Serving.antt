@@ -1,8 +1,10 @@
 -- What a world makes of what came of its server's step.
 use Rattle.std.specs.Prelude.{◌≡◌, ◌++◌, ◌∷◌, ℕ, Bool, true, false, List, [], Option, None, Some, Result, Err}
 use Rattle.ec_disk.specs.Disk.{View}
+use Rattle.ec_disk.specs.declared.disk.Choice.{Choice}
 use Rattle.ec_durable.specs.declared.state.Durable.{Durable}
 use Rattle.ec_durable.specs.declared.record.Record.{Record}
+use Rattle.ec_history.specs.declared.shown.Shown.{Shown}
 use Rattle.ec_history.specs.declared.shown.Shown.TheVariants as show
 use Rattle.ec_protocol.specs.Server.{Serving}
 use Rattle.ec_protocol.specs.Server as server
@@ -13,7 +15,7 @@ use Rattle.ec_protocol.specs.World.{Fate, runs, stops_without, stops_with, Movin
 use Rattle.ec_server.specs.declared.server.Server.{Server}
 use Rattle.ec_store.specs.declared.store.Store.{Store}
 use Rattle.ec_world.specs.Keeping.{IsDone, CameOf}
-use Rattle.ec_world.specs.Steps.{IsTold}
+use Rattle.ec_world.specs.Steps.{IsTold, IsShown}
 use Rattle.ec_world.specs.declared.fault.StepFault.{StepFault}
 use Rattle.ec_world.specs.declared.fault.StepFault.TheVariants as step
 use Rattle.ec_world.specs.declared.keeping.Came.{Came}
@@ -39,21 +41,28 @@ abbrev pub CameUp : Type 0 → Durable → World → View → Came (Server × Se
 CameUp tells d w now came =
     CameOf (λ made mark. IsDone tells (server.start d) d w.records.items made.0 w.store now made.1 mark) tells (server.start d) d w.records.items now came
 
--- A stop is one that came.
+-- A stop is one that came, and one that came is shown.
 abbrev pub FateIn : Fate → Type 0 → Type 0
-FateIn runs Stopped = Unit {0}
+FateIn runs Stopped = Stopped → ⊥
 FateIn stops_without Stopped = Stopped
 FateIn stops_with Stopped = Stopped
 
 -- The step is the machine's by one of its fates, and a stop of the disk is told by what it left.
-abbrev pub Finishes : Type 0 → Type 0 → (Fate → Moving) → Moving → Type 0
-Finishes tells Stopped steps m = (fate : Fate) × FateIn fate Stopped × (IsTold fate tells → steps fate ≡ m)
+abbrev pub Finishes : Type 0 → Type 0 → Choice → List Shown → (Fate → Moving) → Moving → Type 0
+Finishes tells Stopped choice lines steps m = (fate : Fate) × FateIn fate Stopped × (IsTold fate tells → steps fate ≡ m) × (tells → IsShown fate choice lines m.world.shown)
 
 -- Faults that break a world: its disk's, and want of memory.
 abbrev pub Breaks : StepFault → Type 0
 Breaks step.DiskFailed = Unit {0}
 Breaks step.NoMemory = Unit {0}
 Breaks _ = ⊥
+
+-- What the world makes of the durable state and the arm behind what came: a step that is done leaves both, and a stop ends the arm.
+abbrev pub ArmsBehind : {T : Type 0} → Came T → Durable → Durable → Option ℕ → Option ℕ → Type 0
+ArmsBehind (came.Done x mark) before after old new = (after ≡ before) × (new ≡ old)
+ArmsBehind (came.Stopped mark) before after old new = new ≡ None
+ArmsBehind came.DiskFailed before after old new = ⊥
+ArmsBehind came.NoMemory before after old new = ⊥
 
 -- The disk failed behind what came.
 abbrev pub FailsSince : {T : Type 0} → Came T → Result (Unit {0}) StepFault → Type 0

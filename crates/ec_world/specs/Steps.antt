@@ -1,10 +1,15 @@
 -- What the calls of a world promise.
-use Rattle.std.specs.Prelude.{◌≡◌, ◌⊎◌, ℕ, List, length, Ok, Err, None, Some, IsSome}
+use Rattle.std.specs.Prelude.{◌≡◌, ◌⊎◌, ◌≤◌, ◌++◌, ◌∷◌, ℕ, Option, List, [], length, Ok, Err, None, Some, IsSome}
 use Rattle.ec_base.specs.Outside.{Rose}
-use Rattle.ec_disk.specs.Disk.{View, Counts, Counted}
+use Rattle.ec_disk.specs.Disk.{View, Counts, Counted, NoneDue, after_calls}
+use Rattle.ec_disk.specs.declared.disk.Choice.{Choice}
+use Rattle.ec_disk.specs.declared.disk.Choice.TheVariants as choice
 use Rattle.ec_durable.specs.declared.state.Durable.{Durable}
-use Rattle.ec_durable.specs.Durable.{formatted}
+use Rattle.ec_durable.specs.Durable.{formatted, step as record_step}
+use Rattle.ec_durable.specs.declared.record.Record.{Record}
 use Rattle.ec_base.specs.Limits.{clerk_count}
+use Rattle.ec_history.specs.declared.shown.Shown.{Shown}
+use Rattle.ec_history.specs.declared.shown.Shown.TheVariants.{Stopped}
 use Rattle.ec_volume.specs.Volume.{images}
 use Rattle.ec_volume.specs.declared.image.Image.TheVariants.{Gone}
 use Rattle.ec_durable.specs.WellFormed.{WellFormed}
@@ -46,15 +51,28 @@ Unopened NoMemory tells gives now may_leave most = Unit {0}
 
 -- Steps.
 
--- A stop comes only on an armed disk, whose stops rise.
+-- The reads, writes and syncs of a step that runs: none where no record is committed, and four for one, or nine and more where the journal begins
+-- anew for it.
+abbrev pub Takes : ℕ → Durable → Durable → Type 0
+Takes turns before after = ((turns ≡ 0) × (after ≡ before)) ⊎ ((r : Record) × (record_step r before ≡ Ok after) × ((turns ≡ 4) ⊎ (9 ≤ turns)))
+
+-- None of them was due to stop.
+pub record HasRun (before after : Durable) (old new : Counts) : Type 0 where
+  pub turns : ℕ
+  pub takes : Takes turns before after
+  pub next : new.armed ≡ after_calls turns old.armed
+  pub none_due : NoneDue turns old.armed
+
+-- A stop comes only on an armed disk, whose stops rise, and ends the arm.
 pub record HasStopped (old new : Counts) : Type 0 where
   pub stops : Rose old.stops new.stops
   pub armed : IsSome old.armed
+  pub disarmed : new.armed ≡ None
 
-abbrev pub FateOf : Fate → Counts → Counts → Type 0
-FateOf runs old new = Unit {0}
-FateOf stops_without old new = HasStopped old new
-FateOf stops_with old new = HasStopped old new
+abbrev pub FateOf : Fate → Durable → Durable → Counts → Counts → Type 0
+FateOf runs before after old new = HasRun before after old new
+FateOf stops_without before after old new = HasStopped old new
+FateOf stops_with before after old new = HasStopped old new
 
 -- What a stop left is read back from the disk: of a disk that doesn't tell its content nothing is claimed then.
 abbrev pub IsTold : Fate → Type 0 → Type 0
@@ -62,8 +80,20 @@ IsTold runs tells = Unit {0}
 IsTold stops_without tells = tells
 IsTold stops_with tells = tells
 
-abbrev pub Fated : Type 0 → Counts → Counts → (Fate → Moving) → Moving → Type 0
-Fated tells old new steps m = (fate : Fate) × FateOf fate old new × (IsTold fate tells → steps fate ≡ m)
+-- With the choice `Old` a power cut takes the record back.
+abbrev pub MayLeave : Choice → Type 0
+MayLeave choice.Old = ⊥
+MayLeave _ = Unit {0}
+
+-- A stop shows one line behind these, `stopped`, and leaves its record only where the choice may.
+abbrev pub IsShown : Fate → Choice → List Shown → List Shown → Type 0
+IsShown runs choice before after = Unit {0}
+IsShown stops_without choice before after = after ≡ before ++ Stopped ∷ []
+IsShown stops_with choice before after = (after ≡ before ++ Stopped ∷ []) × MayLeave choice
+
+-- The step is the machine's by one of its fates, as the disk and the choice of the world allow, from this state and these lines on.
+abbrev pub Fated : Type 0 → Durable → List Shown → Counts → Counts → Choice → (Fate → Moving) → Moving → Type 0
+Fated tells before lines old new choice steps m = (fate : Fate) × FateOf fate before m.world.durable old new × (IsTold fate tells → steps fate ≡ m) × (tells → IsShown fate choice lines m.world.shown)
 
 -- Why a step isn't taken. A fault of the machine changes nothing.
 abbrev pub Refuses : WorldFault → Moving → State → State → Type 0 → Type 0
@@ -74,10 +104,19 @@ Refuses NoSuchMsg m old new in_step = (m.fault ≡ Some NoSuchMsg) × (new ≡ o
 Refuses DiskFailed m old new in_step = Unit {0}
 Refuses NoMemory m old new in_step = Unit {0}
 
--- The disk's counts behind an event: one that arms does nothing else there. A stop shows in them, and is no fault.
-abbrev pub CountsOf : Event → Counts → Counts → Type 0 → Type 0
-CountsOf (Arm n ch) old new failed = ((new ≡ record old { armed = Some n }) ⊎ (new ≡ old)) × (failed → ⊥)
-CountsOf _ old new failed = Counted old new failed ⊥
+-- how a disk is armed where an event goes on: one that arms it has done so
+abbrev pub armed_by : Event → Option ℕ → Option ℕ
+armed_by (Arm n ch) armed = Some n
+armed_by _ armed = armed
+
+abbrev pub behind_arm : Event → Counts → Counts
+behind_arm e c = record c { armed = armed_by e c.armed }
+
+-- The disk's counts behind an event: one that arms does nothing else there, and does it but where memory is wanting. A stop shows in them,
+-- and is no fault.
+abbrev pub CountsOf : Event → Counts → Counts → Type 0 → Type 0 → Type 0
+CountsOf (Arm n ch) old new failed wants = ((new ≡ record old { armed = Some n }) ⊎ (wants × (new ≡ old))) × (failed → ⊥)
+CountsOf _ old new failed wants = Counted old new failed ⊥
 
 -- An image stands for the state before a step that isn't taken, or for the one behind it, where the machine takes it.
 pub data IsLeft (before : Durable) (m : Moving) (image : List ℕ) : Type 0 where

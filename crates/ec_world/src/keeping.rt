@@ -5,7 +5,7 @@ ghost use Rattle.ec_wire.specs.Messages.{is_sound};
 ghost use Rattle.ec_protocol.specs.Server as machine;
 ghost use Rattle.ec_server.specs.Servers.{standing, StandsOn};
 ghost use Rattle.ec_store.specs.Store.{IsHeld, view_of};
-ghost use Rattle.ec_world.specs.Keeping.{IsDone, CameOf, Unchanged, Turns, HasMark, IsStop, IfDone, IsMarked};
+ghost use Rattle.ec_world.specs.Keeping.{IsDone, CameOf, Unchanged, Turns, HasMark, IsStop, RunsIn, IfDone, IsMarked};
 ghost use Rattle.ec_world.specs.declared.keeping.Came.TheVariants as came;
 
 use crate::marking::{Marking, Marks};
@@ -50,6 +50,7 @@ pub(crate) fn take<D: Disk>(
     ensures same { IfErr result (λ n. standing (view_of store.new) server.new ≡ standing (view_of store.old) server.old) }
     ensures stands { StandsOn (view_of store.new) server.new }
     ensures counts { Counted (D.counts disk.old) (D.counts disk.new) (result ≡ Ok came.DiskFailed) (IsStop result) }
+    ensures ran { IfOk result (λ came. RunsIn came (view_of store.old) (view_of store.new) (D.counts disk.old) (D.counts disk.new)) }
 {
     let mut marks = Marks {
         mark: None,
@@ -83,6 +84,7 @@ fn take_by<D: Disk>(
     ensures stands { StandsOn (view_of keeper.new.keeper.store.now) server.new }
     ensures same { IfErr result (λ n. standing (view_of keeper.new.keeper.store.now) server.new ≡ standing (view_of keeper.old.keeper.store.now) server.old) }
     ensures counts { Counted (D.counts keeper.old.keeper.disk.now) (D.counts keeper.new.keeper.disk.now) (result ≡ Ok came.DiskFailed) (IsStop result) }
+    ensures ran { IfOk result (λ came. RunsIn came (view_of keeper.old.keeper.store.now) (view_of keeper.new.keeper.store.now) (D.counts keeper.old.keeper.disk.now) (D.counts keeper.new.keeper.disk.now)) }
 {
     let answer = server.take(keeper, from, msg);
     turned(answer, keeper.marks.mark.take())
@@ -104,6 +106,7 @@ pub(crate) fn end<D: Disk>(
     ensures same { IfErr result (λ n. standing (view_of store.new) server.new ≡ standing (view_of store.old) server.old) }
     ensures stands { StandsOn (view_of store.new) server.new }
     ensures counts { Counted (D.counts disk.old) (D.counts disk.new) (result ≡ Ok came.DiskFailed) (IsStop result) }
+    ensures ran { IfOk result (λ came. RunsIn came (view_of store.old) (view_of store.new) (D.counts disk.old) (D.counts disk.new)) }
 {
     let mut marks = Marks {
         mark: None,
@@ -135,6 +138,7 @@ fn end_by<D: Disk>(
     ensures stands { StandsOn (view_of keeper.new.keeper.store.now) server.new }
     ensures same { IfErr result (λ n. standing (view_of keeper.new.keeper.store.now) server.new ≡ standing (view_of keeper.old.keeper.store.now) server.old) }
     ensures counts { Counted (D.counts keeper.old.keeper.disk.now) (D.counts keeper.new.keeper.disk.now) (result ≡ Ok came.DiskFailed) (IsStop result) }
+    ensures ran { IfOk result (λ came. RunsIn came (view_of keeper.old.keeper.store.now) (view_of keeper.new.keeper.store.now) (D.counts keeper.old.keeper.disk.now) (D.counts keeper.new.keeper.disk.now)) }
 {
     let answer = server.end(keeper, clerk);
     turned(answer, keeper.marks.mark.take())
@@ -153,6 +157,7 @@ pub(crate) fn start<D: Disk>(
     ensures marked { IfOk result IsMarked }
     ensures stands { IfOk result (λ came. IfDone came (λ made. StandsOn (view_of store.new) made.0)) }
     ensures counts { Counted (D.counts disk.old) (D.counts disk.new) (result ≡ Ok came.DiskFailed) (IsStop result) }
+    ensures ran { IfOk result (λ came. RunsIn came (view_of store.old) (view_of store.new) (D.counts disk.old) (D.counts disk.new)) }
 {
     let mut marks = Marks {
         mark: None,
@@ -182,6 +187,7 @@ fn start_by<D: Disk>(
     ensures marked { IfOk result IsMarked }
     ensures stands { IfOk result (λ came. IfDone came (λ made. StandsOn (view_of keeper.new.keeper.store.now) made.0)) }
     ensures counts { Counted (D.counts keeper.old.keeper.disk.now) (D.counts keeper.new.keeper.disk.now) (result ≡ Ok came.DiskFailed) (IsStop result) }
+    ensures ran { IfOk result (λ came. RunsIn came (view_of keeper.old.keeper.store.now) (view_of keeper.new.keeper.store.now) (D.counts keeper.old.keeper.disk.now) (D.counts keeper.new.keeper.disk.now)) }
 {
     let answer = Server::start(alloc, keeper);
     turned(answer, keeper.marks.mark.take())

@@ -8,7 +8,7 @@ ghost use Rattle.ec_server.specs.Servers.{StandsOn};
 ghost use Rattle.ec_store.specs.Store as stores;
 ghost use Rattle.ec_world.specs.Faults.{of_step};
 ghost use Rattle.ec_world.specs.Keeping.{HasStoppedIn, IfDone, IsMarked};
-ghost use Rattle.ec_world.specs.Serving.{CameUp, Finishes, Breaks, FailsSince, serves};
+ghost use Rattle.ec_world.specs.Serving.{CameUp, Finishes, ArmsBehind, Breaks, FailsSince, serves};
 ghost use Rattle.ec_world.specs.Worlds.{view_of, IsInStep, Keeps};
 ghost use Rattle.ec_world.specs.Steps.{under, Fated, Refuses, IsLeft};
 ghost use Rattle.ec_world.specs.declared.fault.StepFault.TheVariants as fault;
@@ -31,7 +31,7 @@ impl World {
     ) -> Result<(), StepFault>
         requires in_step { IsInStep D.tells (D.view disk.old) self.old }
         requires piece { self.old.piece.items ≡ [] }
-        ensures ok { OnOk result (Fated D.tells (D.counts disk.old) (D.counts disk.new) (λ fate. machine.restart_server fate (view_of self.old).server (view_of self.old)) (under self.new)) }
+        ensures ok { OnOk result (Fated D.tells (view_of self.old).durable (view_of self.old).shown (D.counts disk.old) (D.counts disk.new) self.old.choice (λ fate. machine.restart_server fate (view_of self.old).server (view_of self.old)) (under self.new)) }
         ensures in_step { OnOk result (IsInStep D.tells (D.view disk.new) self.new) }
         ensures err { IfErr result (λ fault. Refuses (of_step fault) (machine.restart_server machine.runs (view_of self.old).server (view_of self.old)) (view_of self.old) (view_of self.new) (IsInStep D.tells (D.view disk.new) self.new)) }
         ensures counts { Counted (D.counts disk.old) (D.counts disk.new) (result ≡ Err fault.DiskFailed) ⊥ }
@@ -57,11 +57,12 @@ impl World {
         requires piece { self.old.piece.items ≡ [] }
         requires none { self.old.server ≡ None }
         requires marked { IsMarked came }
-        ensures ok { OnOk result ((d : Durable) → CameUp D.tells d self.old (D.view disk.old) came → Finishes D.tells (HasStoppedIn came) (λ fate. machine.restart fate (serves None d (view_of self.old))) (under self.new)) }
+        ensures ok { OnOk result ((d : Durable) → CameUp D.tells d self.old (D.view disk.old) came → Finishes D.tells (HasStoppedIn came) self.old.choice (view_of self.old).shown (λ fate. machine.restart fate (serves None d (view_of self.old))) (under self.new)) }
         ensures in_step { OnOk result ((d : Durable) → CameUp D.tells d self.old (D.view disk.old) came → IfDone came (λ made. StandsOn (stores.view_of self.old.store) made.0) → IsInStep D.tells (D.view disk.new) self.new) }
         ensures left { IfErr result (λ fault. D.tells → (d : Durable) → CameUp D.tells d self.old (D.view disk.old) came → (image : List ℕ) → (D.view disk.new).may_leave image → IsLeft d (machine.restart machine.runs (serves None d (view_of self.old))) image) }
         ensures err { IfErr result Breaks }
         ensures counts { Counted (D.counts disk.old) (D.counts disk.new) (FailsSince came result) ⊥ }
+        ensures arms { OnOk result (ArmsBehind came (stores.view_of self.old.store) (stores.view_of self.new.store) (D.counts disk.old).armed (D.counts disk.new).armed) }
     {
         match came {
             Came::Done(made, mark) => {

@@ -12,7 +12,7 @@ ghost use Rattle.ec_world.specs.Faults.{of_step};
 ghost use Rattle.ec_world.specs.Marks.{gone};
 ghost use Rattle.ec_world.specs.Worlds.{view_of, IsInStep, Keeps, Stands};
 ghost use Rattle.ec_world.specs.Keeping.{HasStoppedIn};
-ghost use Rattle.ec_world.specs.Serving.{CameTo, Finishes, Breaks, FailsSince, serves};
+ghost use Rattle.ec_world.specs.Serving.{CameTo, Finishes, ArmsBehind, Breaks, FailsSince, serves};
 ghost use Rattle.ec_world.specs.Steps.{under, Fated, Refuses, IsLeft};
 ghost use Rattle.ec_world.specs.Sending.{IsFor};
 ghost use Rattle.ec_world.specs.declared.fault.StepFault.TheVariants as fault;
@@ -38,7 +38,7 @@ impl World {
         requires in_step { IsInStep D.tells (D.view disk.old) self.old }
         requires piece { self.old.piece.items ≡ [] }
         requires message { IsFor true number self.old.pool.pool }
-        ensures ok { OnOk result (Fated D.tells (D.counts disk.old) (D.counts disk.new) (λ fate. machine.deliver fate number (view_of self.old)) (under self.new)) }
+        ensures ok { OnOk result (Fated D.tells (view_of self.old).durable (view_of self.old).shown (D.counts disk.old) (D.counts disk.new) self.old.choice (λ fate. machine.deliver fate number (view_of self.old)) (under self.new)) }
         ensures in_step { OnOk result (IsInStep D.tells (D.view disk.new) self.new) }
         ensures err { IfErr result (λ fault. Refuses (of_step fault) (machine.deliver machine.runs number (view_of self.old)) (view_of self.old) (view_of self.new) (IsInStep D.tells (D.view disk.new) self.new)) }
         ensures counts { Counted (D.counts disk.old) (D.counts disk.new) (result ≡ Err fault.DiskFailed) ⊥ }
@@ -77,7 +77,7 @@ impl World {
     ) -> Result<(), StepFault>
         requires in_step { IsInStep D.tells (D.view disk.old) self.old }
         requires piece { self.old.piece.items ≡ [] }
-        ensures ok { OnOk result (Fated D.tells (D.counts disk.old) (D.counts disk.new) (λ fate. machine.end fate clerk (view_of self.old).server (view_of self.old)) (under self.new)) }
+        ensures ok { OnOk result (Fated D.tells (view_of self.old).durable (view_of self.old).shown (D.counts disk.old) (D.counts disk.new) self.old.choice (λ fate. machine.end fate clerk (view_of self.old).server (view_of self.old)) (under self.new)) }
         ensures in_step { OnOk result (IsInStep D.tells (D.view disk.new) self.new) }
         ensures err { IfErr result (λ fault. Refuses (of_step fault) (machine.end machine.runs clerk (view_of self.old).server (view_of self.old)) (view_of self.old) (view_of self.new) (IsInStep D.tells (D.view disk.new) self.new)) }
         ensures counts { Counted (D.counts disk.old) (D.counts disk.new) (result ≡ Err fault.DiskFailed) ⊥ }
@@ -116,11 +116,12 @@ impl World {
     ) -> Result<(), StepFault>
         requires piece { self.old.piece.items ≡ [] }
         requires stands { Stands (stores.view_of self.old.store) self.old.server }
-        ensures ok { OnOk result ((done : Serving) (d : Durable) (s : Option State) → CameTo D.tells done d self.old (D.view disk.old) came → Finishes D.tells (HasStoppedIn came) (λ fate. machine.served fate done (serves s d (view_of self.old))) (under self.new)) }
+        ensures ok { OnOk result ((done : Serving) (d : Durable) (s : Option State) → CameTo D.tells done d self.old (D.view disk.old) came → Finishes D.tells (HasStoppedIn came) self.old.choice (view_of self.old).shown (λ fate. machine.served fate done (serves s d (view_of self.old))) (under self.new)) }
         ensures in_step { OnOk result ((done : Serving) (d : Durable) → CameTo D.tells done d self.old (D.view disk.old) came → IsInStep D.tells (D.view disk.new) self.new) }
         ensures left { IfErr result (λ fault. D.tells → (done : Serving) (d : Durable) (s : Option State) → CameTo D.tells done d self.old (D.view disk.old) came → (image : List ℕ) → (D.view disk.new).may_leave image → IsLeft d (machine.served machine.runs done (serves s d (view_of self.old))) image) }
         ensures err { IfErr result Breaks }
         ensures counts { Counted (D.counts disk.old) (D.counts disk.new) (FailsSince came result) ⊥ }
+        ensures arms { OnOk result (ArmsBehind came (stores.view_of self.old.store) (stores.view_of self.new.store) (D.counts disk.old).armed (D.counts disk.new).armed) }
     {
         match came {
             Came::Done(served, mark) => Ok(self.go_on(alloc, served, mark)?),

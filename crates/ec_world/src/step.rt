@@ -4,7 +4,7 @@ ghost use Rattle.ec_disk.specs.Disk.{Counted};
 ghost use Rattle.ec_protocol.specs.World as machine;
 ghost use Rattle.ec_world.specs.Faults.{of_step};
 ghost use Rattle.ec_world.specs.Worlds.{view_of, IsInStep, Keeps};
-ghost use Rattle.ec_world.specs.Steps.{under, Fated, Refuses, IsLeft, CountsOf};
+ghost use Rattle.ec_world.specs.Steps.{under, Fated, Refuses, IsLeft, behind_arm, CountsOf};
 ghost use Rattle.ec_world.specs.declared.fault.StepFault.TheVariants as fault;
 
 use crate::fault::StepFault;
@@ -25,10 +25,10 @@ impl World {
     ) -> Result<(), StepFault>
         requires in_step { IsInStep D.tells (D.view disk.old) self.old }
         requires piece { self.old.piece.items ≡ [] }
-        ensures ok { OnOk result (Fated D.tells (D.counts disk.old) (D.counts disk.new) (λ fate. machine.happen fate event (view_of self.old)) (under self.new)) }
+        ensures ok { OnOk result (Fated D.tells (view_of self.old).durable (view_of self.old).shown (behind_arm event (D.counts disk.old)) (D.counts disk.new) self.old.choice (λ fate. machine.happen fate event (view_of self.old)) (under self.new)) }
         ensures in_step { OnOk result (IsInStep D.tells (D.view disk.new) self.new) }
         ensures err { IfErr result (λ fault. Refuses (of_step fault) (machine.happen machine.runs event (view_of self.old)) (view_of self.old) (view_of self.new) (IsInStep D.tells (D.view disk.new) self.new)) }
-        ensures counts { CountsOf event (D.counts disk.old) (D.counts disk.new) (result ≡ Err fault.DiskFailed) }
+        ensures counts { CountsOf event (D.counts disk.old) (D.counts disk.new) (result ≡ Err fault.DiskFailed) ⊥ }
         ensures left { IfErr result (λ fault. D.tells → (image : List ℕ) → (D.view disk.new).may_leave image → IsLeft (view_of self.old).durable (machine.happen machine.runs event (view_of self.old)) image) }
     {
         match event {
@@ -60,7 +60,7 @@ impl World {
     ) -> Result<(), StepFault>
         requires in_step { IsInStep D.tells (D.view disk.old) self.old }
         requires piece { self.old.piece.items ≡ [] }
-        ensures ok { OnOk result (Fated D.tells (D.counts disk.old) (D.counts disk.new) (λ fate. machine.deliver fate number (view_of self.old)) (under self.new)) }
+        ensures ok { OnOk result (Fated D.tells (view_of self.old).durable (view_of self.old).shown (D.counts disk.old) (D.counts disk.new) self.old.choice (λ fate. machine.deliver fate number (view_of self.old)) (under self.new)) }
         ensures in_step { OnOk result (IsInStep D.tells (D.view disk.new) self.new) }
         ensures err { IfErr result (λ fault. Refuses (of_step fault) (machine.deliver machine.runs number (view_of self.old)) (view_of self.old) (view_of self.new) (IsInStep D.tells (D.view disk.new) self.new)) }
         ensures counts { Counted (D.counts disk.old) (D.counts disk.new) (result ≡ Err fault.DiskFailed) ⊥ }

@@ -8,7 +8,7 @@ ghost use Rattle.ec_protocol.specs.World as machine;
 ghost use Rattle.ec_protocol.specs.declared.world.WorldFault.TheVariants as fault;
 ghost use Rattle.ec_world.specs.Worlds.{view_of, IsInStep, Keeps};
 ghost use Rattle.ec_world.specs.Reaching.{IsReached, LeadsKnown, Stays};
-ghost use Rattle.ec_world.specs.Steps.{Opens, Unopened, FateOf, IsTold, Refuses, CountsOf, IsLeft};
+ghost use Rattle.ec_world.specs.Steps.{Opens, Unopened, FateOf, IsTold, Refuses, behind_arm, IsShown, CountsOf, IsLeft};
 
 use crate::lines::Lines;
 use crate::opening::{store_on, world_on};
@@ -118,11 +118,11 @@ impl World {
         event: Event,
     ) -> Result<Vec<Shown>, WorldFault>
         requires { IsInStep D.tells (D.view disk.old) self.old }
-        ensures ok { IfOk result (λ shown. (fate : machine.Fate) × FateOf fate (D.counts disk.old) (D.counts disk.new) × (IsTold fate D.tells → machine.happen fate event (view_of self.old) ≡ record { world = view_of self.new; shown = shown.items; fault = None })) }
-        ensures reached { OnOk result (LeadsKnown D.tells (D.counts disk.old) (D.counts disk.new) (view_of self.old) event (view_of self.new)) }
+        ensures ok { IfOk result (λ shown. (fate : machine.Fate) × FateOf fate (view_of self.old).durable (view_of self.new).durable (behind_arm event (D.counts disk.old)) (D.counts disk.new) × (IsTold fate D.tells → machine.happen fate event (view_of self.old) ≡ record { world = view_of self.new; shown = shown.items; fault = None }) × (D.tells → IsShown fate self.old.choice (view_of self.old).shown (view_of self.new).shown)) }
+        ensures reached { OnOk result (LeadsKnown D.tells (behind_arm event (D.counts disk.old)) (D.counts disk.new) (view_of self.old) event (view_of self.new)) }
         ensures in_step { OnOk result (IsInStep D.tells (D.view disk.new) self.new) }
         ensures err { IfErr result (λ fault. Refuses fault (machine.happen machine.runs event (view_of self.old)) (view_of self.old) (view_of self.new) (IsInStep D.tells (D.view disk.new) self.new)) }
-        ensures counts { CountsOf event (D.counts disk.old) (D.counts disk.new) (IsErrOf result fault.DiskFailed) }
+        ensures counts { CountsOf event (D.counts disk.old) (D.counts disk.new) (IsErrOf result fault.DiskFailed) (IsErrOf result fault.NoMemory) }
         ensures left { IfErr result (λ fault. D.tells → (image : List ℕ) → (D.view disk.new).may_leave image → IsLeft (view_of self.old).durable (machine.happen machine.runs event (view_of self.old)) image) }
     {
         if self.is_broken {

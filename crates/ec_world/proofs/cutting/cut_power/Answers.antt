@@ -1,9 +1,9 @@
-use Rattle.std.proofs.Common.{◌≡◌, ◌∙◌, sym, ap, Bool}
+use Rattle.std.proofs.Common.{◌≡◌, ◌∙◌, sym, ap, subst, Bool}
 use Rattle.ec_durable.specs.declared.state.Durable.{Durable}
 use Rattle.ec_store.specs.Store.{view_of}
-use Rattle.ec_world.specs.Cutting.{left_of}
+use Rattle.ec_world.specs.Cutting.{TakesBack, left_of}
 use Rattle.ec_world.specs.Signs.{is_there}
-use Rattle.ec_world.proofs.Left.{cut_leaves, sign_tells}
+use Rattle.ec_world.proofs.Left.{cut_leaves, sign_tells, takes_back}
 use Rattle.ec_world.proofs.cutting.cut_power.Goals as goal
 
 pub returns-in-Ok-clause-found : goal.returns-in-Ok-clause-found
@@ -29,3 +29,11 @@ pub returns-in-Ok-clause-left : goal.returns-in-Ok-clause-left
 returns-in-Ok-clause-left g c = λ told r d either.
     let view = g.D.Disk.view in
     c.open_left.ensures.left told r d (cut_leaves r d (view c.args.disk.now) (view c.power_cut.new.self) (c.power_cut.ensures.cut told) either)
+
+pub returns-in-Ok-clause-old : goal.returns-in-Ok-clause-old
+returns-in-Ok-clause-old g c = λ told r d e is takes.
+    let view = g.D.Disk.view in
+    let left = view_of c.in-Ok.store in
+    let tells : c.is_in-is_there.result ≡ is_there c.args.sign left = c.is_in-is_there.ensures ∙ ap (λ (x : Durable). is_there c.args.sign x) c.view.ensures.value in
+    subst (λ (b : Bool). TakesBack c.args.choice d (view c.args.disk.now) b) (sym tells)
+    (takes_back c.args.choice c.args.sign r d e left (view c.args.disk.now) (view c.power_cut.new.self).gives is takes (c.power_cut.ensures.leaves told c.in-Done.is) (c.in-Ok.ensures.stands told))

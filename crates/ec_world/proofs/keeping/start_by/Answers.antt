@@ -12,7 +12,7 @@ use Rattle.ec_server.specs.declared.fault.ServerFault.TheVariants as server
 use Rattle.ec_store.specs.Store.{view_of}
 use Rattle.ec_world.specs.Keeping.{IsDone, Turns, HasMark}
 use Rattle.ec_world.specs.declared.marks.Mark.{Mark}
-use Rattle.ec_world.proofs.Came.{Undone, disk_did, disk_broke, means, done_is, undone, has_mark, came_is, spent_is, same_is, ok_counted, err_counted, counts_are, leaves_spends, unstarted_spends, steps_any}
+use Rattle.ec_world.proofs.Came.{Undone, disk_did, disk_broke, means, done_is, undone, has_mark, came_is, spent_is, same_is, ok_counted, ok_ran, err_counted, came_ran, counts_are, leaves_spends, unstarted_spends, steps_any}
 use Rattle.ec_world.proofs.Begun.{marked_is, stands_is}
 use Rattle.ec_world.proofs.keeping.start_by.Goals as goal
 
@@ -35,7 +35,7 @@ turned-requires g c =
     let before = k.records.now.items in
     let mark = l.marks.now.mark in
     let moved = subst (λ (n : ℕ). Counted (record a { stops = n }) (record b { stops = stops }) (answer ≡ Err server.DiskFailed) (answer ≡ Err server.DiskStopped)) (ap (λ (rs : List Record). length rs) c.requires.running) c.start-answer.ensures.counts in
-    let m = means tells view counts k l (λ told image le left. g.met.D.Disk.counts_now told l.keeper.disk.now (view k.keeper.disk.now).moment image le left) c.requires.held c.requires.unmarked c.requires.running in
+    let m = means tells view counts k l (λ told image le left. g.met.D.Disk.counts_now told l.keeper.disk.now (view k.keeper.disk.now).moment image le left) (λ told. g.met.D.Disk.given_synced told k.keeper.disk.now) c.requires.held c.requires.unmarked c.requires.running in
     let steps = steps_any (Server × Served) answer done d k l (start_goes d).record_of in
     let u = undone (Server × Served) _ did broke k l tells k.keeper.store.now l.keeper.store.now now mark before a b stops done m answer c.start-answer.ensures.keeper (unstarted_spends (Server × Served) answer done d (view_of l.keeper.store.now) c.start-answer.ensures.err) steps moved.stopped in
     let marked = has_mark (Server × Served) tells done k.keeper.store.now l.keeper.store.now now mark before answer u in
@@ -60,7 +60,7 @@ returns-clause-came g c =
     let before = k.records.now.items in
     let mark = l.marks.now.mark in
     let moved = subst (λ (n : ℕ). Counted (record a { stops = n }) (record b { stops = stops }) (answer ≡ Err server.DiskFailed) (answer ≡ Err server.DiskStopped)) (ap (λ (rs : List Record). length rs) c.requires.running) c.start-answer.ensures.counts in
-    let m = means tells view counts k l (λ told image le left. g.met.D.Disk.counts_now told l.keeper.disk.now (view k.keeper.disk.now).moment image le left) c.requires.held c.requires.unmarked c.requires.running in
+    let m = means tells view counts k l (λ told image le left. g.met.D.Disk.counts_now told l.keeper.disk.now (view k.keeper.disk.now).moment image le left) (λ told. g.met.D.Disk.given_synced told k.keeper.disk.now) c.requires.held c.requires.unmarked c.requires.running in
     let steps = steps_any (Server × Served) answer done d k l (start_goes d).record_of in
     let u = undone (Server × Served) _ did broke k l tells k.keeper.store.now l.keeper.store.now now mark before a b stops done m answer c.start-answer.ensures.keeper (unstarted_spends (Server × Served) answer done d (view_of l.keeper.store.now) c.start-answer.ensures.err) steps moved.stopped in
     let turns = subst (λ (o : Option Mark). Turns answer o c.turned.result) c.take.ensures.value c.turned.ensures in
@@ -86,7 +86,7 @@ returns-clause-spent g c =
     let before = k.records.now.items in
     let mark = l.marks.now.mark in
     let moved = subst (λ (n : ℕ). Counted (record a { stops = n }) (record b { stops = stops }) (answer ≡ Err server.DiskFailed) (answer ≡ Err server.DiskStopped)) (ap (λ (rs : List Record). length rs) c.requires.running) c.start-answer.ensures.counts in
-    let m = means tells view counts k l (λ told image le left. g.met.D.Disk.counts_now told l.keeper.disk.now (view k.keeper.disk.now).moment image le left) c.requires.held c.requires.unmarked c.requires.running in
+    let m = means tells view counts k l (λ told image le left. g.met.D.Disk.counts_now told l.keeper.disk.now (view k.keeper.disk.now).moment image le left) (λ told. g.met.D.Disk.given_synced told k.keeper.disk.now) c.requires.held c.requires.unmarked c.requires.running in
     let steps = steps_any (Server × Served) answer done d k l (start_goes d).record_of in
     let u = undone (Server × Served) _ did broke k l tells k.keeper.store.now l.keeper.store.now now mark before a b stops done m answer c.start-answer.ensures.keeper (unstarted_spends (Server × Served) answer done d (view_of l.keeper.store.now) c.start-answer.ensures.err) steps moved.stopped in
     let turns = subst (λ (o : Option Mark). Turns answer o c.turned.result) c.take.ensures.value c.turned.ensures in
@@ -111,7 +111,7 @@ returns-clause-counts g c =
     let before = k.records.now.items in
     let mark = l.marks.now.mark in
     let moved = subst (λ (n : ℕ). Counted (record a { stops = n }) (record b { stops = stops }) (answer ≡ Err server.DiskFailed) (answer ≡ Err server.DiskStopped)) (ap (λ (rs : List Record). length rs) c.requires.running) c.start-answer.ensures.counts in
-    let m = means tells view counts k l (λ told image le left. g.met.D.Disk.counts_now told l.keeper.disk.now (view k.keeper.disk.now).moment image le left) c.requires.held c.requires.unmarked c.requires.running in
+    let m = means tells view counts k l (λ told image le left. g.met.D.Disk.counts_now told l.keeper.disk.now (view k.keeper.disk.now).moment image le left) (λ told. g.met.D.Disk.given_synced told k.keeper.disk.now) c.requires.held c.requires.unmarked c.requires.running in
     let turns = subst (λ (o : Option Mark). Turns answer o c.turned.result) c.take.ensures.value c.turned.ensures in
     let ok = ok_counted (Server × Served) (λ (x : Server × Served). x.1) _ did broke k l tells k.keeper.store.now l.keeper.store.now now mark before a b stops m answer c.start-answer.ensures.did in
     let err = err_counted (Server × Served) _ did broke k l tells k.keeper.store.now l.keeper.store.now now mark before a b stops done m answer c.start-answer.ensures.keeper moved.stopped in
@@ -136,7 +136,7 @@ returns-clause-marked g c =
     let before = k.records.now.items in
     let mark = l.marks.now.mark in
     let moved = subst (λ (n : ℕ). Counted (record a { stops = n }) (record b { stops = stops }) (answer ≡ Err server.DiskFailed) (answer ≡ Err server.DiskStopped)) (ap (λ (rs : List Record). length rs) c.requires.running) c.start-answer.ensures.counts in
-    let m = means tells view counts k l (λ told image le left. g.met.D.Disk.counts_now told l.keeper.disk.now (view k.keeper.disk.now).moment image le left) c.requires.held c.requires.unmarked c.requires.running in
+    let m = means tells view counts k l (λ told image le left. g.met.D.Disk.counts_now told l.keeper.disk.now (view k.keeper.disk.now).moment image le left) (λ told. g.met.D.Disk.given_synced told k.keeper.disk.now) c.requires.held c.requires.unmarked c.requires.running in
     let steps = steps_any (Server × Served) answer done d k l (start_goes d).record_of in
     let u = undone (Server × Served) _ did broke k l tells k.keeper.store.now l.keeper.store.now now mark before a b stops done m answer c.start-answer.ensures.keeper (unstarted_spends (Server × Served) answer done d (view_of l.keeper.store.now) c.start-answer.ensures.err) steps moved.stopped in
     let turns = subst (λ (o : Option Mark). Turns answer o c.turned.result) c.take.ensures.value c.turned.ensures in
@@ -147,3 +147,25 @@ pub returns-clause-stands : goal.returns-clause-stands
 returns-clause-stands g c =
     let turns = subst (λ (o : Option Mark). Turns c.start-answer.result o c.turned.result) c.take.ensures.value c.turned.ensures in
     stands_is (Server × Served) (λ made. StandsOn (view_of c.start-answer.new.keeper.keeper.store.now) made.0) c.start-answer.new.keeper.marks.now.mark c.start-answer.result c.turned.result turns c.start-answer.ensures.stands
+
+pub returns-clause-ran : goal.returns-clause-ran
+returns-clause-ran g c =
+    let k = c.args.keeper.now in
+    let l = c.start-answer.new.keeper in
+    let answer = c.start-answer.result in
+    let tells = g.D.Disk.tells in
+    let view = g.D.Disk.view in
+    let counts = g.D.Disk.counts in
+    let did = disk_did tells view counts in
+    let broke = disk_broke tells view counts in
+    let d = view_of k.keeper.store.now in
+    let done = machine.start d in
+    let a = counts k.keeper.disk.now in
+    let b = counts l.keeper.disk.now in
+    let stops = length l.marks.now.stopped.items in
+    let now = view l.keeper.disk.now in
+    let before = k.records.now.items in
+    let mark = l.marks.now.mark in
+    let m = means tells view counts k l (λ told image le left. g.met.D.Disk.counts_now told l.keeper.disk.now (view k.keeper.disk.now).moment image le left) (λ told. g.met.D.Disk.given_synced told k.keeper.disk.now) c.requires.held c.requires.unmarked c.requires.running in
+    let turns = subst (λ (o : Option Mark). Turns answer o c.turned.result) c.take.ensures.value c.turned.ensures in
+    came_ran (Server × Served) (view_of k.keeper.store.now) (view_of l.keeper.store.now) a b mark answer c.turned.result turns (ok_ran (Server × Served) (λ (x : Server × Served). x.1) _ did broke k l tells k.keeper.store.now l.keeper.store.now now mark before a b stops m answer c.start-answer.ensures.did)

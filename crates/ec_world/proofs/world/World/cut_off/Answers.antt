@@ -15,3 +15,9 @@ returns-else-is_there-clause-ok g c = λ told r d e sign more takes either.
     let there = c.in_ok-store.is_there in
     cut_off_is there c.args.self.now c.in_ok-store.store c.args.self.now.records r d e c.requires (ap (λ (b : Bool). records_of b r before) (sym c.if-is_there.false)) takes
     (c.in_ok-store.ensures.found told r d e sign takes either)
+
+pub returns-then-is_there-clause-old : goal.returns-then-is_there-clause-old
+returns-then-is_there-clause-old g c = c.in_ok-store.ensures.old
+
+pub returns-else-is_there-clause-old : goal.returns-else-is_there-clause-old
+returns-else-is_there-clause-old g c = c.in_ok-store.ensures.old

@@ -1,6 +1,7 @@
-use Rattle.std.proofs.Common.{◌≡◌, ◌∙◌, refl, sym}
+use Rattle.std.proofs.Common.{◌≡◌, ◌∙◌, refl, sym, ap}
 use Rattle.ec_protocol.specs.World as machine
 use Rattle.ec_protocol.specs.World.{Fate}
+use Rattle.ec_store.specs.Store.{view_of as state_of}
 use Rattle.ec_world.specs.Laws.{in_step_keeps, in_step_stands}
 use Rattle.ec_world.specs.Worlds.{view_of}
 use Rattle.ec_world.specs.Steps.{as_before, under}
@@ -25,8 +26,7 @@ returns-in_default-clause-left g c = λ told image left. as_before (in_step_stan
 
 pub returns-else-is_for_server-clause-ok : goal.returns-else-is_for_server-clause-ok
 returns-else-is_for_server-clause-ok g c =
-    let counts = g.D.Disk.counts c.args.disk.now in
-    fated c.deliver_to_clerk.result g.D.Disk.tells counts counts (λ (fate : Fate). machine.deliver fate c.args.number (view_of c.args.self.now)) (under c.deliver_to_clerk.new.self) c.deliver_to_clerk.ensures.ok
+    fated c.deliver_to_clerk.result g.D.Disk.tells (view_of c.args.self.now).durable (view_of c.args.self.now).shown (g.D.Disk.counts c.args.disk.now) c.args.self.now.choice (λ (fate : Fate). machine.deliver fate c.args.number (view_of c.args.self.now)) (under c.deliver_to_clerk.new.self) (ap state_of c.deliver_to_clerk.ensures.same.store) c.deliver_to_clerk.ensures.ok
 
 pub returns-else-is_for_server-clause-in_step : goal.returns-else-is_for_server-clause-in_step
 returns-else-is_for_server-clause-in_step g c =

@@ -9,7 +9,7 @@ use Rattle.ec_world.specs.Serving.{serves}
 use Rattle.ec_world.specs.Steps.{IsLeft, under}
 use Rattle.ec_world.specs.Worlds.{view_of}
 use Rattle.ec_world.proofs.Delivering.{behind_take, deliver_is, deliver_takes, is_for_sent, spends, nothing_left, spent_left, breaks_refuse}
-use Rattle.ec_world.proofs.Finish.{finished, counts_on, on_ok, if_err}
+use Rattle.ec_world.proofs.Finish.{finished, counts_on, on_ok, on_both, if_err}
 use Rattle.ec_world.proofs.Starting.{err_is}
 use Rattle.ec_world.proofs.world.World.deliver_to_server.Goals as goal
 
@@ -24,10 +24,10 @@ returns-in-Ok-clause-ok g c =
     let done = server.take s.clerk s.msg (standing d v) in
     let mid = behind_take w c.take-taken.new.store c.take-taken.new.server c.settle.new.self in
     let whose : is_for_server s ≡ true = is_for_sent n w.pool c.requires.message.message s c.requires.message.kept c.in-Some.ensures.value c.requires.message.is_for in
-    on_ok c.finish.result c.finish.ensures.ok
-    (λ h. finished g.D.Disk.tells _ _ _ (counts c.args.disk.now) (counts c.take-taken.new.disk) (counts c.finish.new.disk) (λ fate. machine.served fate done (serves (Some (standing d v)) d (view_of mid))) (λ fate. machine.deliver fate n (view_of w)) (under c.finish.new.self)
+    on_both c.finish.result c.finish.ensures.ok c.finish.ensures.arms
+    (λ h arms. finished c.in-Ok.came g.D.Disk.tells _ _ d (state_of c.take-taken.new.store) (counts c.args.disk.now) (counts c.take-taken.new.disk) (counts c.finish.new.disk) w.choice (view_of w).shown (λ fate. machine.served fate done (serves (Some (standing d v)) d (view_of mid))) (λ fate. machine.deliver fate n (view_of w)) (under c.finish.new.self)
     (h done d (Some (standing d v)) c.in-Ok.ensures.came) (deliver_is n s w v c.take-taken.new.server c.take-taken.new.store c.settle.new.self (sym c.in-Some.ensures.value) whose c.in-Some-server.is c.settle.ensures)
-    c.in-Ok.ensures.counts c.finish.ensures.counts)
+    c.in-Ok.ensures.counts c.finish.ensures.counts c.in-Ok.ensures.ran arms)
 
 pub returns-in-Ok-clause-in_step : goal.returns-in-Ok-clause-in_step
 returns-in-Ok-clause-in_step g c =

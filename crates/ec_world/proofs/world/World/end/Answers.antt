@@ -8,7 +8,7 @@ use Rattle.ec_world.specs.Serving.{serves}
 use Rattle.ec_world.specs.Steps.{IsLeft, under}
 use Rattle.ec_world.specs.Worlds.{view_of}
 use Rattle.ec_world.proofs.Delivering.{behind_end, end_is, spends, nothing_left, spent_left, breaks_refuse}
-use Rattle.ec_world.proofs.Finish.{finished, counts_on, on_ok, if_err}
+use Rattle.ec_world.proofs.Finish.{finished, counts_on, on_ok, on_both, if_err}
 use Rattle.ec_world.proofs.Starting.{err_is}
 use Rattle.ec_world.proofs.world.World.end.Goals as goal
 
@@ -21,10 +21,10 @@ returns-in-Ok-clause-ok g c =
     let done = server.end n (standing d v) in
     let counts = g.D.Disk.counts in
     let mid = behind_end w c.end-ended.new.store c.end-ended.new.server in
-    on_ok c.finish.result c.finish.ensures.ok
-    (λ h. finished g.D.Disk.tells _ _ _ (counts c.args.disk.now) (counts c.end-ended.new.disk) (counts c.finish.new.disk) (λ fate. machine.served fate done (serves (Some (standing d v)) d (view_of mid))) (λ fate. machine.end fate n (view_of w).server (view_of w)) (under c.finish.new.self)
+    on_both c.finish.result c.finish.ensures.ok c.finish.ensures.arms
+    (λ h arms. finished c.in-Ok.came g.D.Disk.tells _ _ d (state_of c.end-ended.new.store) (counts c.args.disk.now) (counts c.end-ended.new.disk) (counts c.finish.new.disk) w.choice (view_of w).shown (λ fate. machine.served fate done (serves (Some (standing d v)) d (view_of mid))) (λ fate. machine.end fate n (view_of w).server (view_of w)) (under c.finish.new.self)
     (h done d (Some (standing d v)) c.in-Ok.ensures.came) (end_is n w v c.end-ended.new.server c.end-ended.new.store (sym c.if-not-is_open.ensures) c.in-Some.is)
-    c.in-Ok.ensures.counts c.finish.ensures.counts)
+    c.in-Ok.ensures.counts c.finish.ensures.counts c.in-Ok.ensures.ran arms)
 
 pub returns-in-Ok-clause-in_step : goal.returns-in-Ok-clause-in_step
 returns-in-Ok-clause-in_step g c =

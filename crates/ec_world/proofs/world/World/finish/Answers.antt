@@ -1,3 +1,6 @@
+use Rattle.std.proofs.Common.{ap}
+use Rattle.ec_store.specs.Store.{view_of as state_of}
+use Rattle.ec_world.proofs.Arms.{arms_done, arms_stopped}
 use Rattle.ec_world.proofs.Finish.{done_finishes, done_steps, done_left, stopped_finishes, stopped_left, failed_left, wants_left, on_ok, if_err}
 use Rattle.ec_world.proofs.Starting.{err_is}
 use Rattle.ec_world.proofs.world.World.finish.Goals as goal
@@ -33,3 +36,10 @@ returns-in-DiskFailed-clause-left g c = λ told done d s came image left.
 pub returns-in-NoMemory-clause-left : goal.returns-in-NoMemory-clause-left
 returns-in-NoMemory-clause-left g c = λ told done d s came image left.
     wants_left g.D.Disk.tells done d s c.args.self.now (g.D.Disk.view c.args.disk.now) c.args.came image c.in-NoMemory.is came told left
+
+pub returns-in_ok-go_on-in-Done-clause-arms : goal.returns-in_ok-go_on-in-Done-clause-arms
+returns-in_ok-go_on-in-Done-clause-arms g c = arms_done c.args.came c.in-Done.served c.in-Done.mark (state_of c.args.self.now.store) (state_of c.go_on.new.self.store) (g.D.Disk.counts c.args.disk.now).armed c.in-Done.is (ap state_of c.in_ok-go_on-in-Done.ensures.same.store)
+
+pub returns-in-Stopped-clause-arms : goal.returns-in-Stopped-clause-arms
+returns-in-Stopped-clause-arms g c =
+    on_ok c.stop_in.result c.stop_in.ensures.disarmed (λ none. arms_stopped c.args.came c.in-Stopped.mark (state_of c.args.self.now.store) (state_of c.stop_in.new.self.store) (g.D.Disk.counts c.args.disk.now).armed (g.D.Disk.counts c.stop_in.new.disk).armed c.in-Stopped.is none)

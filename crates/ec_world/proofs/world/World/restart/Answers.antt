@@ -1,5 +1,6 @@
 use Rattle.std.proofs.Common.{◌≡◌, None, rules}
 use Rattle.ec_store.specs.Store.{view_of as state_of}
+use Rattle.ec_world.proofs.Finish.{on_both}
 use Rattle.ec_world.proofs.Restarts.{on_ok, if_err, restart_finishes, restart_left}
 use Rattle.ec_world.proofs.Delivering.{spent_left, nothing_left}
 use Rattle.ec_world.proofs.Starting.{err_is}
@@ -8,10 +9,10 @@ use Rattle.ec_world.proofs.world.World.restart.Goals as goal
 pub returns-in-Ok-clause-ok : goal.returns-in-Ok-clause-ok
 returns-in-Ok-clause-ok g c =
     let none : c.args.self.now.server ≡ None = search rules in
-    on_ok c.start_up.result c.start_up.ensures.ok
-    (λ up.
+    on_both c.start_up.result c.start_up.ensures.ok c.start_up.ensures.arms
+    (λ up arms.
     restart_finishes g.D.Disk.tells _ _ c.args.self.now c.start-started.new.store c.start_up.new.self (g.D.Disk.view c.start-started.new.disk) c.in-Ok.came (g.D.Disk.counts c.args.disk.now) (g.D.Disk.counts c.start-started.new.disk) (g.D.Disk.counts c.start_up.new.disk) none
-    c.in-Ok.ensures.came up c.in-Ok.ensures.counts c.start_up.ensures.counts)
+    c.in-Ok.ensures.came up c.in-Ok.ensures.counts c.start_up.ensures.counts c.in-Ok.ensures.ran arms)
 
 pub returns-in-Ok-clause-in_step : goal.returns-in-Ok-clause-in_step
 returns-in-Ok-clause-in_step g c = on_ok c.start_up.result c.start_up.ensures.in_step (λ up. up (state_of c.args.self.now.store) c.in-Ok.ensures.came c.in-Ok.ensures.stands)
