@@ -16,7 +16,7 @@ use Rattle.ec_text.specs.Lines.{shown_text, text_of}
 use Rattle.ec_base.specs.Outside.{Rose}
 use Rattle.ec_disk.specs.Disk.{View, Counts}
 use Rattle.ec_stands.specs.Stands.{StandsFor}
-use Rattle.ec_world.specs.Steps.{FateOf, IsTold, Refuses, IsLeft, as_before, as_behind}
+use Rattle.ec_world.specs.Steps.{FateOf, IsTold, IsShown, Refuses, IsLeft, as_before, as_behind}
 use Rattle.ec_drill.specs.Drill.{code}
 use Rattle.ec_drill.specs.Left.{EachLeft}
 use Rattle.ec_drill.specs.Steps.{going, IsCause, CutText, CutLines}
@@ -164,8 +164,8 @@ cut_within tells seen w v e c lines held now writes writes_after faults faults_a
 }
 
 -- a step on a disk that isn't armed runs
-pub unarmed_step : (tells : Type 0) (old new : Counts) (e : Event) (w : World) (m : Moving) → old.armed ≡ None → (fate : Fate) × FateOf fate old new × (IsTold fate tells → happen fate e w ≡ m) → happen runs e w ≡ m
-unarmed_step tells old new e w m un (fate, here, is) = subst (λ (f : Fate). IsTold f tells → happen f e w ≡ m) (unarmed_runs fate old new un here) is tt
+pub unarmed_step : (tells : Type 0) (old new : Counts) (e : Event) (w : World) (m : Moving) → old.armed ≡ None → (fate : Fate) × FateOf fate w.durable m.world.durable old new × (IsTold fate tells → happen fate e w ≡ m) × (tells → IsShown fate w.choice w.shown m.world.shown) → happen runs e w ≡ m
+unarmed_step tells old new e w m un (fate, here, is, chosen) = subst (λ (f : Fate). IsTold f tells → happen f e w ≡ m) (unarmed_runs fate w.durable m.world.durable old new un here) is tt
 
 pub disarmed_rose : (old mid new : Counts) → mid ≡ record old { armed = None } → Rose mid.faults new.faults → Rose old.faults new.faults
 disarmed_rose old mid new is rose = subst (λ (c : Counts). Rose c.faults new.faults) is rose

@@ -1,5 +1,5 @@
 -- How a drill ends: a run on a world that was opened, and what it makes of the whole.
-use Rattle.std.proofs.Common.{◌≡◌, ◌⊎◌, ◌≤◌, ℕ, Bool, List, [], ◌∷◌, ◌++◌, Option, Result, Ok, Err, MatchResult, refl, sym, ap, subst, ◌∙◌, append_assoc, append-nil, inl, inr}
+use Rattle.std.proofs.Common.{◌≡◌, ◌⊎◌, ◌≤◌, ℕ, Bool, List, [], ◌∷◌, ◌++◌, Option, None, Result, Ok, Err, MatchResult, refl, sym, ap, subst, ◌∙◌, append_assoc, append-nil, inl, inr}
 use Rattle.std.specs.Io.KnownBytes.{Appends}
 use Rattle.ec_base.specs.Outside.{Rose}
 use Rattle.ec_base.specs.declared.counter.Counter.{Counter}
@@ -19,7 +19,7 @@ use Rattle.ec_world.specs.Laws.{in_step_stands}
 use Rattle.ec_world.specs.Steps.{Opens, Unopened}
 use Rattle.ec_world.specs.Worlds.{view_of, IsInStep}
 use Rattle.ec_drill.specs.Cuts.{IsFront}
-use Rattle.ec_drill.specs.Arms.{any_arm, heard}
+use Rattle.ec_drill.specs.Arms.{RunArms, any_arm, heard}
 use Rattle.ec_drill.specs.Fates.{IsKnown}
 use Rattle.ec_drill.specs.Left.{behind_lines, at_end, IsOfMoment, LeavesOf}
 use Rattle.ec_drill.specs.Steps.{IsLater, Ended, IsCause, CutOff}
@@ -37,15 +37,16 @@ use Rattle.ec_drill.proofs.Closings.{any_closed}
 
 -- A run that came to its end, and was closed.
 
-module _ (tells : Type 0) (a b c : ℕ) (reads : List Read) (start : World) (e : Ending) (w : World) (held mid now : Option (List ℕ)) (s : Ended tells a b (bound reads) reads start e w held mid) (le : b ≤ c) where
+module _ (tells : Type 0) (a b c : ℕ) (armed : Option ℕ) (reads : List Read) (start : World) (e : Ending) (w : World) (held mid now : Option (List ℕ)) (s : Ended tells a b (bound reads) armed reads start e w held mid) (le : b ≤ c) where
   is : IsKnown tells a c → run_from (bound reads) 1 reads s.fates start ≡ record { world = w; pieces = s.pieces; ending = e }
   is known = s.run (known_first tells a b c le known)
 
   -- and the disk stands for the state of the world that it came to
-  pub whole : (st : Status) (v : World) (seen : View) → Closed w v e st mid now → (tells → HoldsState seen v.durable) → WholeOn tells a c seen reads start (code st) held now
+  pub whole : (st : Status) (v : World) (seen : View) → Closed w v e st mid now → (tells → HoldsState seen v.durable) → WholeOn tells a c armed seen reads start (code st) held now
   whole st v seen done stands = record {
     fates = s.fates;
     are = are_to s.fates a b c le s.are;
+    followed = λ known. s.arms (known_first tells a b c le known);
     shown = joined s.pieces ++ done.shown;
     lines = λ known. ap (λ (r : Ran). lines_in (close r.ending r)) (is known) ∙ done.lines s.pieces;
     status = λ known. ap (λ (r : Ran). status_in (close r.ending r).ending) (is known) ∙ sym (done.number s.pieces);
@@ -91,7 +92,7 @@ pub holds_state : (tells : Type 0) (now : View) (w : Opened) → (tells → now.
 holds_state tells now w gives in_step told = record { gives = in_step_stands tells now w in_step told now.gives (gives told); crash = in_step_stands tells now w in_step told }
 
 -- the statuses of such a run
-pub by_status : (st : Status) (tells : Type 0) (old new : Counts) (seen : View) (reads : List Read) (start : World) (held now : Option (List ℕ)) (writes later : ℕ) → IsOwn st → WholeOn tells old.stops new.stops seen reads start (code st) held now → DrilledOn st tells old new seen reads start held now writes later
+pub by_status : (st : Status) (tells : Type 0) (old new : Counts) (seen : View) (reads : List Read) (start : World) (held now : Option (List ℕ)) (writes later : ℕ) → IsOwn st → WholeOn tells old.stops new.stops old.armed seen reads start (code st) held now → DrilledOn st tells old new seen reads start held now writes later
 by_status status.Done tells old new seen reads start held now writes later own r = r
 by_status status.BadLine tells old new seen reads start held now writes later own r = r
 by_status status.Limit tells old new seen reads start held now writes later own r = r
@@ -137,7 +138,10 @@ cause_from cut.NoMemory last writes writes_now writes_after faults faults_now fa
 
 -- The whole of a drill, behind the opening of its disk.
 
-module _ (most : ℕ) (reads : List Read) (state : Durable) (start : World) (w : Outside) (given : IsGiven w reads) (opens : Opens w.tells w.disk.gives most state) (opened : open_world state ≡ Ok start) (mid : Counts) (le : w.counts.stops ≤ mid.stops) (faults : w.counts.faults ≤ mid.faults) where
+one_world : (start v : World) → ◌≡◌ {A = Result World Counter} (Ok start) (Ok v) → start ≡ v
+one_world start v e = cc
+
+module _ (most : ℕ) (reads : List Read) (state : Durable) (start : World) (w : Outside) (given : IsGiven w reads) (opens : Opens w.tells w.disk.gives most state) (opened : open_world state ≡ Ok start) (mid : Counts) (le : w.counts.stops ≤ mid.stops) (faults : w.counts.faults ≤ mid.faults) (unarmed : mid.armed ≡ None) where
   abbrev pub may_stop : Bool
   may_stop = any_arm reads
 
@@ -145,7 +149,7 @@ module _ (most : ℕ) (reads : List Read) (state : Durable) (start : World) (w :
   known (inl k) = heard_known may_stop w.tells mid w.counts_after (known_later w.tells w.counts.stops mid.stops w.counts_after.stops le k)
   known (inr none) = heard_none may_stop none w.tells mid w.counts_after
 
-  ran : (number : ℕ) → WholeOn w.tells (heard may_stop mid).stops (heard may_stop w.counts_after).stops w.disk_after reads start number w.held w.held_after → RanWhole most number w
+  ran : (number : ℕ) → WholeOn w.tells (heard may_stop mid).stops (heard may_stop w.counts_after).stops mid.armed w.disk_after reads start number w.held w.held_after → RanWhole most number w
   ran number r = record {
     reads = reads;
     given = given;
@@ -153,6 +157,8 @@ module _ (most : ℕ) (reads : List Read) (state : Durable) (start : World) (w :
     opens = opens;
     fates = r.fates;
     stopped = heard_stops may_stop r.fates w.counts mid w.counts_after le r.are;
+    followed = λ k v at.
+        subst (λ (x : World). RunArms (bound reads) 1 reads r.fates x None) (one_world start v (sym opened ∙ at)) (subst (λ (a : Option ℕ). RunArms (bound reads) 1 reads r.fates start a) unarmed (r.followed (known k)));
     shown = r.shown;
     lines = λ k. ap (λ (x : Result World Counter). (drill_in reads r.fates x).0) opened ∙ r.lines (known k);
     status = λ k. ap (λ (x : Result World Counter). (drill_in reads r.fates x).1) opened ∙ r.status (known k);
@@ -201,6 +207,9 @@ refused most w line st result why told (inr (cut.NoMemory, is, text)) = subst (�
 
 -- The opening would spend a counter.
 
+spent_opens : (n : Counter) (v : World) → ◌≡◌ {A = Result World Counter} (Err n) (Ok v) → ⊥
+spent_opens n v e = cc
+
 spent_part : (most : ℕ) (reads : List Read) (state : Durable) (n : Counter) (w : Outside) → IsGiven w reads → Opens w.tells w.disk.gives most state → open_world state ≡ Err n → (w.tells → HoldsState w.disk_after state) → (last : List ℕ) → (last ≡ []) ⊎ IsFront (shown_text (Spent n)) last → Appends w.held w.held_after last → RanInPart most w last
 spent_part most reads state n w given opens e stands last part bytes = record {
   reads = reads;
@@ -225,6 +234,7 @@ spent_at_once most reads state n w result given opens e stands (inl (is, bytes))
   opens = opens;
   fates = [];
   stopped = inl tt;
+  followed = λ known v at. absurd (spent_opens n v (sym e ∙ at));
   shown = Spent n ∷ [];
   lines = λ known. ap (λ (x : Result World Counter). (drill_in reads [] x).0) e;
   status = λ known. ap (λ (x : Result World Counter). (drill_in reads [] x).1) e;
@@ -238,18 +248,18 @@ spent_at_once most reads state n w result given opens e stands (inr (cut.NoMemor
 -- A run and its end, by how it was closed. `k` is the run's bound.
 
 pub closes_with : (r : Result Status Cut) (result : Status) (tells : Type 0) (old mid new : Counts) (seen : View) (k : ℕ) (reads : List Read) (start : World) (e : Ending) (w v : World) (held held_mid now : Option (List ℕ)) (writes writes_mid later : ℕ)
-    → MatchResult r (λ st. result ≡ st) (λ c. result ≡ status_of c) → k ≡ bound reads → Ended tells old.stops mid.stops k reads start e w held held_mid → IsLater old mid ⊥ → IsLater mid new ⊥ → writes ≤ writes_mid
+    → MatchResult r (λ st. result ≡ st) (λ c. result ≡ status_of c) → k ≡ bound reads → Ended tells old.stops mid.stops k old.armed reads start e w held held_mid → IsLater old mid ⊥ → IsLater mid new ⊥ → writes ≤ writes_mid
     → MatchResult r (λ st. Closed w v e st held_mid now) (λ c. ClosedInPart tells seen w e c held_mid now writes_mid later mid.faults new.faults) → MatchResult r (λ st. tells → HoldsState seen v.durable) (λ c. Unit {0})
     → DrilledOn result tells old new seen reads start held now writes later
 closes_with (Ok st) result tells old mid new seen k reads start e w v held held_mid now writes writes_mid later is same s first second le done stands =
-    let ended = subst (λ (n : ℕ). Ended tells old.stops mid.stops n reads start e w held held_mid) same s in
+    let ended = subst (λ (n : ℕ). Ended tells old.stops mid.stops n old.armed reads start e w held held_mid) same s in
     subst (λ (x : Status). DrilledOn x tells old new seen reads start held now writes later) (sym is)
-    (by_status st tells old new seen reads start held now writes later done.own (whole tells old.stops mid.stops new.stops reads start e w held held_mid now ended second.stops st v seen done stands))
+    (by_status st tells old new seen reads start held now writes later done.own (whole tells old.stops mid.stops new.stops old.armed reads start e w held held_mid now ended second.stops st v seen done stands))
 closes_with (Err c) result tells old mid new seen k reads start e w v held held_mid now writes writes_mid later is same s first second le part stands =
-    let ended = subst (λ (n : ℕ). Ended tells old.stops mid.stops n reads start e w held held_mid) same s in
+    let ended = subst (λ (n : ℕ). Ended tells old.stops mid.stops n old.armed reads start e w held held_mid) same s in
     subst (λ (x : Status). DrilledOn x tells old new seen reads start held now writes later) (sym is)
     (by_cause c tells old new seen reads start part.last held now writes later (cause_from c part.last writes writes_mid later old.faults mid.faults new.faults le first.faults part.cause)
-    (whole_part tells old.stops mid.stops new.stops reads start e w held held_mid now ended second.stops seen c writes_mid later mid.faults new.faults part))
+    (whole_part tells old.stops mid.stops new.stops old.armed reads start e w held held_mid now ended second.stops seen c writes_mid later mid.faults new.faults part))
 
 pub cut_short : (c : Cut) (result : Status) (tells : Type 0) (old new : Counts) (seen : View) (k : ℕ) (reads : List Read) (start : World) (held now : Option (List ℕ)) (writes later : ℕ)
     → result ≡ status_of c → k ≡ bound reads → CutOff tells old.stops new.stops seen k reads start c held now writes later old.faults new.faults → DrilledOn result tells old new seen reads start held now writes later

@@ -1,6 +1,6 @@
 -- What carrying out a line makes of the run.
 use Rattle.std.proofs.Common.{◌≡◌, ◌+◌, ℕ, true, false, List, [], ◌∷◌, ◌++◌, Option, Some, None, Result, Ok, Err, refl, sym, ap, subst, ◌∙◌, append_assoc, arith, inl}
-use Rattle.std.specs.Prelude.{is_some, OnErr}
+use Rattle.std.specs.Prelude.{is_some, OnErr, OnOk}
 use Rattle.std.specs.Io.KnownBytes.{Appends}
 use Rattle.ec_base.specs.Outside.{Rose}
 use Rattle.ec_disk.specs.Disk.{View, Counts}
@@ -14,12 +14,14 @@ use Rattle.ec_protocol.specs.declared.world.World.{World}
 use Rattle.ec_protocol.specs.declared.world.WorldFault.{WorldFault}
 use Rattle.ec_protocol.specs.declared.world.WorldFault.TheVariants as fault
 use Rattle.ec_text.specs.Lines.{text_of}
+use Rattle.ec_drill.specs.Arms.{LineArms}
 use Rattle.ec_drill.specs.Closing.{ran_to}
 use Rattle.ec_drill.specs.Fates.{IsKnown}
 use Rattle.ec_drill.specs.Left.{EachLeft}
-use Rattle.ec_drill.specs.Steps.{going, behind, Comes, Stays, IsLater, AreOfLine, IsCarrying, before_line, behind_some, IsInLine, none_shown, some_shown, CutLines, IsCause, LineEnds, LineDone, LineCut, line_end, PendingEnd, ending_of}
+use Rattle.ec_drill.specs.Steps.{going, behind, Comes, Stays, IsLater, AreOfLine, IsCarrying, before_line, behind_some, IsInLine, none_shown, some_shown, CutLines, IsCause, LineEnds, LineFollows, LineDone, LineCut, line_end, PendingEnd, ending_of}
 use Rattle.ec_drill.specs.declared.running.Ending.{Ending}
 use Rattle.ec_drill.specs.declared.writing.Cut.{Cut}
+use Rattle.ec_drill.proofs.Follows.{arms_fail, arms_end}
 use Rattle.ec_drill.proofs.Texts.{nothing}
 use Rattle.ec_drill.proofs.Writes.{written_cause, written_part}
 use Rattle.ec_drill.proofs.Runs.{line_goes, line_piles, line_fails, line_shows}
@@ -28,6 +30,7 @@ use Rattle.ec_drill.proofs.Runs.{line_goes, line_piles, line_fails, line_shows}
 abbrev pub Carried : {X : Type 0} → Result X WorldFault → Type 0 → Counts → Counts → View → ℕ → ℕ → Line → World → World → List Shown → Type 0
 Carried r tells old new seen k number l w v piece =
     (fates : Fates) × AreOfLine fates old new × (IsKnown tells old.stops new.stops → Comes r (carry_out k fates number l w) v piece) × OnErr r (tells → EachLeft seen (IsCarrying k fates number l w))
+    × OnOk r (IsKnown tells old.stops new.stops → LineArms k fates number l w old.armed new.armed)
 
 ok_not : {X Y : Type 0} (x : X) (y : Y) → Ok x ≡ Err y → ⊥
 ok_not x y e = cc
@@ -144,6 +147,20 @@ ends_by (Err fault.DiskFailed) k number column l w v piece fates e comes is some
 ends_by (Err (fault.BadDisk p)) k number column l w v piece fates e comes is some ahead = absurd (err_not _ _ is)
 ends_by (Err fault.NoMemory) k number column l w v piece fates e comes is some ahead = absurd (err_not _ _ is)
 
+-- so nothing is said of its stops
+follows_by : {X : Type 0} (r : Result X WorldFault) (k number column : ℕ) (l : Line) (w v : World) (piece : List Shown) (fates : Fates) (e : Option Ending) (old new : Option ℕ) → Comes r (carry_out k fates number l w) v piece → line_end r number column ≡ Ok e → is_some e ≡ true
+    → LineFollows e k number (reads l column) fates w v old new
+follows_by (Ok x) k number column l w v piece fates e old new comes is some = absurd (some_not e (ok_is _ _ is) some)
+follows_by (Err (fault.Spent n)) k number column l w v piece fates e old new comes is some =
+    subst (λ (x : Option Ending). LineFollows x k number (reads l column) fates w v old new) (ok_is _ _ is) (λ ahead more. arms_fail k number column l ahead fates more w v piece (fault.Spent n) old (comes tt))
+follows_by (Err fault.NoSuchOp) k number column l w v piece fates e old new comes is some =
+    subst (λ (x : Option Ending). LineFollows x k number (reads l column) fates w v old new) (ok_is _ _ is) (λ ahead more. arms_fail k number column l ahead fates more w v piece fault.NoSuchOp old (comes tt))
+follows_by (Err fault.NoSuchMsg) k number column l w v piece fates e old new comes is some =
+    subst (λ (x : Option Ending). LineFollows x k number (reads l column) fates w v old new) (ok_is _ _ is) (λ ahead more. arms_fail k number column l ahead fates more w v piece fault.NoSuchMsg old (comes tt))
+follows_by (Err fault.DiskFailed) k number column l w v piece fates e old new comes is some = absurd (err_not _ _ is)
+follows_by (Err (fault.BadDisk p)) k number column l w v piece fates e old new comes is some = absurd (err_not _ _ is)
+follows_by (Err fault.NoMemory) k number column l w v piece fates e old new comes is some = absurd (err_not _ _ is)
+
 pub line_ended : {X : Type 0} (r : Result X WorldFault) (tells : Type 0) (old new : Counts) (seen : View) (k number column : ℕ) (l : Line) (w v : World) (piece : List Shown) (e : Option Ending) (held now : Option (List ℕ))
     → Carried r tells old new seen k number l w v piece → line_end r number column ≡ Ok e → is_some e ≡ true → Appends held now (text_of piece) → LineDone tells old new k number (reads l column) w v e held now
 line_ended r tells old new seen k number column l w v piece e held now did is some bytes = record {
@@ -151,6 +168,7 @@ line_ended r tells old new seen k number column l w v piece e held now did is so
   are = did.1;
   piece = piece;
   run = λ known. ends_by r k number column l w v piece did.0 e (did.2 known) is some;
+  arms = λ known. follows_by r k number column l w v piece did.0 e old.armed new.armed (did.2 known) is some;
   bytes = bytes;
 }
 
@@ -166,6 +184,15 @@ none_not (Err fault.NoSuchMsg) number column e m v piece comes is none = absurd 
 none_not (Err fault.DiskFailed) number column e m v piece comes is none = absurd (err_not _ _ is)
 none_not (Err (fault.BadDisk p)) number column e m v piece comes is none = absurd (err_not _ _ is)
 none_not (Err fault.NoMemory) number column e m v piece comes is none = absurd (err_not _ _ is)
+
+carried_out : {X : Type 0} (r : Result X WorldFault) (number column : ℕ) (e : Option Ending) (P : Type 0) → line_end r number column ≡ Ok e → is_some e ≡ false → OnOk r P → P
+carried_out (Ok x) number column e P is none h = h
+carried_out (Err (fault.Spent n)) number column e P is none h = absurd (not_none _ e (ok_is _ _ is) none)
+carried_out (Err fault.NoSuchOp) number column e P is none h = absurd (not_none _ e (ok_is _ _ is) none)
+carried_out (Err fault.NoSuchMsg) number column e P is none h = absurd (not_none _ e (ok_is _ _ is) none)
+carried_out (Err fault.DiskFailed) number column e P is none h = absurd (err_not _ _ is)
+carried_out (Err (fault.BadDisk p)) number column e P is none h = absurd (err_not _ _ is)
+carried_out (Err fault.NoMemory) number column e P is none h = absurd (err_not _ _ is)
 
 -- the messages that are left pending decide
 goes_by : (p : Option Ending) (k number column : ℕ) (l : Line) (w v u : World) (piece : List Shown) (fates : Fates) → carry_out k fates number l w ≡ going v piece → PendingEnd p v u → (ahead : List Read) → LineEnds p k number (reads l column) ahead fates w u piece
@@ -183,5 +210,6 @@ line_pending r tells old new seen k number column l w v u piece e p held now did
   are = did.1;
   piece = piece;
   run = λ known. goes_by p k number column l w v u piece did.0 (none_not r number column e (carry_out k did.0 number l w) v piece (did.2 known) is none) end;
+  arms = λ known. arms_end p k number column l did.0 w v u piece old.armed new.armed (none_not r number column e (carry_out k did.0 number l w) v piece (did.2 known) is none) end (carried_out r number column e _ is none did.4 known);
   bytes = bytes;
 }

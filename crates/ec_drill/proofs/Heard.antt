@@ -5,10 +5,9 @@ use Rattle.ec_base.specs.Outside.{Rose}
 use Rattle.ec_disk.specs.Disk.{Counts}
 use Rattle.ec_protocol.specs.World.{Fate, runs, stops_without, stops_with}
 use Rattle.ec_protocol.specs.Drill.{Fates}
-use Rattle.ec_world.specs.Steps.{FateOf}
 use Rattle.ec_drill.specs.Arms.{IsCalm, heard}
 use Rattle.ec_drill.specs.Fates.{AreOf, EachRuns, IsKnown}
-use Rattle.ec_drill.specs.Steps.{IsLater}
+use Rattle.ec_drill.specs.Steps.{Fares, IsLater}
 use Rattle.ec_drill.proofs.Known.{none_is_some}
 use Rattle.ec_drill.proofs.Texts.{rose_later}
 
@@ -20,10 +19,10 @@ pub heard_is_later : (m : Bool) (a b : Counts) (P : Type 0) → IsLater a b P �
 heard_is_later m a b P h = record { faults = h.faults; stops = heard_later m a b h.stops; failed = h.failed }
 
 -- a step on a disk that may not stop runs
-pub heard_fate : (m : Bool) (f : Fate) (old new : Counts) → (m ≡ false → old.armed ≡ None) → FateOf f old new → FateOf f (heard m old) (heard m new)
+pub heard_fate : (m : Bool) (f : Fate) (old new : Counts) → (m ≡ false → old.armed ≡ None) → Fares f old new → Fares f (heard m old) (heard m new)
 heard_fate m runs old new un h = tt
-heard_fate true stops_without old new un h = record { stops = h.stops; armed = h.armed }
-heard_fate true stops_with old new un h = record { stops = h.stops; armed = h.armed }
+heard_fate true stops_without old new un h = record { stops = h.stops; armed = h.armed; disarmed = h.disarmed }
+heard_fate true stops_with old new un h = record { stops = h.stops; armed = h.armed; disarmed = h.disarmed }
 heard_fate false stops_without old new un h = absurd (none_is_some old.armed (un refl) h.armed)
 heard_fate false stops_with old new un h = absurd (none_is_some old.armed (un refl) h.armed)
 

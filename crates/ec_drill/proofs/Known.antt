@@ -1,13 +1,17 @@
 -- What is known of the steps of a run, by its parts.
-use Rattle.std.proofs.Common.{◌≡◌, ◌⊎◌, ◌≤◌, ℕ, List, [], ◌∷◌, ◌++◌, refl, inl, inr, Option, Some, None, subst, sym}
+use Rattle.std.proofs.Common.{◌≡◌, ◌⊎◌, ◌≤◌, ◌∙◌, ℕ, List, [], ◌∷◌, ◌++◌, refl, inl, inr, ⊎_elim, Option, Some, None, ap, subst, sym}
 use Rattle.std.specs.Prelude.{IsSome}
 use Rattle.ec_base.specs.Outside.{Rose}
 use Rattle.ec_disk.specs.Disk.{Counts}
+use Rattle.ec_disk.specs.declared.disk.Choice.{Choice}
+use Rattle.ec_durable.specs.declared.state.Durable.{Durable}
 use Rattle.ec_protocol.specs.World.{Fate, runs, stops_without, stops_with}
 use Rattle.ec_protocol.specs.Drill.{Fates}
-use Rattle.ec_world.specs.Steps.{HasStopped, FateOf, IsTold}
+use Rattle.ec_protocol.specs.declared.world.Event.{Event}
+use Rattle.ec_protocol.specs.declared.world.Event.TheVariants as event
+use Rattle.ec_world.specs.Steps.{HasStopped, FateOf, IsTold, CountsOf, behind_arm}
 use Rattle.ec_drill.specs.Fates.{AllRun, EachRuns, AreOf, IsKnown}
-use Rattle.ec_drill.specs.Steps.{AreOfLine}
+use Rattle.ec_drill.specs.Steps.{Fares, AreOfLine}
 use Rattle.ec_drill.proofs.Texts.{rose_later, rose_then}
 
 pub known_first : (tells : Type 0) (a b c : ℕ) → b ≤ c → IsKnown tells a c → IsKnown tells a b
@@ -22,7 +26,7 @@ stopped_told : (tells : Type 0) (old new : Counts) → HasStopped old new → Is
 stopped_told tells old new h (inl told) = told
 stopped_told tells old new h (inr still) = absurd (still h.stops)
 
-pub told_if_known : (tells : Type 0) (f : Fate) (old new : Counts) → FateOf f old new → IsKnown tells old.stops new.stops → IsTold f tells
+pub told_if_known : (tells : Type 0) (f : Fate) (old new : Counts) → Fares f old new → IsKnown tells old.stops new.stops → IsTold f tells
 told_if_known tells runs old new h known = tt
 told_if_known tells stops_without old new h known = stopped_told tells old new h known
 told_if_known tells stops_with old new h known = stopped_told tells old new h known
@@ -32,10 +36,47 @@ none_is_some None e h = cc
 none_is_some (Some n) e h = cc
 
 -- a disk that isn't armed runs
-pub unarmed_runs : (f : Fate) (old new : Counts) → old.armed ≡ None → FateOf f old new → f ≡ runs
-unarmed_runs runs old new un h = refl
-unarmed_runs stops_without old new un h = absurd (none_is_some old.armed un h.armed)
-unarmed_runs stops_with old new un h = absurd (none_is_some old.armed un h.armed)
+pub unarmed_runs : (f : Fate) (before after : Durable) (old new : Counts) → old.armed ≡ None → FateOf f before after old new → f ≡ runs
+unarmed_runs runs before after old new un h = refl
+unarmed_runs stops_without before after old new un h = absurd (none_is_some old.armed un h.armed)
+unarmed_runs stops_with before after old new un h = absurd (none_is_some old.armed un h.armed)
+
+some_none : (n : ℕ) → ◌≡◌ {A = Option ℕ} (Some n) None → ⊥
+some_none n e = cc
+
+-- an arm isn't none
+arms_none : (n : ℕ) (ch : Choice) (old new : Counts) (F N A : Type 0) → (N → ⊥) → new.armed ≡ None → CountsOf (event.Arm n ch) old new F N → A
+arms_none n ch old new F N A has none counts = ⊎_elim (λ arms. absurd (some_none n (sym (ap (λ (c : Counts). c.armed) arms) ∙ none))) (λ wants. absurd (has wants.0)) counts.0
+
+-- what the disk did in a step that was done
+pub fares : (e : Event) (f : Fate) (before after : Durable) (old new : Counts) (F N : Type 0) → (N → ⊥) → FateOf f before after (behind_arm e old) new → CountsOf e old new F N → Fares f old new
+fares e runs before after old new F N has h counts = tt
+fares (event.Arm n ch) stops_without before after old new F N has h counts = arms_none n ch old new F N (HasStopped old new) has h.disarmed counts
+fares (event.Arm n ch) stops_with before after old new F N has h counts = arms_none n ch old new F N (HasStopped old new) has h.disarmed counts
+fares (event.Call c line cl) stops_without before after old new F N has h counts = h
+fares (event.Call c line cl) stops_with before after old new F N has h counts = h
+fares (event.Push c m) stops_without before after old new F N has h counts = h
+fares (event.Push c m) stops_with before after old new F N has h counts = h
+fares (event.Resend c) stops_without before after old new F N has h counts = h
+fares (event.Resend c) stops_with before after old new F N has h counts = h
+fares (event.Cut c) stops_without before after old new F N has h counts = h
+fares (event.Cut c) stops_with before after old new F N has h counts = h
+fares (event.Uncut c) stops_without before after old new F N has h counts = h
+fares (event.Uncut c) stops_with before after old new F N has h counts = h
+fares (event.Drop m) stops_without before after old new F N has h counts = h
+fares (event.Drop m) stops_with before after old new F N has h counts = h
+fares (event.Repeat m) stops_without before after old new F N has h counts = h
+fares (event.Repeat m) stops_with before after old new F N has h counts = h
+fares (event.Deliver m) stops_without before after old new F N has h counts = h
+fares (event.Deliver m) stops_with before after old new F N has h counts = h
+fares (event.Crash c) stops_without before after old new F N has h counts = h
+fares (event.Crash c) stops_with before after old new F N has h counts = h
+fares (event.End c) stops_without before after old new F N has h counts = h
+fares (event.End c) stops_with before after old new F N has h counts = h
+fares event.Stop stops_without before after old new F N has h counts = h
+fares event.Stop stops_with before after old new F N has h counts = h
+fares event.Restart stops_without before after old new F N has h counts = h
+fares event.Restart stops_with before after old new F N has h counts = h
 
 runs-push : (fs : Fates) (f : Fate) → AllRun fs → f ≡ runs → AllRun (fs ++ f ∷ [])
 runs-push [] f h e = (e, tt)
@@ -46,21 +87,21 @@ each-push [] f h e = (e, tt)
 each-push (g ∷ fs) f h e = (h.0, each-push fs f h.1 e)
 
 -- one step more
-pub one_fate : (fs : Fates) (f : Fate) (a : ℕ) (old new : Counts) → a ≤ old.stops → old.stops ≤ new.stops → AllRun fs ⊎ Rose a old.stops → FateOf f old new → AllRun (fs ++ f ∷ []) ⊎ Rose a new.stops
+pub one_fate : (fs : Fates) (f : Fate) (a : ℕ) (old new : Counts) → a ≤ old.stops → old.stops ≤ new.stops → AllRun fs ⊎ Rose a old.stops → Fares f old new → AllRun (fs ++ f ∷ []) ⊎ Rose a new.stops
 one_fate fs f a old new le later (inr r) h = inr (rose_then a old.stops new.stops r later)
 one_fate fs f a old new le later (inl all) h = by f h
   where
-    by : (f : Fate) → FateOf f old new → AllRun (fs ++ f ∷ []) ⊎ Rose a new.stops
+    by : (f : Fate) → Fares f old new → AllRun (fs ++ f ∷ []) ⊎ Rose a new.stops
     by runs h = inl (runs-push fs runs all refl)
     by stops_without h = inr (rose_later a old.stops new.stops le h.stops)
     by stops_with h = inr (rose_later a old.stops new.stops le h.stops)
 
 -- the step of a line's event before those that settle it
-pub fate_before : (f : Fate) (fs : Fates) (old mid new : Counts) → old.stops ≤ mid.stops → mid.stops ≤ new.stops → FateOf f old mid → AreOfLine fs mid new → AreOfLine (f ∷ fs) old new
+pub fate_before : (f : Fate) (fs : Fates) (old mid new : Counts) → old.stops ≤ mid.stops → mid.stops ≤ new.stops → Fares f old mid → AreOfLine fs mid new → AreOfLine (f ∷ fs) old new
 fate_before f fs old mid new le later h (inr r) = inr (rose_later old.stops mid.stops new.stops le r)
 fate_before f fs old mid new le later h (inl all) = by f h
   where
-    by : (f : Fate) → FateOf f old mid → AreOfLine (f ∷ fs) old new
+    by : (f : Fate) → Fares f old mid → AreOfLine (f ∷ fs) old new
     by runs h = inl (refl, all)
     by stops_without h = inr (rose_then old.stops mid.stops new.stops h.stops later)
     by stops_with h = inr (rose_then old.stops mid.stops new.stops h.stops later)

@@ -4,6 +4,7 @@ pub mod Heard
 pub mod Writes
 pub mod Lines
 pub mod Fresh
+pub mod Follows
 pub mod Carried
 pub mod Refused
 pub mod Runs

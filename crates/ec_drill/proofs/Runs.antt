@@ -10,6 +10,7 @@ use Rattle.ec_protocol.specs.declared.script.Line.{Line}
 use Rattle.ec_protocol.specs.declared.world.World.{World}
 use Rattle.ec_protocol.specs.declared.world.WorldFault.{WorldFault}
 use Rattle.ec_text.specs.Lines.{text_of}
+use Rattle.ec_drill.specs.Arms.{RunArms}
 use Rattle.ec_drill.specs.Fates.{IsKnown}
 use Rattle.ec_drill.specs.Left.{fates_behind, behind_lines, in_line, IsOfMoment}
 use Rattle.ec_drill.specs.Steps.{going, behind, Sofar, Ended, IsCause, IsInLine, none_shown, some_shown, CutOff, LineDone, LineCut, ending_of}
@@ -91,6 +92,7 @@ line_unfit tells old k number col w held = record {
   are = inl tt;
   piece = [];
   run = λ known ahead more. refl;
+  arms = λ known ahead more. tt;
   bytes = nothing held;
 }
 
@@ -99,8 +101,8 @@ line_unfit tells old k number col w held = record {
 behind-two : (ps qs : List (List Shown)) (r : Ran) → behind ps (behind qs r) ≡ behind (ps ++ qs) r
 behind-two ps qs r = ap (λ l. record r { pieces = l }) (sym (append_assoc ps qs r.pieces))
 
-pub sofar : (tells : Type 0) (a k : ℕ) (all : List Read) (start : World) (held : Option (List ℕ)) → Sofar tells a a k all start 1 all start held held
-sofar tells a k all start held = record { done = []; split = refl; counted = refl; fates = []; each = refl; are = inl tt; pieces = []; run = λ known others more. refl; bytes = nothing held }
+pub sofar : (tells : Type 0) (a k : ℕ) (armed : Option ℕ) (all : List Read) (start : World) (held : Option (List ℕ)) → Sofar tells a a k armed armed all start 1 all start held held
+sofar tells a k armed all start held = record { done = []; split = refl; counted = refl; fates = []; each = refl; are = inl tt; pieces = []; run = λ known others more. refl; arms = λ known others more h. h; bytes = nothing held }
 
 one-more : {X : Type 0} (xs : List X) (x : X) → length (xs ++ x ∷ []) ≡ length xs + 1
 one-more [] x = refl
@@ -118,17 +120,17 @@ pub fates-here : (fs : List Fates) (f : Fates) (n : ℕ) → length fs ≡ n →
 fates-here fs f n is = ap first_fates (drop-front fs (f ∷ []) n is)
 
 -- the run over all lines
-pub all_run : (tells : Type 0) (a b k : ℕ) (all : List Read) (start : World) (number : ℕ) (ahead : List Read) (w : World) (held mid : Option (List ℕ)) (s : Sofar tells a b k all start number ahead w held mid) → IsKnown tells a b
+pub all_run : (tells : Type 0) (a b k : ℕ) (armed here : Option ℕ) (all : List Read) (start : World) (number : ℕ) (ahead : List Read) (w : World) (held mid : Option (List ℕ)) (s : Sofar tells a b k armed here all start number ahead w held mid) → IsKnown tells a b
     → (more : List Fates) → run_from k 1 all (s.fates ++ more) start ≡ behind s.pieces (run_from k number ahead more w)
-all_run tells a b k all start number ahead w held mid s known more = ap (λ ls. run_from k 1 ls (s.fates ++ more) start) (sym s.split) ∙ s.run known ahead more
+all_run tells a b k armed here all start number ahead w held mid s known more = ap (λ ls. run_from k 1 ls (s.fates ++ more) start) (sym s.split) ∙ s.run known ahead more
 
 -- the one over those that were carried out
-done_run : (tells : Type 0) (a b k : ℕ) (all : List Read) (start : World) (number : ℕ) (ahead : List Read) (w : World) (held mid : Option (List ℕ)) (s : Sofar tells a b k all start number ahead w held mid) → IsKnown tells a b
+done_run : (tells : Type 0) (a b k : ℕ) (armed here : Option ℕ) (all : List Read) (start : World) (number : ℕ) (ahead : List Read) (w : World) (held mid : Option (List ℕ)) (s : Sofar tells a b k armed here all start number ahead w held mid) → IsKnown tells a b
     → (more : List Fates) → run_from k 1 s.done (s.fates ++ more) start ≡ record { world = w; pieces = s.pieces; ending = machine.Done }
-done_run tells a b k all start number ahead w held mid s known more =
+done_run tells a b k armed here all start number ahead w held mid s known more =
     ap (λ ls. run_from k 1 ls (s.fates ++ more) start) (sym (append-nil s.done)) ∙ s.run known [] more ∙ ap (λ l. record { world = w; pieces = l; ending = machine.Done }) (append-nil s.pieces)
 
-module _ (tells : Type 0) (a b : ℕ) (old new : Counts) (k : ℕ) (all : List Read) (start : World) (number : ℕ) (r : Read) (ahead : List Read) (w : World) (held mid now : Option (List ℕ)) (s : Sofar tells a b k all start number (r ∷ ahead) w held mid) (here : old.stops ≡ b) (from : a ≤ b) (later : old.stops ≤ new.stops) where
+module _ (tells : Type 0) (a b : ℕ) (old new : Counts) (k : ℕ) (armed : Option ℕ) (all : List Read) (start : World) (number : ℕ) (r : Read) (ahead : List Read) (w : World) (held mid now : Option (List ℕ)) (s : Sofar tells a b k armed old.armed all start number (r ∷ ahead) w held mid) (here : old.stops ≡ b) (from : a ≤ b) (later : old.stops ≤ new.stops) where
   before : IsKnown tells a new.stops → IsKnown tells a b
   before known = known_first tells a b new.stops (subst (λ (n : ℕ). n ≤ new.stops) here later) known
 
@@ -136,7 +138,7 @@ module _ (tells : Type 0) (a b : ℕ) (old new : Counts) (k : ℕ) (all : List R
   inside known = known_later tells a old.stops new.stops (subst (λ (n : ℕ). a ≤ n) (sym here) from) known
 
   to_line : (fates : Fates) (more : List Fates) → IsKnown tells a new.stops → run_from k 1 all ((s.fates ++ fates ∷ []) ++ more) start ≡ behind s.pieces (run_from k number (r ∷ ahead) (fates ∷ more) w)
-  to_line fates more known = ap (λ fs. run_from k 1 all fs start) (append_assoc s.fates (fates ∷ []) more) ∙ all_run tells a b k all start number (r ∷ ahead) w held mid s (before known) (fates ∷ more)
+  to_line fates more known = ap (λ fs. run_from k 1 all fs start) (append_assoc s.fates (fates ∷ []) more) ∙ all_run tells a b k armed old.armed all start number (r ∷ ahead) w held mid s (before known) (fates ∷ more)
 
   -- the lines that are carried out, with this one, before any others
   on_line : (fates : Fates) (others : List Read) (more : List Fates) → IsKnown tells a new.stops → run_from k 1 ((s.done ++ r ∷ []) ++ others) ((s.fates ++ fates ∷ []) ++ more) start ≡ behind s.pieces (run_from k number (r ∷ others) (fates ∷ more) w)
@@ -152,7 +154,7 @@ module _ (tells : Type 0) (a b : ℕ) (old new : Counts) (k : ℕ) (all : List R
   more_fates f = one-more s.fates f ∙ ap (λ (n : ℕ). n + 1) s.each ∙ sym (one-more s.done r)
 
   -- a line more
-  pub goes_on : (v : World) → LineDone tells old new k number r w v None mid now → Sofar tells a new.stops k all start (number + 1) ahead v held now
+  pub goes_on : (v : World) → LineDone tells old new k number r w v None mid now → Sofar tells a new.stops k armed new.armed all start (number + 1) ahead v held now
   goes_on v did = record {
     done = s.done ++ r ∷ [];
     split = append_assoc s.done (r ∷ []) ahead ∙ s.split;
@@ -164,17 +166,22 @@ module _ (tells : Type 0) (a b : ℕ) (old new : Counts) (k : ℕ) (all : List R
     run = λ known others more.
         on_line did.fates others more known ∙ ap (behind s.pieces) (did.run (inside known) others more)
         ∙ behind-two s.pieces (did.piece ∷ []) (run_from k (number + 1) others more v);
+    arms = λ known others more rest.
+        subst (λ (ls : List Read). RunArms k 1 ls ((s.fates ++ did.fates ∷ []) ++ more) start armed) (sym (append_assoc s.done (r ∷ []) others))
+        (subst (λ (fs : List Fates). RunArms k 1 (s.done ++ r ∷ others) fs start armed) (sym (append_assoc s.fates (did.fates ∷ []) more))
+        (s.arms (before known) (r ∷ others) (did.fates ∷ more) (did.arms (inside known) others more rest)));
     bytes = appends_two held mid now _ _ _ s.bytes did.bytes (sym (text_of-append (joined s.pieces) did.piece) ∙ ap text_of (sym (joined-push s.pieces did.piece)));
   }
 
   -- a line that ends the run
-  pub ends_at : (v : World) (e : Ending) → LineDone tells old new k number r w v (Some e) mid now → Ended tells a new.stops k all start (ending_of e) v held now
+  pub ends_at : (v : World) (e : Ending) → LineDone tells old new k number r w v (Some e) mid now → Ended tells a new.stops k armed all start (ending_of e) v held now
   ends_at v e did = record {
     fates = s.fates ++ did.fates ∷ [];
     are = one_line s.fates did.fates a b old new here from later s.are did.are;
     pieces = s.pieces ++ did.piece ∷ [];
     run = λ known.
         ap (λ fs. run_from k 1 all fs start) (sym (append-nil (s.fates ++ did.fates ∷ []))) ∙ to_line did.fates [] known ∙ ap (behind s.pieces) (did.run (inside known) ahead []);
+    arms = λ known. subst (λ (ls : List Read). RunArms k 1 ls (s.fates ++ did.fates ∷ []) start armed) s.split (s.arms (before known) (r ∷ ahead) (did.fates ∷ []) (did.arms (inside known) ahead []));
     bytes = appends_two held mid now _ _ _ s.bytes did.bytes (sym (text_of-append (joined s.pieces) did.piece) ∙ ap text_of (sym (joined-push s.pieces did.piece)));
   }
 
@@ -190,7 +197,7 @@ module _ (tells : Type 0) (a b : ℕ) (old new : Counts) (k : ℕ) (all : List R
   }
     where
       ran : run_from k 1 s.done (s.fates ++ f ∷ []) start ≡ record { world = w; pieces = s.pieces; ending = machine.Done }
-      ran = done_run tells a b k all start number (r ∷ ahead) w held mid s (inl told) (f ∷ [])
+      ran = done_run tells a b k armed old.armed all start number (r ∷ ahead) w held mid s (inl told) (f ∷ [])
   left_at f written image told (some_shown l column is j most rest shows h) = record {
     world = m.world;
     shown = joined s.pieces ++ m.shown;
@@ -204,7 +211,7 @@ module _ (tells : Type 0) (a b : ℕ) (old new : Counts) (k : ℕ) (all : List R
       m = carry_out j f number l w
 
       ran : run_from k 1 s.done (s.fates ++ f ∷ []) start ≡ record { world = w; pieces = s.pieces; ending = machine.Done }
-      ran = done_run tells a b k all start number (r ∷ ahead) w held mid s (inl told) (f ∷ [])
+      ran = done_run tells a b k armed old.armed all start number (r ∷ ahead) w held mid s (inl told) (f ∷ [])
 
       here_is : carry_out j (fates_behind (length s.done) (s.fates ++ f ∷ [])) (length s.done + 1) l w ≡ m
       here_is = ap (λ (x : Fates). carry_out j x (length s.done + 1) l w) (fates-here s.fates f (length s.done) s.each) ∙ ap (λ (n : ℕ). carry_out j f n l w) (sym s.counted)
@@ -237,13 +244,14 @@ module _ (tells : Type 0) (a b : ℕ) (old new : Counts) (k : ℕ) (all : List R
   }
 
 -- no line is left
-pub ends_done : (tells : Type 0) (a b k : ℕ) (all : List Read) (start : World) (number : ℕ) (w : World) (held now : Option (List ℕ)) → Sofar tells a b k all start number [] w held now → Ended tells a b k all start machine.Done w held now
-ends_done tells a b k all start number w held now s = record {
+pub ends_done : (tells : Type 0) (a b k : ℕ) (armed here : Option ℕ) (all : List Read) (start : World) (number : ℕ) (w : World) (held now : Option (List ℕ)) → Sofar tells a b k armed here all start number [] w held now → Ended tells a b k armed all start machine.Done w held now
+ends_done tells a b k armed here all start number w held now s = record {
   fates = s.fates;
   are = s.are;
   pieces = s.pieces;
   run = λ known.
-      ap (λ fs. run_from k 1 all fs start) (sym (append-nil s.fates)) ∙ all_run tells a b k all start number [] w held now s known [] ∙ ap (λ l. record { world = w; pieces = l; ending = machine.Done }) (append-nil s.pieces);
+      ap (λ fs. run_from k 1 all fs start) (sym (append-nil s.fates)) ∙ all_run tells a b k armed here all start number [] w held now s known [] ∙ ap (λ l. record { world = w; pieces = l; ending = machine.Done }) (append-nil s.pieces);
+  arms = λ known. subst (λ (ls : List Read). RunArms k 1 ls s.fates start armed) (sym (append-nil s.done) ∙ s.split) (subst (λ (fs : List Fates). RunArms k 1 s.done fs start armed) (append-nil s.fates) (subst (λ (ls : List Read). RunArms k 1 ls (s.fates ++ []) start armed) (append-nil s.done) (s.arms known [] [] tt)));
   bytes = s.bytes;
 }
 

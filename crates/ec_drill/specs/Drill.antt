@@ -1,5 +1,5 @@
 -- What a drill does with its source, its sink and its disk.
-use Rattle.std.specs.Prelude.{◌≡◌, Bool, true, false, ◌<◌, ◌≤◌, ◌⊎◌, ◌+◌, ℕ, List, [], ◌++◌, length, Option, Ok, Err}
+use Rattle.std.specs.Prelude.{◌≡◌, Bool, true, false, ◌<◌, ◌≤◌, ◌⊎◌, ◌+◌, ℕ, List, [], ◌++◌, length, Option, None, Ok, Err}
 use Rattle.std.specs.Io.KnownBytes.{Consumes, Appends, Keeps, IsAtEnd}
 use Rattle.ec_base.specs.Outside.{Rose}
 use Rattle.ec_disk.specs.Disk.{View, Counts}
@@ -17,7 +17,7 @@ use Rattle.ec_protocol.specs.Drill.{Read, Fates, Ran, run_from, bound, close, dr
 use Rattle.ec_world.specs.Steps.{Opens}
 use Rattle.ec_drill.specs.Limits.{most_bytes, most_lines}
 use Rattle.ec_drill.specs.Script.{AreRead}
-use Rattle.ec_drill.specs.Arms.{any_arm}
+use Rattle.ec_drill.specs.Arms.{RunArms, any_arm}
 use Rattle.ec_drill.specs.Fates.{EachRuns, IsKnown}
 use Rattle.ec_drill.specs.Cuts.{IsFront, IsPartOf}
 use Rattle.ec_drill.specs.Left.{LeavesOf}
@@ -108,6 +108,8 @@ pub record RanWhole (most number : ℕ) (w : Outside) : Type 0 where
   -- what the disk did in each step
   pub fates : List Fates
   pub stopped : AreStops w reads fates
+  -- the stops follow the lines that arm the disk
+  pub followed : IsToldAll w reads → (start : World) → open_world state ≡ Ok start → RunArms (bound reads) 1 reads fates start None
   -- the lines and the status are the machine's
   pub shown : List Shown
   pub lines : IsToldAll w reads → (drill reads fates state).0 ≡ shown

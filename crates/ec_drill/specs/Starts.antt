@@ -13,6 +13,7 @@ use Rattle.ec_protocol.specs.declared.world.WorldFault.{WorldFault}
 use Rattle.ec_protocol.specs.declared.world.WorldFault.TheVariants as fault
 use Rattle.ec_drill.specs.Limits.{most_bytes, most_lines}
 use Rattle.ec_drill.specs.Script.{AreRead}
+use Rattle.ec_drill.specs.Arms.{RunArms}
 use Rattle.ec_drill.specs.Fates.{AreOf, IsKnown}
 use Rattle.ec_drill.specs.Steps.{CutText, InPart, run_leaves}
 use Rattle.ec_drill.specs.Drill.{Outside, IsGiven, Drilled, HoldsState, end_of}
@@ -57,9 +58,10 @@ TellsUnopened fault.NoSuchMsg result held now before later = (result ≡ status.
 TellsUnopened fault.NoMemory result held now before later = (result ≡ status.NoMemory) × Keeps held now
 
 -- A run on a world, of which all lines were written, and the disk behind it.
-pub record WholeOn (tells : Type 0) (before now : ℕ) (seen : View) (reads : List Read) (start : World) (number : ℕ) (held mid : Option (List ℕ)) : Type 0 where
+pub record WholeOn (tells : Type 0) (before now : ℕ) (armed : Option ℕ) (seen : View) (reads : List Read) (start : World) (number : ℕ) (held mid : Option (List ℕ)) : Type 0 where
   pub fates : List Fates
   pub are : AreOf fates before now
+  pub followed : IsKnown tells before now → RunArms (bound reads) 1 reads fates start armed
   pub shown : List Shown
   pub lines : IsKnown tells before now → (drill_in reads fates (Ok start)).0 ≡ shown
   pub status : IsKnown tells before now → (drill_in reads fates (Ok start)).1 ≡ number
@@ -71,10 +73,10 @@ abbrev pub PartOn : Type 0 → ℕ → ℕ → View → List Read → World → 
 PartOn tells before now seen reads start last held mid = InPart tells before now (λ fates. (drill_in reads fates (Ok start)).0) (run_leaves seen (bound reads) reads start) last held mid
 
 abbrev pub DrilledOn : Status → Type 0 → Counts → Counts → View → List Read → World → Option (List ℕ) → Option (List ℕ) → ℕ → ℕ → Type 0
-DrilledOn status.Done tells old new seen reads start held now writes later = WholeOn tells old.stops new.stops seen reads start 0 held now
-DrilledOn status.BadLine tells old new seen reads start held now writes later = WholeOn tells old.stops new.stops seen reads start 3 held now
-DrilledOn status.Limit tells old new seen reads start held now writes later = WholeOn tells old.stops new.stops seen reads start 11 held now
-DrilledOn status.Spent tells old new seen reads start held now writes later = WholeOn tells old.stops new.stops seen reads start 15 held now
+DrilledOn status.Done tells old new seen reads start held now writes later = WholeOn tells old.stops new.stops old.armed seen reads start 0 held now
+DrilledOn status.BadLine tells old new seen reads start held now writes later = WholeOn tells old.stops new.stops old.armed seen reads start 3 held now
+DrilledOn status.Limit tells old new seen reads start held now writes later = WholeOn tells old.stops new.stops old.armed seen reads start 11 held now
+DrilledOn status.Spent tells old new seen reads start held now writes later = WholeOn tells old.stops new.stops old.armed seen reads start 15 held now
 DrilledOn status.SinkFault tells old new seen reads start held now writes later = Rose writes later × ((last : List ℕ) × PartOn tells old.stops new.stops seen reads start last held now)
 DrilledOn status.DiskFault tells old new seen reads start held now writes later = Rose old.faults new.faults × PartOn tells old.stops new.stops seen reads start [] held now
 DrilledOn status.NoMemory tells old new seen reads start held now writes later = (last : List ℕ) × PartOn tells old.stops new.stops seen reads start last held now

@@ -5,7 +5,7 @@ use Rattle.ec_base.specs.Outside.{Rose}
 use Rattle.ec_disk.specs.Disk.{View, Counts}
 use Rattle.ec_stands.specs.Stands.{StandsFor}
 use Rattle.ec_history.specs.declared.shown.Shown.{Shown}
-use Rattle.ec_protocol.specs.World.{Moving, pending, forget}
+use Rattle.ec_protocol.specs.World.{Fate, runs, stops_without, stops_with, Moving, pending, forget}
 use Rattle.ec_protocol.specs.Drill.{Fates, Read, reads, Ran, settle, carry_out, run_from, joined, close, last_line}
 use Rattle.ec_protocol.specs.Drill as machine
 use Rattle.ec_protocol.specs.declared.script.Line.{Line}
@@ -13,6 +13,8 @@ use Rattle.ec_protocol.specs.declared.world.World.{World}
 use Rattle.ec_protocol.specs.declared.world.WorldFault.{WorldFault}
 use Rattle.ec_protocol.specs.declared.world.WorldFault.TheVariants as fault
 use Rattle.ec_text.specs.Lines.{shown_text, text_of}
+use Rattle.ec_world.specs.Steps.{HasStopped}
+use Rattle.ec_drill.specs.Arms.{RunArms}
 use Rattle.ec_drill.specs.Fates.{AllRun, AreOf, IsKnown}
 use Rattle.ec_drill.specs.Cuts.{IsFront, IsPartOf}
 use Rattle.ec_drill.specs.Left.{EachLeft, IsOfMoment}
@@ -51,6 +53,12 @@ pub record IsLater (old new : Counts) (Failing : Type 0) : Type 0 where
   pub faults : old.faults ≤ new.faults
   pub stops : old.stops ≤ new.stops
   pub failed : Failing → Rose old.faults new.faults
+
+-- What the disk did in a step, where it was stopped. Of one that runs nothing is said: it may be one that a fault cut off.
+abbrev pub Fares : Fate → Counts → Counts → Type 0
+Fares runs old new = Unit {0}
+Fares stops_without old new = HasStopped old new
+Fares stops_with old new = HasStopped old new
 
 -- what the disk did in the steps of a line
 abbrev pub AreOfLine : Fates → Counts → Counts → Type 0
@@ -112,7 +120,7 @@ abbrev pub behind : List (List Shown) → Ran → Ran
 behind pieces r = record r { pieces = pieces ++ r.pieces }
 
 -- The lines of a run that are still ahead, from this number on, and what was done and written before. Any other lines could be ahead too.
-pub record Sofar (tells : Type 0) (before now k : ℕ) (all : List Read) (start : World) (number : ℕ) (ahead : List Read) (w : World) (held mid : Option (List ℕ)) : Type 0 where
+pub record Sofar (tells : Type 0) (before now k : ℕ) (armed here : Option ℕ) (all : List Read) (start : World) (number : ℕ) (ahead : List Read) (w : World) (held mid : Option (List ℕ)) : Type 0 where
   pub done : List Read
   pub split : done ++ ahead ≡ all
   pub counted : number ≡ length done + 1
@@ -121,14 +129,16 @@ pub record Sofar (tells : Type 0) (before now k : ℕ) (all : List Read) (start 
   pub are : AreOf fates before now
   pub pieces : List (List Shown)
   pub run : IsKnown tells before now → (others : List Read) (more : List Fates) → run_from k 1 (done ++ others) (fates ++ more) start ≡ behind pieces (run_from k number others more w)
+  pub arms : IsKnown tells before now → (others : List Read) (more : List Fates) → RunArms k number others more w here → RunArms k 1 (done ++ others) (fates ++ more) start armed
   pub bytes : Appends held mid (text_of (joined pieces))
 
 -- A run that ended, with all its pieces written.
-pub record Ended (tells : Type 0) (before now k : ℕ) (all : List Read) (start : World) (end : machine.Ending) (w : World) (held mid : Option (List ℕ)) : Type 0 where
+pub record Ended (tells : Type 0) (before now k : ℕ) (armed : Option ℕ) (all : List Read) (start : World) (end : machine.Ending) (w : World) (held mid : Option (List ℕ)) : Type 0 where
   pub fates : List Fates
   pub are : AreOf fates before now
   pub pieces : List (List Shown)
   pub run : IsKnown tells before now → run_from k 1 all fates start ≡ record { world = w; pieces = pieces; ending = end }
+  pub arms : IsKnown tells before now → RunArms k 1 all fates start armed
   pub bytes : Appends held mid (text_of (joined pieces))
 
 -- why a run was cut off, with these bytes of a line
@@ -168,12 +178,18 @@ abbrev pub LineEnds : Option Ending → ℕ → ℕ → Read → List Read → F
 LineEnds None k number r ahead fates w v piece = (more : List Fates) → run_from k number (r ∷ ahead) (fates ∷ more) w ≡ behind (piece ∷ []) (run_from k (number + 1) ahead more v)
 LineEnds (Some e) k number r ahead fates w v piece = (more : List Fates) → run_from k number (r ∷ ahead) (fates ∷ more) w ≡ record { world = v; pieces = piece ∷ []; ending = ending_of e }
 
+-- The stops of the lines from this one on follow the arms, where those of the lines behind it do.
+abbrev pub LineFollows : Option Ending → ℕ → ℕ → Read → Fates → World → World → Option ℕ → Option ℕ → Type 0
+LineFollows None k number r fates w v old new = (ahead : List Read) (more : List Fates) → RunArms k (number + 1) ahead more v new → RunArms k number (r ∷ ahead) (fates ∷ more) w old
+LineFollows (Some e) k number r fates w v old new = (ahead : List Read) (more : List Fates) → RunArms k number (r ∷ ahead) (fates ∷ more) w old
+
 -- A line that was carried out, with its piece written.
 pub record LineDone (tells : Type 0) (old new : Counts) (k number : ℕ) (r : Read) (w v : World) (e : Option Ending) (held mid : Option (List ℕ)) : Type 0 where
   pub fates : Fates
   pub are : AreOfLine fates old new
   pub piece : List Shown
   pub run : IsKnown tells old.stops new.stops → (ahead : List Read) → LineEnds e k number r ahead fates w v piece
+  pub arms : IsKnown tells old.stops new.stops → LineFollows e k number r fates w v old.armed new.armed
   pub bytes : Appends held mid (text_of piece)
 
 -- A line in which the run was cut off: its piece is written in part, or not at all.

@@ -4,12 +4,12 @@ ghost use Rattle.ec_protocol.specs.World.{Fate, happen};
 ghost use Rattle.ec_protocol.specs.Drill.{Fates, onward, line_happens, settle, carry_out};
 ghost use Rattle.ec_protocol.specs.declared.world.WorldFault.TheVariants as fault;
 ghost use Rattle.ec_world.specs.Worlds.{view_of, IsInStep, Keeps};
-ghost use Rattle.ec_world.specs.Steps.{FateOf, IsTold, IsLeft};
+ghost use Rattle.ec_world.specs.Steps.{IsTold, IsLeft, armed_by};
 ghost use Rattle.ec_drill.specs.Script.{machine_line};
-ghost use Rattle.ec_drill.specs.Arms.{IsCalm, heard, is_arm, is_arming};
+ghost use Rattle.ec_drill.specs.Arms.{ArmBy, SettleArms, LineArms, IsCalm, armed_at, heard, is_arm, is_arming};
 ghost use Rattle.ec_drill.specs.Fates.{IsKnown};
 ghost use Rattle.ec_drill.specs.Left.{EachLeft};
-ghost use Rattle.ec_drill.specs.Steps.{going, Comes, Stays, IsLater, AreOfLine, IsSettling, IsCarrying};
+ghost use Rattle.ec_drill.specs.Steps.{going, Comes, Stays, IsLater, Fares, AreOfLine, IsSettling, IsCarrying};
 
 use crate::event::event_of;
 use ec_base::NoMemory;
@@ -36,7 +36,9 @@ pub(crate) fn carry_out<D: CrashDisk>(
         → (fates : Fates) × AreOfLine fates (heard may_stop (D.counts disk.old)) (heard may_stop (D.counts disk.new))
         × (IsKnown D.tells (heard may_stop (D.counts disk.old)).stops (heard may_stop (D.counts disk.new)).stops
         → Comes result (carry_out bound fates number (machine_line line) (view_of world.old)) (view_of world.new) piece.new.items)
-        × OnErr result (D.tells → EachLeft (D.view disk.new) (IsCarrying bound fates number (machine_line line) (view_of world.old))) }
+        × OnErr result (D.tells → EachLeft (D.view disk.new) (IsCarrying bound fates number (machine_line line) (view_of world.old)))
+        × OnOk result (IsKnown D.tells (heard may_stop (D.counts disk.old)).stops (heard may_stop (D.counts disk.new)).stops
+        → LineArms bound fates number (machine_line line) (view_of world.old) (D.counts disk.old).armed (D.counts disk.new).armed) }
     ensures in_step { Stays result (IsInStep D.tells (D.view disk.new) world.new) }
     ensures counts { IsLater (D.counts disk.old) (D.counts disk.new) (result ≡ Err fault.DiskFailed) }
     ensures quiet { is_arm (machine_line line) ≡ false → IsSome (D.counts disk.new).armed → IsSome (D.counts disk.old).armed }
@@ -58,10 +60,11 @@ fn begin<D: CrashDisk>(
 ) -> Result<(), WorldFault>
     requires in_step { IsInStep D.tells (D.view disk.old) world.old }
     requires empty { piece.old.items ≡ [] }
-    ensures begun { (fate : Fate) × FateOf fate (D.counts disk.old) (D.counts disk.new)
+    ensures begun { (fate : Fate) × Fares fate (D.counts disk.old) (D.counts disk.new)
         × (IsTold fate D.tells
         → Comes result (onward (going (view_of world.old) []) (line_happens fate number (machine_line line) (view_of world.old))) (view_of world.new) piece.new.items)
-        × OnErr result (D.tells → EachLeft (D.view disk.new) (IsLeft (view_of world.old).durable (line_happens fate number (machine_line line) (view_of world.old)))) }
+        × OnErr result (D.tells → EachLeft (D.view disk.new) (IsLeft (view_of world.old).durable (line_happens fate number (machine_line line) (view_of world.old))))
+        × OnOk result (IsTold fate D.tells → ArmBy fate (view_of world.old) (view_of world.new) (armed_at (machine_line line) (D.counts disk.old).armed) (D.counts disk.new).armed) }
     ensures in_step { Stays result (IsInStep D.tells (D.view disk.new) world.new) }
     ensures counts { IsLater (D.counts disk.old) (D.counts disk.new) (result ≡ Err fault.DiskFailed) }
     ensures quiet { is_arm (machine_line line) ≡ false → IsSome (D.counts disk.new).armed → IsSome (D.counts disk.old).armed }
@@ -86,7 +89,9 @@ fn settle<D: CrashDisk>(
         → (fates : Fates) × AreOfLine fates (heard may_stop (D.counts disk.old)) (heard may_stop (D.counts disk.new))
         × (IsKnown D.tells (heard may_stop (D.counts disk.old)).stops (heard may_stop (D.counts disk.new)).stops
         → Comes result (settle bound fates (going (view_of world.old) piece.old.items)) (view_of world.new) piece.new.items)
-        × OnErr result (D.tells → EachLeft (D.view disk.new) (IsSettling bound fates (going (view_of world.old) piece.old.items))) }
+        × OnErr result (D.tells → EachLeft (D.view disk.new) (IsSettling bound fates (going (view_of world.old) piece.old.items)))
+        × OnOk result (IsKnown D.tells (heard may_stop (D.counts disk.old)).stops (heard may_stop (D.counts disk.new)).stops
+        → SettleArms bound fates (going (view_of world.old) piece.old.items) (D.counts disk.old).armed (D.counts disk.new).armed) }
     ensures in_step { Stays result (IsInStep D.tells (D.view disk.new) world.new) }
     ensures counts { IsLater (D.counts disk.old) (D.counts disk.new) (result ≡ Err fault.DiskFailed) }
     ensures quiet { IsSome (D.counts disk.new).armed → IsSome (D.counts disk.old).armed }
@@ -131,10 +136,11 @@ fn step<D: CrashDisk>(
     piece: &mut Vec<Shown>,
 ) -> Result<(), WorldFault>
     requires { IsInStep D.tells (D.view disk.old) world.old }
-    ensures stepped { (fate : Fate) × FateOf fate (D.counts disk.old) (D.counts disk.new)
+    ensures stepped { (fate : Fate) × Fares fate (D.counts disk.old) (D.counts disk.new)
         × (IsTold fate D.tells
         → Comes result (onward (going (view_of world.old) piece.old.items) (happen fate event (view_of world.old))) (view_of world.new) piece.new.items)
-        × OnErr result (D.tells → EachLeft (D.view disk.new) (IsLeft (view_of world.old).durable (happen fate event (view_of world.old)))) }
+        × OnErr result (D.tells → EachLeft (D.view disk.new) (IsLeft (view_of world.old).durable (happen fate event (view_of world.old))))
+        × OnOk result (IsTold fate D.tells → ArmBy fate (view_of world.old) (view_of world.new) (armed_by event (D.counts disk.old).armed) (D.counts disk.new).armed) }
     ensures in_step { Stays result (IsInStep D.tells (D.view disk.new) world.new) }
     ensures counts { IsLater (D.counts disk.old) (D.counts disk.new) (result ≡ Err fault.DiskFailed) }
     ensures quiet { is_arming event ≡ false → IsSome (D.counts disk.new).armed → IsSome (D.counts disk.old).armed }

@@ -1,12 +1,12 @@
 // The event of a line.
-ghost use Rattle.std.specs.Prelude.{◌≡◌, MatchResult, Option};
+ghost use Rattle.std.specs.Prelude.{◌≡◌, ℕ, MatchResult, Option};
 ghost use Rattle.ec_protocol.specs.World.{Fate, fails};
 ghost use Rattle.ec_protocol.specs.Drill.{line_happens};
 ghost use Rattle.ec_protocol.specs.declared.world.WorldFault.TheVariants as fault;
 ghost use Rattle.ec_world.specs.Worlds.{view_of};
 ghost use Rattle.ec_drill.specs.Script.{machine_line};
 ghost use Rattle.ec_drill.specs.Lines.{happens, IsNothing};
-ghost use Rattle.ec_drill.specs.Arms.{arms, is_arm};
+ghost use Rattle.ec_drill.specs.Arms.{armed_at, armed_for, arms, is_arm};
 
 use ec_protocol::{Event, WorldFault};
 use ec_script::Line;
@@ -15,6 +15,7 @@ use ec_world::World;
 /// What a line asks of the world: an event, or nothing. The number of a call is that of its line.
 pub(crate) fn event_of(world: &World, number: u32, line: Line) -> Result<Option<Event>, WorldFault>
     ensures arms { MatchResult result (λ event. arms event ≡ is_arm (machine_line line)) (λ f. Unit {0}) }
+    ensures starts { MatchResult result (λ event. (armed : Option ℕ) → armed_for event armed ≡ armed_at (machine_line line) armed) (λ f. Unit {0}) }
     ensures happens { MatchResult result
         (λ event. (fate : Fate) → line_happens fate number (machine_line line) (view_of world.now) ≡ happens fate event (view_of world.now))
         (λ f. IsNothing f × ((fate : Fate) → line_happens fate number (machine_line line) (view_of world.now) ≡ fails fault.NoSuchMsg (view_of world.now))) }

@@ -45,7 +45,7 @@ pub(crate) fn run<D: CrashDisk, K: Sink>(
     requires few { length lines.items ≤ most_lines }
     ensures ran { MatchResult result
         (λ ending. (may_stop : Bool) → IsCalm may_stop (any_arm (map read_of lines.items)) (D.counts disk.old)
-        → Ended D.tells (heard may_stop (D.counts disk.old)).stops (heard may_stop (D.counts disk.new)).stops bound (map read_of lines.items) (view_of world.old) (ending_of ending) (view_of world.new) (K.held sink.old) (K.held sink.new))
+        → Ended D.tells (heard may_stop (D.counts disk.old)).stops (heard may_stop (D.counts disk.new)).stops bound (D.counts disk.old).armed (map read_of lines.items) (view_of world.old) (ending_of ending) (view_of world.new) (K.held sink.old) (K.held sink.new))
         (λ cut. (may_stop : Bool) → IsCalm may_stop (any_arm (map read_of lines.items)) (D.counts disk.old)
         → CutOff D.tells (heard may_stop (D.counts disk.old)).stops (heard may_stop (D.counts disk.new)).stops (D.view disk.new) bound (map read_of lines.items) (view_of world.old) cut (K.held sink.old) (K.held sink.new) (K.faults sink.old) (K.faults sink.new) (D.counts disk.old).faults (D.counts disk.new).faults) }
     ensures in_step { OnOk result (IsInStep D.tells (D.view disk.new) world.new) }

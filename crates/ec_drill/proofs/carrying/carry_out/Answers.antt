@@ -23,7 +23,7 @@ returns-clause-carried g c = λ m calm.
     let t = c.settle.ensures.settled m (λ e. (refl, still_none old.armed mid.armed (c.in_default.ensures.quiet (calm e).0) (calm e).1)) in
     line_settles g.D.Disk.tells (g.D.Disk.view c.settle.new.disk) (heard m old) (heard m mid) (heard m new) c.args.bound c.args.number (machine_line c.args.line)
     (view_of c.args.world.now) (view_of c.begin.new.world) (view_of c.settle.new.world) c.begin.new.piece.items c.settle.new.piece.items c.settle.result s.0 t.0
-    (heard_later m old mid c.in_default.ensures.counts.stops) (heard_later m mid new c.settle.ensures.counts.stops) (heard_fate m s.0 old mid (λ e. (calm e).1) s.1) s.2 t.1 t.2 t.3
+    (heard_later m old mid c.in_default.ensures.counts.stops) (heard_later m mid new c.settle.ensures.counts.stops) (heard_fate m s.0 old mid (λ e. (calm e).1) s.1) s.2 t.1 t.2 t.3 s.4 t.4
 
 pub returns-clause-quiet : goal.returns-clause-quiet
 returns-clause-quiet g c = λ isnt h. c.in_default.ensures.quiet isnt (c.settle.ensures.quiet h)

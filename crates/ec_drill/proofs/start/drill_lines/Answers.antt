@@ -29,6 +29,7 @@ returns-in-Err-clause-drilled g c = λ left left_after reads reads_after given.
 pub returns-clause-drilled : goal.returns-clause-drilled
 returns-clause-drilled g c = λ left left_after reads reads_after given.
     let opened = c.in-Ok-open.ensures.ok in
+    let unarmed = still_none _ _ c.open.ensures.counts.not_rearmed c.requires.not_armed in
     drilled_on c.args.max_objects (map read_of c.args.lines.items) opened.0 (view_of c.in-Ok-open.world)
     (record {
       left = left;
@@ -45,5 +46,5 @@ returns-clause-drilled g c = λ left left_after reads reads_after given.
       counts = g.D.Disk.counts c.args.disk.now;
       counts_after = g.D.Disk.counts c.drill_on-status.new.disk;
     })
-    given opened.1 opened.2 (g.D.Disk.counts c.open.new.disk) c.open.ensures.counts.stops_later c.open.ensures.counts.faults_later c.drill_on-status.result
-    (c.drill_on-status.ensures.drilled (any_arm (map read_of c.args.lines.items)) (λ e. (e, still_none _ _ c.open.ensures.counts.not_rearmed c.requires.not_armed)))
+    given opened.1 opened.2 (g.D.Disk.counts c.open.new.disk) c.open.ensures.counts.stops_later c.open.ensures.counts.faults_later unarmed c.drill_on-status.result
+    (c.drill_on-status.ensures.drilled (any_arm (map read_of c.args.lines.items)) (λ e. (e, unarmed)))
