@@ -25,12 +25,26 @@ use Rattle.ec_world.specs.Faults.{of_step}
 use Rattle.ec_world.specs.Keeping.{Unchanged}
 use Rattle.ec_world.specs.Laws.{held_stands, in_step_stands}
 use Rattle.ec_world.specs.Serving.{serves, Breaks}
-use Rattle.ec_world.specs.Steps.{Refuses, IsLeft, as_before}
-use Rattle.ec_world.specs.Worlds.{view_of, server_of, Stands, IsInStep}
+use Rattle.ec_world.specs.Steps.{Fated, Refuses, IsLeft, as_before, under}
+use Rattle.ec_world.specs.Worlds.{view_of, server_of, Stands, IsInStep, Keeps}
 use Rattle.ec_world.specs.declared.fault.StepFault.{StepFault}
 use Rattle.ec_world.specs.declared.fault.StepFault.TheVariants as step_fault
 use Rattle.ec_world.specs.declared.world.World.{World}
+use Rattle.ec_world.proofs.Arms.{run_same}
 use Rattle.ec_world.proofs.Served.{deliver_server}
+
+-- A step that has no effect: the disk isn't called.
+pub runs_to_nothing : (tells : Type 0) (old new : World) (counts : Counts) (steps : Fate → Moving) → steps runs ≡ nothing (view_of old) → under new ≡ nothing (view_of old) → Keeps old new
+    → Fated tells (state_of old.store) (view_of old).shown counts counts old.choice steps (under new)
+runs_to_nothing tells old new counts steps is shows same = (runs, run_same (state_of old.store) (state_of new.store) counts (ap state_of same.store), λ told. is ∙ sym shows, λ told. tt)
+
+-- the same, where the running server was looked at
+pub runs_to_nothing_on : (tells : Type 0) (old new : World) (v : Server) (counts : Counts) (steps : Fate → Moving) → old.server ≡ Some v → steps runs ≡ nothing (view_of old) → under new ≡ nothing (view_of (record old { server = Some v })) → Keeps (record old { server = Some v }) new
+    → Fated tells (state_of old.store) (view_of old).shown counts counts old.choice steps (under new)
+runs_to_nothing_on tells old new v counts steps running is shows same = runs_to_nothing tells old new counts steps is (shows ∙ ap (λ (x : World). nothing (view_of x)) as_was) (subst (λ (x : World). Keeps x new) as_was same)
+  where
+    as_was : record old { server = Some v } ≡ old
+    as_was = ap (λ (o : Option Server). record old { server = o }) (sym running)
 
 with_server : World → Option State → Moved
 with_server w s = record (view_of w) { server = s }

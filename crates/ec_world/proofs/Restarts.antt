@@ -1,11 +1,11 @@
 -- A restart of a stopped server, over what came of its start.
 use Rattle.std.proofs.Common.{◌≡◌, ◌⊎◌, inl, ℕ, Bool, true, false, List, Option, None, Some, Result, Ok, Err, refl, sym, ap, subst, ◌∙◌}
-use Rattle.std.specs.Prelude.{OnOk, IfErr}
+use Rattle.std.specs.Prelude.{OnOk, IfErr, is_some}
 use Rattle.ec_base.specs.declared.counter.Counter.{Counter}
 use Rattle.ec_disk.specs.Disk.{View, Counts, Counted}
 use Rattle.ec_durable.specs.declared.state.Durable.{Durable}
 use Rattle.ec_protocol.specs.Server.{Serving}
-use Rattle.ec_protocol.specs.World.{Fate, runs, Moving, restart, restart_server}
+use Rattle.ec_protocol.specs.World.{Fate, runs, Moving, nothing, restart, restart_server}
 use Rattle.ec_protocol.specs.declared.server.Served.{Served}
 use Rattle.ec_server.specs.declared.server.Server.{Server}
 use Rattle.ec_stands.specs.Stands.{StandsFor}
@@ -30,6 +30,17 @@ on_ok (Err f) h by = tt
 pub if_err : {P Q : StepFault → Type 0} (res : Result (Unit {0}) StepFault) → IfErr res P → ((f : StepFault) → P f → Q f) → IfErr res Q
 if_err (Ok u) h by = tt
 if_err (Err f) h by = by f h
+
+-- a server that runs isn't started again
+pub restart_nothing : (w : World) → is_some w.server ≡ true → restart_server runs (view_of w).server (view_of w) ≡ nothing (view_of w)
+restart_nothing w running = go w.server running
+  where
+    go : (o : Option Server) → is_some o ≡ true → restart_server runs (server_of (state_of w.store) o) (view_of w) ≡ nothing (view_of w)
+    go None is = absurd (apart is)
+      where
+        apart : false ≡ true → ⊥
+        apart e = cc
+    go (Some v) is = refl
 
 -- the machine's restart, over the store that the start left
 restart_is : (fate : Fate) (w : World) (s : Store) → w.server ≡ None → restart_server fate (view_of w).server (view_of w) ≡ restart fate (serves None (state_of w.store) (view_of (record w { store = s })))

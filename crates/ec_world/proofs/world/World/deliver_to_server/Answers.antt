@@ -1,4 +1,4 @@
-use Rattle.std.proofs.Common.{◌≡◌, Some, true, sym, subst, refl}
+use Rattle.std.proofs.Common.{◌≡◌, Some, None, true, sym, subst, refl, rules}
 use Rattle.ec_protocol.specs.Server as server
 use Rattle.ec_protocol.specs.World as machine
 use Rattle.ec_protocol.specs.World.{is_for_server}
@@ -8,10 +8,19 @@ use Rattle.ec_world.specs.Faults.{of_step}
 use Rattle.ec_world.specs.Serving.{serves}
 use Rattle.ec_world.specs.Steps.{IsLeft, under}
 use Rattle.ec_world.specs.Worlds.{view_of}
-use Rattle.ec_world.proofs.Delivering.{behind_take, deliver_is, deliver_takes, is_for_sent, spends, nothing_left, spent_left, breaks_refuse}
+use Rattle.ec_world.proofs.Delivering.{behind_take, deliver_is, deliver_takes, deliver_nothing, runs_to_nothing, is_for_sent, spends, nothing_left, spent_left, breaks_refuse}
 use Rattle.ec_world.proofs.Finish.{finished, counts_on, on_ok, on_both, if_err}
 use Rattle.ec_world.proofs.Starting.{err_is}
 use Rattle.ec_world.proofs.world.World.deliver_to_server.Goals as goal
+
+pub returns-in_default-server-clause-ok : goal.returns-in_default-server-clause-ok
+returns-in_default-server-clause-ok g c =
+    let w = c.args.self.now in
+    let s = c.in-Some.sent.now in
+    let n = c.args.number in
+    let whose : is_for_server s ≡ true = is_for_sent n w.pool c.requires.message.message s c.requires.message.kept c.in-Some.ensures.value c.requires.message.is_for in
+    let stopped : w.server ≡ None = search rules in
+    runs_to_nothing g.D.Disk.tells w c.show_nothing.new.self (g.D.Disk.counts c.args.disk.now) (λ fate. machine.deliver fate n (view_of w)) (deliver_nothing n s w (sym c.in-Some.ensures.value) whose stopped machine.runs) c.in_ok-show_nothing.ensures.ok c.show_nothing.ensures.same
 
 pub returns-in-Ok-clause-ok : goal.returns-in-Ok-clause-ok
 returns-in-Ok-clause-ok g c =

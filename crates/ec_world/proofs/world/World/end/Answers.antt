@@ -1,4 +1,4 @@
-use Rattle.std.proofs.Common.{◌≡◌, Some, true, sym, subst, refl, ◌∙◌}
+use Rattle.std.proofs.Common.{◌≡◌, Some, None, true, sym, subst, refl, rules, ◌∙◌}
 use Rattle.ec_protocol.specs.Server as server
 use Rattle.ec_protocol.specs.World as machine
 use Rattle.ec_server.specs.Servers.{standing}
@@ -7,10 +7,25 @@ use Rattle.ec_world.specs.Faults.{of_step}
 use Rattle.ec_world.specs.Serving.{serves}
 use Rattle.ec_world.specs.Steps.{IsLeft, under}
 use Rattle.ec_world.specs.Worlds.{view_of}
-use Rattle.ec_world.proofs.Delivering.{behind_end, end_is, spends, nothing_left, spent_left, breaks_refuse}
+use Rattle.ec_world.proofs.Delivering.{behind_end, end_is, end_stopped, end_closed, runs_to_nothing, runs_to_nothing_on, spends, nothing_left, spent_left, breaks_refuse}
 use Rattle.ec_world.proofs.Finish.{finished, counts_on, on_ok, on_both, if_err}
 use Rattle.ec_world.proofs.Starting.{err_is}
 use Rattle.ec_world.proofs.world.World.end.Goals as goal
+
+pub returns-in_default-clause-ok : goal.returns-in_default-clause-ok
+returns-in_default-clause-ok g c =
+    let w = c.args.self.now in
+    let n = c.args.clerk in
+    let stopped : w.server ≡ None = search rules in
+    runs_to_nothing g.D.Disk.tells w c.show_nothing.new.self (g.D.Disk.counts c.args.disk.now) (λ fate. machine.end fate n (view_of w).server (view_of w)) (end_stopped n w stopped machine.runs) c.in_ok-show_nothing.ensures.ok c.show_nothing.ensures.same
+
+pub returns-then-not-is_open-clause-ok : goal.returns-then-not-is_open-clause-ok
+returns-then-not-is_open-clause-ok g c =
+    let w = c.args.self.now in
+    let v = c.in-Some.server in
+    let n = c.args.clerk in
+    let steps : machine.Fate → machine.Moving = λ fate. machine.end fate n (view_of w).server (view_of w) in
+    runs_to_nothing_on g.D.Disk.tells w c.show_nothing-then-not-is_open.new.self v (g.D.Disk.counts c.args.disk.now) steps c.in-Some.is (end_closed n w v (sym c.if-not-is_open.ensures) c.in-Some.is machine.runs) c.in_ok-show_nothing-2.ensures.ok c.show_nothing-then-not-is_open.ensures.same
 
 pub returns-in-Ok-clause-ok : goal.returns-in-Ok-clause-ok
 returns-in-Ok-clause-ok g c =

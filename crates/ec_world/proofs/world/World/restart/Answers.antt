@@ -1,10 +1,17 @@
-use Rattle.std.proofs.Common.{◌≡◌, None, rules}
+use Rattle.std.proofs.Common.{◌≡◌, ◌∙◌, None, rules, sym}
+use Rattle.ec_protocol.specs.World.{restart_server}
 use Rattle.ec_store.specs.Store.{view_of as state_of}
 use Rattle.ec_world.proofs.Finish.{on_both}
-use Rattle.ec_world.proofs.Restarts.{on_ok, if_err, restart_finishes, restart_left}
-use Rattle.ec_world.proofs.Delivering.{spent_left, nothing_left}
+use Rattle.ec_world.proofs.Restarts.{on_ok, if_err, restart_nothing, restart_finishes, restart_left}
+use Rattle.ec_world.proofs.Delivering.{runs_to_nothing, spent_left, nothing_left}
 use Rattle.ec_world.proofs.Starting.{err_is}
+use Rattle.ec_world.specs.Worlds.{view_of}
 use Rattle.ec_world.proofs.world.World.restart.Goals as goal
+
+pub returns-then-is_some-clause-ok : goal.returns-then-is_some-clause-ok
+returns-then-is_some-clause-ok g c =
+    let w = c.args.self.now in
+    runs_to_nothing g.D.Disk.tells w c.show_nothing.new.self (g.D.Disk.counts c.args.disk.now) (λ fate. restart_server fate (view_of w).server (view_of w)) (restart_nothing w (sym c.is_some.ensures ∙ c.if-is_some.true)) c.in_ok-show_nothing.ensures.ok c.show_nothing.ensures.same
 
 pub returns-in-Ok-clause-ok : goal.returns-in-Ok-clause-ok
 returns-in-Ok-clause-ok g c =
