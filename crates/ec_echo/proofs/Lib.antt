@@ -1,4 +1,4 @@
-mod Plain
+pub mod Plain
 mod Judging
 mod Starts
 mod Greeting

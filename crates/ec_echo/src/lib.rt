@@ -36,7 +36,7 @@ use std::io::Eprint;
 /// Does all that the program does, over any source, sink and disk that isn't armed, and answers the
 /// exit status. The words are those behind the program's name; `boot` is the number of this start of
 /// the process.
-pub fn echo_main<R: Around + Eprint, S: Source, K: Sink, D: CrashDisk + Send, N: Net>(
+pub fn run_words<R: Around + Eprint, S: Source, K: Sink, D: CrashDisk + Send, N: Net>(
     rt: &R,
     words: &[String],
     source: &mut S,

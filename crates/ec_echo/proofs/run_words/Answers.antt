@@ -9,7 +9,7 @@ use Rattle.ec_echo.proofs.Greeting.{mounts-greet}
 use Rattle.ec_echo.proofs.Soaks.{soaked_over}
 use Rattle.ec_echo.proofs.Starts.{starts_later}
 use Rattle.ec_echo.proofs.Usage.{answers-usage}
-use Rattle.ec_echo.proofs.echo_main.Goals as goal
+use Rattle.ec_echo.proofs.run_words.Goals as goal
 
 pub returns-in-Drill-clause-echoes : goal.returns-in-Drill-clause-echoes
 returns-in-Drill-clause-echoes g c =

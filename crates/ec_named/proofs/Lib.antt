@@ -1,0 +1,6 @@
+mod Bytes
+mod Facts
+mod Lines
+mod Runs
+mod Words
+pub mod Promised

@@ -1,0 +1,28 @@
+use Rattle.std.proofs.Common.{◌≡◌, ℕ, sym, subst, ◌∙◌}
+use Rattle.ec_named.specs.Forms.{Asks}
+use Rattle.ec_named.specs.Seen.{stream, store}
+use Rattle.ec_named.proofs.Promised.{asked, say-all}
+use Rattle.echofs.proofs.process.Goals as goal
+
+pub returns-clause-usage : goal.returns-clause-usage
+returns-clause-usage g c = asked _ _ (subst (λ (k : ℕ). Asks _ k) (sym c.end.ensures) c.echo_main.ensures.usage)
+
+pub returns-clause-echoes : goal.returns-clause-echoes
+returns-clause-echoes g c =
+    let e = c.echo_main.ensures in
+    let source = stream g.S.Source.left g.S.Source.faults c.args.source.now c.echo_main.new.source in
+    let sink = stream g.K.Sink.held g.K.Sink.faults c.args.sink.now c.echo_main.new.sink in
+    let disk = store g.D.Disk.tells g.D.Disk.view g.D.Disk.counts c.args.disk.now c.echo_main.new.disk in
+    let did = say-all _ _ c.echo_main.result source sink disk _ (record {
+      usage = e.usage;
+      untouched = e.untouched;
+      alone = e.alone;
+      claims = e.claims;
+      drill = e.drill;
+      check = e.check;
+      make = e.make;
+      soak = e.soak;
+      serve = e.serve;
+      mount = e.mount;
+    }) in
+    (did.0, c.end.ensures ∙ did.1, did.2)
