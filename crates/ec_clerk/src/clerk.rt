@@ -172,6 +172,15 @@ impl Clerk {
         Ok(outs)
     }
 
+    /// The greeting of its age, which a new link begins with, in a session too.
+    pub fn greet(&self) -> Result<Vec<Out>, NoMemory>
+        ensures { IfOk result (λ outs. outs.items ≡ (clerk.hello (clerk.doing self.now)).outs) }
+    {
+        let mut outs = Vec::new(self.doing.alloc);
+        outs.push(Out::Send(Msg::Hello(self.doing.id, self.doing.age)))?;
+        Ok(outs)
+    }
+
     /// Says goodbye, in a session.
     pub fn bye(&mut self) -> Result<Vec<Out>, ClerkFault>
         ensures ok { IfOk result (λ outs. Ends (clerk.bye self.old) self.new outs.items) }

@@ -39,7 +39,7 @@ impl From<NoMemory> for NetFault {
 }
 
 /// Where links come from.
-pub trait Net {
+pub trait Net: Send {
     type Link: Link + Send + Drop;
 
     /// An address at which links are accepted.

@@ -22,8 +22,8 @@ use std::snapshot::Snapshot;
 use std::sync::Wait;
 use std::time::{Clock, Duration, Instant};
 
-// A link keeps at most this many bytes that the socket hasn't taken: two frames. Those that have rested come on top.
-const MAX_UNSENT: usize = 2 * (4 + 1_048_576);
+// A link keeps at most this many bytes that the socket hasn't taken: three frames. Those that have rested come on top.
+const MAX_UNSENT: usize = 3 * (4 + 1_048_576);
 
 // A peer that has taken nothing for so many seconds has failed.
 const MAX_SILENCE: u64 = 10;

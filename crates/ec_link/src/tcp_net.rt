@@ -103,6 +103,16 @@ fn opened(listener: io::Result<TcpListener>) -> io::Result<TcpDoor> {
     TcpDoor::over(listener?)
 }
 
+// Where nobody listens at a port of the range that the system gives callers, a socket may be connected to itself.
+fn connected(stream: io::Result<TcpStream>) -> io::Result<TcpStream> {
+    let stream = stream?;
+    if stream.local_addr()? == stream.peer_addr()? {
+        drop(stream);
+        return Err(io::Error::from(io::ErrorKind::ConnectionRefused));
+    }
+    Ok(stream)
+}
+
 // A socket that can't be used is one whose other end has gone.
 fn over_or_gone(link: Result<TcpLink, NetFault>) -> Result<Option<TcpLink>, NetFault>
     requires { IfOk link (λ link. IsNewOver link) }
@@ -152,7 +162,7 @@ impl Net for TcpNet {
     }
 
     fn call<R: Around>(&mut self, rt: &R, addr: &str) -> Result<TcpLink, NetFault> {
-        self.linked(rt.alloc(), TcpStream::connect(rt, addr))
+        self.linked(rt.alloc(), connected(TcpStream::connect(rt, addr)))
     }
 
     fn reason(&self) -> Option<io::Error> {
