@@ -1,5 +1,5 @@
-use Rattle.std.proofs.Common.{sym, ap, ◌∙◌, [], not}
-use Rattle.ec_drill.proofs.Carried.{settle_rests, unsettled, pushed}
+use Rattle.std.proofs.Common.{sym, ◌∙◌, []}
+use Rattle.ec_drill.proofs.Carried.{settle_rests, unsettled}
 use Rattle.ec_drill.proofs.carrying.end_settling.Goals as goal
 
 pub returns-in_default-clause-rested : goal.returns-in_default-clause-rested

@@ -1,4 +1,7 @@
-use Rattle.std.proofs.Common.{rules}
+use Rattle.std.proofs.Common.{◌++◌, sym, ap, ◌∙◌}
+use Rattle.std.proofs.lemmas.List.{map-id}
+use Rattle.std.proofs.lemmas.Iterator.Adapters.{YieldsList-from_vec}
+use Rattle.std.proofs.lemmas.Iterator.Consumers.{YieldsList-end}
 use Rattle.ec_protocol.specs.World.{runs, happen}
 use Rattle.ec_world.specs.Steps.{behind_arm}
 use Rattle.ec_world.specs.Worlds.{view_of, IsInStep}
@@ -43,7 +46,12 @@ returns-clause-stepped g c =
     let v = view_of c.step.new.self in (
       ok.0,
       fares c.args.event ok.0 _ _ (g.D.Disk.counts c.args.disk.now) (g.D.Disk.counts c.step.new.disk) _ _ (λ wants. cc) ok.1 c.in-Ok.ensures.counts,
-      λ told. taken (happen ok.0 c.args.event w) w v c.in-Ok.lines.items c.args.piece.now.items c.adding.piece.items (ok.2 told) (search rules),
+      λ told.
+          let lines = c.in-Ok.lines in
+          let gives = c.into_iter-line-iterator.ensures.into_iter_gives in
+          let all = YieldsList-end (YieldsList-from_vec lines.items gives.0 (gives.1 ∙ lines.ok.0)) c.adding.yielded c.adding.line-iterator c.adding.yielded_by c.next.result c.next.new.self c.in-None.is c.next.ensures.steps in
+          taken (happen ok.0 c.args.event w) w v lines.items c.args.piece.now.items c.adding.piece.items (ok.2 told)
+          (c.adding.invariant ∙ ap (λ l. c.args.piece.now.items ++ l) (sym (map-id c.adding.yielded) ∙ all.0)),
       tt,
       λ told. arm_by g.D.Disk.tells ok.0 w v (behind_arm c.args.event (g.D.Disk.counts c.args.disk.now)) (g.D.Disk.counts c.step.new.disk) ok.1 ok.3 told,
     )

@@ -1,4 +1,4 @@
-use Rattle.std.proofs.Common.{◌+◌, ◌≤◌, Bool, arith, refl, sym, ap, subst, List, length, map, Option}
+use Rattle.std.proofs.Common.{◌+◌, ◌≤◌, arith, refl, sym, ap, subst, List, length, map, Option}
 use Rattle.std.specs.Vec.Iter.{into_iter_items, into_iter_len}
 use Rattle.ec_world.specs.Worlds.{view_of}
 use Rattle.ec_drill.specs.Arms.{IsCalm, any_arm, heard, is_arm_read}

@@ -1,4 +1,4 @@
-use Rattle.std.proofs.Common.{◌≡◌, ◌+◌, ◌≤◌, Bool, false, None, length, map}
+use Rattle.std.proofs.Common.{◌+◌, ◌≤◌, Bool, length, map}
 use Rattle.std.specs.Vec.Iter.{into_iter_items, into_iter_len}
 use Rattle.ec_world.specs.Worlds.{view_of, IsInStep}
 use Rattle.ec_drill.specs.Arms.{IsCalm, any_arm, heard}
