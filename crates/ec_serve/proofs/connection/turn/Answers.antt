@@ -53,7 +53,7 @@ returns-in-Err-clause-served g c =
     (Err c.in-Err.fault) c.serve_one.ensures.same c.in-Err.ensures.serves c.requires.served
 
 pub take_rest-requires-clause-served : goal.take_rest-requires-clause-served
-take_rest-requires-clause-served g c =
+take_rest-requires-clause-served g c κs within =
     let old = c.args.pass.now in
     failed_as g.L.Link.given g.L.Link.got g.L.Link.faults g.L.Link.closes g.L.Link.held (queue_at (first c.args.server.now.lock).boxes.items) old.caller old.pass c.serve_one.new.pass.pass c.args.link.now c.serve_one.new.link
     c.in-Err-Net.field-0 (search rules) c.serve_one.ensures.same c.in-Err-Net.ensures.serves c.requires.served
