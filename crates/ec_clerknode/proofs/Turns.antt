@@ -1,5 +1,5 @@
 -- From one turn at the lock to what the pass knows.
-use Rattle.std.proofs.Common.{◌≡◌, ℕ, ◌+◌, ◌≤◌, ◌⊎◌, false, cond, IfOk, List, [], ◌∷◌, ◌++◌, length, Option, Some, None, Result, Ok, Err, IfSome, slice_get, sym, refl, ap, ◌∙◌, subst, inl, inr, ⊎_elim, arith, eq-eqb, ne_eqb, append_assoc, append-nil}
+use Rattle.std.proofs.Common.{◌≡◌, ℕ, ◌+◌, ◌≤◌, ◌⊎◌, false, cond, IfOk, List, [], ◌∷◌, ◌++◌, length, Option, Some, None, Result, Ok, Err, IfSome, slice_get, sym, refl, ap, ◌∙◌, subst, inl, inr, ⊎_elim, arith, eq-eqb, ne_eqb, append_assoc, append-nil, length-append}
 use Rattle.std.specs.Prelude.{Bool, true, OnOk, if◌then◌else◌}
 use mathlib.Core.List.{IsPrefix}
 use Rattle.ec_protocol.specs.declared.clerk.Clerk.{Clerk}
@@ -23,11 +23,14 @@ use Rattle.ec_clerknode.specs.Floors.{highest_grows}
 use Rattle.ec_clerknode.specs.Folded.{answer_to}
 use Rattle.ec_clerknode.specs.Run.{told_by, heard_by, said_by, nets, AreSaid, Came, call_of, calls, marks, mark_of_deed, mark_of_end, Among, IsRun, leads, highest, old_boot}
 use Rattle.ec_clerknode.specs.Node.{Since, By, AnsweredAt, AnsweredFrom}
-use Rattle.ec_clerknode.specs.Closed.{More, Caused, Fails, Begun, Works, Flushes, ReadsFlushes, Started, Waited}
-use Rattle.ec_clerknode.specs.Turns.{number_of, calls_by, Replied, Failed, Called, Worked, Stays, Turned, Pending, Starts, Waits, PickedLast, Asks, FlushTurned, Finished}
+use Rattle.ec_clerknode.specs.Closed.{More, Caused, Fails, Begun, Works, Flushes, PartsIf, PartsBehind, ReadsFlushes, Started, Waited}
+use Rattle.ec_clerknode.specs.Turns.{number_of, calls_by, Replied, Failed, Called, Worked, Partings, SaidBye, Stays, Turned, Pending, Starts, Waits, PickedLast, Asks, FlushTurned, Finished}
 use Rattle.ec_clerknode.proofs.Lists.{prefix_trans, prefix_length, prefix_get, get_last, of-append}
 use Rattle.ec_outs.proofs.Each.{each-append}
 use Rattle.ec_outs.proofs.Told.{added-nil}
+
+true_false : true ≡ false → ⊥
+true_false e = cc e
 
 pub of_own : (pass : ℕ) (more : List Step) → By pass more → of number_of pass more ≡ more
 of_own pass [] h = refl
@@ -94,6 +97,13 @@ module _ {L : Type 0} where
 
   pub fails_both : (pass : ℕ) (old mid new : Node L) (f : NodeFault) (xs : List Step) → More pass old mid xs → calls xs ≡ [] → Fails pass [] mid new f → Fails pass [] old new f
   fails_both pass old mid new f xs m none b = (xs ++ b.0, more_both pass old mid new xs b.0 m b.1, inl (none_both xs b.0 none (none_of b.0 b.2)), caused-right new.boot f xs b.0 b.3)
+
+  pub parts_more : {A : Type 0} (pass : ℕ) (v w : Node L) (r : Result (A × Bool) NodeFault) → PartsBehind pass v w r → (more : List Step) × More pass v w more
+  parts_more pass v w (Ok r) b = ends_more r.1 b.1.2 where
+    ends_more : (is_said : Bool) → PartsIf is_said pass b.1.0 w → (more : List Step) × More pass v w more
+    ends_more true q = (b.1.1.0 ++ q.0 ∷ [], more_both pass v b.1.0 w b.1.1.0 (q.0 ∷ []) b.1.1.1 q.2)
+    ends_more false q = (b.1.1.0, (q ∙ b.1.1.1.0, b.1.1.1.1))
+  parts_more pass v w (Err f) b = fails_more pass [] v w f b
 
   module _ (counts : L → ℕ) (given : L → Option (List Heard)) (got : L → Option (List (List ℕ))) where
     pub started_more : (pass : ℕ) (call : Call) (v w : Node L) (r : Result (ℕ × ℕ × Option Reply) NodeFault) → Started counts given got pass call v w r → (more : List Step) × More pass v w more
@@ -222,6 +232,30 @@ module _ {L : Type 0} where
       asks asked (Ok r) b = flushes asked r b
       asks asked (Err f) b = fails [] f b
 
+      -- a goodbye, or none, behind a turn that began nothing
+      parting : {A : Type 0} (x : A) (is_said : Bool) (mid : Node L) (xs : List Step) → More pass v mid xs → calls xs ≡ [] → PartsIf is_said pass mid w → w.boot ≡ None → Worked pass before after (Ok x) × (is_said ≡ true → SaidBye pass before after)
+      parting x true mid xs m none q up =
+          let s = q.0 in
+          let all = more_both pass v mid w xs (s ∷ []) m q.2 in
+          let still : calls (s ∷ []) ≡ [] = append-nil (call_of s.deed) ∙ ap call_of q.1.0 in
+          let le = prefix_length before v.trace.items later in
+          let longer = ap length m.0 ∙ length-append v.trace.items xs in (
+            (none_then (xs ++ s ∷ []) all (none_both xs (s ∷ []) none still), sym boot_is ∙ up),
+            (λ yes. (
+              length mid.trace.items,
+              s,
+              omega arith,
+              ap (λ l. slice_get l (length mid.trace.items)) (sym is ∙ q.2.0) ∙ get_last mid.trace.items s,
+              q.2.1.0,
+              q.1,
+            )),
+          )
+      parting x false mid xs m none q up = ((none_then xs (q ∙ m.0, m.1) none, sym boot_is ∙ up), (λ yes. absurd (true_false (sym yes))))
+
+      pub partings : {A : Type 0} (r : Result (A × Bool) NodeFault) → PartsBehind pass v w r → Partings pass before after r
+      partings (Ok r) b = parting r r.1 b.1.0 b.1.1.0 b.1.1.1 b.1.1.2 b.1.2 b.0
+      partings (Err f) b = fails [] f b
+
     -- where a turn ended well, memory was wanting for no message before
     pub said_if : {A : Type 0} (start w : Node L) (after : List Step) → Since counts given got start w → after ≡ w.trace.items → (r : Result A NodeFault) → OnOk r (w.broken ≡ false) → OnOk r (AreSaid after)
     said_if start w after s e (Ok x) up = subst AreSaid (sym e) (s.said up)
@@ -347,3 +381,29 @@ none_begun pass before after (Err f) w = ⊎_elim (λ (e : calls_by pass after �
 pub failed_first : (pass : ℕ) (call : Call) (before after : List Step) (f : NodeFault) → Failed pass [] before after f → Failed pass (call ∷ []) before after f
 failed_first pass call before after f w =
     (inl (⊎_elim (λ (e : calls_by pass after ≡ calls_by pass before). e) (λ (e : calls_by pass after ≡ calls_by pass before ++ []). e ∙ append-nil (calls_by pass before)) w.0), w.1)
+
+-- A goodbye over further turns.
+module _ (pass mine : ℕ) (before now after : List Step) (same : mine ≡ pass) (begins : IsPrefix before now) (none : calls_by pass now ≡ calls_by pass before) where
+  still_none : {A : Type 0} (r : Result A NodeFault) → Worked mine now after r → calls_by pass after ≡ calls_by pass before
+  still_none r w = ap (λ n. calls_by n after) (sym same) ∙ (none_begun mine now after r w ∙ (ap (λ n. calls_by n now) same ∙ none))
+
+  pub parting_none : {A : Type 0} (r : A × Bool) → Partings mine now after (Ok r) → calls_by pass after ≡ calls_by pass before
+  parting_none r p = still_none (Ok r) p.0
+
+  pub parted_ok : {A B : Type 0} (r : A × Bool) (y : B) → Partings mine now after (Ok r) → Worked pass before after (Ok y)
+  parted_ok r y p = (parting_none r p, p.0.1)
+
+  pub parted_bye : {A : Type 0} (r : A × Bool) → r.1 ≡ true → Partings mine now after (Ok r) → SaidBye pass before after
+  parted_bye r yes p = let b = p.1 yes in let le = prefix_length before now begins in let low = b.2 in (b.0, b.1, omega arith, b.3, b.4 ∙ same, b.5)
+
+  pub parted_failed : (f : NodeFault) → Failed mine [] now after f → Failed pass [] before after f
+  parted_failed f w =
+      let m = w.1 in (
+        inl (still_none (Err f) w),
+        (
+          begins.0 ++ m.0,
+          sym (append_assoc before begins.0 m.0) ∙ (ap (λ l. l ++ m.0) begins.1 ∙ m.1),
+          subst (λ l. Caused (old_boot after) f l) (sym (of-append number_of pass begins.0 m.0)) (caused-right (old_boot after) f (of number_of pass begins.0) (of number_of pass m.0)
+              (subst (λ n. Caused (old_boot after) f (of number_of n m.0)) same m.2)),
+        ),
+      )

@@ -1,5 +1,5 @@
 -- What one turn adds: the clerk takes a step, its messages are sent, its answers kept, and the step stands in the list.
-use Rattle.std.specs.Prelude.{◌≡◌, ℕ, ◌+◌, ◌≤◌, ◌⊎◌, true, false, List, [], ◌∷◌, ◌++◌, length, map, Option, Some, None, Result, Ok, Err, IfSome, max}
+use Rattle.std.specs.Prelude.{◌≡◌, ℕ, ◌+◌, ◌≤◌, ◌⊎◌, true, false, List, [], ◌∷◌, ◌++◌, length, map, Option, Some, None, Result, Ok, Err, IfSome, max, Bool}
 use Rattle.std.specs.declared.snapshot.Snapshot.{Snapshot}
 use Rattle.ec_base.specs.declared.ids.Age.{Age}
 use Rattle.ec_log.specs.declared.state.Asked.{Asked}
@@ -21,7 +21,7 @@ use Rattle.ec_clerknode.specs.declared.step.Deed.TheVariants.{Began, Picked}
 use Rattle.ec_clerknode.specs.declared.step.Step.{Step}
 use Rattle.ec_clerknode.specs.declared.state.Node.{Node}
 use Rattle.ec_clerknode.specs.Folded.{floor_of, answer_to}
-use Rattle.ec_clerknode.specs.Run.{after, outs_of, IsDeed, heard_of, net_of, call_of, mark_of_deed, calls, marks, Among, said_in, IsSaid, Came}
+use Rattle.ec_clerknode.specs.Run.{after, outs_of, IsDeed, heard_of, net_of, call_of, mark_of_deed, calls, marks, Among, said_in, IsSaid, Came, IsGoodbye}
 use Rattle.ec_clerknode.specs.Node.{AnsweredFrom, Since, By}
 
 module _ {L : Type 0} (counts : L → ℕ) (given : L → Option (List Heard)) (got : L → Option (List (List ℕ))) where
@@ -100,7 +100,7 @@ Stops boot end marked (fault.Spent counter) = (boot ≡ None) × (marked ≡ Som
 Stops boot end marked fault.NoMemory = Unit {0}
 
 abbrev pub EndsAs : {A : Type 0} → Option Age → Sent → Option NodeFault → Result A NodeFault → Type 0
-EndsAs boot end marked (Ok x) = (boot ≡ None) × (marked ≡ None)
+EndsAs boot end marked (Ok x) = (boot ≡ None) × (marked ≡ None) × (end ≡ sent.Done)
 EndsAs boot end marked (Err f) = Stops boot end marked f
 
 -- the list has grown by these steps of this pass
@@ -134,6 +134,20 @@ Works pass old new (Err f) = Fails pass [] old new f
 abbrev pub Flushes : {L : Type 0} → ℕ → Asked → Node L → Node L → Result Flushed NodeFault → Type 0
 Flushes pass asked old new (Ok answer) = (new.boot ≡ None) × (old.broken ≡ false) × ((step : Step) × (shot : Snapshot Asked) × (shot.value ≡ asked) × (step.deed ≡ Picked shot) × (answer ≡ answer_to asked old.clerk) × More pass old new (step ∷ []))
 Flushes pass asked old new (Err f) = Fails pass [] old new f
+
+abbrev pub PartsIf : {L : Type 0} → Bool → ℕ → Node L → Node L → Type 0
+PartsIf true pass old new = (step : Step) × IsGoodbye step × More pass old new (step ∷ [])
+PartsIf false pass old new = new.trace.items ≡ old.trace.items
+
+-- it may have said goodbye, in one step, and begins no call
+abbrev pub Parts : {L : Type 0} → ℕ → Node L → Node L → Result Bool NodeFault → Type 0
+Parts pass old new (Ok is_said) = (new.boot ≡ None) × PartsIf is_said pass old new
+Parts pass old new (Err f) = Fails pass [] old new f
+
+-- the link was read once, and then it may have said goodbye
+abbrev pub PartsBehind : {L A : Type 0} → ℕ → Node L → Node L → Result (A × Bool) NodeFault → Type 0
+PartsBehind {L = L} pass old new (Ok r) = (new.boot ≡ None) × ((mid : Node L) × ((more : List Step) × More pass old mid more × (calls more ≡ [])) × PartsIf r.1 pass mid new)
+PartsBehind pass old new (Err f) = Fails pass [] old new f
 
 -- what is done with what the link gave; with nothing, nothing
 abbrev pub Hears : Clerk → Got → Clerk → Option Act → Type 0

@@ -1,8 +1,9 @@
 -- A clerk run: a list of steps from a clerk, each with what came out.
-use Rattle.std.specs.Prelude.{◌≡◌, ℕ, ◌+◌, ◌≤◌, List, [], ◌∷◌, ◌++◌, length, map, take, max, Option, Some, None, Ok, Err, ◌⊎◌}
+use Rattle.std.specs.Prelude.{◌≡◌, ℕ, ◌+◌, ◌≤◌, List, [], ◌∷◌, ◌++◌, length, map, take, max, Option, Some, None, Ok, Err, ◌⊎◌, Bool, true, false, ◌||◌}
 use Rattle.ec_base.specs.declared.ids.Age.{Age}
 use Rattle.ec_plain.specs.declared.call.Call.{Call}
 use Rattle.ec_wire.specs.declared.msg.Msg.{Msg}
+use Rattle.ec_wire.specs.declared.msg.Msg.TheVariants as message
 use Rattle.ec_wire.specs.Codes.{said}
 use Rattle.ec_protocol.specs.declared.clerk.Clerk.{Clerk}
 use Rattle.ec_protocol.specs.declared.clerk.Out.{Out}
@@ -131,6 +132,19 @@ IsSaid sent.NoMemory = ⊥
 abbrev pub AreSaid : List Step → Type 0
 AreSaid [] = Unit {0}
 AreSaid (s ∷ ss) = IsSaid s.end × AreSaid ss
+
+-- a message that says goodbye
+abbrev pub is_bye : Msg → Bool
+is_bye (message.Bye session epoch) = true
+is_bye _ = false
+
+abbrev pub says_bye : List Msg → Bool
+says_bye [] = false
+says_bye (m ∷ ms) = is_bye m || says_bye ms
+
+-- a goodbye, which was sent
+abbrev pub IsGoodbye : Step → Type 0
+IsGoodbye s = (s.deed ≡ Parted) × (says_bye (sends s.outs.value.items) ≡ true) × (s.end ≡ sent.Done)
 
 -- the lists that were told lost
 abbrev pub told_by : List Step → List (List ℕ)

@@ -1,5 +1,5 @@
 -- What a pass knows of the list after a call on the shared clerk.
-use Rattle.std.specs.Prelude.{◌≡◌, ℕ, ◌+◌, ◌≤◌, ◌⊎◌, List, [], ◌∷◌, ◌++◌, length, Option, Some, None, Result, Ok, Err, IfSome, slice_get}
+use Rattle.std.specs.Prelude.{◌≡◌, ℕ, ◌+◌, ◌≤◌, ◌⊎◌, List, [], ◌∷◌, ◌++◌, length, Option, Some, None, Result, Ok, Err, IfSome, slice_get, Bool, true}
 use Rattle.std.specs.declared.snapshot.Snapshot.{Snapshot}
 use mathlib.Core.List.{IsPrefix}
 use Rattle.ec_history.specs.declared.entry.Answer.{Answer}
@@ -20,7 +20,7 @@ use Rattle.ec_clerknode.specs.declared.state.Node.{Node}
 use Rattle.ec_clerknode.specs.Closed.{Caused}
 use Rattle.ec_clerknode.specs.Folded.{answer_to}
 use Rattle.ec_clerknode.specs.Node.{AnsweredAt, AnsweredFrom}
-use Rattle.ec_clerknode.specs.Run.{highest, IsRun, leads, calls, old_boot, nets, said_by, heard_by}
+use Rattle.ec_clerknode.specs.Run.{highest, IsRun, leads, calls, old_boot, nets, said_by, heard_by, IsGoodbye}
 
 abbrev pub number_of : Step → Option ℕ
 number_of s = Some s.pass
@@ -78,6 +78,15 @@ CalledPlain pass call before after (Err f) = Failed pass (call ∷ []) before af
 abbrev pub Worked : {A : Type 0} → ℕ → List Step → List Step → Result A NodeFault → Type 0
 Worked pass before after (Ok x) = (calls_by pass after ≡ calls_by pass before) × (old_boot after ≡ None)
 Worked pass before after (Err f) = Failed pass [] before after f
+
+-- behind the old front this pass said goodbye
+abbrev pub SaidBye : ℕ → List Step → List Step → Type 0
+SaidBye pass before after = (at : ℕ) × (s : Step) × (length before ≤ at) × (slice_get after at ≡ Some s) × (s.pass ≡ pass) × IsGoodbye s
+
+-- it may have said goodbye, and begins no call
+abbrev pub Partings : {A : Type 0} → ℕ → List Step → List Step → Result (A × Bool) NodeFault → Type 0
+Partings pass before after (Ok r) = Worked pass before after (Ok r) × (r.1 ≡ true → SaidBye pass before after)
+Partings pass before after (Err f) = Failed pass [] before after f
 
 -- the last step of the front asked for a batch, and this is what the clerk answers there to which the steps before it lead
 abbrev pub PickedLast : Clerk → ℕ → Asked → List Step → List Step → Flushed → Type 0

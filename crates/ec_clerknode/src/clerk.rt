@@ -1,8 +1,10 @@
 // The clerk's calls, in words that stay folded above.
-ghost use Rattle.std.specs.Prelude.{◌≡◌, ◌+◌, true, IfOk, IfErr, OnErr};
+ghost use Rattle.std.specs.Prelude.{◌≡◌, ◌+◌, true, IfOk, IfErr, IfSome, IfNone, OnErr};
 ghost use Rattle.ec_protocol.specs.declared.clerk.ClerkFault.TheVariants as fault;
 ghost use Rattle.ec_wire.specs.Messages.{is_sound};
 ghost use Rattle.ec_clerknode.specs.Folded.{begun, taken, picked, parted, answer_to, floor_of, refused_by, Comes, Refuses};
+ghost use Rattle.ec_clerknode.specs.Run.{says_bye};
+ghost use Rattle.ec_outs.specs.Outs.{sends};
 
 use ec_base::{Counter, NoMemory};
 use ec_clerk::Clerk;
@@ -66,12 +68,21 @@ pub fn flush(clerk: &mut Clerk, asked: Asked) -> Result<(Flushed, Vec<Out>), Ref
     }
 }
 
-/// Says goodbye.
+/// Says goodbye. Without a session there is nobody to say it to.
 #[tactic(auto, unfolding(crate::specs::Folded::parted))]
-pub fn bye(clerk: &mut Clerk) -> Result<Vec<Out>, NoMemory>
-    ensures { IfOk result (λ outs. Comes (parted clerk.old) clerk.new outs.items) }
+pub fn bye(clerk: &mut Clerk) -> Result<Option<Vec<Out>>, NoMemory>
+    ensures ok { IfOk result (λ made. IfSome made (λ outs. Comes (parted clerk.old) clerk.new outs.items)) }
+    ensures said { IfOk result (λ made. IfSome made (λ outs. says_bye (sends outs.items) ≡ true)) }
+    ensures none { IfOk result (λ made. IfNone made (clerk.new ≡ clerk.old)) }
 {
-    clerk.bye().ok().ok_or(NoMemory)
+    let Ok(outs) = clerk.bye() else {
+        return Err(NoMemory);
+    };
+    if outs.is_empty() {
+        drop(outs);
+        return Ok(None);
+    }
+    Ok(Some(outs))
 }
 
 /// The clerk's floor.

@@ -2,7 +2,7 @@
 ghost use Rattle.std.specs.Prelude.{◌≡◌, ℕ, ◌+◌, ◌≤◌, ◌<◌, ◌⊎◌, true, false, [], ◌∷◌, ◌++◌, length, map, Option, Some, None, IfOk, IfErr, OnOk, IfSome, IfNone};
 ghost use Rattle.ec_base.specs.Limits.{last_counter};
 ghost use Rattle.ec_base.specs.declared.ids.Age.{Age as Years};
-ghost use Rattle.ec_clerknode.specs.Closed.{Acts, Closed, EndsAs, IsMark, Begun, Works, Flushes, ReadsFlushes, Started, Waited};
+ghost use Rattle.ec_clerknode.specs.Closed.{Acts, Closed, EndsAs, IsMark, Begun, Works, Flushes, Parts, PartsBehind, ReadsFlushes, Started, Waited};
 ghost use Rattle.ec_clerknode.specs.Node.{AnsweredFrom, Since, Keeps};
 ghost use Rattle.ec_clerknode.specs.Run.{told_by};
 ghost use Rattle.ec_clerknode.specs.declared.fault.NodeFault.TheVariants as fault;
@@ -105,8 +105,10 @@ impl<L: Link> State<L> {
         if self.broken {
             return Err(NodeFault::NoMemory);
         }
-        if end == Sent::Failed {
-            return Err(NodeFault::Net);
+        match end {
+            Sent::Failed => return Err(NodeFault::Net),
+            Sent::NoMemory => return Err(NodeFault::NoMemory),
+            Sent::Done => {}
         }
         match marked {
             Some(fault) => Err(fault),
@@ -223,22 +225,38 @@ impl<L: Link> State<L> {
         }
     }
 
-    /// Says goodbye.
-    pub fn bye<R: Wait + Clock>(
-        &mut self,
-        rt: &R,
-        alloc: Global,
-        pass: u64,
-    ) -> Result<(), NodeFault>
+    // Says goodbye, where there is a session. Whether it did.
+    fn bye<R: Wait + Clock>(&mut self, rt: &R, alloc: Global, pass: u64) -> Result<bool, NodeFault>
         ensures keeps { Keeps (λ l. L.faults l + L.closes l) L.given L.got self.old self.new }
-        ensures works { Works pass self.old self.new result }
+        ensures parts { Parts pass self.old self.new result }
         ensures up { OnOk result (self.new.broken ≡ false) }
     {
         self.check()?;
         match clerk::bye(&mut self.clerk) {
-            Ok(outs) => self.close(rt, alloc, pass, Act::step(Deed::Parted, outs)),
+            Ok(Some(outs)) => {
+                self.close(rt, alloc, pass, Act::step(Deed::Parted, outs))?;
+                Ok(true)
+            }
+            Ok(None) => Ok(false),
             Err(_) => Err(self.breaks()),
         }
+    }
+
+    /// Reads the link once, and says goodbye where there is a session then. Whether the link gave something, and whether it
+    /// said goodbye.
+    pub fn read_and_bye<R: Wait + Clock>(
+        &mut self,
+        rt: &R,
+        alloc: Global,
+        pass: u64,
+    ) -> Result<(bool, bool), NodeFault>
+        ensures keeps { Keeps (λ l. L.faults l + L.closes l) L.given L.got self.old self.new }
+        ensures parts { PartsBehind pass self.old self.new result }
+        ensures up { OnOk result (self.new.broken ≡ false) }
+    {
+        let heard = self.read(rt, alloc, pass)?;
+        let is_said = self.bye(rt, alloc, pass)?;
+        Ok((heard, is_said))
     }
 
     /// Begins a call. Its number, the place of its step, and the answer where it is there at once.

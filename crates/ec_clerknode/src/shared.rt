@@ -9,7 +9,7 @@ ghost use Rattle.ec_clerknode.specs.Closed.{Started, Waited, Works};
 ghost use Rattle.ec_clerknode.specs.Floors.{highest_grows};
 ghost use Rattle.ec_clerknode.specs.Node.{Since};
 ghost use Rattle.ec_clerknode.specs.Run.{highest, old_boot, told_by, heard_by, AreSaid, Came};
-ghost use Rattle.ec_clerknode.specs.Turns.{number_of, Stays, Turned, Starts, Waits, Called, CalledPlain, Worked, Asks, FlushTurned, Finished};
+ghost use Rattle.ec_clerknode.specs.Turns.{number_of, Stays, Turned, Starts, Waits, Called, CalledPlain, Worked, Partings, SaidBye, Asks, FlushTurned, Finished};
 
 use crate::fault::NodeFault;
 use crate::state::{Closing, Node, State};
@@ -277,20 +277,54 @@ impl<L: Link> SharedClerk<L> {
         Ok(flushed)
     }
 
-    /// Says goodbye.
-    pub fn bye<R: Wait + Clock>(&self, rt: &R, pass: &mut Pass<Node<L>>) -> Result<(), NodeFault>
+    // A turn that reads the link, and says goodbye where there is a session. Whether the link gave something, and whether it
+    // said goodbye.
+    fn part<R: Wait + Clock>(
+        &self,
+        rt: &R,
+        pass: &mut Pass<Node<L>>,
+    ) -> Result<(bool, bool), NodeFault>
         requires pass { IsPassOf self.now.lock pass.old }
         ensures turned { Turned self.now.lock pass.old pass.new }
-        ensures worked { Worked pass.old.number (front pass.old) (front pass.new) result }
+        ensures partings { Partings pass.old.number (front pass.old) (front pass.new) result }
         ensures said { OnOk result (AreSaid (front pass.new)) }
     {
         let number = pass.number();
         let mut turn = self.lock.enter(rt, pass);
         let node = &mut turn.value;
         let state = &mut node.state;
-        let result = state.bye(rt, self.alloc, number);
-        self.end(turn, pass, result.is_err());
+        let result = state.read_and_bye(rt, self.alloc, number);
+        let is_news = match &result {
+            Ok((heard, _)) => *heard,
+            Err(_) => true,
+        };
+        self.end(turn, pass, is_news);
         result
+    }
+
+    /// Says goodbye. It waits until there is a session to end.
+    pub fn bye<R: Wait + Clock>(&self, rt: &R, pass: &mut Pass<Node<L>>) -> Result<(), NodeFault>
+        requires pass { IsPassOf self.now.lock pass.old }
+        ensures turned { Turned self.now.lock pass.old pass.new }
+        ensures worked { Worked pass.old.number (front pass.old) (front pass.new) result }
+        ensures goodbye { OnOk result (SaidBye pass.old.number (front pass.old) (front pass.new)) }
+        ensures said { OnOk result (AreSaid (front pass.new)) }
+    {
+        let (_, was_said) = self.part(rt, pass)?;
+        if was_said {
+            return Ok(());
+        }
+        for _ in rt.forever() {
+            let seen = self.bell.rings();
+            let (heard, is_said) = self.part(rt, pass)?;
+            if is_said {
+                return Ok(());
+            }
+            if !heard {
+                self.bell.wait(rt, seen);
+            }
+        }
+        unreachable!()
     }
 
     /// The lists that were told lost, in the order of the sessions' ends.

@@ -15,7 +15,7 @@ use Rattle.ec_clerknode.specs.declared.fault.NodeFault.TheVariants as fault
 use Rattle.ec_clerknode.specs.declared.state.Node.{Node}
 use Rattle.ec_clerknode.specs.declared.step.Step.{Step}
 use Rattle.ec_clerknode.specs.Run.{calls}
-use Rattle.ec_clerknode.specs.Turns.{number_of, calls_by, Turned, Replied, Failed, Worked}
+use Rattle.ec_clerknode.specs.Turns.{number_of, calls_by, Turned, Replied, Failed, Worked, SaidBye}
 use Rattle.ec_clerknode.specs.declared.jobs.AllReplied.{AllReplied}
 use Rattle.ec_clerknode.specs.Lanes.{AreFronts, IfTold, LanesCame, LanesMade}
 use Rattle.ec_clerknode.proofs.LanePasses.{whole_fronts}
@@ -230,13 +230,13 @@ module _ {L : Type 0} (lock : TracedLock (Node L) Step) where
       done = failed_has n [] (front mid) (front new) f w;
     }
 
-    pub bye_done : {A : Type 0} (last : Reply) (x : A) → Replied old.number Sync (front old) (front mid) last → Worked mid.number (front mid) (front new) (Ok x) → Ended lock old new (Ok last)
-    bye_done last x replied worked = record {
+    pub bye_done : {A : Type 0} (last : Reply) (x : A) → Replied old.number Sync (front old) (front mid) last → Worked mid.number (front mid) (front new) (Ok x) → SaidBye mid.number (front mid) (front new) → Ended lock old new (Ok last)
+    bye_done last x replied worked goodbye = record {
       is_pass = u.is_pass;
       same = (u.stays.0 ∙ t.stays.0, u.stays.1 ∙ t.stays.1);
       later = prefix_trans (front old) (front mid) (front new) t.goes.1 u.goes.1;
       others = both_others;
-      done = (front mid, replied, u.goes.1, subst (λ n. calls_by n (front new) ≡ calls_by n (front mid)) t.stays.0 worked.0);
+      done = (front mid, replied, u.goes.1, subst (λ n. calls_by n (front new) ≡ calls_by n (front mid)) t.stays.0 worked.0, subst (λ n. SaidBye n (front mid) (front new)) t.stays.0 goodbye);
     }
 
   -- All calls.
@@ -293,6 +293,7 @@ module _ {L : Type 0} (lock : TracedLock (Node L) Step) where
         later = e.done.2;
         lanes_once = λ n m. lane.once n m ∙ e.others n (lane.within n m) (not_own n m);
         sync_once = ap (λ n. calls_by n (front new)) e.same.0 ∙ (e.done.3 ∙ (e.done.1.0 ∙ ap (λ l. l ++ Sync ∷ []) none_mid));
+        goodbye = subst (λ n. SaidBye n e.done.0 (front new)) (sym e.same.0) e.done.4;
       }
 
       all_done : Called lock old lanes new all (Ok last)

@@ -19,7 +19,7 @@ use Rattle.ec_clerknode.specs.declared.state.Node.{Node}
 use Rattle.ec_clerknode.specs.declared.step.Step.{Step}
 use Rattle.ec_clerknode.specs.Run.{IsRun, calls, heard_by, said_by, told_by, old_boot}
 use Rattle.ec_clerknode.specs.Turns.{number_of, Finished}
-use Rattle.ec_clerknode.proofs.Lists.{prefix_trans}
+use Rattle.ec_clerknode.proofs.Lists.{prefix_get, prefix_trans}
 use Rattle.ec_outs.proofs.Told.{added-added, added-nil}
 use Rattle.ec_mount.specs.Run.{NetSeen, Ran, Holds, HoldsFronts, Has, Met, Lost, Spends, Unheard}
 use Rattle.ec_mount.specs.Run as run
@@ -55,6 +55,7 @@ module _ {L : Type 0} (lock : TracedLock (Node L) Step) (old called closed : Pas
       later = prefix_trans k.synced (front called) (front closed) k.later later;
       lanes_once = λ n m. k.lanes_once n m ∙ own n (h.within n m);
       sync_once = sym (ap calls (own called.number mine)) ∙ k.sync_once;
+      goodbye = let g = k.goodbye in (g.0, g.1, g.2, prefix_get (front called) (front closed) g.0 g.1 later g.3, g.4, g.5);
     }
 
     pub holds_all : Holds 0 lanes (front closed) all last

@@ -14,7 +14,7 @@ use Rattle.ec_clerknode.specs.declared.fault.NodeFault.{NodeFault}
 use Rattle.ec_clerknode.specs.declared.fault.NodeFault.TheVariants as fault
 use Rattle.ec_clerknode.specs.declared.state.Node.{Node}
 use Rattle.ec_clerknode.specs.declared.step.Step.{Step}
-use Rattle.ec_clerknode.specs.Turns.{number_of, calls_by, Replied}
+use Rattle.ec_clerknode.specs.Turns.{number_of, calls_by, Replied, SaidBye}
 use Rattle.ec_clerknode.specs.Lanes.{AreLanes, AreFronts, LanesCame, lists_of}
 use Rattle.ec_mount.specs.Run.{Has, Holds}
 use Rattle.ec_mount.specs.Script.{IsBadAt}
@@ -104,7 +104,7 @@ module _ {L : Type 0} (lock : TracedLock (Node L) Step) where
     pub done : LanesEnd new lanes all end
 
   abbrev pub EndDone : Pass (Node L) Step → Pass (Node L) Step → Result Reply NodeFault → Type 0
-  EndDone old new (Ok last) = (synced : List Step) × Replied old.number Sync (front old) synced last × IsPrefix synced (front new) × (calls_by old.number (front new) ≡ calls_by old.number synced)
+  EndDone old new (Ok last) = (synced : List Step) × Replied old.number Sync (front old) synced last × IsPrefix synced (front new) × (calls_by old.number (front new) ≡ calls_by old.number synced) × SaidBye old.number synced (front new)
   EndDone old new (Err f) = Has f (front new)
 
   -- the last sync was made, and goodbye said

@@ -17,7 +17,7 @@ use Rattle.ec_clerknode.specs.declared.fault.NodeFault.{NodeFault}
 use Rattle.ec_clerknode.specs.declared.fault.NodeFault.TheVariants as fault
 use Rattle.ec_clerknode.specs.declared.step.Step.{Step}
 use Rattle.ec_clerknode.specs.Run.{IsRun, Among, heard_by, said_by, told_by, marks, old_boot}
-use Rattle.ec_clerknode.specs.Turns.{number_of, calls_by, Replied}
+use Rattle.ec_clerknode.specs.Turns.{number_of, calls_by, Replied, SaidBye}
 use Rattle.ec_clerknode.specs.Lanes.{AreLanes, AreFronts}
 
 -- how often a net failed, how many of the links that came back had failed or closed, and what those that came back gave and got
@@ -45,7 +45,7 @@ pub record Ran (id boot : ℕ) (before after : NetSeen) (steps : List Step) : Ty
   pub sent : Tells got (map encoded (sends outs) ++ said_by steps)
 
 -- The steps hold the calls of lanes, each lane's by a pass of its own, in order and each once, with these answers. Behind all of them the pass `own`
--- made one call, a sync, with the last answer.
+-- made one call, a sync, with the last answer, and then said goodbye.
 pub record Holds (own : ℕ) (lanes : List (List Call)) (steps : List Step) (all : List (List Reply)) (last : Reply) : Type 0 where
   pub passes : List ℕ
   pub distinct : Distinct passes
@@ -61,6 +61,8 @@ pub record Holds (own : ℕ) (lanes : List (List Call)) (steps : List Step) (all
   pub later : IsPrefix synced steps
   pub lanes_once : (n : ℕ) → Member n passes → of number_of n ran ≡ of number_of n steps
   pub sync_once : calls_by own steps ≡ Sync ∷ []
+  -- behind the sync this pass said goodbye
+  pub goodbye : SaidBye own synced steps
 
 -- The steps hold the calls of lanes up to a fault: each lane's pass made a front of its calls, in order and each once, with these answers, and nothing
 -- else. The last call that it began may have none.

@@ -15,4 +15,4 @@ returns-in-Err g c =
 
 pub returns-in-Ok : goal.returns-in-Ok
 returns-in-Ok g c =
-    bye_done c.args.clerk.now.lock c.args.pass.now c.call_op.new.pass c.bye.new.pass c.call_op.ensures.turned c.bye.ensures.turned c.in_ok-last.last (tt {0}) c.in_ok-last.ensures.called c.in-Ok.ensures.worked
+    bye_done c.args.clerk.now.lock c.args.pass.now c.call_op.new.pass c.bye.new.pass c.call_op.ensures.turned c.bye.ensures.turned c.in_ok-last.last (tt {0}) c.in_ok-last.ensures.called c.in-Ok.ensures.worked c.in-Ok.ensures.goodbye

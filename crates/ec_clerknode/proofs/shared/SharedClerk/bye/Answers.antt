@@ -1,44 +1,37 @@
-use Rattle.std.proofs.Common.{◌+◌, sym, ◌∙◌, subst}
-use Rattle.ec_lock.specs.Passes.{first, front}
-use Rattle.ec_clerknode.specs.Closed.{Works}
-use Rattle.ec_clerknode.proofs.Turns.{own_only, grown, later_front, works_more, turned, works, said_if}
+use Rattle.std.proofs.Common.{◌+◌, rules}
+use Rattle.ec_lock.specs.Passes.{front}
+use Rattle.ec_clerknode.proofs.Turns.{turned_both, parting_none, parted_ok, parted_bye, parted_failed}
 use Rattle.ec_clerknode.proofs.shared.SharedClerk.bye.Goals as goal
 
-pub end-requires-clause-own : goal.end-requires-clause-own
-end-requires-clause-own g c κs within =
-    let v = c.enter-turn.result.value in
-    let w = c.bye-result.new.self in
-    own_only c.number-number.result c.enter-turn.new.pass.number (front c.enter-turn.new.pass) v w c.enter-turn.ensures.front (c.enter-turn.ensures.same.0 ∙ sym c.number-number.ensures)
-    (works_more c.number-number.result v w c.bye-result.result (rw (c.deref_mut.ensures.value ∙ c.node.view_is) at c.bye-result.ensures.works))
+pub returns-in_err-heard-clause-turned : goal.returns-in_err-heard-clause-turned
+returns-in_err-heard-clause-turned g c = turned_both (λ l. g.L.Link.faults l + g.L.Link.closes l) g.L.Link.given g.L.Link.got c.args.self.now.lock c.args.pass.now c.loop.pass c.part-in-loop.new.pass c.loop.invariant.2 c.part-in-loop.ensures.turned
 
-pub returns-clause-turned : goal.returns-clause-turned
-returns-clause-turned g c =
-    let v = c.enter-turn.result.value in
-    let w = c.bye-result.new.self in
-    turned (λ l. g.L.Link.faults l + g.L.Link.closes l) g.L.Link.given g.L.Link.got c.args.self.now.lock c.args.pass.now c.enter-turn.new.pass c.end.new.pass v w ((rw (c.deref_mut.ensures.value ∙ c.node.view_is) at c.bye-result.ensures.keeps) (first c.args.self.now.lock) c.enter-turn.ensures.since) c.enter-turn.ensures.later
-    (grown c.number-number.result v w (works_more c.number-number.result v w c.bye-result.result (rw (c.deref_mut.ensures.value ∙ c.node.view_is) at c.bye-result.ensures.works)))
-    c.enter-turn.ensures.same c.enter-turn.ensures.mark c.end.ensures.pass c.end.ensures.front c.end.ensures.stays c.end.ensures.raises c.enter-turn.ensures.front c.enter-turn.ensures.own
-    (own_only c.number-number.result c.enter-turn.new.pass.number (front c.enter-turn.new.pass) v w c.enter-turn.ensures.front (c.enter-turn.ensures.same.0 ∙ sym c.number-number.ensures) (works_more c.number-number.result v w c.bye-result.result (rw (c.deref_mut.ensures.value ∙ c.node.view_is) at c.bye-result.ensures.works)))
+pub returns-in_err-heard-clause-worked : goal.returns-in_err-heard-clause-worked
+returns-in_err-heard-clause-worked g c =
+    let failed = parted_failed c.args.pass.now.number c.loop.pass.number (front c.args.pass.now) (front c.loop.pass) (front c.part-in-loop.new.pass) c.loop.invariant.2.stays.0 c.loop.invariant.2.goes.1 c.loop.invariant.3 _ c.in_err-heard.ensures.partings in
+    search (rules, failed)
 
-pub returns-clause-worked : goal.returns-clause-worked
-returns-clause-worked g c =
-    let v = c.enter-turn.result.value in
-    let w = c.bye-result.new.self in
-    let since = c.enter-turn.ensures.since in
-    works (λ l. g.L.Link.faults l + g.L.Link.closes l) g.L.Link.given g.L.Link.got (first c.args.self.now.lock) c.args.pass.now.number (front c.args.pass.now) (front c.end.new.pass) v w since ((rw (c.deref_mut.ensures.value ∙ c.node.view_is) at c.bye-result.ensures.keeps) (first c.args.self.now.lock) since) c.enter-turn.ensures.later
-    (c.enter-turn.ensures.own c.args.pass.now.number c.requires.pass.1) (sym c.end.ensures.front) c.bye-result.result
-    (subst (λ n. Works n v w c.bye-result.result) c.number-number.ensures (rw (c.deref_mut.ensures.value ∙ c.node.view_is) at c.bye-result.ensures.works))
+pub loop-preserved : goal.loop-preserved
+loop-preserved g c = (
+  tt,
+  tt,
+  turned_both (λ l. g.L.Link.faults l + g.L.Link.closes l) g.L.Link.given g.L.Link.got c.args.self.now.lock c.args.pass.now c.loop.pass c.part-in-loop.new.pass c.loop.invariant.2 c.part-in-loop.ensures.turned,
+  parting_none c.args.pass.now.number c.loop.pass.number (front c.args.pass.now) (front c.loop.pass) (front c.part-in-loop.new.pass) c.loop.invariant.2.stays.0 c.loop.invariant.2.goes.1 c.loop.invariant.3 (c.in_ok-heard.heard, c.in_ok-heard.is_said) c.in_ok-heard.ensures.partings,
+)
 
-pub end-requires-clause-later : goal.end-requires-clause-later
-end-requires-clause-later g c κs within =
-    let v = c.enter-turn.result.value in
-    let w = c.bye-result.new.self in
-    later_front c.number-number.result (front c.enter-turn.new.pass) v w c.enter-turn.ensures.front (works_more c.number-number.result v w c.bye-result.result (rw (c.deref_mut.ensures.value ∙ c.node.view_is) at c.bye-result.ensures.works))
+pub loop-preserved-then-not-heard : goal.loop-preserved-then-not-heard
+loop-preserved-then-not-heard g c = (
+  tt,
+  tt,
+  turned_both (λ l. g.L.Link.faults l + g.L.Link.closes l) g.L.Link.given g.L.Link.got c.args.self.now.lock c.args.pass.now c.loop.pass c.part-in-loop.new.pass c.loop.invariant.2 c.part-in-loop.ensures.turned,
+  parting_none c.args.pass.now.number c.loop.pass.number (front c.args.pass.now) (front c.loop.pass) (front c.part-in-loop.new.pass) c.loop.invariant.2.stays.0 c.loop.invariant.2.goes.1 c.loop.invariant.3 (c.in_ok-heard.heard, c.in_ok-heard.is_said) c.in_ok-heard.ensures.partings,
+)
 
-pub end-requires-clause-since : goal.end-requires-clause-since
-end-requires-clause-since g c κs within = (rw (c.deref_mut.ensures.value ∙ c.node.view_is) at c.bye-result.ensures.keeps) (first c.args.self.now.lock) c.enter-turn.ensures.since
+pub returns-then-is_said-clause-turned : goal.returns-then-is_said-clause-turned
+returns-then-is_said-clause-turned g c = turned_both (λ l. g.L.Link.faults l + g.L.Link.closes l) g.L.Link.given g.L.Link.got c.args.self.now.lock c.args.pass.now c.loop.pass c.part-in-loop.new.pass c.loop.invariant.2 c.part-in-loop.ensures.turned
 
-pub returns-clause-said : goal.returns-clause-said
-returns-clause-said g c =
-    said_if (λ l. g.L.Link.faults l + g.L.Link.closes l) g.L.Link.given g.L.Link.got (first c.args.self.now.lock) c.bye-result.new.self (front c.end.new.pass) ((rw (c.deref_mut.ensures.value ∙ c.node.view_is) at c.bye-result.ensures.keeps) (first c.args.self.now.lock) c.enter-turn.ensures.since) c.end.ensures.front c.bye-result.result
-    c.bye-result.ensures.up
+pub returns-then-is_said-clause-worked : goal.returns-then-is_said-clause-worked
+returns-then-is_said-clause-worked g c = parted_ok c.args.pass.now.number c.loop.pass.number (front c.args.pass.now) (front c.loop.pass) (front c.part-in-loop.new.pass) c.loop.invariant.2.stays.0 c.loop.invariant.2.goes.1 c.loop.invariant.3 (c.in_ok-heard.heard, c.in_ok-heard.is_said) (tt {0}) c.in_ok-heard.ensures.partings
+
+pub returns-then-is_said-clause-goodbye : goal.returns-then-is_said-clause-goodbye
+returns-then-is_said-clause-goodbye g c = parted_bye c.args.pass.now.number c.loop.pass.number (front c.args.pass.now) (front c.loop.pass) (front c.part-in-loop.new.pass) c.loop.invariant.2.stays.0 c.loop.invariant.2.goes.1 c.loop.invariant.3 (c.in_ok-heard.heard, c.in_ok-heard.is_said) c.if-is_said.true c.in_ok-heard.ensures.partings
