@@ -6,10 +6,11 @@ use Rattle.ec_base.specs.declared.ids.Age.{Age}
 use Rattle.ec_plain.specs.declared.call.Call.{Call}
 use Rattle.ec_protocol.specs.declared.clerk.Clerk.{Clerk}
 use Rattle.ec_protocol.specs.declared.clerk.Out.{Out}
+use Rattle.ec_link.specs.declared.link.Sent.TheVariants as sent
 use Rattle.ec_link.specs.declared.link.Got.{Got}
 use Rattle.ec_link.specs.declared.link.Got.TheVariants as gave
 use Rattle.ec_link.specs.Links.{Heard, heard, added, failed}
-use Rattle.ec_outs.specs.Outs.{Reply, each, told, sends, old_boots, first_of, answers, kept_at, first_known}
+use Rattle.ec_outs.specs.Outs.{Reply, each, told, sends, encoded, old_boots, first_of, answers, kept_at, first_known}
 use Rattle.ec_clerknode.specs.declared.act.Act.{Act}
 use Rattle.ec_clerknode.specs.declared.fault.NodeFault.{NodeFault}
 use Rattle.ec_clerknode.specs.declared.step.Deed.{Deed}
@@ -17,9 +18,9 @@ use Rattle.ec_clerknode.specs.declared.step.Step.{Step}
 use Rattle.ec_outs.specs.declared.kept.Kept.{Kept}
 use Rattle.ec_clerknode.specs.declared.state.Node.{Node}
 use Rattle.ec_clerknode.specs.Folded.{floor_of}
-use Rattle.ec_clerknode.specs.Run.{highest, after, outs_of, IsDeed, IsStep, leads, IsRun, heard_of, heard_by, IsSaid, AreSaid, Came, said_in, said_by, told_in, told_by, net_of, nets, old_boots_in, old_boot, Among}
+use Rattle.ec_clerknode.specs.Run.{highest, after, outs_of, IsDeed, IsStep, leads, IsRun, heard_of, heard_by, IsSaid, AreSaid, Wanted, Came, said_in, said_by, told_in, told_by, net_of, nets, old_boots_in, old_boot, Among}
 use Rattle.ec_clerknode.specs.Node.{AnsweredAt, AnsweredFrom, Since, Keeps}
-use Rattle.ec_clerknode.specs.Closed.{Acts, IsOwn, Closed, Moved, Breaks, Begun, Works, Waited}
+use Rattle.ec_clerknode.specs.Closed.{Acts, IsOwn, Closed, Moved, Fell, Begun, Works, Waited}
 use Rattle.ec_clerknode.proofs.Lists.{get_longer, get_last}
 use Rattle.ec_outs.proofs.Each.{each-push}
 use Rattle.ec_outs.proofs.Told.{added-nil, added-added}
@@ -35,6 +36,14 @@ run-push c (x ∷ xs) s r h = (r.0, run-push (after c x.deed) xs s r.1 h)
 pub said-push : (xs : List Step) (s : Step) → AreSaid xs → IsSaid s.end → AreSaid (xs ++ s ∷ [])
 said-push [] s r h = (h, tt)
 said-push (x ∷ xs) s r h = (r.0, said-push xs s r.1 h)
+
+-- memory was wanting in the last step
+wanted_last : (xs : List Step) (s : Step) → s.end ≡ sent.NoMemory → Wanted (xs ++ s ∷ [])
+wanted_last [] s e = inl e
+wanted_last (x ∷ xs) s e = inr (wanted_last xs s e)
+
+true_false : true ≡ false → ⊥
+true_false e = cc e
 
 pub heard_short : (got : Got) → length (heard got) ≤ 1
 heard_short (gave.Body bytes) = omega arith
@@ -97,7 +106,7 @@ module _ {L : Type 0} (counts : L → ℕ) (given : L → Option (List Heard)) (
       let xs = old.trace.items in
       let grown : new.trace.items ≡ xs ++ step ∷ [] = c.list ∙ ap (λ l. l ++ step ∷ []) m.list in
       let lead : leads first.clerk xs ≡ old.clerk = s.leads_to m.up in
-      let is_step : IsStep old.clerk step = (
+      let is_step : IsStep old.clerk step = inr (
         subst (IsDeed old.clerk) (sym c.deed_is) m.is,
         c.outs_are ∙ (m.outs_are ∙ ap (outs_of old.clerk) (sym c.deed_is)),
         c.floor ∙ ap floor_of (m.clerk ∙ ap (after old.clerk) (sym c.deed_is)),
@@ -133,6 +142,8 @@ module _ {L : Type 0} (counts : L → ℕ) (given : L → Option (List Heard)) (
         net = omega (arith, ap nets grown, nets-push xs step);
         heard = λ up. heard_all;
         said = λ up. subst AreSaid (sym grown) (said-push xs step (s.said m.up) (c.said up));
+        wanted = λ down. subst Wanted (sym grown) (wanted_last xs step
+            (⊎_elim (λ (e : mid.broken ≡ true). absurd (true_false (sym e ∙ m.still_up))) (λ (e : step.end ≡ sent.NoMemory). e) (c.wanted down)));
         came = came_all (given first.link) (given new.link) (heard_by new.trace.items) heard_all;
         sent = c.got_more ∙ (ap (λ o. added o (said_in step)) (m.sent ∙ s.sent) ∙ (added-added (got first.link) (said_by xs) (said_in step) ∙ ap (added (got first.link)) (sym (ap said_by grown ∙ each-push said_in xs step))));
       }
@@ -155,33 +166,43 @@ module _ {L : Type 0} (counts : L → ℕ) (given : L → Option (List Heard)) (
   pub nothing_came : (link : L) → Came (given link) [] (given link)
   nothing_came link = came_all (given link) (given link) [] (sym (added-nil (given link)))
 
-  -- nothing was added, and the clerk is not followed any more
-  pub breaks : (old new : Node L) → Breaks counts given got old new → Keeps counts given got old new
-  breaks old new b first s =
+  -- The mark that memory was wanting was added, and the clerk is not followed any more. Its link gave at most one thing for it.
+  pub falls : (pass : ℕ) (old new : Node L) (c : Clerk) (link : L) → old.broken ≡ false → Came (given old.link) [] (given link) → got link ≡ got old.link → counts old.link ≤ counts link
+      → Fell pass (record old { clerk = c; link = link }) new → Keeps counts given got old new
+  falls pass old new c link up came sent more f first s =
+      let xs = old.trace.items in
+      let step = f.step in
+      let down : new.broken ≡ true = ap (λ (n : Node L). n.broken) f.same in
+      let back : new.link ≡ link = ap (λ (n : Node L). n.link) f.same in
       let net = s.net in
-      let more = b.net in
+      let links : counts new.link ≡ counts link = ap counts back in
+      let still_net : net_of step.deed ≡ 0 = ap net_of f.is.0 in
+      let none_failed : failed step.end ≡ 0 = ap failed f.is.3 in
+      let low : step.floor ≡ 0 = f.is.4 in
+      let said_none : said_in step ≡ [] = ap (λ (n : ℕ). map encoded (take n (sends step.outs.value.items))) f.is.2 in
       record {
-        run = subst (λ t. IsRun first.clerk t.items) (sym b.list) s.run;
-        counted = b.steps ∙ (s.counted ∙ sym (ap (λ t. length t.items) b.list));
-        leads_to = λ up. absurd (two (sym b.down ∙ up));
-        kept = subst (λ t. All (λ a. AnsweredAt t.items a.at a.number a.reply) new.kept.items) (sym b.list) (subst (λ v. All (λ a. AnsweredAt old.trace.items a.at a.number a.reply) v.items) (sym b.kept) s.kept);
-        told = λ up. absurd (two (sym b.down ∙ up));
-        old = b.boot ∙ (s.old ∙ sym (ap (λ t. old_boot t.items) b.list));
-        top = b.top ∙ (s.top ∙ sym (ap (λ t. highest t.items) b.list));
-        net = omega (arith, ap (λ t. nets t.items) b.list);
-        heard = λ up. absurd (two (sym b.down ∙ up));
-        sent = b.sent ∙ (s.sent ∙ ap (λ t. added (got first.link) (said_by t.items)) (sym b.list));
-        said = λ up. absurd (two (sym b.down ∙ up));
-        came =
-            let lost = b.came in (
-              lost.0,
-              lost.1,
-              lost.2 ∙ (ap (λ o. added o lost.0) (s.heard b.up) ∙ (added-added (given first.link) (heard_by old.trace.items) lost.0 ∙ ap (λ t. added (given first.link) (heard_by t.items ++ lost.0)) (sym b.list))),
-            );
+        run = subst (IsRun first.clerk) (sym f.list) (run-push first.clerk xs step s.run (inl f.is));
+        counted = ap (λ (n : Node L). n.steps) f.same ∙ (ap (λ n. n + 1) s.counted ∙ sym (ap length f.list ∙ length-append xs (step ∷ [])));
+        leads_to = λ up. absurd (true_false (sym down ∙ up));
+        kept = subst (All (λ a. AnsweredAt new.trace.items a.at a.number a.reply)) (sym (ap (λ (n : Node L). n.kept.items) f.same))
+            (all_each (λ (a : Kept). AnsweredAt xs a.at a.number a.reply) (λ a. AnsweredAt new.trace.items a.at a.number a.reply) old.kept.items
+            (λ a h. subst (λ l. AnsweredAt l a.at a.number a.reply) (sym f.list) (answered_longer xs (step ∷ []) a.at a.number a.reply h)) s.kept);
+        told = λ up. absurd (true_false (sym down ∙ up));
+        old = ap (λ (n : Node L). n.boot) f.same ∙ (s.old ∙ (ap first_of (sym (append-nil (each old_boots_in xs)) ∙ ap (λ l. each old_boots_in xs ++ old_boots l) (sym f.is.1))
+            ∙ sym (ap old_boot f.list ∙ ap first_of (each-push old_boots_in xs step))));
+        top = ap (λ (n : Node L). n.top) f.same ∙ (s.top ∙ sym (ap highest f.list ∙ (highest-push xs step ∙ omega (arith, low))));
+        net = omega (arith, ap nets f.list, nets-push xs step);
+        heard = λ up. absurd (true_false (sym down ∙ up));
+        sent = ap got back ∙ (sent ∙ (s.sent ∙ ap (added (got first.link)) (sym (append-nil (said_by xs)) ∙ (ap (λ l. said_by xs ++ l) (sym said_none) ∙ sym (ap said_by f.list ∙ each-push said_in xs step)))));
+        said = λ up. absurd (true_false (sym down ∙ up));
+        wanted = λ yes. subst Wanted (sym f.list) (wanted_last xs step f.is.3);
+        came = (
+          came.0,
+          came.1,
+          ap given back ∙ (came.2 ∙ (ap (λ o. added o came.0) (s.heard up) ∙ (added-added (given first.link) (heard_by xs) came.0 ∙ ap (λ l. added (given first.link) (l ++ came.0)) (sym (ap heard_by f.list ∙ (each-push (λ (x : Step). heard_of x.deed) xs step
+              ∙ (ap (λ d. heard_by xs ++ heard_of d) f.is.0 ∙ append-nil (heard_by xs)))))))),
+        );
       }
-    where
-      two : true ≡ false → ⊥
-      two e = cc e
 
   pub keeps_both : (old mid new : Node L) → Keeps counts given got old mid → Keeps counts given got mid new → Keeps counts given got old new
   keeps_both old mid new a b first s = b first (a first s)
@@ -193,7 +214,7 @@ module _ {L : Type 0} (counts : L → ℕ) (given : L → Option (List Heard)) (
   pub follows : (pass : ℕ) (act : Act) (step : Step) (old new : Node L) (c : Clerk) (link : L) → old.broken ≡ false → Acts old.clerk act c → given link ≡ added (given old.link) (heard_of act.deed) → got link ≡ got old.link
       → net_of act.deed + counts old.link ≤ counts link → Closed counts given got pass act.deed act.outs.items step (record old { clerk = c; link = link }) new → Keeps counts given got old new
   follows pass act step old new c link up acts heard sent net closed = closes pass act.deed act.outs.items step old (record old { clerk = c; link = link }) new
-      (record { up = up; is = acts.0; outs_are = acts.1; clerk = acts.2; kept = refl; told_same = refl; boot = refl; steps = refl; top = refl; list = refl; heard = heard; sent = sent; net = net }) closed
+      (record { up = up; still_up = up; is = acts.0; outs_are = acts.1; clerk = acts.2; kept = refl; told_same = refl; boot = refl; steps = refl; top = refl; list = refl; heard = heard; sent = sent; net = net }) closed
 
   -- a call of the clerk without the link
   pub follows_alone : (pass : ℕ) (act : Act) (step : Step) (old new : Node L) (c : Clerk) → old.broken ≡ false → Acts old.clerk act c → IsOwn act.deed
@@ -217,23 +238,9 @@ module _ {L : Type 0} (counts : L → ℕ) (given : L → Option (List Heard)) (
         heard = λ up. heard ∙ (added-nil (given old.link) ∙ s.heard up);
         sent = sent ∙ s.sent;
         said = s.said;
+        wanted = s.wanted;
         came = (s.came.0, s.came.1, heard ∙ (added-nil (given old.link) ∙ s.came.2));
       }
-
-  -- memory was wanting
-  pub down : (old new : Node L) (c : Clerk) (link : L) → old.broken ≡ false → Came (given old.link) [] (given link) → got link ≡ got old.link → counts old.link ≤ counts link → new ≡ record old { clerk = c; link = link; broken = true } → Keeps counts given got old new
-  down old new c link up came sent more e = breaks old new record {
-    up = up;
-    came = (came.0, came.1, ap (λ (n : Node L). given n.link) e ∙ came.2);
-    down = ap (λ (n : Node L). n.broken) e;
-    list = ap (λ (n : Node L). n.trace) e;
-    kept = ap (λ (n : Node L). n.kept) e;
-    boot = ap (λ (n : Node L). n.boot) e;
-    steps = ap (λ (n : Node L). n.steps) e;
-    top = ap (λ (n : Node L). n.top) e;
-    sent = ap (λ (n : Node L). got n.link) e ∙ sent;
-    net = let same : counts new.link ≡ counts link = ap (λ (n : Node L). counts n.link) e in omega arith;
-  }
 
 pub begun_same : {L : Type 0} (pass : ℕ) (call : Call) (old mid new : Node L) (number : ℕ) → new.trace.items ≡ mid.trace.items → new.boot ≡ mid.boot → Begun pass call old mid (Ok number) → Begun pass call old new (Ok number)
 begun_same pass call old mid new number list boot b = let r = b.1 in (boot ∙ b.0, (r.0, r.1, r.2, r.3, (list ∙ r.4.0, r.4.1)))

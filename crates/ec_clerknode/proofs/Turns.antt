@@ -1,6 +1,6 @@
 -- From one turn at the lock to what the pass knows.
 use Rattle.std.proofs.Common.{◌≡◌, ℕ, ◌+◌, ◌≤◌, ◌⊎◌, false, cond, IfOk, List, [], ◌∷◌, ◌++◌, length, Option, Some, None, Result, Ok, Err, IfSome, slice_get, sym, refl, ap, ◌∙◌, subst, inl, inr, ⊎_elim, arith, eq-eqb, ne_eqb, append_assoc, append-nil, length-append}
-use Rattle.std.specs.Prelude.{Bool, true, OnOk, if◌then◌else◌}
+use Rattle.std.specs.Prelude.{Bool, true, OnOk, IfNone, if◌then◌else◌}
 use mathlib.Core.List.{IsPrefix}
 use Rattle.ec_protocol.specs.declared.clerk.Clerk.{Clerk}
 use Rattle.std.specs.List.{All}
@@ -21,9 +21,9 @@ use Rattle.ec_clerknode.specs.declared.step.Step.{Step}
 use Rattle.ec_clerknode.specs.declared.state.Node.{Node}
 use Rattle.ec_clerknode.specs.Floors.{highest_grows}
 use Rattle.ec_clerknode.specs.Folded.{answer_to}
-use Rattle.ec_clerknode.specs.Run.{told_by, heard_by, said_by, nets, AreSaid, Came, call_of, calls, marks, mark_of_deed, mark_of_end, Among, IsRun, leads, highest, old_boot}
+use Rattle.ec_clerknode.specs.Run.{told_by, heard_by, said_by, nets, AreSaid, Wanted, Came, call_of, calls, marks, mark_of_deed, mark_of_end, Among, IsRun, leads, highest, old_boot}
 use Rattle.ec_clerknode.specs.Node.{Since, By, AnsweredAt, AnsweredFrom}
-use Rattle.ec_clerknode.specs.Closed.{More, Caused, Fails, Begun, Works, Flushes, PartsIf, PartsBehind, ReadsFlushes, Started, Waited}
+use Rattle.ec_clerknode.specs.Closed.{More, Caused, Fails, Fell, Begun, Works, Flushes, PartsIf, PartsBehind, ReadsFlushes, Started, Waited}
 use Rattle.ec_clerknode.specs.Turns.{number_of, calls_by, Replied, Failed, Called, Worked, Partings, SaidBye, Stays, Turned, Pending, Starts, Waits, PickedLast, Asks, FlushTurned, Finished}
 use Rattle.ec_clerknode.proofs.Lists.{prefix_trans, prefix_length, prefix_get, get_last, of-append}
 use Rattle.ec_outs.proofs.Each.{each-append}
@@ -97,6 +97,11 @@ module _ {L : Type 0} where
 
   pub fails_both : (pass : ℕ) (old mid new : Node L) (f : NodeFault) (xs : List Step) → More pass old mid xs → calls xs ≡ [] → Fails pass [] mid new f → Fails pass [] old new f
   fails_both pass old mid new f xs m none b = (xs ++ b.0, more_both pass old mid new xs b.0 m b.1, inl (none_both xs b.0 none (none_of b.0 b.2)), caused-right new.boot f xs b.0 b.3)
+
+  -- memory was wanting for a step of a turn
+  pub fell_fails : (pass : ℕ) (cs : List Call) (old mid new : Node L) → mid.trace.items ≡ old.trace.items → Fell pass mid new → Fails pass cs old new fault.NoMemory
+  fell_fails pass cs old mid new same f =
+      let step = f.step in (step ∷ [], (f.list ∙ ap (λ l. l ++ step ∷ []) same, (f.pass_is, tt)), inl (append-nil (call_of step.deed) ∙ ap call_of f.is.0), tt)
 
   pub parts_more : {A : Type 0} (pass : ℕ) (v w : Node L) (r : Result (A × Bool) NodeFault) → PartsBehind pass v w r → (more : List Step) × More pass v w more
   parts_more pass v w (Ok r) b = ends_more r.1 b.1.2 where
@@ -262,8 +267,8 @@ module _ {L : Type 0} where
     said_if start w after s e (Err f) up = tt
 
     -- the value that a lock is made with
-    pub begins : (n : Node L) → n.trace.items ≡ [] → n.kept.items ≡ [] → n.told.items ≡ [] → n.boot ≡ None → n.steps ≡ 0 → n.top ≡ 0 → Since counts given got n n
-    begins n list kept told boot steps top = record {
+    pub begins : (n : Node L) → n.trace.items ≡ [] → n.kept.items ≡ [] → n.told.items ≡ [] → n.boot ≡ None → n.steps ≡ 0 → n.top ≡ 0 → n.broken ≡ false → Since counts given got n n
+    begins n list kept told boot steps top up = record {
       run = subst (IsRun n.clerk) (sym list) tt;
       counted = steps ∙ sym (ap length list);
       leads_to = λ up. ap (leads n.clerk) list;
@@ -275,6 +280,7 @@ module _ {L : Type 0} where
       heard = λ up. sym (ap (λ l. added (given n.link) (heard_by l)) list ∙ added-nil (given n.link));
       sent = sym (ap (λ l. added (got n.link) (said_by l)) list ∙ added-nil (got n.link));
       said = λ up. subst AreSaid (sym list) tt;
+      wanted = λ down. absurd (true_false (sym down ∙ up));
       came = ([], omega arith, sym (ap (λ l. added (given n.link) (heard_by l ++ [])) list ∙ added-nil (given n.link)));
     }
 
@@ -300,6 +306,13 @@ module _ {L : Type 0} where
       -- there is no clerk where memory was wanting
       pub finished : (c : Option Clerk) → c ≡ (if v.broken then None else Some v.clerk) → Finished counts given got start steps c v.link
       finished c e = subst (λ o. Finished counts given got start steps o v.link) (sym e) (finished_by v.broken refl)
+
+      wanted_where : (b : Bool) → v.broken ≡ b → IfNone (if b then None else Some v.clerk) (Wanted steps)
+      wanted_where true e = subst Wanted (sym is) (s.wanted e)
+      wanted_where false e = tt
+
+      pub wanted_then : (c : Option Clerk) → c ≡ (if v.broken then None else Some v.clerk) → IfNone c (Wanted steps)
+      wanted_then c e = subst (λ o. IfNone o (Wanted steps)) (sym e) (wanted_where v.broken refl)
 
       said_where : (b : Bool) → v.broken ≡ b → IfSome (if b then None else Some v.clerk) (λ _. AreSaid steps)
       said_where true e = tt

@@ -21,8 +21,13 @@ use Rattle.ec_clerknode.specs.declared.step.Deed.TheVariants.{Began, Picked}
 use Rattle.ec_clerknode.specs.declared.step.Step.{Step}
 use Rattle.ec_clerknode.specs.declared.state.Node.{Node}
 use Rattle.ec_clerknode.specs.Folded.{floor_of, answer_to}
-use Rattle.ec_clerknode.specs.Run.{after, outs_of, IsDeed, heard_of, net_of, call_of, mark_of_deed, calls, marks, Among, said_in, IsSaid, Came, IsGoodbye}
+use Rattle.ec_clerknode.specs.Run.{after, outs_of, IsDeed, heard_of, net_of, call_of, mark_of_deed, calls, marks, Among, said_in, IsSaid, IsBroken, IsGoodbye}
 use Rattle.ec_clerknode.specs.Node.{AnsweredFrom, Since, By}
+
+abbrev pub is_wanting : Sent → Bool
+is_wanting sent.Done = false
+is_wanting sent.Failed = false
+is_wanting sent.NoMemory = true
 
 module _ {L : Type 0} (counts : L → ℕ) (given : L → Option (List Heard)) (got : L → Option (List (List ℕ))) where
   -- the step was added. Where memory was wanting for an answer or a message, the clerk is followed no more.
@@ -43,10 +48,12 @@ module _ {L : Type 0} (counts : L → ℕ) (given : L → Option (List Heard)) (
     pub got_more : got new.link ≡ added (got old.link) (said_in step)
     pub counted : failed step.end + counts old.link ≤ counts new.link
     pub said : new.broken ≡ false → IsSaid step.end
+    pub wanted : new.broken ≡ true → (old.broken ≡ true) ⊎ (step.end ≡ sent.NoMemory)
 
   -- `mid` is `old` with the clerk after the deed, and with what was received for it
   pub record Moved (deed : Deed) (outs : List Out) (old mid : Node L) : Type 0 where
     pub up : old.broken ≡ false
+    pub still_up : mid.broken ≡ false
     pub is : IsDeed old.clerk deed
     pub outs_are : outs ≡ outs_of old.clerk deed
     pub clerk : mid.clerk ≡ after old.clerk deed
@@ -60,18 +67,13 @@ module _ {L : Type 0} (counts : L → ℕ) (given : L → Option (List Heard)) (
     pub sent : got mid.link ≡ got old.link
     pub net : net_of deed + counts old.link ≤ counts mid.link
 
-  -- nothing is added, and the clerk is followed no more
-  pub record Breaks (old new : Node L) : Type 0 where
-    pub up : old.broken ≡ false
-    pub down : new.broken ≡ true
-    pub list : new.trace ≡ old.trace
-    pub kept : new.kept ≡ old.kept
-    pub boot : new.boot ≡ old.boot
-    pub steps : new.steps ≡ old.steps
-    pub top : new.top ≡ old.top
-    pub sent : got new.link ≡ got old.link
-    pub net : counts old.link ≤ counts new.link
-    pub came : Came (given old.link) [] (given new.link)
+-- The mark that memory was wanting was added, by this pass, and the clerk is followed no more.
+pub record Fell {L : Type 0} (pass : ℕ) (old new : Node L) : Type 0 where
+  pub same : new ≡ record old { broken = true; steps = old.steps + 1; trace = new.trace }
+  pub step : Step
+  pub list : new.trace.items ≡ old.trace.items ++ step ∷ []
+  pub is : IsBroken step
+  pub pass_is : step.pass ≡ pass
 
 -- What a turn of the clerk made of it, and the fault that its mark is the cause of.
 abbrev pub Acts : Clerk → Act → Clerk → Type 0

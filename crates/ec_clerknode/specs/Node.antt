@@ -1,11 +1,11 @@
 -- What the value behind the lock says of its list of steps.
-use Rattle.std.specs.Prelude.{◌≡◌, ℕ, ◌+◌, ◌≤◌, false, List, [], ◌∷◌, length, Option, Some, slice_get}
+use Rattle.std.specs.Prelude.{◌≡◌, ℕ, ◌+◌, ◌≤◌, true, false, List, [], ◌∷◌, length, Option, Some, slice_get}
 use Rattle.std.specs.List.{All}
 use Rattle.ec_link.specs.Links.{Heard, added}
 use Rattle.ec_outs.specs.Outs.{Reply, answers}
 use Rattle.ec_clerknode.specs.declared.step.Step.{Step}
 use Rattle.ec_clerknode.specs.declared.state.Node.{Node}
-use Rattle.ec_clerknode.specs.Run.{highest, IsRun, leads, heard_by, said_by, told_by, nets, old_boot, Among, AreSaid, Came}
+use Rattle.ec_clerknode.specs.Run.{highest, IsRun, leads, heard_by, said_by, told_by, nets, old_boot, Among, AreSaid, Wanted, Came}
 
 -- the step at this place answers the call of this number
 abbrev pub AnsweredAt : List Step → ℕ → ℕ → Reply → Type 0
@@ -29,6 +29,7 @@ module _ {L : Type 0} (counts : L → ℕ) (given : L → Option (List Heard)) (
     pub heard : now.broken ≡ false → given now.link ≡ added (given first.link) (heard_by now.trace.items)
     pub sent : got now.link ≡ added (got first.link) (said_by now.trace.items)
     pub said : now.broken ≡ false → AreSaid now.trace.items
+    pub wanted : now.broken ≡ true → Wanted now.trace.items
     pub came : Came (given first.link) (heard_by now.trace.items) (given now.link)
 
   abbrev pub Keeps : Node L → Node L → Type 0

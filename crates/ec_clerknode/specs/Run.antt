@@ -13,7 +13,7 @@ use Rattle.ec_link.specs.declared.link.Sent.TheVariants as sent
 use Rattle.ec_link.specs.Links.{Heard, body, long, failed, added}
 use Rattle.ec_outs.specs.Outs.{each, sends, told, old_boots, first_of, encoded}
 use Rattle.ec_clerknode.specs.declared.step.Deed.{Deed}
-use Rattle.ec_clerknode.specs.declared.step.Deed.TheVariants.{Began, Took, Picked, Parted, Net, Peer, Long, NotBegun, NotTaken, NotPicked}
+use Rattle.ec_clerknode.specs.declared.step.Deed.TheVariants.{Began, Took, Picked, Parted, Net, Peer, Long, NotBegun, NotTaken, NotPicked, Broke}
 use Rattle.ec_clerknode.specs.declared.step.Step.{Step}
 use Rattle.ec_clerknode.specs.declared.fault.NodeFault.{NodeFault}
 use Rattle.ec_clerknode.specs.declared.fault.NodeFault.TheVariants as fault
@@ -36,6 +36,7 @@ done c (Long n) = still c
 done c (NotBegun call counter) = still c
 done c (NotTaken bytes msg counter) = still c
 done c (NotPicked asked counter) = still c
+done c Broke = still c
 
 abbrev pub after : Clerk → Deed → Clerk
 after c deed = (done c deed).clerk
@@ -55,10 +56,18 @@ IsDeed c (Long n) = Unit {0}
 IsDeed c (NotBegun call counter) = (begun call.value c).spent ≡ Some counter
 IsDeed c (NotTaken bytes msg counter) = (said bytes.value.items ≡ Ok msg.value) × ((taken msg.value c).spent ≡ Some counter)
 IsDeed c (NotPicked asked counter) = (picked asked.value c).spent ≡ Some counter
+IsDeed c Broke = ⊥
 
 -- all that came out stands in the step, and all its messages were sent where the sending ended well
+abbrev pub IsDone : Clerk → Step → Type 0
+IsDone c s = IsDeed c s.deed × (s.outs.value.items ≡ outs_of c s.deed) × (s.floor ≡ floor_of (after c s.deed)) × (s.end ≡ sent.Done → s.sent ≡ length (sends s.outs.value.items))
+
+-- the mark that memory was wanting for a step, of which nothing came out
+abbrev pub IsBroken : Step → Type 0
+IsBroken s = (s.deed ≡ Broke) × (s.outs.value.items ≡ []) × (s.sent ≡ 0) × (s.end ≡ sent.NoMemory) × (s.floor ≡ 0)
+
 abbrev pub IsStep : Clerk → Step → Type 0
-IsStep c s = IsDeed c s.deed × (s.outs.value.items ≡ outs_of c s.deed) × (s.floor ≡ floor_of (after c s.deed)) × (s.end ≡ sent.Done → s.sent ≡ length (sends s.outs.value.items))
+IsStep c s = IsBroken s ⊎ IsDone c s
 
 -- the clerk to which the steps lead
 abbrev pub leads : Clerk → List Step → Clerk
@@ -88,6 +97,7 @@ call_of (Long n) = []
 call_of (NotBegun call counter) = []
 call_of (NotTaken bytes msg counter) = []
 call_of (NotPicked asked counter) = []
+call_of Broke = []
 
 abbrev pub calls : List Step → List Call
 calls = each (λ s. call_of s.deed)
@@ -104,6 +114,7 @@ heard_of (Long n) = long n ∷ []
 heard_of (NotBegun call counter) = []
 heard_of (NotTaken bytes msg counter) = body bytes.value.items ∷ []
 heard_of (NotPicked asked counter) = []
+heard_of Broke = []
 
 abbrev pub heard_by : List Step → List Heard
 heard_by = each (λ s. heard_of s.deed)
@@ -133,6 +144,11 @@ abbrev pub AreSaid : List Step → Type 0
 AreSaid [] = Unit {0}
 AreSaid (s ∷ ss) = IsSaid s.end × AreSaid ss
 
+-- memory was wanting in one of these steps: for a message, for an answer or for the step
+abbrev pub Wanted : List Step → Type 0
+Wanted [] = ⊥
+Wanted (s ∷ ss) = (s.end ≡ sent.NoMemory) ⊎ Wanted ss
+
 -- a message that says goodbye
 abbrev pub is_bye : Msg → Bool
 is_bye (message.Bye session epoch) = true
@@ -161,6 +177,7 @@ net_of (Long n) = 0
 net_of (NotBegun call counter) = 0
 net_of (NotTaken bytes msg counter) = 0
 net_of (NotPicked asked counter) = 0
+net_of Broke = 0
 
 -- how many marks of a failed or closed link there are
 abbrev pub nets : List Step → ℕ
@@ -179,6 +196,7 @@ mark_of_deed (Long n) = fault.Long n ∷ []
 mark_of_deed (NotBegun call counter) = fault.Spent counter ∷ []
 mark_of_deed (NotTaken bytes msg counter) = fault.Spent counter ∷ []
 mark_of_deed (NotPicked asked counter) = fault.Spent counter ∷ []
+mark_of_deed Broke = []
 
 abbrev pub mark_of_end : Sent → List NodeFault
 mark_of_end sent.Done = []

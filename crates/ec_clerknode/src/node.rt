@@ -2,7 +2,8 @@
 ghost use Rattle.std.specs.Prelude.{◌≡◌, ℕ, ◌+◌, ◌≤◌, ◌<◌, ◌⊎◌, true, false, [], ◌∷◌, ◌++◌, length, map, Option, Some, None, IfOk, IfErr, OnOk, IfSome, IfNone};
 ghost use Rattle.ec_base.specs.Limits.{last_counter};
 ghost use Rattle.ec_base.specs.declared.ids.Age.{Age as Years};
-ghost use Rattle.ec_clerknode.specs.Closed.{Acts, Closed, EndsAs, IsMark, Begun, Works, Flushes, Parts, PartsBehind, ReadsFlushes, Started, Waited};
+ghost use Rattle.ec_link.specs.declared.link.Sent.TheVariants as sent;
+ghost use Rattle.ec_clerknode.specs.Closed.{Acts, Closed, EndsAs, Fell, IsMark, Begun, Works, Flushes, Parts, PartsBehind, ReadsFlushes, Started, Waited, is_wanting};
 ghost use Rattle.ec_clerknode.specs.Node.{AnsweredFrom, Since, Keeps};
 ghost use Rattle.ec_clerknode.specs.Run.{told_by};
 ghost use Rattle.ec_clerknode.specs.declared.fault.NodeFault.TheVariants as fault;
@@ -37,6 +38,23 @@ fn copies(alloc: Global, lists: &[List<OpNo>]) -> Result<Vec<List<OpNo>>, NoMemo
     Ok(copies)
 }
 
+// How a step ends. Where an answer couldn't be kept, memory was wanting.
+fn end_of(kept: bool, end: Sent) -> Sent
+    ensures kept { kept ≡ true → result ≡ end }
+    ensures lost { kept ≡ false → result ≡ sent.NoMemory }
+{
+    if kept { end } else { Sent::NoMemory }
+}
+
+fn is_wanting(end: Sent) -> bool
+    ensures { result ≡ is_wanting end }
+{
+    match end {
+        Sent::NoMemory => true,
+        Sent::Done | Sent::Failed => false,
+    }
+}
+
 impl<L: Link> State<L> {
     /// Whether a turn may do anything.
     pub fn check(&self) -> Result<(), NodeFault>
@@ -52,10 +70,23 @@ impl<L: Link> State<L> {
         Ok(())
     }
 
-    // Memory is wanting, and the clerk is followed no more.
-    fn breaks(&mut self) -> NodeFault
-        ensures { (result ≡ fault.NoMemory) × (self.new ≡ record self.old { broken = true }) }
+    // Memory is wanting for a step, and the clerk is followed no more. A mark says so.
+    fn breaks(&mut self, alloc: Global, pass: u64) -> NodeFault
+        requires { self.old.steps < last_counter }
+        ensures fault { result ≡ fault.NoMemory }
+        ensures fell { Fell pass self.old self.new }
     {
+        let outs = Vec::new(alloc);
+        let step = Step {
+            pass,
+            deed: Deed::Broke,
+            outs: Snapshot::of(&outs),
+            sent: 0,
+            end: Sent::NoMemory,
+            floor: 0,
+        };
+        self.trace = self.trace.and(&step);
+        self.steps += 1;
         self.broken = true;
         NodeFault::NoMemory
     }
@@ -78,6 +109,7 @@ impl<L: Link> State<L> {
         let floor = clerk::floor(&self.clerk);
         self.boot = known_old(self.boot, &outs);
         let kept = keep_all(&mut self.kept, &mut self.told, outs, self.steps);
+        let end = end_of(kept, end);
         let step = Step {
             pass,
             deed,
@@ -89,7 +121,8 @@ impl<L: Link> State<L> {
         self.trace = self.trace.and(&step);
         self.steps += 1;
         self.top = self.top.max(floor);
-        self.broken = self.broken || !kept || end == Sent::NoMemory;
+        let wants = is_wanting(end);
+        self.broken = self.broken || wants;
         end
     }
 
@@ -168,7 +201,7 @@ impl<L: Link> State<L> {
                 self.close(rt, alloc, pass, act)?;
                 Err(fault)
             }
-            Err(Refused::NoMemory) => Err(self.breaks()),
+            Err(Refused::NoMemory) => Err(self.breaks(alloc, pass)),
         }
     }
 
@@ -191,7 +224,7 @@ impl<L: Link> State<L> {
                 self.close(rt, alloc, pass, act)?;
                 Ok(true)
             }
-            Err(_) => Err(self.breaks()),
+            Err(_) => Err(self.breaks(alloc, pass)),
         }
     }
 
@@ -221,7 +254,7 @@ impl<L: Link> State<L> {
                 self.close(rt, alloc, pass, act)?;
                 Err(fault)
             }
-            Err(Refused::NoMemory) => Err(self.breaks()),
+            Err(Refused::NoMemory) => Err(self.breaks(alloc, pass)),
         }
     }
 
@@ -238,7 +271,7 @@ impl<L: Link> State<L> {
                 Ok(true)
             }
             Ok(None) => Ok(false),
-            Err(_) => Err(self.breaks()),
+            Err(_) => Err(self.breaks(alloc, pass)),
         }
     }
 

@@ -8,7 +8,7 @@ ghost use Rattle.ec_clerknode.specs.declared.fault.NodeFault.TheVariants as faul
 ghost use Rattle.ec_clerknode.specs.Closed.{Started, Waited, Works};
 ghost use Rattle.ec_clerknode.specs.Floors.{highest_grows};
 ghost use Rattle.ec_clerknode.specs.Node.{Since};
-ghost use Rattle.ec_clerknode.specs.Run.{highest, old_boot, told_by, heard_by, AreSaid, Came};
+ghost use Rattle.ec_clerknode.specs.Run.{highest, old_boot, told_by, heard_by, AreSaid, Wanted, Came};
 ghost use Rattle.ec_clerknode.specs.Turns.{number_of, Stays, Turned, Starts, Waits, Called, CalledPlain, Worked, Partings, SaidBye, Asks, FlushTurned, Finished};
 
 use crate::fault::NodeFault;
@@ -400,14 +400,15 @@ impl<L: Link + Drop> SharedClerk<L> {
         }
     }
 
-    /// Hands the clerk and the link back. The pass's front is the whole list then. There is no clerk where a call met want
-    /// of memory, after which nothing is begun.
+    /// Hands the clerk and the link back. The pass's front is the whole list then. There is no clerk where a step met want of
+    /// memory, after which nothing is begun.
     pub fn finish<R: Wait>(self, rt: &R, pass: &mut Pass<Node<L>>) -> (Option<Clerk>, L)
         requires pass { IsPassOf self.lock pass.old }
         ensures same { Same pass.old pass.new }
         ensures later { IsPrefix (front pass.old) (front pass.new) }
         ensures finished { Finished (λ l. L.faults l + L.closes l) L.given L.got (first self.lock) (front pass.new) result.0 result.1 }
         ensures said { IfSome result.0 (λ _. AreSaid (front pass.new)) }
+        ensures wanted { IfNone result.0 (Wanted (front pass.new)) }
         ensures heard { Came (L.given (first self.lock).link) (heard_by (front pass.new)) (L.given result.1) }
     {
         let Closing { clerk, link, .. } = self.close(rt, pass);
@@ -422,6 +423,7 @@ impl<L: Link + Drop> SharedClerk<L> {
         ensures own { (n : ℕ) → Member n (numbers pass.old) → of number_of n (front pass.old) ≡ of number_of n (front pass.new) }
         ensures finished { Finished (λ l. L.faults l + L.closes l) L.given L.got (first self.lock) (front pass.new) result.clerk result.link }
         ensures said { IfSome result.clerk (λ _. AreSaid (front pass.new)) }
+        ensures wanted { IfNone result.clerk (Wanted (front pass.new)) }
         ensures heard { Came (L.given (first self.lock).link) (heard_by (front pass.new)) (L.given result.link) }
         ensures told { IfSome result.clerk (λ _. result.told.items ≡ told_by (front pass.new)) }
         ensures boot { result.boot ≡ old_boot (front pass.new) }

@@ -42,7 +42,7 @@ impl<L> Model for Node<L> {
 /// What a shared clerk hands back.
 #[derive(Drop)]
 pub struct Closing<L> {
-    /// There is none where a call met want of memory.
+    /// There is none where a step met want of memory.
     pub clerk: Option<Clerk>,
     pub link: L,
     /// The operations that were told lost, as each session ended. Where there is no clerk, some may be wanting.

@@ -29,6 +29,8 @@ pub enum Deed {
     NotBegun(Snapshot<Call>, Counter),
     NotTaken(Snapshot<Vec<u8>>, Snapshot<Msg>, Counter),
     NotPicked(Snapshot<Asked>, Counter),
+    /// A mark: memory was wanting for a step, and from then on nothing is known of the clerk.
+    Broke,
 }
 
 #[derive(Drop)]
@@ -39,7 +41,8 @@ pub struct Step {
     pub outs: Snapshot<Vec<Out>>,
     /// How many of the messages that came out were sent.
     pub sent: u64,
-    /// How the sending ended. `Failed` is a mark that the link failed.
+    /// How the sending ended. `Failed` is a mark that the link failed, and `NoMemory` one that memory was wanting for a
+    /// message, for an answer or for the step itself.
     pub end: Sent,
     /// The clerk's floor after it.
     pub floor: u64,

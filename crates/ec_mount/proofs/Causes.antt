@@ -10,7 +10,7 @@ use Rattle.ec_link.specs.declared.link.Sent.TheVariants as sent
 use Rattle.ec_clerknode.specs.declared.fault.NodeFault.{NodeFault}
 use Rattle.ec_clerknode.specs.declared.fault.NodeFault.TheVariants as fault
 use Rattle.ec_clerknode.specs.declared.step.Deed.{Deed}
-use Rattle.ec_clerknode.specs.declared.step.Deed.TheVariants.{Began, Took, Picked, Parted, Net, Peer, Long, NotBegun, NotTaken, NotPicked}
+use Rattle.ec_clerknode.specs.declared.step.Deed.TheVariants.{Began, Took, Picked, Parted, Net, Peer, Long, NotBegun, NotTaken, NotPicked, Broke}
 use Rattle.ec_clerknode.specs.declared.step.Step.{Step}
 use Rattle.ec_clerknode.specs.Closed.{Caused}
 use Rattle.ec_clerknode.specs.Lanes.{IsMarked, LaneFault}
@@ -91,6 +91,7 @@ deed_net (Long n) m = ⊎_elim (λ (e : fault.Long n ≡ fault.Net). absurd (cc 
 deed_net (NotBegun call c) m = ⊎_elim (λ (e : fault.Spent c ≡ fault.Net). absurd (cc e)) (λ r. absurd r) m
 deed_net (NotTaken bytes msg c) m = ⊎_elim (λ (e : fault.Spent c ≡ fault.Net). absurd (cc e)) (λ r. absurd r) m
 deed_net (NotPicked asked c) m = ⊎_elim (λ (e : fault.Spent c ≡ fault.Net). absurd (cc e)) (λ r. absurd r) m
+deed_net Broke m = absurd m
 
 end_net : (s : Sent) → Among fault.Net (mark_of_end s) → 0 < failed s
 end_net sent.Done m = absurd m

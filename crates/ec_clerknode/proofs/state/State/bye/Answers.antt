@@ -1,10 +1,12 @@
 use Rattle.std.proofs.Common.{◌≡◌, ◌+◌, true, [], IfSome, IfNone, refl, sym, ap, ◌∙◌, subst, arith}
 use Rattle.ec_outs.specs.Outs.{sends}
 use Rattle.ec_outs.proofs.Told.{added-nil}
+use Rattle.ec_clerknode.specs.Closed.{Fails}
 use Rattle.ec_clerknode.specs.Folded.{parted, Comes}
 use Rattle.ec_clerknode.specs.Run.{says_bye}
 use Rattle.ec_clerknode.proofs.Acts.{left}
-use Rattle.ec_clerknode.proofs.Nodes.{follows_alone, read_none, down, nothing_came}
+use Rattle.ec_clerknode.proofs.Nodes.{follows_alone, read_none, falls, nothing_came}
+use Rattle.ec_clerknode.proofs.Turns.{fell_fails}
 use Rattle.ec_clerknode.proofs.state.State.bye.Goals as goal
 
 pub returns-in_err-close-in-Ok-Some-clause-keeps : goal.returns-in_err-close-in-Ok-Some-clause-keeps
@@ -34,4 +36,7 @@ pub returns-in-Ok-None-clause-parts : goal.returns-in-Ok-None-clause-parts
 returns-in-Ok-None-clause-parts g c = (c.in_ok-check.ensures.ok.2, refl)
 
 pub returns-in-Err-clause-keeps : goal.returns-in-Err-clause-keeps
-returns-in-Err-clause-keeps g c = down (λ l. g.L.Link.faults l + g.L.Link.closes l) g.L.Link.given g.L.Link.got c.args.self.now c.breaks.new.self c.bye.new.clerk c.args.self.now.link c.in_ok-check.ensures.ok.0 (nothing_came (λ l. g.L.Link.faults l + g.L.Link.closes l) g.L.Link.given g.L.Link.got c.args.self.now.link) refl (omega arith) c.breaks.ensures.1
+returns-in-Err-clause-keeps g c = falls (λ l. g.L.Link.faults l + g.L.Link.closes l) g.L.Link.given g.L.Link.got c.args.pass c.args.self.now c.breaks.new.self c.bye.new.clerk c.args.self.now.link c.in_ok-check.ensures.ok.0 (nothing_came (λ l. g.L.Link.faults l + g.L.Link.closes l) g.L.Link.given g.L.Link.got c.args.self.now.link) refl (omega arith) c.breaks.ensures.fell
+
+pub returns-in-Err-clause-parts : goal.returns-in-Err-clause-parts
+returns-in-Err-clause-parts g c = subst (λ f. Fails c.args.pass [] c.args.self.now c.breaks.new.self f) (sym c.breaks.ensures.fault) (fell_fails c.args.pass [] c.args.self.now _ c.breaks.new.self refl c.breaks.ensures.fell)

@@ -1,8 +1,10 @@
-use Rattle.std.proofs.Common.{◌+◌, ◌∙◌, refl, subst, arith}
+use Rattle.std.proofs.Common.{◌+◌, ◌∙◌, refl, subst, arith, sym, []}
 use Rattle.ec_clerknode.specs.declared.clerk.Refused.TheVariants as refused
 use Rattle.ec_clerknode.specs.Folded.{picked, Refuses}
 use Rattle.ec_clerknode.proofs.Acts.{flushed, not_flushed}
-use Rattle.ec_clerknode.proofs.Nodes.{follows_alone, down, nothing_came}
+use Rattle.ec_clerknode.specs.Closed.{Fails}
+use Rattle.ec_clerknode.proofs.Nodes.{follows_alone, falls, nothing_came}
+use Rattle.ec_clerknode.proofs.Turns.{fell_fails}
 use Rattle.ec_clerknode.proofs.state.State.flush.Goals as goal
 
 pub returns-in_err-close-in-Ok-clause-keeps : goal.returns-in_err-close-in-Ok-clause-keeps
@@ -27,4 +29,7 @@ returns-in_ok-close-in-Ok-clause-flushes g c =
     (k.2.0, c.in_ok-check.ensures.ok.0, (k.0, c.of-shot.result, c.of-shot.ensures, k.1.deed_is ∙ c.step-act.ensures.0, c.in-Ok.ensures.answer, (k.1.list, (k.1.pass_is, tt))))
 
 pub returns-in-Err-NoMemory-clause-keeps : goal.returns-in-Err-NoMemory-clause-keeps
-returns-in-Err-NoMemory-clause-keeps g c = down (λ l. g.L.Link.faults l + g.L.Link.closes l) g.L.Link.given g.L.Link.got c.args.self.now c.breaks.new.self c.flush.new.clerk c.args.self.now.link c.in_ok-check.ensures.ok.0 (nothing_came (λ l. g.L.Link.faults l + g.L.Link.closes l) g.L.Link.given g.L.Link.got c.args.self.now.link) refl (omega arith) c.breaks.ensures.1
+returns-in-Err-NoMemory-clause-keeps g c = falls (λ l. g.L.Link.faults l + g.L.Link.closes l) g.L.Link.given g.L.Link.got c.args.pass c.args.self.now c.breaks.new.self c.flush.new.clerk c.args.self.now.link c.in_ok-check.ensures.ok.0 (nothing_came (λ l. g.L.Link.faults l + g.L.Link.closes l) g.L.Link.given g.L.Link.got c.args.self.now.link) refl (omega arith) c.breaks.ensures.fell
+
+pub returns-in-Err-NoMemory-clause-flushes : goal.returns-in-Err-NoMemory-clause-flushes
+returns-in-Err-NoMemory-clause-flushes g c = subst (λ f. Fails c.args.pass [] c.args.self.now c.breaks.new.self f) (sym c.breaks.ensures.fault) (fell_fails c.args.pass [] c.args.self.now _ c.breaks.new.self refl c.breaks.ensures.fell)

@@ -1,7 +1,8 @@
-use Rattle.std.proofs.Common.{◌+◌, None, Some, ◌∙◌, ap, subst}
+use Rattle.std.proofs.Common.{◌+◌, None, Some, ◌∙◌, ap, subst, sym, refl, []}
 use Rattle.ec_link.specs.Links.{added, heard}
-use Rattle.ec_clerknode.specs.Closed.{Hears}
-use Rattle.ec_clerknode.proofs.Nodes.{follows, read_none, down, heard_short, counts_more, counts_up}
+use Rattle.ec_clerknode.specs.Closed.{Fails, Hears}
+use Rattle.ec_clerknode.proofs.Nodes.{follows, read_none, falls, heard_short, counts_more, counts_up}
+use Rattle.ec_clerknode.proofs.Turns.{fell_fails}
 use Rattle.ec_clerknode.proofs.state.State.read.Goals as goal
 
 pub returns-in_err-close-in-Ok-Some-clause-keeps : goal.returns-in_err-close-in-Ok-Some-clause-keeps
@@ -23,4 +24,7 @@ returns-in-Ok-None-clause-keeps g c =
     (c.recv-got.ensures.given ∙ ap (added (g.L.Link.given c.args.self.now.link)) h.1) c.recv-got.ensures.got (counts_up _ _ _ _ _ _ c.recv-got.ensures.faults c.recv-got.ensures.closes)
 
 pub returns-in-Err-clause-keeps : goal.returns-in-Err-clause-keeps
-returns-in-Err-clause-keeps g c = down (λ l. g.L.Link.faults l + g.L.Link.closes l) g.L.Link.given g.L.Link.got c.args.self.now c.breaks.new.self c.hear.new.clerk c.recv-got.new.self c.in_ok-check.ensures.ok.0 (heard c.recv-got.result, heard_short c.recv-got.result, c.recv-got.ensures.given) c.recv-got.ensures.got (counts_up _ _ _ _ _ _ c.recv-got.ensures.faults c.recv-got.ensures.closes) c.breaks.ensures.1
+returns-in-Err-clause-keeps g c = falls (λ l. g.L.Link.faults l + g.L.Link.closes l) g.L.Link.given g.L.Link.got c.args.pass c.args.self.now c.breaks.new.self c.hear.new.clerk c.recv-got.new.self c.in_ok-check.ensures.ok.0 (heard c.recv-got.result, heard_short c.recv-got.result, c.recv-got.ensures.given) c.recv-got.ensures.got (counts_up _ _ _ _ _ _ c.recv-got.ensures.faults c.recv-got.ensures.closes) c.breaks.ensures.fell
+
+pub returns-in-Err-clause-works : goal.returns-in-Err-clause-works
+returns-in-Err-clause-works g c = subst (λ f. Fails c.args.pass [] c.args.self.now c.breaks.new.self f) (sym c.breaks.ensures.fault) (fell_fails c.args.pass [] c.args.self.now _ c.breaks.new.self refl c.breaks.ensures.fell)

@@ -16,6 +16,7 @@ returns-clause-keeps g c first s = record {
   heard = s.heard;
   sent = s.sent;
   said = s.said;
+  wanted = s.wanted;
   came = s.came;
 }
 
