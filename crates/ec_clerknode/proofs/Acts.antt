@@ -10,8 +10,8 @@ use Rattle.ec_clerknode.specs.declared.act.Act.{Act}
 use Rattle.ec_clerknode.specs.declared.fault.NodeFault.{NodeFault}
 use Rattle.ec_clerknode.specs.declared.fault.NodeFault.TheVariants as fault
 use Rattle.ec_clerknode.specs.declared.step.Deed.{Deed}
-use Rattle.ec_clerknode.specs.declared.step.Deed.TheVariants.{Began, Picked, Parted, NotBegun, NotPicked}
-use Rattle.ec_clerknode.specs.Folded.{begun, picked, parted, Comes}
+use Rattle.ec_clerknode.specs.declared.step.Deed.TheVariants.{Began, Picked, Parted, Resent, NotBegun, NotPicked}
+use Rattle.ec_clerknode.specs.Folded.{begun, picked, parted, resent, Comes}
 use Rattle.ec_clerknode.specs.Run.{after, outs_of, IsDeed, mark_of_deed}
 use Rattle.ec_clerknode.specs.Closed.{Acts, IsOwn}
 
@@ -64,6 +64,9 @@ module _ (c k : Clerk) (act : Act) where
     acts_mark c k (NotPicked shot counter) (fault.Spent counter) act (ap (λ x. (picked x c).spent) e ∙ spent) refl refl refl same is,
     own act (NotPicked shot counter) is.0 (refl, refl),
   )
+
+  pub again : (outs : List Out) → Comes (resent c) k outs → IsAct act Resent outs None → Acts c act k × IsOwn act.deed
+  again outs came is = (acts_step c k Resent outs act came.2 (sym came.1) (sym came.0) is, own act Resent is.0 (refl, refl))
 
   pub left : (outs : List Out) → Comes (parted c) k outs → IsAct act Parted outs None → Acts c act k × IsOwn act.deed
   left outs came is = (acts_step c k Parted outs act came.2 (sym came.1) (sym came.0) is, own act Parted is.0 (refl, refl))

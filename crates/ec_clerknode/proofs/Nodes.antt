@@ -17,6 +17,7 @@ use Rattle.ec_clerknode.specs.declared.step.Deed.{Deed}
 use Rattle.ec_clerknode.specs.declared.step.Step.{Step}
 use Rattle.ec_outs.specs.declared.kept.Kept.{Kept}
 use Rattle.ec_clerknode.specs.declared.state.Node.{Node}
+use Rattle.ec_clerknode.specs.declared.waiting.Waiting.{Waiting}
 use Rattle.ec_clerknode.specs.Folded.{floor_of}
 use Rattle.ec_clerknode.specs.Run.{highest, after, outs_of, IsDeed, IsStep, leads, IsRun, heard_of, heard_by, IsSaid, AreSaid, Wanted, Came, said_in, said_by, told_in, told_by, net_of, nets, old_boots_in, old_boot, Among}
 use Rattle.ec_clerknode.specs.Node.{AnsweredAt, AnsweredFrom, Since, Keeps}
@@ -241,6 +242,24 @@ module _ {L : Type 0} (counts : L → ℕ) (given : L → Option (List Heard)) (
         wanted = s.wanted;
         came = (s.came.0, s.came.1, heard ∙ (added-nil (given old.link) ∙ s.came.2));
       }
+
+  -- only what is known of waiting changed
+  pub keeps_waiting : (old : Node L) (w : Waiting) → Keeps counts given got old (record old { waiting = w })
+  keeps_waiting old w first s = record {
+    run = s.run;
+    counted = s.counted;
+    leads_to = s.leads_to;
+    kept = s.kept;
+    told = s.told;
+    old = s.old;
+    top = s.top;
+    net = s.net;
+    heard = s.heard;
+    sent = s.sent;
+    said = s.said;
+    wanted = s.wanted;
+    came = s.came;
+  }
 
 pub begun_same : {L : Type 0} (pass : ℕ) (call : Call) (old mid new : Node L) (number : ℕ) → new.trace.items ≡ mid.trace.items → new.boot ≡ mid.boot → Begun pass call old mid (Ok number) → Begun pass call old new (Ok number)
 begun_same pass call old mid new number list boot b = let r = b.1 in (boot ∙ b.0, (r.0, r.1, r.2, r.3, (list ∙ r.4.0, r.4.1)))

@@ -23,7 +23,7 @@ use Rattle.ec_clerknode.specs.Floors.{highest_grows}
 use Rattle.ec_clerknode.specs.Folded.{answer_to}
 use Rattle.ec_clerknode.specs.Run.{told_by, heard_by, said_by, nets, AreSaid, Wanted, Came, call_of, calls, marks, mark_of_deed, mark_of_end, Among, IsRun, leads, highest, old_boot}
 use Rattle.ec_clerknode.specs.Node.{Since, By, AnsweredAt, AnsweredFrom}
-use Rattle.ec_clerknode.specs.Closed.{More, Caused, Fails, Fell, Begun, Works, Flushes, PartsIf, PartsBehind, ReadsFlushes, Started, Waited}
+use Rattle.ec_clerknode.specs.Closed.{More, Caused, Fails, Fell, Begun, Works, Flushes, PartsIf, PartsBehind, Resends, ReadsFlushes, Started, Waited}
 use Rattle.ec_clerknode.specs.Turns.{number_of, calls_by, Replied, Failed, Called, Worked, Partings, SaidBye, Stays, Turned, Pending, Starts, Waits, PickedLast, Asks, FlushTurned, Finished}
 use Rattle.ec_clerknode.proofs.Lists.{prefix_trans, prefix_length, prefix_get, get_last, of-append}
 use Rattle.ec_outs.proofs.Each.{each-append}
@@ -109,6 +109,15 @@ module _ {L : Type 0} where
     ends_more true q = (b.1.1.0 ++ q.0 ∷ [], more_both pass v b.1.0 w b.1.1.0 (q.0 ∷ []) b.1.1.1 q.2)
     ends_more false q = (b.1.1.0, (q ∙ b.1.1.1.0, b.1.1.1.1))
   parts_more pass v w (Err f) b = fails_more pass [] v w f b
+
+  -- it sent again, which begins nothing
+  pub resent_works : (pass : ℕ) (old mid new : Node L) (r : Result (Unit {0}) NodeFault) → mid.trace.items ≡ old.trace.items → Resends pass mid new r → Works pass old new r
+  resent_works pass old mid new (Ok u) same b =
+      let s = b.1.0 in (b.0, (s ∷ [], (b.1.2.0 ∙ ap (λ l. l ++ s ∷ []) same, b.1.2.1), append-nil (call_of s.deed) ∙ ap call_of b.1.1))
+  resent_works pass old mid new (Err f) same b = (b.0, (b.1.0 ∙ ap (λ l. l ++ b.0) same, b.1.1), b.2, b.3)
+
+  pub works_both : {A B C : Type 0} (pass : ℕ) (old mid new : Node L) (x : A) (y : B) (z : C) → Works pass old mid (Ok x) → Works pass mid new (Ok y) → Works pass old new (Ok z)
+  works_both pass old mid new x y z a b = (b.0, (a.1.0 ++ b.1.0, more_both pass old mid new a.1.0 b.1.0 a.1.1 b.1.1, none_both a.1.0 b.1.0 a.1.2 b.1.2))
 
   module _ (counts : L → ℕ) (given : L → Option (List Heard)) (got : L → Option (List (List ℕ))) where
     pub started_more : (pass : ℕ) (call : Call) (v w : Node L) (r : Result (ℕ × ℕ × Option Reply) NodeFault) → Started counts given got pass call v w r → (more : List Step) × More pass v w more

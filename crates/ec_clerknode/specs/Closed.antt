@@ -17,7 +17,7 @@ use Rattle.ec_clerknode.specs.declared.act.Act.{Act}
 use Rattle.ec_clerknode.specs.declared.fault.NodeFault.{NodeFault}
 use Rattle.ec_clerknode.specs.declared.fault.NodeFault.TheVariants as fault
 use Rattle.ec_clerknode.specs.declared.step.Deed.{Deed}
-use Rattle.ec_clerknode.specs.declared.step.Deed.TheVariants.{Began, Picked}
+use Rattle.ec_clerknode.specs.declared.step.Deed.TheVariants.{Began, Picked, Resent}
 use Rattle.ec_clerknode.specs.declared.step.Step.{Step}
 use Rattle.ec_clerknode.specs.declared.state.Node.{Node}
 use Rattle.ec_clerknode.specs.Folded.{floor_of, answer_to}
@@ -150,6 +150,11 @@ Parts pass old new (Err f) = Fails pass [] old new f
 abbrev pub PartsBehind : {L A : Type 0} → ℕ → Node L → Node L → Result (A × Bool) NodeFault → Type 0
 PartsBehind {L = L} pass old new (Ok r) = (new.boot ≡ None) × ((mid : Node L) × ((more : List Step) × More pass old mid more × (calls more ≡ [])) × PartsIf r.1 pass mid new)
 PartsBehind pass old new (Err f) = Fails pass [] old new f
+
+-- it sent again what is outstanding, in one step
+abbrev pub Resends : {L : Type 0} → ℕ → Node L → Node L → Result (Unit {0}) NodeFault → Type 0
+Resends pass old new (Ok u) = (new.boot ≡ None) × ((step : Step) × (step.deed ≡ Resent) × More pass old new (step ∷ []))
+Resends pass old new (Err f) = Fails pass [] old new f
 
 -- what is done with what the link gave; with nothing, nothing
 abbrev pub Hears : Clerk → Got → Clerk → Option Act → Type 0

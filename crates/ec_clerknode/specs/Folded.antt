@@ -25,6 +25,9 @@ picked asked c = protocol.flush asked c
 unfoldable pub parted : Clerk → Doing
 parted c = protocol.bye c
 
+unfoldable pub resent : Clerk → Doing
+resent c = protocol.resend c
+
 -- what a flush answers
 unfoldable pub answer_to : Asked → Clerk → Flushed
 answer_to asked c = protocol.flush_answer asked c

@@ -2,7 +2,7 @@
 ghost use Rattle.std.specs.Prelude.{◌≡◌, ◌+◌, true, IfOk, IfErr, IfSome, IfNone, OnErr};
 ghost use Rattle.ec_protocol.specs.declared.clerk.ClerkFault.TheVariants as fault;
 ghost use Rattle.ec_wire.specs.Messages.{is_sound};
-ghost use Rattle.ec_clerknode.specs.Folded.{begun, taken, picked, parted, answer_to, floor_of, refused_by, Comes, Refuses};
+ghost use Rattle.ec_clerknode.specs.Folded.{begun, taken, picked, parted, resent, answer_to, floor_of, refused_by, Comes, Refuses};
 ghost use Rattle.ec_clerknode.specs.Run.{says_bye};
 ghost use Rattle.ec_outs.specs.Outs.{sends};
 
@@ -83,6 +83,14 @@ pub fn bye(clerk: &mut Clerk) -> Result<Option<Vec<Out>>, NoMemory>
         return Ok(None);
     }
     Ok(Some(outs))
+}
+
+/// Sends again what is held and what is outstanding.
+#[tactic(auto, unfolding(crate::specs::Folded::resent))]
+pub fn resend(clerk: &mut Clerk) -> Result<Vec<Out>, NoMemory>
+    ensures { IfOk result (λ outs. Comes (resent clerk.old) clerk.new outs.items) }
+{
+    clerk.resend().ok().ok_or(NoMemory)
 }
 
 /// The clerk's floor.

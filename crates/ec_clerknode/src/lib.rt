@@ -13,6 +13,7 @@ mod passes;
 mod shared;
 mod state;
 mod step;
+mod waiting;
 
 pub use ec_outs::send_all;
 pub use fault::NodeFault;

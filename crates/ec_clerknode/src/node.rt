@@ -3,7 +3,7 @@ ghost use Rattle.std.specs.Prelude.{◌≡◌, ℕ, ◌+◌, ◌≤◌, ◌<◌,
 ghost use Rattle.ec_base.specs.Limits.{last_counter};
 ghost use Rattle.ec_base.specs.declared.ids.Age.{Age as Years};
 ghost use Rattle.ec_link.specs.declared.link.Sent.TheVariants as sent;
-ghost use Rattle.ec_clerknode.specs.Closed.{Acts, Closed, EndsAs, Fell, IsMark, Begun, Works, Flushes, Parts, PartsBehind, ReadsFlushes, Started, Waited, is_wanting};
+ghost use Rattle.ec_clerknode.specs.Closed.{Acts, Closed, EndsAs, Fell, IsMark, Begun, Works, Flushes, Parts, PartsBehind, ReadsFlushes, Resends, Started, Waited, is_wanting};
 ghost use Rattle.ec_clerknode.specs.Node.{AnsweredFrom, Since, Keeps};
 ghost use Rattle.ec_clerknode.specs.Run.{told_by};
 ghost use Rattle.ec_clerknode.specs.declared.fault.NodeFault.TheVariants as fault;
@@ -173,7 +173,9 @@ impl<L: Link> State<L> {
         ensures up { self.new.broken ≡ self.old.broken }
         ensures answer { (first : State L) → Since (λ l. L.faults l + L.closes l) L.given L.got first self.old → IfSome result (λ reply. AnsweredFrom self.old.trace.items place number reply) }
     {
-        take_kept(&mut self.kept, number, place)
+        let answer = take_kept(&mut self.kept, number, place);
+        self.waiting.note(answer.is_some());
+        answer
     }
 
     fn begin<R: Wait + Clock>(
@@ -287,9 +289,59 @@ impl<L: Link> State<L> {
         ensures parts { PartsBehind pass self.old self.new result }
         ensures up { OnOk result (self.new.broken ≡ false) }
     {
-        let heard = self.read(rt, alloc, pass)?;
+        let heard = self.read_or_resend(rt, alloc, pass)?;
         let is_said = self.bye(rt, alloc, pass)?;
         Ok((heard, is_said))
+    }
+
+    // Sends again what is held and what is outstanding, or greets again where there is no session.
+    fn resend<R: Wait + Clock>(&mut self, rt: &R, alloc: Global, pass: u64) -> Result<(), NodeFault>
+        ensures keeps { Keeps (λ l. L.faults l + L.closes l) L.given L.got self.old self.new }
+        ensures resends { Resends pass self.old self.new result }
+        ensures up { OnOk result (self.new.broken ≡ false) }
+    {
+        self.check()?;
+        match clerk::resend(&mut self.clerk) {
+            Ok(outs) => self.close(rt, alloc, pass, Act::step(Deed::Resent, outs)),
+            Err(_) => Err(self.breaks(alloc, pass)),
+        }
+    }
+
+    // Sends again where calls have waited for long: a message that was lost is repeated by nobody else.
+    fn resend_if_long<R: Wait + Clock>(
+        &mut self,
+        rt: &R,
+        alloc: Global,
+        pass: u64,
+    ) -> Result<(), NodeFault>
+        ensures keeps { Keeps (λ l. L.faults l + L.closes l) L.given L.got self.old self.new }
+        ensures works { Works pass self.old self.new result }
+        ensures up { OnOk result (self.new.broken ≡ false) }
+    {
+        self.check()?;
+        if !self.waiting.is_long(rt) {
+            return Ok(());
+        }
+        self.resend(rt, alloc, pass)
+    }
+
+    // Reads the link once for one that waits, and may send again where nothing came.
+    fn read_or_resend<R: Wait + Clock>(
+        &mut self,
+        rt: &R,
+        alloc: Global,
+        pass: u64,
+    ) -> Result<bool, NodeFault>
+        ensures keeps { Keeps (λ l. L.faults l + L.closes l) L.given L.got self.old self.new }
+        ensures works { Works pass self.old self.new result }
+        ensures up { OnOk result (self.new.broken ≡ false) }
+    {
+        let heard = self.read(rt, alloc, pass)?;
+        if heard {
+            return Ok(true);
+        }
+        self.resend_if_long(rt, alloc, pass)?;
+        Ok(false)
     }
 
     /// Begins a call. Its number, the place of its step, and the answer where it is there at once.
@@ -332,7 +384,7 @@ impl<L: Link> State<L> {
         self.read_and_take(rt, alloc, pass, number, place)
     }
 
-    // Reads the link once, and takes the answer if it's there then.
+    // Reads the link once, or sends again, and takes the answer if it's there then.
     fn read_and_take<R: Wait + Clock>(
         &mut self,
         rt: &R,
@@ -346,7 +398,7 @@ impl<L: Link> State<L> {
         ensures up { OnOk result (self.new.broken ≡ false) }
         ensures answered { Waited (λ l. L.faults l + L.closes l) L.given L.got number place self.old self.new result }
     {
-        let heard = self.read(rt, alloc, pass)?;
+        let heard = self.read_or_resend(rt, alloc, pass)?;
         let answer = self.take_answer(number, place);
         Ok((heard, answer))
     }

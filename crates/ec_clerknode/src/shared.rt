@@ -14,6 +14,7 @@ ghost use Rattle.ec_clerknode.specs.Turns.{number_of, Stays, Turned, Starts, Wai
 use crate::fault::NodeFault;
 use crate::state::{Closing, Node, State};
 use crate::step::Step;
+use crate::waiting::Waiting;
 use ec_base::{Age, Counter, List, OpNo};
 use ec_clerk::Clerk;
 use ec_history::Answer;
@@ -391,6 +392,7 @@ impl<L: Link + Drop> SharedClerk<L> {
             broken: false,
             top: 0,
             patience: Patience::new(),
+            waiting: Waiting::new(),
             trace: Trace::new(),
         };
         let state = Box::new(alloc, state)?;

@@ -1,5 +1,6 @@
 // The value behind the lock.
 use crate::step::Step;
+use crate::waiting::Waiting;
 use ec_base::{Age, List, OpNo};
 use ec_clerk::Clerk;
 use ec_outs::{Kept, Patience};
@@ -22,6 +23,8 @@ pub struct State<L> {
     pub top: u64,
     /// How long a want rests.
     pub patience: Patience,
+    /// How long calls have waited.
+    pub waiting: Waiting,
     pub trace: Trace<Step>,
 }
 

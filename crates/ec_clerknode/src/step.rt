@@ -19,6 +19,8 @@ pub enum Deed {
     Picked(Snapshot<Asked>),
     /// It said goodbye.
     Parted,
+    /// It sent again what it holds and what is outstanding.
+    Resent,
     /// A mark: the link failed or was closed.
     Net,
     /// A mark: this body is no message.

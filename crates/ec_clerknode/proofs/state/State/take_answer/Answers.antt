@@ -8,7 +8,7 @@ returns-clause-keeps g c first s = record {
   run = s.run;
   counted = s.counted;
   leads_to = s.leads_to;
-  kept = kept_of (λ l. g.L.Link.faults l + g.L.Link.closes l) g.L.Link.given g.L.Link.got (λ a. AnsweredAt c.args.self.now.trace.items a.at a.number a.reply) c.take_kept.result _ _ c.args.number c.args.place c.take_kept.ensures.some c.take_kept.ensures.none s.kept;
+  kept = kept_of (λ l. g.L.Link.faults l + g.L.Link.closes l) g.L.Link.given g.L.Link.got (λ a. AnsweredAt c.args.self.now.trace.items a.at a.number a.reply) c.take_kept-answer.result _ _ c.args.number c.args.place c.take_kept-answer.ensures.some c.take_kept-answer.ensures.none s.kept;
   told = s.told;
   old = s.old;
   top = s.top;
@@ -21,4 +21,4 @@ returns-clause-keeps g c first s = record {
 }
 
 pub returns-clause-answer : goal.returns-clause-answer
-returns-clause-answer g c first s = answer_kept (λ l. g.L.Link.faults l + g.L.Link.closes l) g.L.Link.given g.L.Link.got c.args.self.now.trace.items c.take_kept.result _ _ c.args.number c.args.place c.take_kept.ensures.some s.kept
+returns-clause-answer g c first s = answer_kept (λ l. g.L.Link.faults l + g.L.Link.closes l) g.L.Link.given g.L.Link.got c.args.self.now.trace.items c.take_kept-answer.result _ _ c.args.number c.args.place c.take_kept-answer.ensures.some s.kept
