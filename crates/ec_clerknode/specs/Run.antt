@@ -143,7 +143,7 @@ IsSaid sent.Done = Unit {0}
 IsSaid sent.Failed = Unit {0}
 IsSaid sent.NoMemory = ⊥
 
--- memory was wanting for no message of these steps
+-- memory was wanting in none of these steps
 abbrev pub AreSaid : List Step → Type 0
 AreSaid [] = Unit {0}
 AreSaid (s ∷ ss) = IsSaid s.end × AreSaid ss
