@@ -17,7 +17,7 @@ use Rattle.ec_clerknode.specs.declared.fault.NodeFault.{NodeFault}
 use Rattle.ec_clerknode.specs.declared.fault.NodeFault.TheVariants as fault
 use Rattle.ec_clerknode.specs.declared.state.Node.{Node}
 use Rattle.ec_clerknode.specs.declared.step.Step.{Step}
-use Rattle.ec_clerknode.specs.Run.{IsRun, calls, heard_by, said_by, told_by, old_boot}
+use Rattle.ec_clerknode.specs.Run.{IsRun, AreSaid, calls, heard_by, said_by, told_by, old_boot}
 use Rattle.ec_clerknode.specs.Turns.{number_of, Finished}
 use Rattle.ec_clerknode.proofs.Lists.{prefix_get, prefix_trans}
 use Rattle.ec_outs.proofs.Told.{added-added, added-nil}
@@ -106,21 +106,22 @@ module _ {L : Type 0} (lock : TracedLock (Node L) Step) (old called closed : Pas
   unless (Err fault.NoMemory) P p = tt
 
   module _ (counts : L → ℕ) (given : L → Option (List Heard)) (got : L → Option (List (List ℕ))) (first : Node L) (clerk : Clerk) (link back : L) (is_clerk : first.clerk ≡ clerk) (is_link : first.link ≡ link) where
-    ran_over : (k : Clerk) → Finished counts given got first (front closed) (Some k) back → RanOver clerk [] (seen_of counts given got link) (seen_of counts given got back) (front closed)
-    ran_over k f =
+    ran_over : (k : Clerk) → Finished counts given got first (front closed) (Some k) back → AreSaid (front closed) → RanOver clerk [] (seen_of counts given got link) (seen_of counts given got back) (front closed)
+    ran_over k f whole =
         let net = f.1 in
         record {
           run = subst (λ x. IsRun x (front closed)) is_clerk f.0;
+          whole = whole;
           counted = omega (arith, net);
           heard = f.3.1 ∙ ap (λ l. added (given l) (heard_by (front closed))) is_link;
           sent = f.2 ∙ ap (λ l. added (got l) (said_by (front closed))) is_link;
         }
 
-    pub runs_over : (k : Option Clerk) (told : List (List ℕ)) (boot : Option Age) (given_all : Given) → Finished counts given got first (front closed) k back → IfSome k (λ _. told ≡ told_by (front closed)) → boot ≡ old_boot (front closed)
+    pub runs_over : (k : Option Clerk) (told : List (List ℕ)) (boot : Option Age) (given_all : Given) → Finished counts given got first (front closed) k back → IfSome k (λ _. AreSaid (front closed)) → IfSome k (λ _. told ≡ told_by (front closed)) → boot ≡ old_boot (front closed)
         → Concludes k told boot all made given_all → RunsOver clerk [] lanes (seen_of counts given got link) (seen_of counts given got back) given_all
-    runs_over None told boot r f t b h = subst (λ l. UnlessWanting l ((steps : List Step) × RanOver clerk [] (seen_of counts given got link) (seen_of counts given got back) steps × Tells lanes steps r.0 r.1 l)) (sym h) tt
-    runs_over (Some k) told boot r f t b h = subst (λ x. RunsOver clerk [] lanes (seen_of counts given got link) (seen_of counts given got back) x) (sym h)
-        (unless (last_of boot made) _ (front closed, ran_over k f, tells told t boot b boot refl))
+    runs_over None told boot r f whole t b h = subst (λ l. UnlessWanting l ((steps : List Step) × RanOver clerk [] (seen_of counts given got link) (seen_of counts given got back) steps × Tells lanes steps r.0 r.1 l)) (sym h) tt
+    runs_over (Some k) told boot r f whole t b h = subst (λ x. RunsOver clerk [] lanes (seen_of counts given got link) (seen_of counts given got back) x) (sym h)
+        (unless (last_of boot made) _ (front closed, ran_over k f whole, tells told t boot b boot refl))
 
 -- The link is left, which changes nothing that is told of it.
 
@@ -143,6 +144,7 @@ module _ (clerk : Clerk) (outs : List Out) (lanes : List (List Call)) (old mid n
   behind : (steps : List Step) → RanOver clerk [] mid new steps → RanOver clerk outs old new steps
   behind steps r = record {
     run = r.run;
+    whole = r.whole;
     counted = r.counted;
     heard = r.heard ∙ ap (λ g. added g (heard_by steps)) same;
     sent = r.sent ∙ (ap (λ g. added g (said_by steps)) sent ∙ added-added old.got (map encoded (sends outs)) (said_by steps));
@@ -178,6 +180,7 @@ module _ (id boot : ℕ) (clerk : Clerk) (outs : List Out) (lanes : List (List C
     outs = outs;
     starts = starts;
     run = r.run;
+    whole = r.whole;
     given = new.given;
     got = new.got;
     ended = ended;

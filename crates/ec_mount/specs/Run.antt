@@ -16,7 +16,7 @@ use Rattle.ec_outs.specs.Outs.{Reply, encoded, sends}
 use Rattle.ec_clerknode.specs.declared.fault.NodeFault.{NodeFault}
 use Rattle.ec_clerknode.specs.declared.fault.NodeFault.TheVariants as fault
 use Rattle.ec_clerknode.specs.declared.step.Step.{Step}
-use Rattle.ec_clerknode.specs.Run.{IsRun, Among, heard_by, said_by, told_by, marks, old_boot}
+use Rattle.ec_clerknode.specs.Run.{IsRun, AreSaid, Among, heard_by, said_by, told_by, marks, old_boot}
 use Rattle.ec_clerknode.specs.Turns.{number_of, calls_by, Replied, SaidBye}
 use Rattle.ec_clerknode.specs.Lanes.{AreLanes, AreFronts}
 
@@ -31,13 +31,14 @@ abbrev pub Tells : {A : Type 0} → Option (List A) → List A → Type 0
 Tells None xs = Unit {0}
 Tells (Some ys) xs = ys ≡ xs
 
--- The steps of a clerk from its start with this boot. The link that came back gave, in order, the messages that the steps take, with the bodies and
--- lengths of their marks, and got the messages of the start and then those that the steps sent.
+-- The steps of a clerk from its start with this boot, in none of which memory was wanting. The link that came back gave, in order, the messages that the
+-- steps take, with the bodies and lengths of their marks, and got the messages of the start and then those that the steps sent.
 pub record Ran (id boot : ℕ) (before after : NetSeen) (steps : List Step) : Type 0 where
   pub clerk : Clerk
   pub outs : List Out
   pub starts : start id boot ≡ record { clerk = clerk; outs = outs; spent = None }
   pub run : IsRun clerk steps
+  pub whole : AreSaid steps
   pub given : Option (List Heard)
   pub got : Option (List (List ℕ))
   pub ended : after.ended ≡ before.ended ++ (given, got) ∷ []

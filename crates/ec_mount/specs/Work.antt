@@ -9,7 +9,7 @@ use Rattle.ec_outs.specs.Outs.{Reply, encoded, sends}
 use Rattle.ec_clerknode.specs.declared.fault.NodeFault.{NodeFault}
 use Rattle.ec_clerknode.specs.declared.fault.NodeFault.TheVariants as fault
 use Rattle.ec_clerknode.specs.declared.step.Step.{Step}
-use Rattle.ec_clerknode.specs.Run.{IsRun, nets, heard_by, said_by, told_by, old_boot}
+use Rattle.ec_clerknode.specs.Run.{IsRun, AreSaid, nets, heard_by, said_by, told_by, old_boot}
 use Rattle.ec_clerknode.specs.Lanes.{lists_of}
 use Rattle.ec_mount.specs.Run.{NetSeen, Ran, Holds, HoldsFronts, Has, Met, Lost, Spends}
 use Rattle.ec_mount.specs.declared.work.Answers.{Answers}
@@ -30,6 +30,7 @@ pub record LinkSeen : Type 0 where
 -- the link has what these steps heard and said, behind these messages
 pub record RanOver (clerk : Clerk) (outs : List Out) (old new : LinkSeen) (steps : List Step) : Type 0 where
   pub run : IsRun clerk steps
+  pub whole : AreSaid steps
   pub counted : nets steps ≤ new.counts
   pub heard : new.given ≡ added old.given (heard_by steps)
   pub sent : new.got ≡ added old.got (map encoded (sends outs) ++ said_by steps)

@@ -10,5 +10,5 @@ returns g c =
     let lock = c.in-Ok.shared.lock in
     let made = runs_over lock c.in-Ok.pass c.make_calls-made.new.pass c.close.new.pass c.args.lanes.items (lists_of c.make_calls-made.result.lanes) c.make_calls-made.result.last c.make_calls-made.ensures c.in-Ok.ensures.pass.2 c.close.ensures.later c.close.ensures.own c.make_calls-made.ensures.is_pass.1
     (λ l. g.L.Link.faults l + g.L.Link.closes l) g.L.Link.given g.L.Link.got (first lock) c.args.clerk c.args.link c.close.result.link c.in-Ok.ensures.clerk c.in-Ok.ensures.link
-    c.close.result.clerk c.close.result.told.items c.close.result.boot (work.seen c.conclude-link.result.1) c.close.ensures.finished c.close.ensures.told c.close.ensures.boot c.conclude-link.ensures.result in
+    c.close.result.clerk c.close.result.told.items c.close.result.boot (work.seen c.conclude-link.result.1) c.close.ensures.finished c.close.ensures.said c.close.ensures.told c.close.ensures.boot c.conclude-link.ensures.result in
     runs_left g.L.Link.faults g.L.Link.closes g.L.Link.given g.L.Link.got c.args.clerk c.args.lanes.items _ c.close.result.link c.conclude-link.result.0 c.left.result (work.seen c.conclude-link.result.1) c.conclude-link.ensures.link c.left.ensures.counts c.left.ensures.bodies made
