@@ -10,6 +10,7 @@ use Rattle.ec_log.specs.declared.state.Asked.{Asked}
 use Rattle.ec_plain.specs.declared.call.Call.{Call}
 use Rattle.ec_protocol.specs.declared.clerk.Flushed.{Flushed}
 use Rattle.ec_link.specs.Links.{Heard, added}
+use Rattle.ec_link.specs.declared.link.Sent.TheVariants as sent
 use Rattle.ec_lock.specs.Passes.{first, front, numbers, raised, IsPassOf, Same, Marked}
 use Rattle.ec_lock.specs.Steps.{Member, of}
 use Rattle.ec_lock.specs.declared.types.Pass.{Pass}
@@ -17,13 +18,15 @@ use Rattle.ec_lock.specs.declared.types.TracedLock.{TracedLock}
 use Rattle.ec_outs.specs.Outs.{Reply}
 use Rattle.ec_clerknode.specs.declared.fault.NodeFault.{NodeFault}
 use Rattle.ec_clerknode.specs.declared.fault.NodeFault.TheVariants as fault
+use Rattle.ec_clerknode.specs.declared.act.Act.{Act}
+use Rattle.ec_clerknode.specs.declared.step.Deed.TheVariants.{Resent}
 use Rattle.ec_clerknode.specs.declared.step.Step.{Step}
 use Rattle.ec_clerknode.specs.declared.state.Node.{Node}
 use Rattle.ec_clerknode.specs.Floors.{highest_grows}
 use Rattle.ec_clerknode.specs.Folded.{answer_to}
 use Rattle.ec_clerknode.specs.Run.{told_by, heard_by, said_by, nets, AreSaid, Wanted, Came, call_of, calls, marks, mark_of_deed, mark_of_end, Among, IsRun, leads, highest, old_boot}
 use Rattle.ec_clerknode.specs.Node.{Since, By, AnsweredAt, AnsweredFrom}
-use Rattle.ec_clerknode.specs.Closed.{More, Caused, Fails, Fell, Begun, Works, Flushes, PartsIf, PartsBehind, Resends, ReadsFlushes, Started, Waited}
+use Rattle.ec_clerknode.specs.Closed.{More, Caused, Closed, EndsAs, Stops, Fails, Fell, Begun, Works, Flushes, PartsIf, PartsBehind, Resends, ReadsFlushes, Started, Waited}
 use Rattle.ec_clerknode.specs.Turns.{number_of, calls_by, Replied, Failed, Called, Worked, Partings, SaidBye, Stays, Turned, Pending, Starts, Waits, PickedLast, Asks, FlushTurned, Finished}
 use Rattle.ec_clerknode.proofs.Lists.{prefix_trans, prefix_length, prefix_get, get_last, of-append}
 use Rattle.ec_outs.proofs.Each.{each-append}
@@ -57,6 +60,19 @@ caused-right boot (fault.Long n) xs ys c = (c.0, marks-right (fault.Long n) xs y
 caused-right boot (fault.OldBoot age) xs ys c = c
 caused-right boot (fault.Spent counter) xs ys c = (c.0, marks-right (fault.Spent counter) xs ys c.1)
 caused-right boot fault.NoMemory xs ys c = tt
+
+-- where neither the deed nor the turn has a mark, the fault is how the step's sending ended
+stopped : (boot : Option Age) (step : Step) (marked : Option NodeFault) (f : NodeFault) → marked ≡ None → mark_of_deed step.deed ≡ [] → Stops boot step.end marked f → Caused boot f (step ∷ [])
+stopped boot step marked fault.Net none own h = (
+  h.0,
+  ⊎_elim (λ (e : step.end ≡ sent.Failed). subst (λ l. Among fault.Net ((l ++ mark_of_end step.end) ++ [])) (sym own) (subst (λ x. Among fault.Net (mark_of_end x ++ [])) (sym e) (inl refl)))
+  (λ (e : marked ≡ Some fault.Net). absurd (cc (sym none ∙ e))) h.1,
+)
+stopped boot step marked (fault.Peer place) none own h = absurd (cc (sym none ∙ h.1))
+stopped boot step marked (fault.Long n) none own h = absurd (cc (sym none ∙ h.1))
+stopped boot step marked (fault.OldBoot age) none own h = h
+stopped boot step marked (fault.Spent counter) none own h = absurd (cc (sym none ∙ h.1))
+stopped boot step marked fault.NoMemory none own h = tt
 
 by-append : (pass : ℕ) (xs ys : List Step) → By pass xs → By pass ys → By pass (xs ++ ys)
 by-append pass [] ys a b = b
@@ -127,6 +143,14 @@ module _ {L : Type 0} where
     pub flushed_more : {A : Type 0} (pass : ℕ) (asked : Asked) (v w : Node L) (r : Result (A × Flushed) NodeFault) → ReadsFlushes counts given got pass asked v w r → (more : List Step) × More pass v w more
     flushed_more pass asked v w (Ok r) b = let step = b.3.2 in (b.2.0 ++ step.0 ∷ [], more_both pass v b.0 w b.2.0 (step.0 ∷ []) b.2.1 step.5)
     flushed_more pass asked v w (Err f) b = fails_more pass [] v w f b
+
+    -- a turn that sent again, by how its step ended
+    pub resends_so : (pass : ℕ) (act : Act) (step : Step) (old mid new : Node L) (r : Result (Unit {0}) NodeFault) → mid.trace.items ≡ old.trace.items → act.deed ≡ Resent → act.fault ≡ None → Closed counts given got pass act.deed act.outs.items step mid new
+        → EndsAs new.boot step.end act.fault r → Resends pass old new r
+    resends_so pass act step old mid new (Ok u) same deed none k e = (e.0, (step, k.deed_is ∙ deed, (k.list ∙ ap (λ l. l ++ step ∷ []) same, (k.pass_is, tt))))
+    resends_so pass act step old mid new (Err f) same deed none k e =
+        let is : step.deed ≡ Resent = k.deed_is ∙ deed in
+        (step ∷ [], (k.list ∙ ap (λ l. l ++ step ∷ []) same, (k.pass_is, tt)), inl (append-nil (call_of step.deed) ∙ ap call_of is), stopped new.boot step act.fault f none (ap mark_of_deed is) e)
 
     -- a turn at the lock
     pub turned : (lock : TracedLock (Node L) Step) (old mid new : Pass (Node L) Step) (v w : Node L) → Since counts given got (first lock) w → IsPrefix (front old) v.trace.items → IsPrefix v.trace.items w.trace.items
