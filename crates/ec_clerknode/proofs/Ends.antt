@@ -62,9 +62,9 @@ wanted_kept ended.Done e = absurd (cc e)
 wanted_kept ended.Failed e = absurd (cc e)
 wanted_kept ended.NoMemory e = refl
 
-pub or_false : (a b : Bool) → (a || b) ≡ false → b ≡ false
+pub or_false : (a b : Bool) → (a || b) ≡ false → a ≡ false
 or_false true b e = absurd (cc e)
-or_false false b e = e
+or_false false b e = refl
 
 pub or_true : (a b : Bool) → (a || b) ≡ true → (a ≡ true) ⊎ (b ≡ true)
 or_true true b e = inl refl

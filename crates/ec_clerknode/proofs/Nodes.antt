@@ -196,7 +196,7 @@ module _ {L : Type 0} (counts : L → ℕ) (given : L → Option (List Heard)) (
         heard = λ up. absurd (true_false (sym down ∙ up));
         sent = ap got back ∙ (sent ∙ (s.sent ∙ ap (added (got first.link)) (sym (append-nil (said_by xs)) ∙ (ap (λ l. said_by xs ++ l) (sym said_none) ∙ sym (ap said_by f.list ∙ each-push said_in xs step)))));
         said = λ up. absurd (true_false (sym down ∙ up));
-        wanted = λ yes. subst Wanted (sym f.list) (wanted_last xs step f.is.3);
+        wanted = λ down. subst Wanted (sym f.list) (wanted_last xs step f.is.3);
         came = (
           came.0,
           came.1,

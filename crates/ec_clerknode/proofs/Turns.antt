@@ -66,7 +66,7 @@ stopped : (boot : Option Age) (step : Step) (marked : Option NodeFault) (f : Nod
 stopped boot step marked fault.Net none own h = (
   h.0,
   ⊎_elim (λ (e : step.end ≡ sent.Failed). subst (λ l. Among fault.Net ((l ++ mark_of_end step.end) ++ [])) (sym own) (subst (λ x. Among fault.Net (mark_of_end x ++ [])) (sym e) (inl refl)))
-  (λ (e : marked ≡ Some fault.Net). absurd (cc (sym none ∙ e))) h.1,
+      (λ (e : marked ≡ Some fault.Net). absurd (cc (sym none ∙ e))) h.1,
 )
 stopped boot step marked (fault.Peer place) none own h = absurd (cc (sym none ∙ h.1))
 stopped boot step marked (fault.Long n) none own h = absurd (cc (sym none ∙ h.1))
@@ -279,7 +279,7 @@ module _ {L : Type 0} where
           let le = prefix_length before v.trace.items later in
           let longer = ap length m.0 ∙ length-append v.trace.items xs in (
             (none_then (xs ++ s ∷ []) all (none_both xs (s ∷ []) none still), sym boot_is ∙ up),
-            (λ yes. (
+            (λ said. (
               length mid.trace.items,
               s,
               omega arith,
@@ -288,7 +288,7 @@ module _ {L : Type 0} where
               q.1,
             )),
           )
-      parting x false mid xs m none q up = ((none_then xs (q ∙ m.0, m.1) none, sym boot_is ∙ up), (λ yes. absurd (true_false (sym yes))))
+      parting x false mid xs m none q up = ((none_then xs (q ∙ m.0, m.1) none, sym boot_is ∙ up), (λ said. absurd (true_false (sym said))))
 
       pub partings : {A : Type 0} (r : Result (A × Bool) NodeFault) → PartsBehind pass v w r → Partings pass before after r
       partings (Ok r) b = parting r r.1 b.1.0 b.1.1.0 b.1.1.1 b.1.1.2 b.1.2 b.0
@@ -440,12 +440,12 @@ module _ (pass mine : ℕ) (before now after : List Step) (same : mine ≡ pass)
   parted_ok r y p = (parting_none r p, p.0.1)
 
   pub parted_bye : {A : Type 0} (r : A × Bool) → r.1 ≡ true → Partings mine now after (Ok r) → SaidBye pass before after
-  parted_bye r yes p = let b = p.1 yes in let le = prefix_length before now begins in let low = b.2 in (b.0, b.1, omega arith, b.3, b.4 ∙ same, b.5)
+  parted_bye r said p = let b = p.1 said in let le = prefix_length before now begins in let low = b.2 in (b.0, b.1, omega arith, b.3, b.4 ∙ same, b.5)
 
   pub parted_failed : (f : NodeFault) → Failed mine [] now after f → Failed pass [] before after f
   parted_failed f w =
       let m = w.1 in (
-        inl (still_none (Err f) w),
+        inl (still_none {A = ℕ} (Err f) w),
         (
           begins.0 ++ m.0,
           sym (append_assoc before begins.0 m.0) ∙ (ap (λ l. l ++ m.0) begins.1 ∙ m.1),

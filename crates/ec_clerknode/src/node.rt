@@ -1,5 +1,5 @@
 // What is done in one turn at the lock.
-ghost use Rattle.std.specs.Prelude.{◌≡◌, ℕ, ◌+◌, ◌≤◌, ◌<◌, ◌⊎◌, true, false, [], ◌∷◌, ◌++◌, length, map, Option, Some, None, IfOk, IfErr, OnOk, IfSome, IfNone};
+ghost use Rattle.std.specs.Prelude.{◌≡◌, ℕ, ◌+◌, ◌≤◌, ◌<◌, ◌⊎◌, ◌||◌, true, false, [], ◌∷◌, ◌++◌, length, map, Option, Some, None, IfOk, IfErr, OnOk, IfSome, IfNone};
 ghost use Rattle.ec_base.specs.Limits.{last_counter};
 ghost use Rattle.ec_base.specs.declared.ids.Age.{Age as Years};
 ghost use Rattle.ec_link.specs.declared.link.Sent.TheVariants as sent;
@@ -46,12 +46,13 @@ fn end_of(kept: bool, end: Sent) -> Sent
     if kept { end } else { Sent::NoMemory }
 }
 
-fn is_wanting(end: Sent) -> bool
-    ensures { result ≡ is_wanting end }
+// Whether the clerk is followed no more behind a step that ends so.
+fn is_broken_behind(was_broken: bool, end: Sent) -> bool
+    ensures { result ≡ (is_wanting end || was_broken) }
 {
     match end {
         Sent::NoMemory => true,
-        Sent::Done | Sent::Failed => false,
+        Sent::Done | Sent::Failed => was_broken,
     }
 }
 
@@ -121,8 +122,7 @@ impl<L: Link> State<L> {
         self.trace = self.trace.and(&step);
         self.steps += 1;
         self.top = self.top.max(floor);
-        let wants = is_wanting(end);
-        self.broken = self.broken || wants;
+        self.broken = is_broken_behind(self.broken, end);
         end
     }
 
