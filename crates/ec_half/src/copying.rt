@@ -1,0 +1,139 @@
+// One disk is made as the other one.
+ghost use Rattle.std.specs.Prelude.{◌≡◌, ◌<◌, ◌⊎◌, true, false};
+ghost use Rattle.ec_disk.specs.declared.disk.DiskAnswer.{DiskAnswer};
+ghost use Rattle.ec_disk.specs.declared.disk.DiskAnswer.TheVariants as said;
+ghost use Rattle.ec_half.specs.declared.copying.Joined.TheVariants as joined;
+ghost use Rattle.ec_half.specs.declared.copying.Copied.TheVariants as copied;
+
+use crate::half::Half;
+use ec_disk::{CrashDisk, DiskAnswer};
+
+const PIECE_BYTES: usize = 4_096;
+
+static ZEROS: [u8; PIECE_BYTES] = [0; PIECE_BYTES];
+
+/// How two disks were joined.
+#[derive(Clone, Copy, Drop)]
+pub enum Joined {
+    /// Both have the source's content and the same generation.
+    Both,
+    /// The other disk failed behind the source's generation.
+    SourceAlone,
+    /// The source failed, or either disk stopped or found no memory.
+    Fault(DiskAnswer),
+}
+
+// How a copy went.
+#[derive(Clone, Copy, Drop)]
+enum Copied {
+    Done,
+    OfSource(DiskAnswer),
+    OfOther(DiskAnswer),
+}
+
+/// Gives the source the next generation, and then the other disk, which isn't longer, its content of this length and that generation.
+pub fn join<S: CrashDisk, O: CrashDisk>(
+    source: &mut Half<'_, S>,
+    other: &mut Half<'_, O>,
+    len: u64,
+    number: u64,
+) -> Joined
+    requires { other.old.generation.number < number }
+    ensures source_stop { source.new.may_stop ≡ source.old.may_stop }
+    ensures other_stop { other.new.may_stop ≡ other.old.may_stop }
+    ensures never_stops { source.old.may_stop ≡ false → other.old.may_stop ≡ false → result ≡ joined.Fault said.Stopped → ⊥ }
+    ensures source_keeps { source.old.has_failed ≡ true → source.new.has_failed ≡ true }
+    ensures other_keeps { other.old.has_failed ≡ true → other.new.has_failed ≡ true }
+    ensures failed { result ≡ joined.Fault said.Failed → source.new.has_failed ≡ true }
+    ensures alone { result ≡ joined.SourceAlone → other.new.has_failed ≡ true }
+    ensures not_done { result ≡ joined.Fault said.Done → ⊥ }
+    ensures raised { (result ≡ joined.Both) ⊎ (result ≡ joined.SourceAlone) → source.new.generation.number ≡ number }
+    ensures other_raised { result ≡ joined.Both → other.new.generation.number ≡ number }
+    ensures other_stays { result ≡ joined.SourceAlone → other.new.generation ≡ other.old.generation }
+{
+    match source.raise(number) {
+        DiskAnswer::Done => {}
+        fault => return Joined::Fault(fault),
+    }
+    match copy(source, other, len) {
+        Copied::Done => {}
+        Copied::OfSource(fault) => return Joined::Fault(fault),
+        Copied::OfOther(fault) => return without_other(fault),
+    }
+    match other.sync() {
+        DiskAnswer::Done => {}
+        fault => return without_other(fault),
+    }
+    match other.raise(number) {
+        DiskAnswer::Done => Joined::Both,
+        fault => without_other(fault),
+    }
+}
+
+// A disk that failed behind the source's generation is left alone.
+fn without_other(fault: DiskAnswer) -> Joined
+    ensures alone { result ≡ joined.SourceAlone → fault ≡ said.Failed }
+    ensures fault { (answer : DiskAnswer) → result ≡ joined.Fault answer → (fault ≡ answer) × (answer ≡ said.Failed → ⊥) }
+    ensures both { result ≡ joined.Both → ⊥ }
+{
+    match fault {
+        DiskAnswer::Failed => Joined::SourceAlone,
+        fault => Joined::Fault(fault),
+    }
+}
+
+/// Writes zeros from one place of the content up to another, and syncs.
+pub fn lengthen<D: CrashDisk>(half: &mut Half<'_, D>, from: u64, to: u64) -> DiskAnswer
+    ensures may_stop { half.new.may_stop ≡ half.old.may_stop }
+    ensures failed { result ≡ said.Failed → half.new.has_failed ≡ true }
+    ensures generation { half.new.generation ≡ half.old.generation }
+{
+    let mut at = from;
+    'pieces: while at < to {
+        let count = (to - at).min(PIECE_BYTES as u64);
+        match half.write(at, &ZEROS[..count as usize]) {
+            DiskAnswer::Done => {}
+            fault => return fault,
+        }
+        at += count;
+    }
+    half.sync()
+}
+
+// Copies a content of this length from the disk with the greater generation, so that a crash before it's whole leaves that one's.
+fn copy<S: CrashDisk, O: CrashDisk>(
+    source: &mut Half<'_, S>,
+    other: &mut Half<'_, O>,
+    len: u64,
+) -> Copied
+    requires { other.old.generation.number < source.old.generation.number }
+    ensures source_generation { source.new.generation ≡ source.old.generation }
+    ensures other_generation { other.new.generation ≡ other.old.generation }
+    ensures source_stop { source.new.may_stop ≡ source.old.may_stop }
+    ensures other_stop { other.new.may_stop ≡ other.old.may_stop }
+    ensures source_never { source.old.may_stop ≡ false → result ≡ copied.OfSource said.Stopped → ⊥ }
+    ensures other_never { other.old.may_stop ≡ false → result ≡ copied.OfOther said.Stopped → ⊥ }
+    ensures source_keeps { source.old.has_failed ≡ true → source.new.has_failed ≡ true }
+    ensures other_keeps { other.old.has_failed ≡ true → other.new.has_failed ≡ true }
+    ensures source_not_done { result ≡ copied.OfSource said.Done → ⊥ }
+    ensures other_not_done { result ≡ copied.OfOther said.Done → ⊥ }
+    ensures source_failed { result ≡ copied.OfSource said.Failed → source.new.has_failed ≡ true }
+    ensures other_failed { result ≡ copied.OfOther said.Failed → other.new.has_failed ≡ true }
+{
+    let mut bytes = [0; PIECE_BYTES];
+    let mut at: u64 = 0;
+    'pieces: while at < len {
+        let count = (len - at).min(PIECE_BYTES as u64);
+        let piece = &mut bytes[..count as usize];
+        match source.read(at, piece) {
+            DiskAnswer::Done => {}
+            fault => return Copied::OfSource(fault),
+        }
+        match other.write(at, piece) {
+            DiskAnswer::Done => {}
+            fault => return Copied::OfOther(fault),
+        }
+        at += count;
+    }
+    Copied::Done
+}

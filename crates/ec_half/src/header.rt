@@ -1,0 +1,162 @@
+// What stands in front of a disk's content.
+ghost use Rattle.std.specs.Prelude.{◌≡◌, ◌≤◌, ◌+◌, ℕ, IsErrOf};
+ghost use Rattle.ec_disk.specs.Disk.{Counted, Rests};
+ghost use Rattle.ec_disk.specs.declared.disk.DiskAnswer.TheVariants as said;
+ghost use Rattle.ec_half.specs.Contents.{IsHalf, HasLength};
+ghost use Rattle.ec_half.specs.declared.fault.MirrorFault.TheVariants as fault;
+
+use crate::fault::{MirrorFault, done};
+use ec_disk::{Disk, DiskAnswer, DiskLen};
+use ec_slots::{Slot, write_open, write_shut};
+
+/// The bytes in front of the content.
+pub const HEADER_BYTES: u64 = 4_096;
+
+/// The last generation.
+pub const MOST: u64 = 1 << 62;
+
+// The first word of each disk of a mirror.
+const WORD: [u8; 8] = *b"ECHOMIR1";
+
+// What is read of the header: the word and both slots.
+const READ_BYTES: usize = 1_033;
+
+// The byte of an open gate, an `O`; any other is shut.
+const OPEN: u8 = 0x4F;
+
+/// A disk's generation, and the slot that holds it.
+#[derive(Clone, Copy, Drop)]
+pub struct Generation {
+    pub number: u64,
+    pub slot: Slot,
+    /// Whether the other slot's gate is open.
+    pub is_open: bool,
+}
+
+impl Generation {
+    ghost use Rattle.std.specs.Prelude.{◌≡◌};
+
+    /// The next one.
+    pub fn next(self, number: u64) -> Generation
+        ensures { result.number ≡ number }
+    {
+        Generation {
+            number,
+            slot: self.slot.other(),
+            is_open: true,
+        }
+    }
+}
+
+/// Raises a disk's generation to this number, by the slot that doesn't hold the present one.
+pub fn raise<D: Disk>(disk: &mut D, present: Generation, number: u64) -> DiskAnswer
+    ensures half { result ≡ said.Done → D.tells → (len : ℕ) → HasLength (D.view disk.old) len → IsHalf (D.view disk.new) len }
+    ensures counts { Counted (D.counts disk.old) (D.counts disk.new) (result ≡ said.Failed) (result ≡ said.Stopped) }
+{
+    let spare = present.slot.other();
+    if present.is_open {
+        write_open(disk, spare, number)
+    } else {
+        write_shut(disk, spare, number)
+    }
+}
+
+/// How a new disk begins.
+pub const NEW: Generation = Generation {
+    number: 1,
+    slot: Slot::First,
+    is_open: false,
+};
+
+/// What a disk is before it's opened.
+#[derive(Clone, Copy, Drop)]
+pub enum Found {
+    Empty,
+    Half(Generation),
+}
+
+/// Looks at the first or the second disk, and writes nothing.
+pub fn look_at<D: Disk>(disk: &mut D, which: u8) -> Result<Found, MirrorFault>
+    ensures rests { D.tells → Rests (D.view disk.old) (D.view disk.new) }
+    ensures counts { Counted (D.counts disk.old) (D.counts disk.new) (IsErrOf result fault.DiskFailed) (IsErrOf result fault.DiskStopped) }
+{
+    let len = match disk.len() {
+        DiskLen::Len(len) => len,
+        DiskLen::Failed => return Err(MirrorFault::DiskFailed),
+        DiskLen::Stopped => return Err(MirrorFault::DiskStopped),
+    };
+    if len <= HEADER_BYTES {
+        return Ok(Found::Empty);
+    }
+    let mut bytes = [0; READ_BYTES];
+    done(disk.read_at(0, &mut bytes))?;
+    match generation_in(&bytes) {
+        Ok(generation) => Ok(Found::Half(generation)),
+        Err(place) => Err(MirrorFault::BadMirror(which, place)),
+    }
+}
+
+// The generation in a header, or the place that shows that there is none.
+fn generation_in(bytes: &[u8; READ_BYTES]) -> Result<Generation, u64> {
+    if &bytes[..8] != WORD.as_slice() {
+        return Err(0);
+    }
+    let first = number_at(bytes, 512);
+    let second = number_at(bytes, 1_024);
+    let found = match (first, second) {
+        (None, None) => return Err(512),
+        (Some(number), None) => Generation {
+            number,
+            slot: Slot::First,
+            is_open: false,
+        },
+        (None, Some(number)) => Generation {
+            number,
+            slot: Slot::Second,
+            is_open: false,
+        },
+        (Some(first), Some(second)) if first < second => Generation {
+            number: second,
+            slot: Slot::Second,
+            is_open: true,
+        },
+        (Some(number), Some(_)) => Generation {
+            number,
+            slot: Slot::First,
+            is_open: true,
+        },
+    };
+    if found.number > MOST {
+        return Err(1_024);
+    }
+    Ok(found)
+}
+
+// The number of a slot whose gate is open.
+fn number_at(bytes: &[u8; READ_BYTES], at: usize) -> Option<u64>
+    requires { at + 9 ≤ 1033 }
+{
+    if bytes[at] != OPEN {
+        return None;
+    }
+    let mut number = [0; 8];
+    number.copy_from_slice(&bytes[at + 1..at + 9]);
+    Some(u64::from_be_bytes(number))
+}
+
+/// Writes the header of an empty disk, with generation 1.
+pub fn begin<D: Disk>(disk: &mut D) -> DiskAnswer
+    ensures counts { Counted (D.counts disk.old) (D.counts disk.new) (result ≡ said.Failed) (result ≡ said.Stopped) }
+{
+    let mut bytes = [0; 4_096];
+    bytes[..8].copy_from_slice(&WORD);
+    let answer = disk.write_at(0, &bytes);
+    if answer != DiskAnswer::Done {
+        return answer;
+    }
+    let answer = disk.sync();
+    if answer != DiskAnswer::Done {
+        return answer;
+    }
+    write_shut(disk, Slot::First, 1)
+}
