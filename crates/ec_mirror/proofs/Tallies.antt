@@ -1,0 +1,173 @@
+-- What a turn does to a mirror's counts.
+use Rattle.std.proofs.Common.{◌≡◌, ◌≤◌, ◌⊎◌, ◌-◌, ℕ, Option, Some, None, inl, inr, refl, sym, ◌∙◌, ap, subst, arith}
+use Rattle.std.specs.Prelude.{IsSome}
+use Rattle.std.proofs.lemmas.Bool.Decides.{nat_tests}
+use Rattle.ec_base.specs.Outside.{Rose, one_more}
+use Rattle.ec_disk.specs.Counting.{counted_both}
+use Rattle.ec_disk.specs.Disk.{Counts, Counted, CountsDown, IsDue, IsOver, after_calls}
+use Rattle.ec_disk.specs.declared.disk.DiskAnswer.{DiskAnswer}
+use Rattle.ec_disk.specs.declared.disk.DiskAnswer.TheVariants as said
+use Rattle.ec_mirror.specs.Tally.{counts_of, told, behind_cut, Turned}
+use Rattle.ec_mirror.specs.declared.tally.Tally.{Tally}
+
+less_armed : (armed : Option ℕ) → IsSome (after_calls 1 armed) → IsSome armed
+less_armed None is = is
+less_armed (Some n) is = grind arith
+
+less_over : (armed : Option ℕ) → IsOver armed → IsOver (after_calls 1 armed)
+less_over None over = tt
+less_over (Some n) over = omega (arith, over)
+
+due_armed : (armed : Option ℕ) → IsDue armed → IsSome armed
+due_armed None due = absurd due
+due_armed (Some n) due = grind arith
+
+due_over : (armed : Option ℕ) → IsDue armed → IsOver (after_calls 1 armed)
+due_over None due = tt
+due_over (Some n) due = omega (arith, due)
+
+-- a turn that goes on, and one that stops
+pub counted_on : (old new : Counts) (S : Type 0) → new.faults ≡ old.faults → new.stops ≡ old.stops → new.armed ≡ after_calls 1 old.armed → (S → ⊥) → Counted old new ⊥ S
+counted_on old new S faults stops armed none = record {
+  faults_later = omega (arith, faults);
+  stops_later = omega (arith, stops);
+  failed = λ f. absurd f;
+  stopped = λ s. absurd (none s);
+  armed = λ s. absurd (none s);
+  not_rearmed = λ some. less_armed old.armed (subst IsSome armed some);
+  stays = λ over. subst IsOver (sym armed) (less_over old.armed over);
+  over = λ s. absurd (none s);
+}
+
+pub counted_off : (old new : Counts) (S : Type 0) → new.faults ≡ old.faults → new.stops ≡ one_more old.stops → new.armed ≡ after_calls 1 old.armed → IsDue old.armed → Counted old new ⊥ S
+counted_off old new S faults stops armed due = record {
+  faults_later = omega (arith, faults);
+  stops_later = omega (arith, stops, more old.stops);
+  failed = λ f. absurd f;
+  stopped = λ s. omega (arith, stops);
+  armed = λ s. due_armed old.armed due;
+  not_rearmed = λ some. less_armed old.armed (subst IsSome armed some);
+  stays = λ over. subst IsOver (sym armed) (less_over old.armed over);
+  over = λ s. subst IsOver (sym armed) (due_over old.armed due);
+}
+  where
+    more : (n : ℕ) → n ≤ one_more n
+    more n = grind (arith, nat_tests)
+
+told_calls : (answer : DiskAnswer) (t : Tally) → (told answer t).calls ≡ t.calls
+told_calls said.Done t = refl
+told_calls said.Failed t = refl
+told_calls said.Stopped t = refl
+told_calls said.NoMemory t = refl
+
+told_armed : (answer : DiskAnswer) (t : Tally) → (told answer t).armed ≡ t.armed
+told_armed said.Done t = refl
+told_armed said.Failed t = refl
+told_armed said.Stopped t = refl
+told_armed said.NoMemory t = refl
+
+nothing : (t : Tally) (F : Type 0) → (F → ⊥) → Counted (counts_of t) (counts_of t) F ⊥
+nothing t F none = record {
+  faults_later = omega arith;
+  stops_later = omega arith;
+  failed = λ f. absurd (none f);
+  stopped = λ s. absurd s;
+  armed = λ s. absurd s;
+  not_rearmed = λ some. some;
+  stays = λ over. over;
+  over = λ s. absurd s;
+}
+
+pub told_counts : (answer : DiskAnswer) (t : Tally) → Counted (counts_of t) (counts_of (told answer t)) (answer ≡ said.Failed) ⊥
+told_counts said.Done t = nothing t _ (λ e. absurd (grind (arith, e)))
+told_counts said.Failed t = record {
+  faults_later = more t.faults;
+  stops_later = omega arith;
+  failed = λ f. omega arith;
+  stopped = λ s. absurd s;
+  armed = λ s. absurd s;
+  not_rearmed = λ some. some;
+  stays = λ over. over;
+  over = λ s. absurd s;
+}
+  where
+    more : (n : ℕ) → n ≤ one_more n
+    more n = grind (arith, nat_tests)
+told_counts said.Stopped t = nothing t _ (λ e. absurd (grind (arith, e)))
+told_counts said.NoMemory t = nothing t _ (λ e. absurd (grind (arith, e)))
+
+-- behind such a turn
+module _ (old mid : Tally) (G S : Type 0) (counts : Counted (counts_of old) (counts_of mid) ⊥ S) (down : CountsDown old.armed mid.armed G S) (due : IsDue old.armed → G → ⊥) (call : mid.calls ≡ one_more old.calls) where
+  pub turned_on : (answer : DiskAnswer) (new : Tally) → G → (answer ≡ said.Stopped → ⊥) → new ≡ told answer mid → Turned answer old new
+  turned_on answer new goes never is = subst (λ (t : Tally). Turned answer old t) (sym is) record {
+    counts = counted_both (counts_of old) (counts_of mid) (counts_of (told answer mid)) ⊥ S (answer ≡ said.Failed) ⊥ (answer ≡ said.Failed) (answer ≡ said.Stopped) counts (told_counts answer mid) (λ f. inr f) (λ s. absurd (never s));
+    armed = record { next = told_armed answer mid ∙ down.next; stops = λ s. absurd (never s); goes = λ d. λ is_due. due is_due goes };
+    due = λ is_due. absurd (due is_due goes);
+    call = told_calls answer mid ∙ call;
+  }
+
+  pub turned_off : (answer : DiskAnswer) (new : Tally) → S → answer ≡ said.Stopped → new ≡ mid → Turned answer old new
+  turned_off answer new stops so is = subst (λ (t : Tally). Turned answer old t) (sym is) record {
+    counts = record {
+      faults_later = counts.faults_later;
+      stops_later = counts.stops_later;
+      failed = λ f. absurd (not_both answer so f);
+      stopped = λ s. counts.stopped stops;
+      armed = λ s. counts.armed stops;
+      not_rearmed = counts.not_rearmed;
+      stays = counts.stays;
+      over = λ s. counts.over stops;
+    };
+    armed = record { next = down.next; stops = λ s. down.stops stops; goes = λ d. absurd (not_done answer so d) };
+    due = λ is_due. so;
+    call = call;
+  }
+    where
+      not_both : (a : DiskAnswer) → a ≡ said.Stopped → a ≡ said.Failed → ⊥
+      not_both a s f = absurd (grind (arith, s, f))
+
+      not_done : (a : DiskAnswer) → a ≡ said.Stopped → a ≡ said.Done → ⊥
+      not_done a s d = absurd (grind (arith, s, d))
+
+-- behind a power cut
+pub cut_counts : (answer : DiskAnswer) (t : Tally) → (answer ≡ said.Stopped → ⊥) → Counted (counts_of t) (counts_of (behind_cut answer t)) (answer ≡ said.Failed) (answer ≡ said.Stopped)
+cut_counts said.Done t never = record {
+  faults_later = omega arith;
+  stops_later = omega arith;
+  failed = λ f. absurd (grind (arith, f));
+  stopped = λ s. absurd (never s);
+  armed = λ s. absurd (never s);
+  not_rearmed = λ some. absurd (grind (arith, some));
+  stays = λ over. tt;
+  over = λ s. absurd (never s);
+}
+cut_counts said.Failed t never = record {
+  faults_later = more t.faults;
+  stops_later = omega arith;
+  failed = λ f. omega arith;
+  stopped = λ s. absurd (never s);
+  armed = λ s. absurd (never s);
+  not_rearmed = λ some. some;
+  stays = λ over. over;
+  over = λ s. absurd (never s);
+}
+  where
+    more : (n : ℕ) → n ≤ one_more n
+    more n = grind (arith, nat_tests)
+cut_counts said.Stopped t never = absurd (never refl)
+cut_counts said.NoMemory t never = record {
+  faults_later = omega arith;
+  stops_later = omega arith;
+  failed = λ f. absurd (grind (arith, f));
+  stopped = λ s. absurd (never s);
+  armed = λ s. absurd (never s);
+  not_rearmed = λ some. some;
+  stays = λ over. over;
+  over = λ s. absurd (never s);
+}
+
+pub cut_calls : (answer : DiskAnswer) (t : Tally) → (behind_cut answer t).calls ≡ t.calls
+cut_calls said.Done t = refl
+cut_calls said.Failed t = refl
+cut_calls said.Stopped t = refl
+cut_calls said.NoMemory t = refl

@@ -1,0 +1,23 @@
+use Rattle.std.proofs.Common.{rules, ◌≡◌, refl}
+use Rattle.ec_disk.specs.declared.disk.DiskAnswer.TheVariants as said
+use Rattle.ec_mirror.specs.declared.tally.Turn.TheVariants as turn
+use Rattle.ec_mirror.proofs.Tallies.{turned_on, turned_off}
+use Rattle.ec_mirror.proofs.parts.Parts.sync.Goals as goal
+
+pub returns-in-Goes : goal.returns-in-Goes
+returns-in-Goes g c =
+    let goes : c.next.result ≡ turn.Goes = search rules in
+    turned_on c.args.self.now.tally c.next.new.self (c.next.result ≡ turn.Goes) (c.next.result ≡ turn.Goes → ⊥) c.next.ensures.counts c.next.ensures.armed c.next.ensures.due c.next.ensures.call
+    c.sync_kept.result c.sync_kept.new.self.tally goes c.sync_kept.ensures.never_stops c.sync_kept.ensures.tally
+
+pub returns-in-Stops : goal.returns-in-Stops
+returns-in-Stops g c =
+    let stops : c.next.result ≡ turn.Goes → ⊥ = search rules in
+    turned_off c.args.self.now.tally c.next.new.self (c.next.result ≡ turn.Goes) (c.next.result ≡ turn.Goes → ⊥) c.next.ensures.counts c.next.ensures.armed c.next.ensures.due c.next.ensures.call
+    c.stop.result c.stop.new.self.tally stops c.stop.ensures.answer c.stop.ensures.tally
+
+pub returns-in-Stopped : goal.returns-in-Stopped
+returns-in-Stopped g c =
+    let stops : c.next.result ≡ turn.Goes → ⊥ = search rules in
+    turned_off c.args.self.now.tally c.next.new.self (c.next.result ≡ turn.Goes) (c.next.result ≡ turn.Goes → ⊥) c.next.ensures.counts c.next.ensures.armed c.next.ensures.due c.next.ensures.call
+    said.Stopped c.next.new.self stops refl refl

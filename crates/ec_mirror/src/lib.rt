@@ -1,0 +1,14 @@
+//! Two disks that hold the same content: a disk over both, which goes on where one of them fails.
+#![tactic(auto)]
+
+mod calls;
+mod cutting;
+mod kept;
+mod mirror;
+mod opening;
+mod pair;
+mod parts;
+mod tally;
+
+pub use ec_half::MirrorFault;
+pub use mirror::Mirror;

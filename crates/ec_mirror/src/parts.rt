@@ -1,0 +1,211 @@
+// The parts of a mirror, and how it goes on.
+ghost use Rattle.std.specs.Prelude.{◌≡◌, ◌<◌, ◌≤◌, ◌+◌, ◌^◌, true, false};
+ghost use Rattle.ec_disk.specs.declared.disk.DiskAnswer.TheVariants as said;
+ghost use Rattle.ec_mirror.specs.declared.kept.Kept.TheVariants as left;
+ghost use Rattle.ec_mirror.specs.Numbers.{Numbered};
+ghost use Rattle.ec_mirror.specs.Tally.{told};
+
+use crate::kept::Kept;
+use crate::pair::Moment;
+use crate::tally::Tally;
+use ec_disk::{CrashDisk, DiskAnswer};
+use ec_half::MOST;
+use ec_trace::Trace;
+
+#[derive(Drop)]
+pub(crate) struct Parts<'a, A: CrashDisk, B: CrashDisk> {
+    pub(crate) present: Moment<'a, A, B>,
+    /// The generation of the disks that aren't dropped.
+    pub(crate) number: u64,
+    /// Reads, writes and syncs are carried out. Else they answer want of memory until a power cut.
+    pub(crate) is_sound: bool,
+    /// Generations or contents were left half written: a power cut answers want of memory too.
+    pub(crate) is_dead: bool,
+    /// Something was written since the last sync.
+    pub(crate) is_dirty: bool,
+    /// A disk may have synced what the mirror doesn't tell to be synced.
+    pub(crate) is_ahead: bool,
+    /// The fault of one disk was the mirror's: in a power cut, or at a question for the length behind a write that wasn't done.
+    pub(crate) failed_alone: bool,
+    /// The content's length where the mirror is dead.
+    pub(crate) len: u64,
+    pub(crate) tally: Tally,
+    // What it was before each call, and what it shows where it's dead: in proofs alone.
+    pub(crate) past: Trace<Moment<'a, A, B>>,
+    pub(crate) frozen: Trace<Moment<'a, A, B>>,
+    ghost first_unarmed: { present.pair.first.may_stop ≡ false },
+    ghost second_unarmed: { present.pair.second.may_stop ≡ false },
+    ghost lives: { is_sound ≡ true → is_dead ≡ false },
+    // A disk is dropped only where a call of it has failed.
+    ghost leaving: { present.pair.kept ≡ left.Leaving → present.pair.first.has_failed ≡ true },
+    ghost without_first: { present.pair.kept ≡ left.Second → present.pair.first.has_failed ≡ true },
+    ghost without_second: { present.pair.kept ≡ left.First → present.pair.second.has_failed ≡ true },
+    ghost numbered: { is_dead ≡ false → Numbered present.pair.kept present.pair.first.generation.number present.pair.second.generation.number number },
+    // The mirror has failed only where both disks have, or one of them alone.
+    ghost both_failed: { 1 ≤ tally.faults → failed_alone ≡ false → (present.pair.first.has_failed ≡ true) × (present.pair.second.has_failed ≡ true) },
+    ghost one_failed: { 1 ≤ tally.faults → present.pair.first.has_failed ≡ false → present.pair.second.has_failed ≡ true },
+}
+
+impl<'a, A: CrashDisk, B: CrashDisk> Parts<'a, A, B> {
+    /// Notes what it is before a call.
+    pub(crate) fn note(&mut self)
+        ensures tally { self.new.tally ≡ self.old.tally }
+        ensures present { self.new.present ≡ self.old.present }
+        ensures number { self.new.number ≡ self.old.number }
+        ensures is_dead { self.new.is_dead ≡ self.old.is_dead }
+    {
+        self.past = self.past.and(&self.present);
+    }
+
+    /// From here on it shows what it is now, with a content of this length, until it's sound again.
+    pub(crate) fn freeze(&mut self, len: u64)
+        ensures tally { self.new.tally ≡ self.old.tally }
+        ensures present { self.new.present ≡ self.old.present }
+        ensures number { self.new.number ≡ self.old.number }
+        ensures is_dead { self.new.is_dead ≡ true }
+    {
+        self.frozen = self.frozen.and(&self.present);
+        self.is_sound = false;
+        self.is_dead = true;
+        self.len = len;
+        self.outrun();
+    }
+
+    /// A disk is synced by itself.
+    pub(crate) fn outrun(&mut self)
+        ensures tally { self.new.tally ≡ self.old.tally }
+        ensures present { self.new.present ≡ self.old.present }
+        ensures number { self.new.number ≡ self.old.number }
+        ensures is_dead { self.new.is_dead ≡ self.old.is_dead }
+    {
+        if self.is_dirty {
+            self.is_ahead = true;
+        }
+    }
+
+    /// It's sound under the next generation, which the disks that aren't dropped have.
+    pub(crate) fn thaw(&mut self)
+        requires most { self.old.number < 2 ^ 62 }
+        requires dead { self.old.is_dead ≡ true }
+        requires numbered { Numbered self.old.present.pair.kept self.old.present.pair.first.generation.number self.old.present.pair.second.generation.number (self.old.number + 1) }
+        ensures tally { self.new.tally ≡ self.old.tally }
+        ensures present { self.new.present ≡ self.old.present }
+        ensures is_dead { self.new.is_dead ≡ false }
+    {
+        self.number += 1;
+        self.frozen = Trace::new();
+        self.is_dead = false;
+        self.is_sound = true;
+    }
+
+    /// What is there is synced.
+    pub(crate) fn save(&mut self)
+        ensures tally { self.new.tally ≡ self.old.tally }
+        ensures first { self.new.present.pair ≡ self.old.present.pair }
+    {
+        self.present.save();
+        self.is_dirty = false;
+        self.is_ahead = false;
+    }
+
+    /// What a call answers that no disk is left for.
+    pub(crate) fn settle(&mut self, answer: DiskAnswer) -> DiskAnswer
+        requires { answer ≡ said.Failed → (self.old.present.pair.first.has_failed ≡ true) × (self.old.present.pair.second.has_failed ≡ true) }
+        ensures answer { result ≡ answer }
+        ensures tally { self.new.tally ≡ told answer self.old.tally }
+    {
+        match answer {
+            DiskAnswer::Done => {}
+            DiskAnswer::Failed => self.tally.fault(),
+            DiskAnswer::Stopped | DiskAnswer::NoMemory => self.is_sound = false,
+        }
+        answer
+    }
+
+    /// The mirror's answer where the last disk has answered so.
+    pub(crate) fn count(&mut self, answer: DiskAnswer) -> DiskAnswer
+        requires { answer ≡ said.Failed → (self.old.present.pair.first.has_failed ≡ true) × (self.old.present.pair.second.has_failed ≡ true) }
+        ensures answer { result ≡ answer }
+        ensures tally { self.new.tally ≡ told answer self.old.tally }
+        ensures present { self.new.present ≡ self.old.present }
+        ensures is_dead { self.new.is_dead ≡ self.old.is_dead }
+    {
+        if answer == DiskAnswer::Failed {
+            self.tally.fault();
+        }
+        answer
+    }
+
+    /// A disk has failed that isn't known to be the last one.
+    pub(crate) fn fault(&mut self)
+        requires { self.old.present.pair.first.has_failed ≡ false → self.old.present.pair.second.has_failed ≡ true }
+        ensures tally { self.new.tally ≡ told said.Failed self.old.tally }
+    {
+        if !self.present.pair.first.has_failed || !self.present.pair.second.has_failed {
+            self.failed_alone = true;
+        }
+        self.tally.fault();
+    }
+
+    /// It goes on no more until a power cut.
+    pub(crate) fn refuse(&mut self) -> DiskAnswer
+        ensures answer { result ≡ said.NoMemory }
+        ensures tally { self.new.tally ≡ self.old.tally }
+    {
+        self.is_sound = false;
+        DiskAnswer::NoMemory
+    }
+
+    /// Goes on with the second disk alone, whose generation is raised.
+    pub(crate) fn drop_first(&mut self) -> DiskAnswer
+        requires failed { self.old.present.pair.first.has_failed ≡ true }
+        requires whole { self.old.present.pair.kept ≡ left.Both }
+        requires lives { self.old.is_dead ≡ false }
+        ensures never_stops { result ≡ said.Stopped → ⊥ }
+        ensures tally { self.new.tally ≡ told result self.old.tally }
+        ensures kept { result ≡ said.Done → self.new.present.pair.kept ≡ left.Second }
+        ensures lives { result ≡ said.Done → self.new.is_dead ≡ false }
+    {
+        let Some(len) = self.present.pair.second.len else {
+            return self.refuse();
+        };
+        if self.number >= MOST {
+            return self.refuse();
+        }
+        self.present.pair.kept = Kept::Leaving;
+        self.freeze(len);
+        let number = self.number + 1;
+        let answer = self.present.pair.second.raise(number);
+        if answer == DiskAnswer::Done {
+            self.present.pair.kept = Kept::Second;
+            self.thaw();
+        }
+        self.count(answer)
+    }
+
+    /// Goes on with the first disk alone, whose generation is raised.
+    pub(crate) fn drop_second(&mut self) -> DiskAnswer
+        requires failed { self.old.present.pair.second.has_failed ≡ true }
+        requires whole { self.old.present.pair.kept ≡ left.Both }
+        requires lives { self.old.is_dead ≡ false }
+        ensures never_stops { result ≡ said.Stopped → ⊥ }
+        ensures tally { self.new.tally ≡ told result self.old.tally }
+        ensures kept { result ≡ said.Done → self.new.present.pair.kept ≡ left.First }
+        ensures lives { result ≡ said.Done → self.new.is_dead ≡ false }
+    {
+        let Some(len) = self.present.pair.first.len else {
+            return self.refuse();
+        };
+        if self.number >= MOST {
+            return self.refuse();
+        }
+        self.freeze(len);
+        let number = self.number + 1;
+        let answer = self.present.pair.first.raise(number);
+        if answer == DiskAnswer::Done {
+            self.present.pair.kept = Kept::First;
+            self.thaw();
+        }
+        self.count(answer)
+    }
+}
