@@ -2,9 +2,10 @@
 """Draws a transcript of a drill as a picture (SVG), time running down.
 Usage: examples/chart.py < TRANSCRIPT > PICTURE.svg    or    examples/chart.py TRANSCRIPT > PICTURE.svg
 
-Each clerk has a column: a bar is a call, light while it waits, with what was answered below what was asked; a cross is a crash. A thread hangs from each
-operation at the column's edge, down to where it became durable (green) or was lost (red); one that reaches the end is neither. The last column is the
-server: its durable lines, where it stopped and started, and which sessions it ended. An answer that reports a loss is red."""
+Each clerk has a column: a bar is a call, pale while it waits, with what was answered below what was asked; a cross is a crash. A thread hangs from each
+operation at the column's edge, down to where it became durable (green) or was lost (red, with a cross), and the operation's bar has that colour; a thread that
+reaches the end is neither. Dots lead on from a loss to each answer that reports it. The last column is the server: its durable lines, where it stopped and
+started, and which sessions it ended."""
 import re
 import sys
 from html import escape
@@ -21,22 +22,43 @@ COLOURS = {
     "call": "#c9dbf2",
     "durable": "#2d8a4e",
     "lost": "#c62828",
-    "refused": "#9a6b00",
-    "open": "#7a7a7a",
-    "down": "#eeeeee",
+    "refused": "#7d5600",
+    "open": "#6a6a6a",
+    "down": "#d5d5d5",
+    "durable call": "#d3ecda",
+    "lost call": "#f9d4d4",
 }
+LEGEND = ["durable", "lost", "reported", "neither"]
 ANSWER = re.compile(r"^(\d+) ([A-P]) (.+?) -> (.+)$")
 
 
 class Operation:
-    """An operation of a clerk's start: where it was issued, and its thread in the column."""
+    """An operation of a clerk's start: where it was issued, its thread in the column, and the rows of the answers that report its loss."""
 
     def __init__(self, row, place):
-        self.row, self.place, self.end, self.colour = row, place, None, "open"
+        self.row, self.place, self.end, self.colour, self.reports = row, place, None, "open", []
 
     def ends(self, row, colour):
         if self.end is None:
             self.end, self.colour = row, colour
+
+
+class Call:
+    """A call: the row where it began, that of its answer, and the operation that it issued."""
+
+    def __init__(self, row, asked):
+        self.first, self.last, self.asked, self.answer, self.operation = row, row, asked, "waits", None
+
+    def texts(self, number):
+        """What stands on its bar: on one row where it's answered at once."""
+        if self.first == self.last:
+            return [f"{number} {self.asked} -> {self.answer}"]
+        return [f"{number} {self.asked}", f"-> {self.answer}"]
+
+    def colour(self):
+        if self.answer == "waits":
+            return "wait"
+        return "call" if self.operation is None or self.operation.end is None else f"{self.operation.colour} call"
 
 
 class Clerk:
@@ -56,6 +78,12 @@ class Clerk:
         operation = Operation(row, len(self.threads) % 6)
         self.threads.append(operation)
         self.running[number] = operation
+        return operation
+
+    def report(self, numbers, row):
+        for number in numbers:
+            if number in self.running:
+                self.running[number].reports.append(row)
 
     def ended(self, numbers, row):
         start = self.open_start()
@@ -73,10 +101,6 @@ class Clerk:
 
 def numbers_of(words):
     return [int(word) for word in words if word.isdigit()]
-
-
-def at_once(number, call, answer):
-    return f"{number} {call} -> {answer}"
 
 
 def colour_of(answer):
@@ -126,42 +150,47 @@ class Chart:
 
     def answer(self, row, number, name, call, answer):
         clerk = self.clerk(name)
-        begun = clerk.calls.setdefault(int(number), [row, row, call, "waits"])
-        begun[1], begun[3] = row, answer
+        begun = clerk.calls.setdefault(int(number), Call(row, call))
+        begun.last, begun.answer = row, answer
         issued = re.search(r"\bop (\d+)$", answer)
         if issued:
-            clerk.issue(int(issued[1]), row)
+            begun.operation = clerk.issue(int(issued[1]), row)
+        if answer.startswith("lost "):
+            clerk.report(numbers_of(answer.split(" ")[1:]), row)
 
     def width_of(self, clerk):
         texts = [line for _, line in clerk.told]
-        for number, (first, last, call, answer) in clerk.calls.items():
-            texts += [at_once(number, call, answer)] if first == last else [f"{number} {call}", f"-> {answer}"]
+        for number, call in clerk.calls.items():
+            texts += call.texts(number)
         return max([14] + [len(text) for text in texts]) * CHARACTER + 24 + 6 * 5
 
     def drawn(self):
-        height = TOP + (len(self.lines) + 2) * ROW
+        height = TOP + (len(self.lines) + 1) * ROW + ROW
         parts, left = [], 16.0
         server = left + sum(self.width_of(clerk) + GAP for clerk in self.clerks.values())
         for name in sorted(self.clerks):
             clerk = self.clerks[name]
-            parts += self.column(name, clerk, left, height, server)
+            parts += self.column(name, clerk, left, height - ROW, server)
             left += self.width_of(clerk) + GAP
-        parts += self.server(left, height)
+        parts += self.server(left, height - ROW)
+        parts += legend(height - 10)
         width = left + max([12] + [len(note[1]) for note in self.notes + [(0, line) for _, line in self.words]]) * CHARACTER + 40
+        width = max(width, 16 + len(LEGEND) * 100)
         head = (
             f'<svg xmlns="http://www.w3.org/2000/svg" width="{width:.0f}" height="{height}" viewBox="0 0 {width:.0f} {height}" '
             'font-family="monospace" font-size="12">'
         )
-        return "\n".join([head, f'<rect width="{width:.0f}" height="{height}" fill="white"/>'] + parts + ["</svg>", ""])
+        return "\n".join([head, f'<rect width="{width:.0f}" height="{height}" rx="6" fill="white"/>'] + parts + ["</svg>", ""])
 
     def column(self, name, clerk, left, height, server):
         edge = left + self.width_of(clerk) - 6 * 5 - 6
         parts = [text(left, TOP - 20, f"clerk {name}", "ink", "bold"), rail(left, TOP - 8, height - 8)]
-        for number, (first, last, call, answer) in clerk.calls.items():
-            parts += bar(left, edge, number, first, last, call, answer)
+        for number, call in clerk.calls.items():
+            parts += bar(left, edge, number, call)
         for operation in clerk.threads:
-            parts.append(thread(edge + 8 + operation.place * 5, operation, len(self.lines), server))
-        parts += [cross(left, row) for row in clerk.crashes]
+            parts.append(thread(edge + 8 + operation.place * 5, edge, operation, len(self.lines), server))
+        for row in clerk.crashes:
+            parts += [cross(left, middle(row) - 4, 6, "ink", 2.5), text(left + 12, middle(row), "crashed", "ink")]
         parts += [text(left + 12, middle(row), line, "lost") for row, line in clerk.told]
         return parts
 
@@ -196,36 +225,59 @@ def rail(left, upper, lower):
     return f'<line x1="{left}" y1="{upper}" x2="{left}" y2="{lower}" stroke="{COLOURS["rail"]}" stroke-width="2"/>'
 
 
-def bar(left, edge, number, first, last, call, answer):
-    """A call from its first line to its answer, on one row where it's answered at once."""
-    colour = colour_of(answer)
-    parts = [box(left + 6, top(first) + 2, edge - left - 6, (last - first + 1) * ROW - 4, "wait" if answer == "waits" or first < last else "call")]
-    if first == last:
-        return parts + [text(left + 12, middle(first), at_once(number, call, answer), colour)]
-    parts.append(box(left + 6, top(last) + 2, edge - left - 6, ROW - 4, "call"))
-    return parts + [text(left + 12, middle(first), f"{number} {call}", "ink"), text(left + 12, middle(last), f"-> {answer}", colour)]
+def line(x1, y1, x2, y2, colour, width=1.5, dots=""):
+    dashes = f' stroke-dasharray="{dots}"' if dots else ""
+    return f'<line x1="{x1:.1f}" y1="{y1}" x2="{x2:.1f}" y2="{y2}" stroke="{COLOURS[colour]}" stroke-width="{width}"{dashes}/>'
 
 
-def thread(left, operation, rows, server):
-    """From an operation to the line of the server that names it."""
-    end = rows if operation.end is None else operation.end
-    lower = middle(end) - 4
-    colour = COLOURS[operation.colour]
-    tie = f'<line x1="{left:.1f}" y1="{lower}" x2="{server:.1f}" y2="{lower}" stroke="{colour}" stroke-width="1" stroke-dasharray="2 4"/>'
-    return ("" if operation.end is None else tie) + (
-        f'<circle cx="{left:.1f}" cy="{middle(operation.row) - 4}" r="2.5" fill="{colour}"/>'
-        f'<line x1="{left:.1f}" y1="{middle(operation.row) - 4}" x2="{left:.1f}" y2="{lower}" stroke="{colour}" stroke-width="1.5"/>'
-        f'<line x1="{left - 3:.1f}" y1="{lower}" x2="{left + 3:.1f}" y2="{lower}" stroke="{colour}" stroke-width="2"/>'
-    )
+def bar(left, edge, number, call):
+    """A call from its first line to its answer."""
+    parts = []
+    if call.first < call.last:
+        parts.append(box(left + 6, top(call.first) + 2, edge - left - 6, (call.last - call.first + 1) * ROW - 4, "wait"))
+    parts.append(box(left + 6, top(call.last) + 2, edge - left - 6, ROW - 4, call.colour()))
+    rows = [call.last] if call.first == call.last else [call.first, call.last]
+    colours = [colour_of(call.answer)] if call.first == call.last else ["ink", colour_of(call.answer)]
+    return parts + [text(left + 12, middle(row), words, colour) for row, words, colour in zip(rows, call.texts(number), colours)]
 
 
-def cross(left, row):
-    at = middle(row) - 4
-    ink = COLOURS["ink"]
-    return (
-        f'<path d="M{left - 6} {at - 6} L{left + 6} {at + 6} M{left - 6} {at + 6} L{left + 6} {at - 6}" stroke="{ink}" stroke-width="2.5"/>'
-        + text(left + 12, middle(row), "crashed", "ink")
-    )
+def thread(left, edge, operation, rows, server):
+    """From an operation to the line of the server that names it, and on to the answers that report it."""
+    upper, lower = middle(operation.row) - 4, middle(rows if operation.end is None else operation.end) - 4
+    parts = [dot(left, upper, operation.colour), line(left, upper, left, lower, operation.colour), mark(left, lower, operation.colour)]
+    if operation.end is not None:
+        parts.append(line(left, lower, server, lower, operation.colour, 1, "2 4"))
+    for row in operation.reports:
+        at = middle(row) - 4
+        parts += [line(left, lower, left, at, "lost", 1.5, "1.5 3"), line(left, at, edge, at, "lost", 1.5, "1.5 3")]
+    return "".join(parts)
+
+
+def dot(left, at, colour):
+    return f'<circle cx="{left:.1f}" cy="{at}" r="2.5" fill="{COLOURS[colour]}"/>'
+
+
+def mark(left, at, colour):
+    """The end of a thread: a cross where the operation was lost."""
+    if colour == "lost":
+        return cross(left, at, 3, colour, 2)
+    return line(left - 3, at, left + 3, at, colour, 2)
+
+
+def legend(base):
+    """What the threads mean, below the columns."""
+    parts = []
+    for place, words in enumerate(LEGEND):
+        left, at = 16 + 100 * place, base - 4
+        colour = {"reported": "lost", "neither": "open"}.get(words, words)
+        parts.append(line(left, at, left + 14, at, colour, 1.5, "1.5 3" if words == "reported" else ""))
+        parts.append("" if words == "reported" else dot(left, at, colour) + mark(left + 14, at, colour))
+        parts.append(text(left + 22, base, words, colour))
+    return parts
+
+
+def cross(left, at, size, colour, width):
+    return line(left - size, at - size, left + size, at + size, colour, width) + line(left - size, at + size, left + size, at - size, colour, width)
 
 
 def main():
