@@ -1,61 +1,87 @@
 #!/usr/bin/env python3
-"""Runs the commands of README.md as they stand there, through the program, in a folder of their own.
-Usage: examples/readme.py PROGRAM
+"""Runs the commands of README.md as they stand there, in a folder that looks like the repository's.
+Usage: examples/readme.py PROGRAM    the blocks ```sh, all by one shell, with this program where README says that the proved one lies
+       examples/readme.py --try      the block ```sh try, which makes an unproved program (some minutes), in the repository itself
 
-Each block of commands (```sh) is run by one shell in which `echofs` is the program, behind the ones above it, and has to end with status 0.
-The transcript that README reads line by line has to be the one that the drill wrote, the answers that README quotes of the mounts have to come, and its pictures
-have to be those of the examples."""
+The shell has to end with status 0. The transcript that README reads line by line has to be the one that the drill wrote, the answers that README
+quotes of the mounts have to come, the next drill has to find an empty file, and the pictures that README shows have to be those of the examples."""
 import os
 import re
+import signal
 import subprocess
 import sys
 import tempfile
 
-program = os.path.realpath(sys.argv[1])
-examples = os.path.dirname(os.path.abspath(__file__))
-docs = os.path.join(examples, "..", "docs")
-page = open(os.path.join(examples, "..", "README.md"), encoding="utf-8").read()
+ROOT = os.path.dirname(os.path.dirname(os.path.abspath(__file__)))
+PROGRAM = "crates/echofs/out/echofs"
 WAIT = 60
+TRY_WAIT = 1200
 QUOTED = ["1 1 mkdir /d -> ok op 1", "1 1 read /d/note 0 64 -> data 5 hello"]
+GOES_ON = "1 A stat /f -> stat file 0644 0 0"
+
+
+def read(name):
+    with open(os.path.join(ROOT, name), encoding="utf-8") as file:
+        return file.read()
 
 
 def blocks(kind):
-    return re.findall(rf"^```{kind}\n(.*?)^```$", page, re.M | re.S)
+    return re.findall(rf"^```{kind}\n(.*?)^```$", read("README.md"), re.M | re.S)
 
 
-def read_transcript():
-    """The transcript without what README says of each line."""
-    return [re.split(r" {3,}", line)[0] for line in blocks("text")[0].splitlines()]
-
-
-def drawn(transcript):
-    return subprocess.run([sys.executable, os.path.join(examples, "chart.py"), transcript], capture_output=True, text=True, timeout=WAIT).stdout
+def run(commands, folder, wait):
+    """What these commands wrote to standard output, and what is wrong with how they ended."""
+    words = ["bash", "-c", "shopt -s expand_aliases\nset -e\n" + commands]
+    shell = subprocess.Popen(words, cwd=folder, stdout=subprocess.PIPE, stderr=subprocess.PIPE, text=True, start_new_session=True)
+    try:
+        out, error = shell.communicate(timeout=wait)
+        failed = [] if shell.returncode == 0 else [f"status {shell.returncode}: {error}"]
+    except subprocess.TimeoutExpired:
+        os.killpg(shell.pid, signal.SIGKILL)
+        out, error = shell.communicate()
+        failed = [f"not ended after {wait} s: {error}"]
+    return out.splitlines(), failed
 
 
 def pictures():
-    """The pictures that README shows are those of the examples."""
-    for name in re.findall(r"docs/pictures/(\w+)\.svg", page):
-        with open(os.path.join(docs, "pictures", f"{name}.svg"), encoding="utf-8") as picture:
-            if picture.read() != drawn(os.path.join(examples, f"{name}.expected")):
-                yield f"docs/pictures/{name}.svg isn't what examples/chart.py draws of examples/{name}.expected"
+    """What is wrong with the pictures that README shows."""
+    for name in re.findall(r"docs/pictures/(\w+)\.svg", read("README.md")):
+        chart = [sys.executable, os.path.join(ROOT, "examples/chart.py"), os.path.join(ROOT, f"examples/{name}.expected")]
+        if read(f"docs/pictures/{name}.svg") != subprocess.run(chart, capture_output=True, text=True, timeout=WAIT, check=True).stdout:
+            yield f"docs/pictures/{name}.svg isn't what examples/chart.py draws of examples/{name}.expected"
+
+
+def with_program(program):
+    """What is wrong with the commands, run by this program."""
+    failed = list(pictures())
+    with tempfile.TemporaryDirectory() as folder:
+        os.makedirs(os.path.join(folder, os.path.dirname(PROGRAM)))
+        os.symlink(os.path.realpath(program), os.path.join(folder, PROGRAM))
+        os.symlink(os.path.join(ROOT, "examples"), os.path.join(folder, "examples"))
+        lines, why = run("\n".join(blocks("sh")), folder, WAIT)
+    failed += why
+    shown = [re.split(r" {3,}", line)[0] for line in blocks("text")[0].splitlines()]
+    if lines[: len(shown)] != shown:
+        failed.append(f"the drill wrote {lines[:len(shown)]} and README shows {shown}")
+    if lines[len(shown) : len(shown) + 1] != ["legal"]:
+        failed.append("check doesn't say legal")
+    if GOES_ON not in lines:
+        failed.append(f"the next drill doesn't say {GOES_ON}")
+    failed += [f"README quotes {quote}" for quote in QUOTED if quote not in read("README.md") or quote not in lines]
+    if lines[-1:] != ["0"]:
+        failed.append(f"serve didn't end with 0: {lines[-1:]}")
+    return failed
+
+
+def without_proof():
+    """What is wrong with the command that makes an unproved program."""
+    lines, failed = run("\n".join(blocks("sh try")), ROOT, TRY_WAIT)
+    wanted = read("examples/loss.expected").splitlines()
+    return failed + ([] if lines[: len(wanted)] == wanted else [f"the unproved drill wrote {lines}"])
 
 
 def main():
-    failed = list(pictures())
-    with tempfile.TemporaryDirectory() as folder:
-        commands = f'echofs() {{ "{program}" "$@"; }}\nset -e\n' + "\n".join(blocks("sh"))
-        done = subprocess.run(["bash", "-c", commands], cwd=folder, capture_output=True, text=True, timeout=WAIT)
-        lines = done.stdout.splitlines()
-        shown = read_transcript()
-        if done.returncode != 0:
-            failed.append(f"status {done.returncode}: {done.stderr}")
-        if lines[: len(shown)] != shown:
-            failed.append(f"the drill wrote {lines[:len(shown)]} and README shows {shown}")
-        if lines[len(shown) : len(shown) + 1] != ["legal"]:
-            failed.append("check doesn't say legal")
-        failed += [f"README quotes {quote}" for quote in QUOTED if quote not in page or quote not in lines]
-        if lines[-1:] != ["0"]:
-            failed.append(f"serve didn't end with 0: {lines[-1:]}")
+    failed = without_proof() if sys.argv[1] == "--try" else with_program(sys.argv[1])
     for why in failed:
         print(why)
     print(f"{0 if failed else 1} passed, {len(failed)} failed")
