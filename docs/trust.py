@@ -3,13 +3,17 @@
 
   docs/trust.py sizes           a table: the definitions and lines that each clause reaches, and the lines that no clause above it does
   docs/trust.py list [CLAUSE]   the definitions in reading order, each below what it uses, with its file, line and size; `+` where no clause above has it
-  docs/trust.py page            the last part of docs/DEFINITIONS.md: for each clause the definitions that no clause above it reaches, by files
-  docs/trust.py check           fails where docs/DEFINITIONS.md has another last part
+  docs/trust.py limits          how much is to be read, beside what is wanted
+  docs/trust.py mixed           the files of which clauses reach some definitions, and not others
+  docs/trust.py check           fails where docs/DEFINITIONS.md doesn't walk just these, clause by clause, or where a limit that was kept is passed
+  docs/trust.py mend            writes that page anew: the definitions that each clause adds, by files, with the words that the page has for them already,
+                                or those of the comment above the definition; where it has none, a person writes them
 
-A definition counts with its own lines, without blanks, comments and imports. The code's own types (`declared`) and the kit's definitions aren't
-followed."""
+In docs/DEFINITIONS.md each clause has a heading, then text, and then the files of what it adds: below each file the names, and words for them. A
+definition counts with its own lines, without blanks, comments and imports. The code's own types (`declared`) and the kit's definitions aren't followed."""
 import difflib
 import glob
+import itertools
 import os
 import re
 import sys
@@ -18,7 +22,19 @@ import textwrap
 ROOT = os.path.dirname(os.path.dirname(os.path.realpath(__file__)))
 SOURCE, FUNCTION = "ec_named/src/lib.rt", "echo_main"
 PAGE = f"{ROOT}/docs/DEFINITIONS.md"
-HEADING = "## What each clause reaches"
+# What is to be read at most, in lines, files and definitions; whether `check` fails where it's more.
+OF_LINES = "history lines replies reports losses fsync room bytes own_calls sessions together complete write_behind statuses".split()
+WANTED = [
+    ("lines for history", 850, True),
+    ("lines for all promises of a drill's lines", 1400, False),
+    ("lines for these and the disk", 2300, False),
+    ("lines in all", 5100, False),
+    ("mixed files", 0, False),
+    ("definitions of more than 25 lines", 0, False),
+]
+CLAUSE = re.compile(r"## `(\w+)`")
+FILE = re.compile(r"- `(\w+/[\w/]+\.antt)`(.*)")
+NAMES = re.compile(r"  - (`[^`]+`(?:, `[^`]+`)*)(?:: (.*))?$", re.S)
 HEAD = re.compile(r"(?:pub )?(?P<kind>record|data) (?P<name>\S+)|(?:abbrev |unfoldable )?(?:pub )?(?P<def>\S+) :(?: |$)")
 CASE = re.compile(r"\s+(\S+) :")
 TOKEN = re.compile(r"[A-Za-z_◌∥][\w'◌∥₁-]*(?:\.[A-Za-z_][\w'-]*)*|[^\s\w(){}\[\];,.:]+")
@@ -230,27 +246,194 @@ def by_files(definitions):
     return files
 
 
-def page():
-    """The part of the page: below each clause what it adds, by files in reading order."""
-    lines = [HEADING, "", "Made by `docs/trust.py page`, which `.ci/run` checks: below each clause the definitions that no clause above it reaches.", ""]
+def as_words(comment):
+    """A comment's lines as words behind a colon."""
+    text = " ".join(line.lstrip()[2:].strip() for line in comment).removesuffix(".")
+    return text[:1].lower() + text[1:] if text[1:2].islower() or text.startswith("A ") else text
+
+
+def is_comment(line):
+    return line.lstrip().startswith("--")
+
+
+def comment_of(it):
+    """The words of the comment right above a definition."""
+    with open(it.path, encoding="utf-8") as file:
+        above = file.read().split("\n")[: it.line - 1]
+    return as_words(reversed(list(itertools.takewhile(is_comment, reversed(above)))))
+
+
+def opening_of(path):
+    """The words of the comment with which a file begins."""
+    with open(path, encoding="utf-8") as file:
+        return as_words(itertools.takewhile(is_comment, file.read().split("\n")))
+
+
+class Part:
+    """A part of the page: a clause with its text, its files and their definitions; or other text."""
+
+    def __init__(self, lines):
+        clause = CLAUSE.match(lines[0]) if lines else None
+        self.clause = clause and clause[1]
+        self.text = []
+        self.files = {}
+        item = None
+        for line in lines:
+            if not self.clause or not (self.files or FILE.match(line)):
+                self.text.append(line)
+            elif FILE.match(line):
+                item = [line]
+                self.files[FILE.match(line)[1]] = (item, groups := [])
+            elif line.startswith("  - "):
+                item = [line]
+                groups.append(item)
+            elif line.strip():
+                item.append(line.strip())
+
+    def groups(self):
+        """For each file the words behind it, and its names with their words."""
+        for file, (head, items) in self.files.items():
+            found = [NAMES.match(" ".join(item)) for item in items]
+            yield file, FILE.match(" ".join(head))[2], [(re.findall(r"`([^`]+)`", it[1]), (it[2] or "").strip()) for it in found if it]
+
+
+def parts():
+    """The parts of the page, by its headings."""
+    with open(PAGE, encoding="utf-8") as it:
+        lines = it.read().rstrip("\n").split("\n")
+    starts = [0] + [at for at, line in enumerate(lines) if line.startswith("## ") and at]
+    return [Part(lines[first:last]) for first, last in zip(starts, starts[1:] + [len(lines)])]
+
+
+class Heads(dict):
+    """What the page says of files, and of which it said so already."""
+
+    def __init__(self):
+        super().__init__()
+        self.told = set()
+
+
+def wrapped(first, rest, words):
+    return textwrap.wrap(first + words, 150, subsequent_indent=rest, break_long_words=False, break_on_hyphens=False)
+
+
+def walk(adds, heads, known):
+    """The items of a clause: its files, each with its definitions, together where the words are the same. What a file has stands where it comes first."""
+    for file, some in by_files(adds).items():
+        yield from wrapped(f"- `{file}`", "  ", heads.get(file) or f": {opening_of(some[0].path)}" if file not in heads.told else "")
+        heads.told.add(file)
+        groups = {}
+        for it in sorted(some, key=lambda it: it.line):
+            words = known.get((file, it.name)) or comment_of(it)
+            groups.setdefault(words or it.name, ([], words))[0].append(it.name)
+        for names, words in groups.values():
+            yield from item(names, words)
+
+
+def item(names, words):
+    return wrapped("  - ", "    ", ", ".join(f"`{name}`" for name in names) + (f": {words}" if words else ""))
+
+
+def mended():
+    """The page as it has to be."""
+    all_parts = parts()
+    heads, known = Heads(), {}
+    for part in all_parts:
+        for file, head, groups in part.groups():
+            heads.setdefault(file, head)
+            known.update({(file, name): words for names, words in groups for name in names if words})
+    clause_parts = {part.clause: part for part in all_parts if part.clause}
+    lines, shown = [], False
+    for part in all_parts:
+        if not part.clause:
+            lines += part.text
+        elif not shown:
+            shown = True
+            lines += walked(clause_parts, heads, known)
+    return lines
+
+
+def walked(clause_parts, heads, known):
+    """The parts of all clauses, in their order."""
+    lines = []
     for name, reached, adds in added(clauses()):
-        lines += [f"### `{name}`: {len(reached)} definitions in {size(reached)} lines, of which {len(adds)} in {size(adds)} are new", ""]
-        for file, some in by_files(adds).items():
-            words = f"- `{file}`: " + ", ".join(f"`{it.name}`" for it in sorted(some, key=lambda it: it.line))
-            lines += textwrap.wrap(words, 150, subsequent_indent="  ", break_long_words=False, break_on_hyphens=False)
-        if adds:
-            lines.append("")
-    return lines[:-1] if not lines[-1] else lines
+        part = clause_parts.get(name) or Part([f"## `{name}`"])
+        told = f"{len(reached)} definitions in {size(reached)} lines; {len(adds)} in {size(adds)} are new here."
+        text = "\n".join(line for line in part.text[1:] if not re.match(r"\d+ definitions in \d+ lines; ", line)).strip("\n")
+        for block in [part.text[:1], [told], text.split("\n") if text else [], list(walk(adds, heads, known))]:
+            lines += block + ([""] if block else [])
+    return lines
+
+
+def mend():
+    text = "\n".join(mended()).rstrip("\n") + "\n"
+    with open(PAGE, "w", encoding="utf-8") as it:
+        it.write(text)
+    for name in silent():
+        print(name)
+
+
+def silent():
+    """The definitions for which the page has no words."""
+    groups = [(file, names, words) for part in parts() for file, _, found in part.groups() for names, words in found]
+    return [f"without words: {name} of {file}" for file, names, words in groups if not words for name in names]
+
+
+def unwalked():
+    """Whether the page walks something else, or says nothing of a definition."""
+    lines = mended()
+    with open(PAGE, encoding="utf-8") as it:
+        stands = it.read().rstrip("\n").split("\n")
+    while lines and not lines[-1]:
+        lines.pop()
+    differences = list(difflib.unified_diff(stands, lines, "docs/DEFINITIONS.md", "docs/trust.py mend", lineterm="", n=1))
+    if differences or silent():
+        print("\n".join(differences + silent()))
+    return bool(differences or silent())
+
+
+def mixed_files(whole):
+    """The files of which clauses reach some definitions, and not others: how many of how many."""
+    reached = set(map(id, whole))
+    for module in Specs().modules.values():
+        some = [it for it in whole if it.path == module.path]
+        others = [name for name in module.definitions if name not in {it.name for it in some}]
+        if some and others:
+            yield os.path.relpath(module.path, ROOT), len(some), others
+
+
+def measured():
+    """What is to be read."""
+    told = list(added(clauses()))
+    whole = [it for _, _, adds in told for it in adds]
+    of_lines = {id(it): it for name, reached, _ in told if name in OF_LINES for it in reached}
+    with_disk = of_lines | {id(it): it for name, reached, _ in told if name == "disk" for it in reached}
+    history = next(reached for name, reached, _ in told if name == "history")
+    long = [it for it in whole if it.size > 25]
+    return [size(history), size(of_lines.values()), size(with_disk.values()), size(whole), len(list(mixed_files(whole))), len(long)], whole, long
+
+
+def limits():
+    numbers, _, long = measured()
+    for number, (what, most, kept) in zip(numbers, WANTED):
+        print(f"{number:6} {what} (wanted: {most}{', kept' if kept and number <= most else ''})")
+    for it in long:
+        print(f"       {it.name} {os.path.relpath(it.path, ROOT)}:{it.line} ({it.size})")
+
+
+def mixed():
+    for path, count, others in mixed_files(measured()[1]):
+        print(textwrap.shorten(f"{path}: {count} reached; not: {', '.join(others)}", 160, placeholder=" .."))
 
 
 def check():
-    """Whether the page has that part, at its end."""
-    with open(PAGE, encoding="utf-8") as it:
-        lines = it.read().rstrip("\n").split("\n")
-    stands = lines[lines.index(HEADING):] if HEADING in lines else []
-    differences = list(difflib.unified_diff(stands, page(), "docs/DEFINITIONS.md", "docs/trust.py page", lineterm=""))
-    print("\n".join(differences) if differences else "docs/DEFINITIONS.md walks what the clauses reach")
-    return bool(differences)
+    bad = unwalked()
+    for number, (what, most, kept) in zip(measured()[0], WANTED):
+        if kept and number > most:
+            print(f"{number} {what}, more than {most}")
+            bad = True
+    print("docs/DEFINITIONS.md walks other definitions" if bad else "docs/DEFINITIONS.md walks what the clauses reach")
+    return bad
 
 
 def main(words):
@@ -258,10 +441,8 @@ def main(words):
         return sizes()
     if words[:1] == ["list"]:
         return listing(words[1:])
-    if words == ["page"]:
-        return print("\n".join(page()))
-    if words == ["check"]:
-        return check()
+    if words[:1] in (["limits"], ["mixed"], ["mend"], ["check"]) and len(words) == 1:
+        return {"limits": limits, "mixed": mixed, "mend": mend, "check": check}[words[0]]()
     print(__doc__)
     return 2
 
