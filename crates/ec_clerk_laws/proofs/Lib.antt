@@ -1,0 +1,6 @@
+mod Walk
+mod Grows
+mod Prompt
+mod Modes
+mod Wants
+mod Tokens

@@ -1,0 +1,3 @@
+pub mod Prompt
+pub mod Tokens
+pub mod Wants
