@@ -140,7 +140,7 @@ def mounted_by_relay(clerk, lanes, answers):
 
 def tells(lines, count):
     came = sum(line.endswith(b" came") for line in lines)
-    ended = sum(b" was closed" in line or b" ended: " in line for line in lines)
+    ended = sum(any(how in line for how in (b" was closed", b" was hung up: ", b" ended: ")) for line in lines)
     return came == count and ended == count
 
 
