@@ -1,11 +1,14 @@
-use Rattle.std.proofs.Common.{◌≡◌, ℕ, sym, subst, ◌∙◌}
+use Rattle.std.proofs.Common.{◌≡◌, ℕ, sym, subst, ◌∙◌, map}
+use Rattle.std.specs.String.{string_bytes}
 use Rattle.ec_named.specs.Forms.{Asks}
 use Rattle.ec_named.specs.Seen.{stream, store}
 use Rattle.ec_named.proofs.Promised.{asked, say-all}
 use Rattle.echofs.proofs.process.Goals as goal
 
 pub returns-clause-usage : goal.returns-clause-usage
-returns-clause-usage g c = asked _ _ (subst (λ (k : ℕ). Asks _ k) (sym c.end.ensures) c.echo_main.ensures.usage)
+returns-clause-usage g c =
+    let words = map string_bytes c.args.words.now in
+    asked words _ (subst (λ (k : ℕ). Asks words k) (sym c.end.ensures) c.echo_main.ensures.usage)
 
 pub returns-clause-echoes : goal.returns-clause-echoes
 returns-clause-echoes g c =
