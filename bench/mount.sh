@@ -20,7 +20,7 @@ calls() {
     }'
 }
 
-# All clerks at the same time, each with its script.
+# All clerks at the same time, each with its script, timed from the next whole second of the clock, for which each mount waits.
 all() {
     start=$(date +%s.%N)
     mounts=""
@@ -36,7 +36,7 @@ all() {
         echo "refused" >&2
         exit 1
     fi
-    echo "$2 $start $end" | awk '{ printf "16 mounts of %d files, %s: %.1f s, all finished\n", $1, name, $3 - $2 }' name="$3"
+    echo "$2 $start $end" | awk '{ printf "16 mounts of %d files, %s: %.2f s, all finished\n", $1, name, $3 - int($2) - 1 }' name="$3"
 }
 
 begin_server 4716 33

@@ -14,14 +14,14 @@ for name in pingpong recall; do
     cc -O2 -o "$name" "$here/$name.c"
 done
 
-# "NAME SECONDS" of a mount of this script at a server on a new disk
+# "NAME SECONDS" of a mount of this script at a server on a new disk, from the next whole second of the clock: a mount waits for it, so that no two starts are alike
 timed() {
     begin_server 4715 1
     start=$(date +%s.%N)
     mount_at 4715 A < "$2" > answers
     end=$(date +%s.%N)
     end_server
-    echo "$1 $start $end" | awk '{ printf "%s %.6f\n", $1, $3 - $2 }'
+    echo "$1 $start $end" | awk '{ printf "%s %.6f\n", $1, $3 - int($2) - 1 }'
 }
 
 # "recall SECONDS" of a client that takes a file away from a mount which reads it
