@@ -24,7 +24,7 @@ use Rattle.ec_protocol.specs.declared.clerk.Out.TheVariants as out
 use Rattle.ec_protocol.specs.declared.clerk.Waiting.{Waiting}
 use Rattle.ec_protocol.specs.Clerk as clerk
 use Rattle.ec_clerk.specs.Prompt.{IsIdle, is_durable, may_end, op_of}
-use Rattle.ec_clerk.proofs.Steps.{when_true, when_false}
+use Rattle.ec_doing.proofs.Steps.{when_true, when_false}
 
 -- What is used or changed is held as before: no token comes.
 

@@ -1,4 +1,1 @@
-pub mod Owing
 pub mod Prompt
-pub mod Resting
-pub mod Seen

@@ -6,13 +6,12 @@ ghost use Rattle.ec_wire.specs.Messages.{is_sound};
 ghost use Rattle.ec_plain.specs.declared.call.Call.{Call as Asking};
 ghost use Rattle.ec_protocol.specs.declared.clerk.ClerkFault.TheVariants as fault;
 ghost use Rattle.ec_protocol.specs.Clerk as clerk;
-ghost use Rattle.ec_clerk.specs.Seen.{clerk_of, doing_of, Ends};
+ghost use Rattle.ec_doing.specs.Seen.{clerk_of, doing_of, Ends};
 
-use crate::doing::Doing;
-use crate::ledger::Ledger;
-use crate::step;
 use ec_base::{Age, ClerkId, Counter, LAST_COUNTER, NoMemory, OpNo, next};
 use ec_cache::Cache;
+use ec_doing::{Doing, step};
+use ec_holdings::Ledger;
 use ec_log::{Asked, LogFault, Pick};
 use ec_plain::Call;
 use ec_protocol::{ClerkFault, Flushed, Out, Waiting};
@@ -48,7 +47,7 @@ impl Drop for Clerk {
 
 impl Model for Clerk {
     ghost use Rattle.ec_protocol.specs.declared.clerk.Clerk.{Clerk as State};
-    ghost use Rattle.ec_clerk.specs.Seen.{clerk_of};
+    ghost use Rattle.ec_doing.specs.Seen.{clerk_of};
 
     ghost Value = { State };
 

@@ -31,8 +31,9 @@ use Rattle.ec_server.specs.Clerks.{HaveClerks, Records, Goes}
 use Rattle.ec_server.specs.ClerkLaws.{taken_goes}
 use Rattle.ec_server.specs.ServeLaws.{serve_serves, ended_goes, end_rec}
 use Rattle.ec_server.specs.Servers.{GoesDown}
-use Rattle.ec_server.specs.Steps.{server, under, Leaves, part_of, does}
-use Rattle.ec_server.specs.declared.messages.Part.{Part}
+use Rattle.ec_server.specs.Steps.{server, under, Leaves, does}
+use Rattle.ec_admission.specs.Parts.{part_of}
+use Rattle.ec_admission.specs.declared.messages.Part.{Part}
 use Rattle.ec_server.specs.declared.state.Core.{Core}
 use Rattle.ec_server.specs.declared.fault.ServerFault.{ServerFault}
 use Rattle.ec_server.specs.declared.fault.ServerFault.TheVariants.{DiskFailed, DiskStopped, Spent, NoMemory}

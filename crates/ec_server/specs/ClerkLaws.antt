@@ -37,7 +37,8 @@ use Rattle.ec_durable.specs.declared.record.RecordFault.{RecordFault}
 use Rattle.ec_protocol.specs.Server.{Serving, slot_of, commit, stay, tell, with_server, forget, forget_old, add_claimed, finish, tell_ended, tell_opened, open_new, greet, hello, spend, want, note, send_grant, back, claim, has_claimed, flush, may_write, epoch, in_session}
 use Rattle.ec_protocol.specs.Server.{is_last_number, next_number, with_ids, record_ids, send_ids, ids_are_spent, grant_ids, resend_ids, room, taken}
 use Rattle.ec_protocol.specs.declared.server.Server.{Server}
-use Rattle.ec_server.specs.Clerks.{IsOpenIn, Each, HaveClerks, session_of, Records, Goes}
+use Rattle.ec_admission.specs.Clerks.{IsOpenIn}
+use Rattle.ec_server.specs.Clerks.{Each, HaveClerks, session_of, Records, Goes}
 use Rattle.ec_server.specs.SlotLaws.{stays_open, ends_one, greeted_ends}
 
 -- Lists.

@@ -1,17 +1,13 @@
 -- Whom a server may send to: each session with a token or a want is open in the slot of a clerk.
-use Rattle.std.specs.Prelude.{◌≡◌, ℕ, true, List, [], ◌∷◌, Option, None, Some, Ok}
-use Rattle.ec_sessions.specs.Slots.{Slots, slot_at}
+use Rattle.std.specs.Prelude.{◌≡◌, ℕ, List, [], ◌∷◌, Option, None, Some, Ok}
 use Rattle.ec_recall.specs.declared.want.Action.{Action}
 use Rattle.ec_recall.specs.declared.want.Action.TheVariants.{Grant, Recall}
-use Rattle.ec_durable.specs.Durable.{step, is_session}
+use Rattle.ec_durable.specs.Durable.{step}
 use Rattle.ec_durable.specs.declared.state.Durable.{Durable}
 use Rattle.ec_durable.specs.declared.record.Record.{Record}
+use Rattle.ec_admission.specs.Clerks.{IsOpenIn}
 use Rattle.ec_protocol.specs.Server.{Serving}
 use Rattle.ec_protocol.specs.declared.server.Server.{Server}
-
--- the session is open in a clerk's slot
-abbrev pub IsOpenIn : Slots → ℕ → Type 0
-IsOpenIn slots s = (c : ℕ) × (is_session s (slot_at slots c) ≡ true)
 
 abbrev pub Each : {X : Type 0} → (X → Type 0) → List X → Type 0
 Each P [] = Unit {0}

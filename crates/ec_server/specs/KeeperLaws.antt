@@ -1,15 +1,13 @@
 -- What a commit leaves of the step and its keeper. No public clause cites this file.
-use Rattle.std.proofs.Common.{◌≡◌, ◌<◌, ◌≤◌, ◌⊎◌, inl, inr, refl, sym, ap, subst, ◌∙◌, arith, ℕ, zero, suc, Bool, true, false, cond, not, ◌||◌, List, [], ◌∷◌, Option, None, Some, Result, Ok, Err, length, filter}
+use Rattle.std.proofs.Common.{◌≡◌, ◌<◌, ◌≤◌, ◌⊎◌, inl, inr, refl, sym, ap, subst, ◌∙◌, arith, ℕ, Bool, true, false, not, ◌||◌, List, [], ◌∷◌, Option, None, Some, Result, Ok, Err, length}
 use Rattle.std.specs.Prelude.{◌==◌, ◌+◌, nat_lt, nat_le, IfOk, IfErr, OnOk, IsOk}
 use Rattle.ec_base.specs.Limits.{last_counter}
 use Rattle.ec_base.specs.Tables.{put}
-use Rattle.ec_base.specs.declared.counter.Counter.{Counter}
 use Rattle.ec_base.specs.declared.counter.Counter.TheVariants as counter
 use Rattle.ec_base.specs.declared.ids.Age.{Age}
 use Rattle.ec_sessions.specs.Limits.{last_first_id, last_grants}
 use Rattle.ec_sessions.specs.Slots.{Slots, run}
 use Rattle.ec_sessions.specs.declared.slot.Slot.{Slot}
-use Rattle.ec_recall.specs.declared.want.Want.{Want}
 use Rattle.ec_volume.specs.declared.update.Update.{Update}
 use Rattle.ec_wire.specs.declared.msg.Msg.TheVariants.{Kept, Restarted}
 use Rattle.ec_durable.specs.Durable.{step, slot, has_batch, is_full}
@@ -22,7 +20,8 @@ use Rattle.ec_protocol.specs.declared.server.Served.{Served}
 use Rattle.ec_server.specs.ClerkLaws.{goes_on, behind}
 use Rattle.ec_server.specs.Keepers.{Did, MayHave, Hurts, SpendsNothing, HasNumbers, HasRoom, Moves, Ends, Fails}
 use Rattle.ec_server.specs.Laws.{at_some, at_none, flush_by, ids_by, spent_or, start_by, no_session, not_le}
-use Rattle.ec_server.specs.NumberLaws.{fewer, no_clash, serve_lasts}
+use Rattle.ec_admission.specs.Waits.{fewer}
+use Rattle.ec_server.specs.NumberLaws.{no_clash, serve_lasts}
 use Rattle.ec_server.specs.ServeLaws.{serve_serves, told_all}
 use Rattle.ec_server.specs.Steps.{under, at_slot, Commits}
 use Rattle.ec_server.specs.declared.state.Core.{Core}

@@ -25,7 +25,8 @@ use Rattle.ec_wire.specs.declared.msg.Msg.TheVariants.{Opened, Ended, Kept, Rest
 use Rattle.ec_protocol.specs.Server.{Serving, slot_of, commit, stay, tell, with_server, forget, forget_old, add_claimed, finish, tell_ended, tell_opened, open_new, spend, want, note, send_grant, claim, has_claimed, flush, may_write, epoch, in_session, grant_ids, ids_are_spent, send_ids, record_ids, with_ids, next_number, serving, new_server, start, tell_all}
 use Rattle.ec_protocol.specs.declared.server.Server.{Server}
 use Rattle.ec_server.specs.declared.state.Core.{Core}
-use Rattle.ec_server.specs.Steps.{under, at_slot, Commits, is_last, IsLast}
+use Rattle.ec_admission.specs.Clerks.{is_last}
+use Rattle.ec_server.specs.Steps.{under, at_slot, Commits, IsLast}
 
 goes_on : (r : Record) (f g : Serving → Serving) (t : Serving) → Result Durable RecordFault → Serving
 goes_on r f g t res = elim res [ Ok d ↦ f (record t { server = record (t.server) { durable = d }; rec = Some r }) | Err fault ↦ g t ]

@@ -1,4 +1,5 @@
 pub mod CallLaws
+pub mod ClaimLaws
 pub mod ClerkLaws
 pub mod Clerks
 pub mod Keepers

@@ -1,57 +1,17 @@
 -- What one turn of a loop does. No public clause cites this file.
-use Rattle.std.proofs.Common.{◌≡◌, ◌<◌, ◌≤◌, refl, sym, ap, subst, ◌∙◌, arith, ℕ, zero, suc, Bool, true, false, List, [], ◌∷◌, Option, None, Some, length, drop, drop-cons, add-one}
-use Rattle.std.specs.Prelude.{◌==◌, ◌+◌, ◌-◌}
+use Rattle.std.proofs.Common.{◌≡◌, ◌<◌, ◌≤◌, refl, sym, ap, subst, ◌∙◌, arith, ℕ, zero, suc, Bool, true, false, List, [], ◌∷◌, None, length, drop, drop-cons, add-one}
+use Rattle.std.specs.Prelude.{◌+◌, ◌-◌}
 use Rattle.std.specs.List.{list_any}
-use Rattle.std.proofs.lemmas.Bool.{and_parts}
 use Rattle.ec_sessions.specs.Slots as slots
-use Rattle.ec_sessions.specs.declared.slot.Slot.{Slot}
 use Rattle.ec_tokens.specs.Tokens.{Tokens}
 use Rattle.ec_recall.specs.declared.want.Action.{Action}
 use Rattle.ec_recall.specs.declared.want.Action.TheVariants as action
 use Rattle.ec_recall.specs.Rounds.{GrantsGoIn}
-use Rattle.ec_durable.specs.Durable.{is_session}
-use Rattle.ec_protocol.specs.Server.{Serving, with_ids, is_grant, serve_rounds, tell_start, tell_all}
-use Rattle.ec_server.specs.Clerks.{IsOpenIn, HaveClerks}
+use Rattle.ec_protocol.specs.Server.{Serving, is_grant, serve_rounds, tell_start, tell_all}
+use Rattle.ec_server.specs.Clerks.{HaveClerks}
 use Rattle.ec_server.specs.ServeLaws.{due, round, goes_round, ends_round, fewer, round_clerks}
-use Rattle.ec_server.specs.Steps.{is_last}
-
--- Sixteen ids.
-
-pub run_step : (from k : ℕ) → k < 16 → slots.run (from + k) (16 - k) ≡ (from + k) ∷ slots.run (from + (k + 1)) (16 - (k + 1))
-run_step from k h =
-    let more : 16 - k ≡ suc (16 - (k + 1)) = omega arith in
-    let next : (from + k) + 1 ≡ from + (k + 1) = omega arith in
-    ap (λ n. slots.run (from + k) n) more ∙ ap (λ n. (from + k) ∷ slots.run n (16 - (k + 1))) next
-
-pub ids_begin : (ss n from : ℕ) (ts : Tokens) → with_ids ss n (slots.run (from + 0) 16) ts ≡ with_ids ss n (slots.run from 16) ts
-ids_begin ss n from ts = let same : from + 0 ≡ from = omega arith in ap (λ m. with_ids ss n (slots.run m 16) ts) same
-
-pub ids_step : (ss n from k x : ℕ) (ts us : Tokens) → k < 16 → x ≡ from + k → ((xs : List ℕ) → with_ids ss n (x ∷ xs) ts ≡ with_ids ss n xs us)
-    → with_ids ss n (slots.run (from + k) (16 - k)) ts ≡ with_ids ss n (slots.run (from + (k + 1)) (16 - (k + 1))) us
-ids_step ss n from k x ts us h is f =
-    ap (λ xs. with_ids ss n xs ts) (run_step from k h) ∙ ap (λ m. with_ids ss n (m ∷ slots.run (from + (k + 1)) (16 - (k + 1))) ts) (sym is) ∙ f (slots.run (from + (k + 1)) (16 - (k + 1)))
-
-pub ids_end : (ss n from k : ℕ) (ts : Tokens) → 16 ≤ k → with_ids ss n (slots.run (from + k) (16 - k)) ts ≡ ts
-ids_end ss n from k ts h = let none : 16 - k ≡ 0 = omega arith in ap (λ m. with_ids ss n (slots.run (from + k) m) ts) none
 
 -- Slots.
-
-within : (table : slots.Slots) (k s : ℕ) → is_session s (slots.slot_at table k) ≡ true → k < length table
-within [] k s p = absurd cc
-within (o ∷ table) zero s p = omega arith
-within (o ∷ table) (suc k) s p = omega (arith, within table k s p)
-
-last_of : (s : ℕ) (o : Option Slot) → is_session s o ≡ true → is_last s o ≡ true
-last_of s None p = absurd cc
-last_of s (Some sl) p = (and_parts sl.is_open (sl.session == s) p).1
-
-pub no_clerk : (table : slots.Slots) (s n : ℕ) → length table ≡ 16 → 16 ≤ n → ((k : ℕ) → k < n → is_last s (slots.slot_at table k) ≡ false) → IsOpenIn table s → ⊥
-no_clerk table s n whole h none p =
-    let inside : p.0 < n = omega (arith, within table p.0 s p.1, whole) in
-    both (is_last s (slots.slot_at table p.0)) (last_of s (slots.slot_at table p.0) p.1) (none p.0 inside)
-  where
-    both : (b : Bool) → b ≡ true → b ≡ false → ⊥
-    both b p q = absurd cc
 
 dropped : (table : slots.Slots) (k : ℕ) → k < length table → drop k table ≡ slots.slot_at table k ∷ drop (k + 1) table
 dropped table k h = rw (add-one, drop-cons table k None) refl

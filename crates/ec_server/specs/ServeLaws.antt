@@ -25,7 +25,8 @@ use Rattle.ec_durable.specs.declared.record.RecordFault.{RecordFault}
 use Rattle.ec_durable.specs.declared.record.RecordFault.TheVariants.{NoSession}
 use Rattle.ec_protocol.specs.Server.{Serving, serving, commit, stay, tell, with_server, spend, finish, forget, tell_ended, is_last_number, next_number, taken, clerk_of, send_grant, act, act_all, is_grant, serve_rounds, serve, all_claimed, take, end, end_open, new_server, tell_start, tell_all, start}
 use Rattle.ec_protocol.specs.declared.server.Server.{Server}
-use Rattle.ec_server.specs.Clerks.{IsOpenIn, Each, HaveClerks, session_of, Records, Goes}
+use Rattle.ec_admission.specs.Clerks.{IsOpenIn}
+use Rattle.ec_server.specs.Clerks.{Each, HaveClerks, session_of, Records, Goes}
 use Rattle.ec_server.specs.ClerkLaws.{each_put, each_action, each_stay, begins, goes_by, either, behind, taken_goes, finish_goes}
 
 -- What serving leaves: the durable state and the record, and what was spent.

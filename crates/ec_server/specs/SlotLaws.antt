@@ -14,7 +14,7 @@ use Rattle.ec_durable.specs.declared.record.Record.{Record}
 use Rattle.ec_durable.specs.declared.record.Record.TheVariants.{Batch, Open, End, Ids, Epoch}
 use Rattle.ec_durable.specs.declared.record.RecordFault.{RecordFault}
 use Rattle.ec_durable.specs.declared.record.RecordFault.TheVariants.{NoSession, Done, Beyond, BadAge, BadNumber, NoRoom}
-use Rattle.ec_server.specs.Clerks.{IsOpenIn}
+use Rattle.ec_admission.specs.Clerks.{IsOpenIn}
 
 same_Ok : {d e : Durable} → ◌≡◌ {A = Result Durable RecordFault} (Ok d) (Ok e) → d ≡ e
 same_Ok {d = d} p = ap (λ (r : Result Durable RecordFault). elim r as (λ z. Durable) [ Ok x ↦ x | Err f ↦ d ]) p

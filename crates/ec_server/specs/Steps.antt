@@ -13,7 +13,6 @@ use Rattle.ec_durable.specs.declared.record.RecordFault.{RecordFault}
 use Rattle.ec_protocol.specs.Server.{Serving, slot_of, in_session, tell, want, back, flush, room, claim, finish}
 use Rattle.ec_protocol.specs.declared.server.Server.{Server}
 use Rattle.ec_server.specs.declared.state.Core.{Core}
-use Rattle.ec_server.specs.declared.messages.Part.{Part}
 use Rattle.ec_server.specs.declared.messages.Admission.{Admission}
 use Rattle.ec_server.specs.declared.messages.Admission.TheVariants.{Passed, Answered, Taken}
 use Rattle.ec_server.specs.declared.fault.ServerFault.{ServerFault}
@@ -59,10 +58,6 @@ Commits true r d e old new = (under e new ≡ record (under e old) { rec = Some 
 Commits false r d e old new = (e ≡ d) × (under e new ≡ under e old) × ((fault : RecordFault) × (step r d ≡ Err fault))
 
 -- What a message's session is to the clerk's slot.
-abbrev pub is_last : ℕ → Option Slot → Bool
-is_last ss None = false
-is_last ss (Some sl) = sl.session == ss
-
 abbrev pub IsLast : ℕ → Bool → Window → Option Slot → Type 0
 IsLast ss is_open w None = ⊥
 IsLast ss is_open w (Some sl) = ((sl.session == ss) ≡ true) × (sl.session ≡ ss) × (sl.is_open ≡ is_open) × (sl.window ≡ w)
@@ -72,16 +67,6 @@ abbrev pub Admits : Admission → ℕ → ℕ → ℕ → Bool → Serving → T
 Admits Taken c ss e b t = (is_some (slot_of c t) ≡ true) × ((f : Slot → Serving → Serving) → in_session c ss e b f t ≡ at_slot c f t)
 Admits Passed c ss e b t = (f : Slot → Serving → Serving) → in_session c ss e b f t ≡ t
 Admits (Answered m) c ss e b t = (f : Slot → Serving → Serving) → in_session c ss e b f t ≡ tell c m t
-
--- The session and the epoch of a message that is for a session, and whether it needs no claim.
-abbrev pub part_of : Msg → Option Part
-part_of (msg.Want ss e x h last) = Some (record { session = ss; at_epoch = e; needs_no_claim = false })
-part_of (msg.Back ss e x n h) = Some (record { session = ss; at_epoch = e; needs_no_claim = false })
-part_of (msg.Flush ss e b ops) = Some (record { session = ss; at_epoch = e; needs_no_claim = false })
-part_of (msg.Room ss e got ask) = Some (record { session = ss; at_epoch = e; needs_no_claim = false })
-part_of (msg.Claim ss e list) = Some (record { session = ss; at_epoch = e; needs_no_claim = true })
-part_of (msg.Bye ss e) = Some (record { session = ss; at_epoch = e; needs_no_claim = true })
-part_of _ = None
 
 -- What such a message does, once it's taken.
 abbrev pub does : ℕ → Msg → Slot → Serving → Serving

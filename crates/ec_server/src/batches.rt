@@ -1,62 +1,26 @@
 // Batches.
-ghost use Rattle.std.specs.Prelude.{◌≡◌, OnOk, IfErr, IfOk, Some, None, true, MatchOption};
-ghost use Rattle.std.specs.List.{list_all};
-ghost use Rattle.ec_base.specs.Holds.{is_write};
+ghost use Rattle.std.specs.Prelude.{◌≡◌, OnOk, IfErr, true};
 ghost use Rattle.ec_durable.specs.Durable.{slot, has_batch};
 ghost use Rattle.ec_durable.specs.Codes.{is_sound_record};
-ghost use Rattle.ec_tokens.specs.Tokens.{mode, token};
 ghost use Rattle.ec_protocol.specs.Server as machine;
 ghost use Rattle.ec_server.specs.Keepers.{Moves, Hurts, HasNumbers};
 ghost use Rattle.ec_server.specs.Kept.{IsLater};
-ghost use Rattle.ec_server.specs.Steps.{under, server, at_slot, Stops};
+ghost use Rattle.ec_server.specs.Steps.{under, at_slot, Stops};
 
 use crate::fault::ServerFault;
 use crate::keeper::Keeper;
 use crate::state::{Core, epoch};
-use ec_base::{ClerkId, Duplicate, Hold, List, NoMemory, ObjId, OpNo, SessionNo};
+use ec_admission::{may_write, window_has};
+use ec_base::{ClerkId, Duplicate, List, OpNo, SessionNo};
 use ec_durable::Record;
-use ec_tokens::Tokens;
-use ec_volume::{Update, operands};
+use ec_volume::Update;
 use ec_wire::Msg;
-use std::alloc::Global;
-
-// The session has a Write token on each operand.
-fn may_write(
-    alloc: Global,
-    tokens: &Tokens,
-    session: SessionNo,
-    ops: &[(OpNo, Update)],
-) -> Result<bool, NoMemory>
-    ensures { IfOk result (λ may. may ≡ machine.may_write tokens.now session ops.now) }
-{
-    for (_, update) in ops {
-        if !may_write_all(tokens, session, &operands(alloc, update)?) {
-            return Ok(false);
-        }
-    }
-    Ok(true)
-}
-
-fn may_write_all(tokens: &Tokens, session: SessionNo, ids: &[ObjId]) -> bool
-    ensures { result ≡ list_all (λ x. is_write (mode (token tokens.now session x))) ids.now }
-{
-    ids.iter().all(|id| has_write(tokens, session, *id))
-}
-
-fn has_write(tokens: &Tokens, session: SessionNo, obj: ObjId) -> bool
-    ensures { result ≡ is_write (mode (token tokens.now session obj)) }
-{
-    matches!(tokens.token(session, obj), Some((Hold::Write, _)))
-}
 
 // Whether the clerk's window has the batch.
 fn is_done<K: Keeper>(keeper: &K, clerk: ClerkId, batch: u64) -> bool
     ensures { result ≡ has_batch batch (slot (K.kept keeper.now) clerk) }
 {
-    match keeper.view().sessions.slot(clerk) {
-        Some(slot) => slot.window.has(batch),
-        None => false,
-    }
+    window_has(&keeper.view().sessions, clerk, batch)
 }
 
 impl Core {

@@ -1,8 +1,7 @@
 // Ids that are granted, and granted again.
-ghost use Rattle.std.specs.Prelude.{◌≡◌, ◌+◌, ◌≤◌, ◌^◌, ◌∷◌, ◌==◌, ◌||◌, nat_lt, nat_le, List, ℕ, OnOk, IfErr, IfOk, Some, None, true, false, MatchOption, IfSome};
+ghost use Rattle.std.specs.Prelude.{◌≡◌, ◌+◌, ◌≤◌, ◌^◌, ◌==◌, ◌||◌, nat_lt, nat_le, OnOk, IfErr, IfOk, Some, None, true, false, MatchOption, IfSome};
 ghost use Rattle.ec_base.specs.Tables.{at_or};
 ghost use Rattle.ec_sessions.specs.Limits.{ids_per_grant, last_first_id, last_grants};
-ghost use Rattle.ec_sessions.specs.Slots.{run};
 ghost use Rattle.ec_sessions.specs.declared.slot.Slot.{Slot};
 ghost use Rattle.ec_durable.specs.Durable.{slot, is_full, live, reserved};
 ghost use Rattle.ec_durable.specs.declared.state.Durable.{Durable};
@@ -13,11 +12,11 @@ ghost use Rattle.ec_server.specs.Steps.{under, server, at_slot, Leaves};
 
 use crate::fault::ServerFault;
 use crate::keeper::Keeper;
-use crate::limits::{IDS_PER_GRANT, LAST_FIRST_ID, LAST_GRANTS};
+use crate::limits::{LAST_FIRST_ID, LAST_GRANTS};
 use crate::state::{Core, epoch};
-use ec_base::{ClerkId, Counter, Hold, LAST_COUNTER, NoMemory, ObjId, SessionNo};
+use ec_admission::{IDS_PER_GRANT, add_ids};
+use ec_base::{ClerkId, Counter, LAST_COUNTER, NoMemory, ObjId, SessionNo};
 use ec_durable::Record;
-use ec_tokens::Tokens;
 use ec_wire::Msg;
 
 impl Core {
@@ -192,33 +191,4 @@ fn next_first<K: Keeper>(keeper: &K, got: u32) -> Option<ObjId>
         unreachable!()
     };
     Some(first)
-}
-
-// Write tokens of the number on sixteen ids, but where one conflicts.
-fn add_ids(
-    tokens: &mut Tokens,
-    session: SessionNo,
-    first: ObjId,
-    number: u64,
-) -> Result<(), NoMemory>
-    requires { first + ids_per_grant ≤ 2 ^ 32 }
-    ensures { OnOk result (machine.with_ids session number (run first ids_per_grant) tokens.old ≡ tokens.new) }
-{
-    let from = first.get();
-    'ids: for place in 0..IDS_PER_GRANT {
-        let Some(id) = ObjId::new(from + place) else {
-            unreachable!()
-        };
-        add_id(tokens, session, id, number)?;
-    }
-    Ok(())
-}
-
-fn add_id(tokens: &mut Tokens, session: SessionNo, id: ObjId, number: u64) -> Result<(), NoMemory>
-    ensures { OnOk result ((ids : List ℕ) → machine.with_ids session number (id ∷ ids) tokens.old ≡ machine.with_ids session number ids tokens.new) }
-{
-    if tokens.is_clear(session, id, Hold::Write) {
-        tokens.grant(session, id, Hold::Write, number)?;
-    }
-    Ok(())
 }

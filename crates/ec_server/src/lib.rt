@@ -14,7 +14,6 @@ mod sessions;
 mod state;
 mod steps;
 mod tokens;
-mod waiting;
 mod wants;
 
 pub use fault::ServerFault;

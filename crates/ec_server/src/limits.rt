@@ -1,7 +1,5 @@
 // The limits of ids.
-
-// So many ids are granted at a time.
-pub(crate) const IDS_PER_GRANT: u32 = 16;
+use ec_admission::IDS_PER_GRANT;
 
 // The last grant of ids may begin here: the id behind it is still a u32.
 pub(crate) const LAST_FIRST_ID: u32 = u32::MAX - IDS_PER_GRANT;

@@ -2,15 +2,17 @@
 ghost use Rattle.std.specs.Prelude.{◌≡◌, ◌==◌, ◌&&◌, ◌||◌, OnOk, IfErr, IfOk, IsTrue, None, Some, true, false, MatchOption, is_some};
 ghost use Rattle.ec_durable.specs.Durable.{slot};
 ghost use Rattle.ec_wire.specs.Messages.{is_sound};
+ghost use Rattle.ec_admission.specs.Clerks.{is_last};
 ghost use Rattle.ec_server.specs.CallLaws.{IsFromOne};
 ghost use Rattle.ec_server.specs.Keepers.{Moves, Hurts, HasNumbers};
 ghost use Rattle.ec_server.specs.Kept.{IsLater};
-ghost use Rattle.ec_server.specs.Steps.{under, server, at_slot, Admits, Leaves, is_last, IsLast, part_of, does};
+ghost use Rattle.ec_server.specs.Steps.{under, server, at_slot, Admits, Leaves, IsLast, does};
 ghost use Rattle.ec_protocol.specs.Server as machine;
 
 use crate::fault::ServerFault;
 use crate::keeper::Keeper;
 use crate::state::{Core, epoch};
+use ec_admission::session_part;
 use ec_base::{ClerkId, Hold, ObjId, SessionNo};
 use ec_sessions::Window;
 use ec_wire::Msg;
@@ -23,14 +25,6 @@ pub(crate) enum Admission {
     Answered(Msg),
 }
 
-// What a message for a session says of it.
-#[derive(Clone, Copy, Drop)]
-pub(crate) struct Part {
-    session: SessionNo,
-    at_epoch: u64,
-    needs_no_claim: bool,
-}
-
 // The clerk's last session, where it's this one: whether it's open, and its window.
 fn last_window<K: Keeper>(keeper: &K, clerk: ClerkId, session: SessionNo) -> Option<(bool, Window)>
     ensures { MatchOption result (is_last session (slot (K.kept keeper.now) clerk) ≡ false) (λ r. IsLast session r.0 r.1 (slot (K.kept keeper.now) clerk)) }
@@ -40,25 +34,6 @@ fn last_window<K: Keeper>(keeper: &K, clerk: ClerkId, session: SessionNo) -> Opt
         return None;
     }
     Some((slot.is_open, slot.window))
-}
-
-// The session and the epoch of a message that is for a session, and whether it needs no claim.
-fn session_part(msg: &Msg) -> Option<Part>
-    ensures { result ≡ part_of msg.now }
-{
-    let (session, at_epoch, needs_no_claim) = match msg {
-        Msg::Want(session, epoch, ..)
-        | Msg::Back(session, epoch, ..)
-        | Msg::Flush(session, epoch, ..)
-        | Msg::Room(session, epoch, ..) => (*session, *epoch, false),
-        Msg::Claim(session, epoch, ..) | Msg::Bye(session, epoch) => (*session, *epoch, true),
-        _ => return None,
-    };
-    Some(Part {
-        session,
-        at_epoch,
-        needs_no_claim,
-    })
 }
 
 // A proof knows that the first id is from 1. No code is left of this.

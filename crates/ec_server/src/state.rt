@@ -1,5 +1,5 @@
 // What a server keeps in memory, and the small changes of it.
-ghost use Rattle.std.specs.Prelude.{◌≡◌, ◌++◌, ◌∷◌, ◌==◌, ◌+◌, ◌<◌, not, filter, Some, OnOk, IfOk, IfErr, IsTrue, true};
+ghost use Rattle.std.specs.Prelude.{◌≡◌, ◌++◌, ◌∷◌, ◌+◌, ◌<◌, Some, OnOk, IfOk, IfErr, IsTrue, true};
 ghost use Rattle.ec_base.specs.Tables.{without, put};
 ghost use Rattle.ec_base.specs.Limits.{last_counter};
 ghost use Rattle.ec_durable.specs.Codes.{is_sound_record};
@@ -12,7 +12,7 @@ ghost use Rattle.ec_durable.specs.declared.state.Durable.{Durable};
 
 use crate::fault::ServerFault;
 use crate::keeper::{KeepFault, Keeper};
-use crate::waiting::Waiting;
+use ec_admission::{Waiting, forget_claim};
 use ec_base::{ClerkId, LAST_COUNTER, List, NoMemory, SessionNo, SortedMap};
 use ec_durable::Record;
 use ec_protocol::Served;
@@ -158,12 +158,6 @@ impl Core {
         forget_claim(&mut self.claimed, session);
         self.recorded.remove(&session);
     }
-}
-
-fn forget_claim(claimed: &mut Vec<SessionNo>, session: SessionNo)
-    ensures { claimed.new.items ≡ filter (λ t. not (t == session)) claimed.old.items }
-{
-    claimed.retain(|claimed| claimed.0 != session.0);
 }
 
 // The epoch of a durable state.

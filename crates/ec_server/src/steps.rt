@@ -13,7 +13,7 @@ ghost use Rattle.ec_server.specs.Steps.{under, server, Leaves};
 use crate::fault::ServerFault;
 use crate::keeper::Keeper;
 use crate::state::{Core, epoch};
-use crate::wants::read_slots;
+use ec_admission::read_slots;
 use ec_base::{CLERK_COUNT, ClerkId, Counter, LAST_COUNTER, NoMemory, SessionNo};
 use ec_durable::Record;
 use ec_wire::Msg;

@@ -3,20 +3,19 @@ ghost use Rattle.std.specs.Prelude.{◌≡◌, ◌≢◌, ◌∷◌, [], suc, On
 ghost use Rattle.std.specs.List.{list_any};
 ghost use Rattle.ec_tokens.specs.Tokens.{is_clear, granted, IsSound};
 ghost use Rattle.ec_protocol.specs.Server as machine;
-ghost use Rattle.ec_server.specs.Clerks.{IsOpenIn, HaveClerks, Each, session_of};
+ghost use Rattle.ec_admission.specs.Clerks.{IsOpenIn};
+ghost use Rattle.ec_server.specs.Clerks.{HaveClerks, Each, session_of};
 ghost use Rattle.ec_server.specs.ServeLaws.{due, round};
-ghost use Rattle.ec_server.specs.Steps.{under, server, is_last};
-ghost use Rattle.ec_durable.specs.declared.state.Durable.{Durable};
+ghost use Rattle.ec_server.specs.Steps.{under, server};
 ghost use Rattle.ec_recall.specs.Rounds.{GrantsGoIn};
 ghost use Rattle.ec_recall.specs.declared.want.Action.TheVariants as action;
 ghost use Rattle.ec_recall.specs.declared.want.Action.{Action as Due};
-ghost use Rattle.ec_sessions.specs.Slots.{slot_at, AreSlots};
 
 use crate::keeper::Keeper;
 use crate::state::{Core, epoch};
-use ec_base::{CLERK_COUNT, ClerkId, Hold, NoMemory, ObjId, SessionNo};
+use ec_admission::{all_claimed, clerk_in};
+use ec_base::{ClerkId, Hold, NoMemory, ObjId, SessionNo};
 use ec_recall::Action;
-use ec_sessions::Sessions;
 use ec_tokens::Tokens;
 use ec_wire::Msg;
 
@@ -26,39 +25,6 @@ fn clerk_of<K: Keeper>(keeper: &K, session: SessionNo) -> ClerkId
     ensures { result ≡ machine.clerk_from 0 session (K.kept keeper.now).sessions }
 {
     clerk_in(&keeper.view().sessions, session)
-}
-
-fn clerk_in(sessions: &Sessions, session: SessionNo) -> ClerkId
-    requires { IsOpenIn sessions.now session }
-    ensures { result ≡ machine.clerk_from 0 session sessions.now }
-{
-    read_slots(sessions);
-    'clerks: for number in 0..CLERK_COUNT {
-        if let Some(clerk) = ClerkId::new(number) {
-            if is_last(sessions, clerk, session) {
-                return clerk;
-            }
-        }
-    }
-    unreachable!()
-}
-
-fn is_last(sessions: &Sessions, clerk: ClerkId, session: SessionNo) -> bool
-    ensures { result ≡ is_last session (slot_at sessions.now clerk) }
-{
-    match sessions.slot(clerk) {
-        Some(slot) => slot.session == session,
-        None => false,
-    }
-}
-
-// A proof knows how many slots there are. No code is left of this.
-pub(crate) fn read_slots(sessions: &Sessions)
-    ensures { length sessions.now ≡ 16 }
-{
-    if let Some(clerk) = ClerkId::new(0) {
-        let _slot = sessions.slot(clerk);
-    }
 }
 
 // A proof knows that no two tokens conflict. No code is left of this.
@@ -188,23 +154,6 @@ impl Core {
     fn all_claimed<K: Keeper>(&self, keeper: &K) -> bool
         ensures { result ≡ machine.all_claimed (server (K.kept keeper.now) self.now) }
     {
-        read_slots(&keeper.view().sessions);
-        'clerks: for number in 0..CLERK_COUNT {
-            if let Some(clerk) = ClerkId::new(number) {
-                if !self.is_claimed(&keeper.view().sessions, clerk) {
-                    return false;
-                }
-            }
-        }
-        true
-    }
-
-    fn is_claimed(&self, sessions: &Sessions, clerk: ClerkId) -> bool
-        ensures { (d : Durable) → result ≡ machine.is_claimed (server d self.now) (slot_at sessions.now clerk) }
-    {
-        match sessions.slot(clerk) {
-            Some(slot) => !slot.is_open || self.has_claimed(slot.session),
-            None => true,
-        }
+        all_claimed(&keeper.view().sessions, &self.claimed)
     }
 }

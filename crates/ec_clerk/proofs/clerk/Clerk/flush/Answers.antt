@@ -1,7 +1,7 @@
 use Rattle.std.proofs.Common.{ap, sym, ◌∙◌, Ok}
 use Rattle.ec_protocol.specs.Clerk as clerk
-use Rattle.ec_clerk.specs.Seen.{clerk_of}
-use Rattle.ec_clerk.proofs.Steps.{flushed}
+use Rattle.ec_doing.specs.Seen.{clerk_of}
+use Rattle.ec_doing.proofs.Steps.{flushed}
 use Rattle.ec_clerk.proofs.clerk.Clerk.flush.Goals as goal
 
 pub returns-clause-ok : goal.returns-clause-ok

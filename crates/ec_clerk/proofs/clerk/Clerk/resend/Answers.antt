@@ -1,7 +1,7 @@
 use Rattle.std.proofs.Common.{sym, ap, subst, List, ◌∙◌}
 use Rattle.ec_protocol.specs.declared.clerk.Waiting.{Waiting}
 use Rattle.ec_protocol.specs.Clerk as clerk
-use Rattle.ec_clerk.specs.Seen.{clerk_of, Ends}
+use Rattle.ec_doing.specs.Seen.{clerk_of, Ends}
 use Rattle.ec_clerk.proofs.clerk.Clerk.resend.Goals as goal
 
 pub returns-clause-ok : goal.returns-clause-ok

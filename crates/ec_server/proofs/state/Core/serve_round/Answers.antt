@@ -1,6 +1,7 @@
 use Rattle.std.proofs.Common.{sym, subst, ◌∙◌, List}
 use Rattle.ec_recall.specs.declared.want.Action.{Action}
-use Rattle.ec_server.specs.Clerks.{IsOpenIn, Each, session_of}
+use Rattle.ec_admission.specs.Clerks.{IsOpenIn}
+use Rattle.ec_server.specs.Clerks.{Each, session_of}
 use Rattle.ec_server.specs.ServeLaws.{due_clerks}
 use Rattle.ec_server.specs.Steps.{under}
 use Rattle.ec_server.proofs.state.Core.serve_round.Goals as goal

@@ -1,0 +1,4 @@
+pub mod Claims
+pub mod Clerks
+pub mod Parts
+pub mod Waits

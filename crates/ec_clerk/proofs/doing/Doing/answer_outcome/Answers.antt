@@ -1,5 +1,0 @@
-use Rattle.ec_clerk.proofs.Steps.{if_ok}
-use Rattle.ec_clerk.proofs.doing.Doing.answer_outcome.Goals as goal
-
-pub returns : goal.returns
-returns c = if_ok c.answer_with.result (λ t p call begun u ws. p call begun ws) (rw c.as_slice.ensures at c.answer_with.ensures)

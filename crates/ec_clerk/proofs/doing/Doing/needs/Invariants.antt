@@ -1,7 +1,0 @@
-use Rattle.std.proofs.Common.{◌≡◌, ◌++◌, drop}
-use Rattle.ec_protocol.specs.Clerk as clerk
-use Rattle.ec_clerk.specs.Seen.{clerk_of}
-use Rattle.ec_clerk.proofs.doing.Doing.needs.Given as goal
-
-abbrev pub invariant-calls : goal.invariant-calls
-invariant-calls l = l.needs.items ++ clerk.needs (drop l.call-index l.waiting) (clerk_of l.waiting l.self) ≡ clerk.needs l.waiting (clerk_of l.waiting l.self)

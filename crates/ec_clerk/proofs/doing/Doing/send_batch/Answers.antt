@@ -1,4 +1,0 @@
-use Rattle.ec_clerk.proofs.doing.Doing.send_batch.Goals as goal
-
-pub returns : goal.returns
-returns c = rw c.in_ok-ops.ensures at (rw c.session.ensures at c.send.ensures)

@@ -1,4 +1,0 @@
-use Rattle.ec_clerk.proofs.doing.Doing.send_picked.Goals as goal
-
-pub returns-in-Batch : goal.returns-in-Batch
-returns-in-Batch c = rw c.in-Batch.is c.send_batch.ensures

@@ -1,4 +1,0 @@
-use Rattle.ec_clerk.proofs.doing.Doing.send_room.Goals as goal
-
-pub returns : goal.returns
-returns c = rw c.session.ensures at c.send.ensures

@@ -1,5 +1,0 @@
-use Rattle.ec_clerk.proofs.Steps.{if_ok}
-use Rattle.ec_clerk.proofs.doing.Doing.settle_reply.Goals as goal
-
-pub returns-in-None : goal.returns-in-None
-returns-in-None c = rw c.in-None.is (if_ok c.answer_outcome.result (λ t p call u ws. p call c.args.begun u ws) c.answer_outcome.ensures)

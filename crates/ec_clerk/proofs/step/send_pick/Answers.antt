@@ -1,6 +1,0 @@
-use Rattle.ec_clerk.specs.Seen.{clerk_of, doing_of, send_if_batch}
-use Rattle.ec_clerk.proofs.Steps.{ends_with}
-use Rattle.ec_clerk.proofs.step.send_pick.Goals as goal
-
-pub returns : goal.returns
-returns c = λ ws. ends_with (send_if_batch c.args.pick.now) (clerk_of ws c.args.doing.now) (clerk_of ws c.outs.new.self) (doing_of ws c.clear.new.self) (doing_of ws c.send_picked.new.self) c.outs.result.items (c.clear.ensures ws) (c.in_ok-send_picked.ensures ws) (c.outs.ensures ws)

@@ -1,0 +1,4 @@
+pub mod Ends
+pub mod Rests
+pub mod Spent
+pub mod Steps
