@@ -13,7 +13,7 @@ use Rattle.ec_protocol.specs.Clerk as clerk
 use Rattle.ec_protocol.specs.World as machine
 use Rattle.ec_protocol.specs.World.{Fate, Moving, moving, come_out, clerk_does, is_for_server, settled, to_clerk, deliver, call}
 use Rattle.ec_world.specs.Calls.{begun}
-use Rattle.ec_world.specs.Running.{Steps, Stays, Starts}
+use Rattle.ec_running.specs.Running.{Steps, Stays, Starts}
 use Rattle.ec_world.specs.Sending.{IsFor}
 use Rattle.ec_world.proofs.Calls.{does_is, call_runs, call_on_is, start_is, with_boot}
 use Rattle.ec_world.proofs.Pooled.{deliver_clerk}

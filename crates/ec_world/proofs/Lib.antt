@@ -13,7 +13,6 @@ pub mod Fresh
 pub mod Happens
 pub mod Kept
 pub mod Left
-pub mod Maps
 pub mod Moved
 pub mod Outs
 pub mod Pooled
@@ -23,9 +22,7 @@ pub mod Served
 pub mod Standing
 pub mod Starting
 pub mod Stepped
-pub mod Taking
 pub mod Telling
-pub mod Under
 pub mod Unread
 pub mod FromOne
 mod Reaching

@@ -10,12 +10,12 @@ use Rattle.ec_protocol.specs.World.{Fate, runs, Moving}
 use Rattle.ec_protocol.specs.declared.world.World.{World as State}
 use Rattle.ec_protocol.specs.declared.world.WorldFault.{WorldFault}
 use Rattle.ec_protocol.specs.declared.world.WorldFault.TheVariants as world
-use Rattle.ec_world.specs.Faults.{of_step}
+use Rattle.ec_running.specs.Faults.{of_step}
 use Rattle.ec_world.specs.Laws.{in_step_keeps, in_step_stands}
 use Rattle.ec_world.specs.Steps.{Fated, Refuses, Declines, IsLeft, as_before}
 use Rattle.ec_world.specs.Worlds.{view_of, IsInStep, Keeps}
-use Rattle.ec_world.specs.declared.fault.StepFault.{StepFault}
-use Rattle.ec_world.specs.declared.fault.StepFault.TheVariants as step
+use Rattle.ec_running.specs.declared.fault.StepFault.{StepFault}
+use Rattle.ec_running.specs.declared.fault.StepFault.TheVariants as step
 use Rattle.ec_world.specs.declared.world.World.{World}
 use Rattle.ec_world.proofs.Arms.{run_same}
 

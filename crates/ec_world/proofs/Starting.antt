@@ -30,15 +30,15 @@ use Rattle.ec_wire.specs.declared.msg.Msg.{Msg}
 use Rattle.ec_world.proofs.Finish.{chosen_by, fate_of, told_fate, came_fate, sends_keep, IsTaken, left_behind, some_left, either_behind, done_leaves}
 use Rattle.ec_world.proofs.Fresh.{fresh}
 use Rattle.ec_world.specs.Cutting.{LeavesEither, TakesBack}
-use Rattle.ec_world.specs.Faults.{of_step}
+use Rattle.ec_running.specs.Faults.{of_step}
 use Rattle.ec_world.specs.Keeping.{IsDone, InDoubt, LeavesSome, HasStoppedIn}
 use Rattle.ec_world.specs.Marks.{IsMark, MarkOf}
 use Rattle.ec_world.specs.Serving.{serves, with_durable, left_in, CameUp, Finishes, Breaks}
 use Rattle.ec_world.specs.Signs.{sign_of}
 use Rattle.ec_world.specs.Steps.{IsLeft, under}
 use Rattle.ec_world.specs.Worlds.{view_of, server_of}
-use Rattle.ec_world.specs.declared.fault.StepFault.{StepFault}
-use Rattle.ec_world.specs.declared.fault.StepFault.TheVariants as step_fault
+use Rattle.ec_running.specs.declared.fault.StepFault.{StepFault}
+use Rattle.ec_running.specs.declared.fault.StepFault.TheVariants as step_fault
 use Rattle.ec_world.specs.declared.keeping.Came.{Came}
 use Rattle.ec_world.specs.declared.keeping.Came.TheVariants as came
 use Rattle.ec_world.specs.declared.marks.Mark.{Mark}

@@ -1,6 +1,5 @@
 pub mod Calls
 pub mod Cutting
-pub mod Faults
 pub mod Keeping
 pub mod Laws
 pub mod Marking
@@ -8,7 +7,6 @@ pub mod Marks
 pub mod Noted
 pub mod Opening
 pub mod Reaching
-pub mod Running
 pub mod Sending
 pub mod Serving
 pub mod Signs

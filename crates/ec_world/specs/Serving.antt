@@ -16,8 +16,8 @@ use Rattle.ec_server.specs.declared.server.Server.{Server}
 use Rattle.ec_store.specs.declared.store.Store.{Store}
 use Rattle.ec_world.specs.Keeping.{IsDone, CameOf}
 use Rattle.ec_world.specs.Steps.{IsTold, IsShown}
-use Rattle.ec_world.specs.declared.fault.StepFault.{StepFault}
-use Rattle.ec_world.specs.declared.fault.StepFault.TheVariants as step
+use Rattle.ec_running.specs.declared.fault.StepFault.{StepFault}
+use Rattle.ec_running.specs.declared.fault.StepFault.TheVariants as step
 use Rattle.ec_world.specs.declared.keeping.Came.{Came}
 use Rattle.ec_world.specs.declared.keeping.Came.TheVariants as came
 use Rattle.ec_world.specs.declared.marks.Mark.{Mark}

@@ -17,8 +17,8 @@ use Rattle.ec_stands.specs.Stands.{StandsFor, IsBadAt}
 use Rattle.ec_protocol.specs.World.{Fate, runs, stops_without, stops_with, Moving, open_world}
 use Rattle.ec_protocol.specs.declared.world.World.{World as State}
 use Rattle.ec_world.specs.Worlds.{view_of}
-use Rattle.ec_world.specs.declared.fault.StepFault.{StepFault}
-use Rattle.ec_world.specs.declared.fault.StepFault.TheVariants as step
+use Rattle.ec_running.specs.declared.fault.StepFault.{StepFault}
+use Rattle.ec_running.specs.declared.fault.StepFault.TheVariants as step
 use Rattle.ec_world.specs.declared.world.World.{World}
 use Rattle.ec_protocol.specs.declared.world.Event.{Event}
 use Rattle.ec_protocol.specs.declared.world.Event.TheVariants.{Arm}

@@ -1,6 +1,6 @@
 // Steps of clerks: calls, pushes, resends and crashes.
 ghost use Rattle.std.specs.Prelude.{◌≡◌, [], false, IfOk, IfErr, OnOk};
-ghost use Rattle.ec_base.specs.Tables.{at, at_or, put, without};
+ghost use Rattle.ec_base.specs.Tables.{at};
 ghost use Rattle.ec_volume.specs.Update.{member};
 ghost use Rattle.ec_protocol.specs.Clerk as clerk_machine;
 ghost use Rattle.ec_protocol.specs.World as machine;
@@ -8,14 +8,13 @@ ghost use Rattle.ec_world.specs.Worlds.{view_of, Keeps};
 ghost use Rattle.ec_world.specs.Calls.{begun};
 ghost use Rattle.ec_world.specs.Steps.{under, Declines};
 
-use crate::answers::{add_call, is_answered};
-use crate::fault::StepFault;
-use crate::running::{self, Begun};
 use crate::world::World;
-use ec_base::{ClerkId, Counter, Duplicate, NoMemory, OpNo, SortedMap, next};
+use ec_base::{ClerkId, Counter, Duplicate, NoMemory, OpNo, next};
 use ec_history::Shown;
 use ec_plain::Call;
 use ec_protocol::Out;
+use ec_running::running::{self, Begun};
+use ec_running::{StepFault, add_copy, is_answered};
 use std::alloc::Global;
 
 impl World {
@@ -180,20 +179,6 @@ impl World {
         self.calls.remove(&clerk);
         self.show_line(alloc, Shown::Crashed(clerk))
     }
-}
-
-// A copy of the call is under way.
-fn add_copy(
-    alloc: Global,
-    calls: &mut SortedMap<ClerkId, SortedMap<u64, (u32, Call)>>,
-    clerk: ClerkId,
-    no: u64,
-    line: u32,
-    call: &Call,
-) -> Result<(), NoMemory>
-    ensures { OnOk result (calls.new ≡ put clerk (put no (line, call.now) (at_or [] clerk calls.old)) calls.old) }
-{
-    add_call(alloc, calls, clerk, no, line, call.duplicate()?)
 }
 
 fn is_session(start: u64, last: Option<u64>) -> bool

@@ -10,11 +10,11 @@ ghost use Rattle.ec_store.specs.Store.{IsHeld, view_of};
 ghost use Rattle.ec_store.specs.declared.fault.StoreFault.TheVariants as store_fault;
 ghost use Rattle.ec_world.specs.Cutting.{LeavesEither, TakesBack, left_of};
 ghost use Rattle.ec_world.specs.Signs.{sign_of};
-ghost use Rattle.ec_world.specs.declared.fault.StepFault.TheVariants as fault;
+ghost use Rattle.ec_running.specs.declared.fault.StepFault.TheVariants as fault;
 
-use crate::fault::StepFault;
 use crate::signs::Sign;
 use ec_disk::{Choice, CrashDisk, Disk, DiskAnswer};
+use ec_running::StepFault;
 use ec_store::{Store, StoreFault};
 use std::alloc::Global;
 

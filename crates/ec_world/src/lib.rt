@@ -4,7 +4,6 @@
 mod answers;
 mod clerks;
 mod cutting;
-mod fault;
 mod keeping;
 mod lines;
 mod marking;
@@ -13,7 +12,6 @@ mod messages;
 mod network;
 mod opening;
 mod restarting;
-mod running;
 mod serving;
 mod shows;
 mod signs;

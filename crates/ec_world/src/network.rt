@@ -5,11 +5,10 @@ ghost use Rattle.ec_world.specs.Worlds.{view_of, Keeps};
 ghost use Rattle.ec_world.specs.Sending.{IsFor};
 ghost use Rattle.ec_world.specs.Steps.{under, Declines};
 
-use crate::fault::StepFault;
 use crate::messages::copy_of;
-use crate::running;
 use crate::world::World;
 use ec_base::{ClerkId, NoMemory};
+use ec_running::{StepFault, running};
 use std::alloc::Global;
 
 impl World {

@@ -8,16 +8,15 @@ ghost use Rattle.ec_protocol.specs.Server.{Serving};
 ghost use Rattle.ec_protocol.specs.World as machine;
 ghost use Rattle.ec_protocol.specs.declared.server.Server.{Server as State};
 ghost use Rattle.ec_store.specs.Store as stores;
-ghost use Rattle.ec_world.specs.Faults.{of_step};
+ghost use Rattle.ec_running.specs.Faults.{of_step};
 ghost use Rattle.ec_world.specs.Marks.{gone};
 ghost use Rattle.ec_world.specs.Worlds.{view_of, IsInStep, Keeps, Stands};
 ghost use Rattle.ec_world.specs.Keeping.{HasStoppedIn};
 ghost use Rattle.ec_world.specs.Serving.{CameTo, Finishes, ArmsBehind, Breaks, FailsSince, serves};
 ghost use Rattle.ec_world.specs.Steps.{under, Fated, Refuses, IsLeft};
 ghost use Rattle.ec_world.specs.Sending.{IsFor};
-ghost use Rattle.ec_world.specs.declared.fault.StepFault.TheVariants as fault;
+ghost use Rattle.ec_running.specs.declared.fault.StepFault.TheVariants as fault;
 
-use crate::fault::StepFault;
 use crate::keeping::{self, Came};
 use crate::marks::Mark;
 use crate::world::World;
@@ -25,6 +24,7 @@ use ec_base::{ClerkId, NoMemory};
 use ec_disk::CrashDisk;
 use ec_history::Shown;
 use ec_protocol::Served;
+use ec_running::StepFault;
 use std::alloc::Global;
 
 impl World {

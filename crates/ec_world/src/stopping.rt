@@ -13,16 +13,16 @@ ghost use Rattle.ec_world.specs.Serving.{Breaks, left_in, stopped_in, with_durab
 ghost use Rattle.ec_world.specs.Signs.{sign_of};
 ghost use Rattle.ec_world.specs.Steps.{under};
 ghost use Rattle.ec_world.specs.Worlds.{view_of, IsInStep};
-ghost use Rattle.ec_world.specs.declared.fault.StepFault.TheVariants as fault;
+ghost use Rattle.ec_running.specs.declared.fault.StepFault.TheVariants as fault;
 
 use crate::cutting::cut_power;
-use crate::fault::StepFault;
 use crate::marks::Mark;
 use crate::signs::Sign;
 use crate::world::World;
 use ec_disk::CrashDisk;
 use ec_durable::Record;
 use ec_history::Shown;
+use ec_running::StepFault;
 use ec_trace::Trace;
 use std::alloc::Global;
 

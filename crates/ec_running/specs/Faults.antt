@@ -3,8 +3,8 @@ use Rattle.ec_protocol.specs.declared.clerk.ClerkFault.{ClerkFault}
 use Rattle.ec_protocol.specs.declared.clerk.ClerkFault.TheVariants as clerk
 use Rattle.ec_protocol.specs.declared.world.WorldFault.{WorldFault}
 use Rattle.ec_protocol.specs.declared.world.WorldFault.TheVariants as world
-use Rattle.ec_world.specs.declared.fault.StepFault.{StepFault}
-use Rattle.ec_world.specs.declared.fault.StepFault.TheVariants as step
+use Rattle.ec_running.specs.declared.fault.StepFault.{StepFault}
+use Rattle.ec_running.specs.declared.fault.StepFault.TheVariants as step
 
 abbrev pub of_clerk : ClerkFault → StepFault
 of_clerk clerk.NoSuchOp = step.NoSuchOp

@@ -9,10 +9,10 @@ use Rattle.ec_protocol.specs.declared.clerk.Clerk.{Clerk}
 use Rattle.ec_protocol.specs.declared.clerk.Out.{Out}
 use Rattle.ec_protocol.specs.Clerk.{Doing}
 use Rattle.ec_protocol.specs.Clerk as machine
-use Rattle.ec_world.specs.declared.fault.StepFault.{StepFault}
-use Rattle.ec_world.specs.declared.fault.StepFault.TheVariants.{DiskFailed, Spent, NoSuchOp, NoSuchMsg, NoMemory}
-use Rattle.ec_world.specs.declared.running.Begun.{Begun}
-use Rattle.ec_world.specs.declared.running.Begun.TheVariants.{Took, IsAbsent}
+use Rattle.ec_running.specs.declared.fault.StepFault.{StepFault}
+use Rattle.ec_running.specs.declared.fault.StepFault.TheVariants.{DiskFailed, Spent, NoSuchOp, NoSuchMsg, NoMemory}
+use Rattle.ec_running.specs.declared.running.Begun.{Begun}
+use Rattle.ec_running.specs.declared.running.Begun.TheVariants.{Took, IsAbsent}
 
 abbrev pub has_issued_in : ℕ → Option Clerk → Bool
 has_issued_in n None = false

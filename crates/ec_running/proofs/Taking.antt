@@ -1,15 +1,15 @@
 -- A clerk is taken out, takes a step, and goes back.
-use Rattle.std.proofs.Common.{◌≡◌, ℕ, List, None, Some, refl, sym, ap, ◌∙◌}
-use Rattle.ec_base.specs.Tables.{Table, at, put, without}
+use Rattle.std.proofs.Common.{◌≡◌, ℕ, List, None, Some, refl, ap, ◌∙◌}
+use Rattle.ec_base.specs.Tables.{Table, put}
 use Rattle.ec_base.specs.declared.counter.Counter.{Counter}
 use Rattle.ec_protocol.specs.declared.clerk.Clerk.{Clerk}
 use Rattle.ec_protocol.specs.declared.clerk.Out.{Out}
 use Rattle.ec_protocol.specs.Clerk.{Doing}
 use Rattle.ec_protocol.specs.declared.clerk.ClerkFault.{ClerkFault}
 use Rattle.ec_protocol.specs.declared.clerk.ClerkFault.TheVariants as fault
-use Rattle.ec_world.specs.Faults.{of_clerk}
-use Rattle.ec_world.specs.Running.{Steps, StaysAt, TakesOut, WouldSpend}
-use Rattle.ec_world.proofs.Maps.{put-without, put-back}
+use Rattle.ec_running.specs.Faults.{of_clerk}
+use Rattle.ec_running.specs.Running.{Steps, StaysAt, TakesOut, WouldSpend}
+use Rattle.ec_running.proofs.Maps.{put-without, put-back}
 
 abbrev pub goes_back : (f : Clerk → Doing) (c : ℕ) (old left new : Table Clerk) (k after : Clerk) (outs : List Out) → TakesOut c old left k → new ≡ put c after left → f k ≡ record { clerk = after; outs = outs; spent = None } → Steps f c old new outs
 goes_back f c old left new k after outs out is does = record {

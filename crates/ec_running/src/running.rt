@@ -3,7 +3,7 @@ ghost use Rattle.std.specs.Prelude.{◌≡◌, true, IfOk, IfErr, MatchOption};
 ghost use Rattle.ec_base.specs.Tables.{at};
 ghost use Rattle.ec_wire.specs.Messages.{is_sound};
 ghost use Rattle.ec_protocol.specs.Clerk as machine;
-ghost use Rattle.ec_world.specs.Running.{Begins, Joins, JoinsNot, Starts, StartsNot, Stays, Steps, StaysAt, TakesOut, has_issued_in};
+ghost use Rattle.ec_running.specs.Running.{Begins, Joins, JoinsNot, Starts, StartsNot, Stays, Steps, StaysAt, TakesOut, has_issued_in};
 
 use crate::fault::StepFault;
 use ec_base::{ClerkId, OpNo, SortedMap};
@@ -13,7 +13,8 @@ use ec_protocol::Out;
 use ec_wire::Msg;
 use std::alloc::Global;
 
-pub(crate) fn has_issued(clerks: &SortedMap<ClerkId, Clerk>, id: ClerkId, op: OpNo) -> bool
+/// Whether the clerk runs, and its start issued the operation.
+pub fn has_issued(clerks: &SortedMap<ClerkId, Clerk>, id: ClerkId, op: OpNo) -> bool
     ensures { result ≡ has_issued_in op (at id clerks.now) }
 {
     match clerks.get(&id) {
@@ -33,16 +34,17 @@ fn take_out(clerks: &mut SortedMap<ClerkId, Clerk>, id: ClerkId) -> Option<Clerk
     clerks.remove(&id)
 }
 
-// What a call's begin came to.
+/// What a call's begin came to.
 #[derive(Drop)]
-pub(crate) enum Begun {
+pub enum Begun {
     /// The call's number, and what comes out.
     Took(u64, Vec<Out>),
     /// The clerk isn't running: the call is given back.
     IsAbsent(Call),
 }
 
-pub(crate) fn begin(
+/// Begins a call, where the clerk runs.
+pub fn begin(
     clerks: &mut SortedMap<ClerkId, Clerk>,
     id: ClerkId,
     call: Call,
@@ -59,8 +61,8 @@ pub(crate) fn begin(
     Ok(Begun::Took(no, outs))
 }
 
-// Starts a clerk, which begins a call: the call's number, what came out of the start, and what came out of the call.
-pub(crate) fn start(
+/// Starts a clerk, which begins a call: the call's number, what came out of the start, and what came out of the call.
+pub fn start(
     alloc: Global,
     clerks: &mut SortedMap<ClerkId, Clerk>,
     id: ClerkId,
@@ -90,8 +92,8 @@ fn join(
     Ok(begun)
 }
 
-// What comes out, where the clerk runs and issued the operation.
-pub(crate) fn push(
+/// What comes out, where the clerk runs and issued the operation.
+pub fn push(
     clerks: &mut SortedMap<ClerkId, Clerk>,
     id: ClerkId,
     op: OpNo,
@@ -108,8 +110,8 @@ pub(crate) fn push(
     Ok(Some(done?))
 }
 
-// What comes out, where the clerk runs.
-pub(crate) fn take(
+/// What comes out, where the clerk runs.
+pub fn take(
     clerks: &mut SortedMap<ClerkId, Clerk>,
     id: ClerkId,
     msg: Msg,
@@ -126,8 +128,8 @@ pub(crate) fn take(
     Ok(Some(done?))
 }
 
-// What comes out, where the clerk runs.
-pub(crate) fn resend(
+/// What comes out, where the clerk runs.
+pub fn resend(
     clerks: &mut SortedMap<ClerkId, Clerk>,
     id: ClerkId,
 ) -> Result<Option<Vec<Out>>, StepFault>

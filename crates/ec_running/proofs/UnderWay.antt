@@ -1,12 +1,12 @@
 -- The calls under way, by what was taken out and put back.
-use Rattle.std.proofs.Common.{◌≡◌, ℕ, Bool, true, false, List, [], Option, None, Some, refl, sym, ap, subst, ◌∙◌}
+use Rattle.std.proofs.Common.{◌≡◌, ℕ, Bool, true, [], Option, None, Some, sym, ap, subst, ◌∙◌}
 use Rattle.std.specs.Prelude.{T, is_some}
 use Rattle.std.specs.Ordering.{nat_cmp}
 use Rattle.std.specs.FinMap.Entries.{is_sorted}
 use Rattle.ec_base.specs.Tables.{Table, at, at_or, or_else, put, without}
 use Rattle.ec_plain.specs.declared.call.Call.{Call}
-use Rattle.ec_world.specs.Calls.{less}
-use Rattle.ec_world.proofs.Maps.{put-without}
+use Rattle.ec_running.specs.Calls.{less}
+use Rattle.ec_running.proofs.Maps.{put-without}
 
 -- one call is taken out
 pub call_taken : (c n : ℕ) (calls left new : Table (Table (ℕ × Call))) (own rest : Table (ℕ × Call)) (call : Option (ℕ × Call)) → T (is_sorted nat_cmp calls) → at c calls ≡ Some own → left ≡ without c calls → is_some call ≡ true → rest ≡ without n own → new ≡ put c rest left → new ≡ less c n calls call

@@ -1,15 +1,17 @@
-// Why a step isn't taken.
+// The faults of steps.
 ghost use Rattle.std.specs.Prelude.{◌≡◌};
-ghost use Rattle.ec_world.specs.Faults.{of_clerk, of_step};
-ghost use Rattle.ec_world.specs.declared.fault.StepFault.TheVariants as fault;
+ghost use Rattle.ec_running.specs.Faults.{of_clerk, of_step};
+ghost use Rattle.ec_running.specs.declared.fault.StepFault.TheVariants as fault;
 
 use ec_base::{Counter, NoMemory};
 use ec_protocol::{ClerkFault, WorldFault};
 use std::alloc::{AllocError, AllocFailed};
 
-// After `DiskFailed` and `NoMemory` a world answers want of memory alone. The others change nothing.
+/// Why a step isn't taken.
+///
+/// After `DiskFailed` and `NoMemory` a world answers want of memory alone. The others change nothing.
 #[derive(Clone, Copy, Debug, Drop, PartialEq, Eq)]
-pub(crate) enum StepFault {
+pub enum StepFault {
     DiskFailed,
     Spent(Counter),
     NoSuchOp,
@@ -54,7 +56,8 @@ impl From<ClerkFault> for StepFault {
 }
 
 impl StepFault {
-    pub(crate) fn shown(self) -> WorldFault
+    /// As a world tells it.
+    pub fn shown(self) -> WorldFault
         ensures { result ≡ of_step self }
     {
         match self {

@@ -1,6 +1,6 @@
 use Rattle.ec_protocol.specs.Clerk as machine
-use Rattle.ec_world.proofs.Taking.{goes_back}
-use Rattle.ec_world.proofs.running.push.Goals as goal
+use Rattle.ec_running.proofs.Taking.{goes_back}
+use Rattle.ec_running.proofs.running.push.Goals as goal
 
 pub returns-clause-ok : goal.returns-clause-ok
 returns-clause-ok c =

@@ -1,5 +1,5 @@
-use Rattle.ec_world.proofs.Under.{call_added}
-use Rattle.ec_world.proofs.answers.add_call.Goals as goal
+use Rattle.ec_running.proofs.UnderWay.{call_added}
+use Rattle.ec_running.proofs.calls.add_call.Goals as goal
 
 pub returns : goal.returns
 returns c =

@@ -1,8 +1,8 @@
-use Rattle.std.proofs.Common.{◌≡◌, Err, ap}
+use Rattle.std.proofs.Common.{Err, ap}
 use Rattle.std.proofs.lemmas.Result.{err_from_is_err_and}
 use Rattle.ec_protocol.specs.Clerk as machine
-use Rattle.ec_world.proofs.Taking.{goes_back, stays_at}
-use Rattle.ec_world.proofs.running.begin.Goals as goal
+use Rattle.ec_running.proofs.Taking.{goes_back, stays_at}
+use Rattle.ec_running.proofs.running.begin.Goals as goal
 
 pub returns-clause-ok : goal.returns-clause-ok
 returns-clause-ok c = (

@@ -1,6 +1,6 @@
 use Rattle.std.proofs.Common.{◌∙◌, sym}
-use Rattle.ec_world.proofs.Under.{call_taken, is_there}
-use Rattle.ec_world.proofs.answers.take_call.Goals as goal
+use Rattle.ec_running.proofs.UnderWay.{call_taken, is_there}
+use Rattle.ec_running.proofs.calls.take_call.Goals as goal
 
 pub returns-clause-left : goal.returns-clause-left
 returns-clause-left c =
