@@ -13,8 +13,8 @@ use Rattle.ec_servernode.specs.declared.state.Node.{Node}
 use Rattle.ec_servernode.specs.declared.step.Step.{Step}
 use Rattle.ec_servernode.specs.Run.{number_of}
 use Rattle.ec_serve.specs.Goings.{over_later}
-use Rattle.ec_serve.specs.declared.connection.Gone.{Gone}
-use Rattle.ec_serve.specs.declared.connection.Gone.TheVariants as gone
+use Rattle.ec_bells.specs.declared.telling.Gone.{Gone}
+use Rattle.ec_bells.specs.declared.telling.Gone.TheVariants as gone
 use Rattle.ec_serve.specs.Links.{Refuses, WasReplaced, IsOverBy, is_over, EndsSo, IsOver, back_of, Carries, own_steps, WasServed}
 
 bad_by : (faults closes : ℕ) → 1 ≤ faults + closes → is_bad faults closes ≡ 1

@@ -20,8 +20,8 @@ use Rattle.ec_servernode.specs.declared.fault.ServeFault.TheVariants as fault
 use Rattle.ec_servernode.specs.Bodies.{heard_by, said_by}
 use Rattle.ec_servernode.specs.Run.{number_of, caller_by}
 use Rattle.ec_servernode.specs.Turns.{IsReplaced}
-use Rattle.ec_serve.specs.declared.connection.Gone.{Gone}
-use Rattle.ec_serve.specs.declared.connection.Gone.TheVariants as gone
+use Rattle.ec_bells.specs.declared.telling.Gone.{Gone}
+use Rattle.ec_bells.specs.declared.telling.Gone.TheVariants as gone
 
 -- a body that is no message, or a length above the limit
 abbrev pub IsRefused : Heard → Type 0

@@ -4,9 +4,8 @@ ghost use Rattle.ec_lock.specs.Passes.{Same, front};
 ghost use Rattle.ec_servernode.specs.Turns.{IsServerPass};
 ghost use Rattle.ec_serve.specs.Links.{IsOverBy, is_over, EndsSo, WasReplaced, IsServed, WasServed, BeginsSo, GoneSo};
 
-use crate::bells::Bells;
-use crate::telling::{tell_end, tell_greeting};
 use ec_base::NoMemory;
+use ec_bells::{Bells, Gone, tell_end, tell_greeting};
 use ec_link::{Around, Bell, Link, NetFault};
 use ec_server::Keeper;
 use ec_servernode::{ServeFault, ServerPass, SharedServer, Told, Turned};
@@ -24,15 +23,6 @@ pub struct Connection<'s, 'b, K: Keeper + Drop, L: Link + Drop, D: Bell + Drop> 
     pub number: u64,
     pub pass: ServerPass<K>,
     pub link: L,
-}
-
-/// How a link ends that doesn't fail.
-#[derive(Clone, Copy, Drop)]
-pub enum Gone {
-    /// Its other end is gone.
-    Closed,
-    /// Its clerk has greeted on another link since.
-    Replaced,
 }
 
 /// A link that isn't served any more.

@@ -10,10 +10,8 @@ ghost use Rattle.ec_servernode.specs.Run.{number_of};
 ghost use Rattle.ec_servernode.specs.Turns.{IsServerPass};
 ghost use Rattle.ec_serve.specs.Links.{EndsSo, BeginsSo, GoneSo, back_of, moment, GoesOn};
 
-use crate::bells::Bells;
 use crate::connection::{Connection, Ended};
-use crate::telling::tell_begin;
-use crate::warden::Watch;
+use ec_bells::{Bells, Watch, give_back, tell_begin};
 use ec_link::{Around, Link, Net, NetFault};
 use ec_server::Keeper;
 use ec_servernode::{ServerPass, SharedServer};
@@ -95,9 +93,10 @@ impl<'s, 'b, K: Keeper + Drop, N: Net> Connections<'s, 'b, K, N> {
         ensures came { self.new.wants ≡ false → (self.old.wants ≡ false) × (is_over ≡ true) × (N.ended net.new ≡ N.ended net.old ++ (N.Link.given link, N.Link.got link) ∷ []) × (N.bad net.new ≡ N.bad net.old + is_bad (N.Link.faults link) (N.Link.closes link)) }
     {
         self.back = self.back.and(&Snapshot::of(&link));
-        match net.back(link) {
-            Ok(()) => self.wants = self.wants || !is_over,
-            Err(_) => self.wants = true,
+        if give_back(net, link) {
+            self.wants = self.wants || !is_over;
+        } else {
+            self.wants = true;
         }
     }
 

@@ -1,13 +1,11 @@
 //! A server over a net: it opens a disk, and serves each link that comes in a thread of its own.
 #![tactic(auto)]
 
-mod bells;
 mod connection;
 mod connections;
 mod ending;
 mod opening;
 mod serving;
-mod telling;
 mod tending;
 mod threads;
 mod warden;

@@ -8,12 +8,10 @@ ghost use Rattle.ec_link.specs.declared.spawn.Spawned.TheVariants as spawned;
 ghost use Rattle.ec_servernode.specs.Turns.{IsServerPass};
 ghost use Rattle.ec_serve.specs.Serve.{Tends, tended_of};
 
-use crate::bells::Bells;
 use crate::connections::Connections;
 use crate::ending::Tended;
-use crate::telling::{tell_door, tell_no_door};
 use crate::threads::run_all;
-use crate::warden::Watch;
+use ec_bells::{Bells, Watch, tell_door, tell_no_door};
 use ec_link::{Around, Net, NetFault, Spawned, Spawner};
 use ec_server::Keeper;
 use ec_servernode::{ServerPass, SharedServer};

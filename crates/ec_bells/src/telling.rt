@@ -1,9 +1,17 @@
 // What a server says on standard error, one line each. What can't be said there is no fault.
-use crate::connection::Gone;
 use ec_base::ClerkId;
 use ec_servernode::ServeFault;
 use std::io::{self, Eprint};
 use std::net::SocketAddr;
+
+/// How a link ends that doesn't fail.
+#[derive(Clone, Copy, Drop)]
+pub enum Gone {
+    /// Its other end is gone.
+    Closed,
+    /// Its clerk has greeted on another link since.
+    Replaced,
+}
 
 /// Where it serves, in the system's words where they're known.
 pub fn tell_door<R: Eprint>(rt: &R, addr: &str, place: Option<SocketAddr>) {
@@ -21,6 +29,7 @@ pub fn tell_no_door<R: Eprint>(rt: &R, addr: &str, why: Option<io::Error>) {
     };
 }
 
+/// A link came.
 pub fn tell_begin<R: Eprint>(rt: &R, number: u64) {
     let _ = eprintln!(rt; "echofs: link {number} came");
 }
