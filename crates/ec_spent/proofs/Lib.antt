@@ -1,0 +1,7 @@
+pub mod Few
+mod Windows
+mod Servers
+mod Clerks
+mod Messages
+mod Worlds
+pub mod Drills
