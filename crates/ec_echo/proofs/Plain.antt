@@ -22,7 +22,6 @@ use Rattle.ec_drill.specs.Drill.{Outside}
 use Rattle.ec_drill.specs.Limits.{most_objects}
 use Rattle.ec_drill.specs.Script.{AreRead, machine_line}
 use Rattle.ec_promise.specs.Completes.{GivesPlainScript}
-use Rattle.ec_promise.proofs.Fit.{fit_script}
 use Rattle.ec_promise.proofs.Named.{few-named}
 use Rattle.ec_made.specs.Made as made
 use Rattle.ec_made.proofs.Made.{made-lines-call}
@@ -81,7 +80,7 @@ module _ (number : ℕ) where
       record {
         faultless = all.faultless;
         pushes = none-pushed _ 1 1 _ (lines_in rs) all.calls;
-        room = enough (makes (lines_in rs)) (length (once (named_in rs))) all.room (few-named (lines_of (script_of number made_lines)) rs read (fit_script (lines_of (script_of number made_lines)) rs read) all.faultless);
+        room = enough (makes (lines_in rs)) (length (once (named_in rs))) all.room (few-named (lines_of (script_of number made_lines)) rs read);
       }
     where
       enough : (m n : ℕ) → m ≡ 500 → n ≤ 16 → m + 16 * n + 1 ≤ 1024

@@ -10,6 +10,7 @@ use Rattle.ec_echo.specs.Made.{made_lines}
 use Rattle.ec_promise.proofs.Completes.{drills-complete}
 use Rattle.ec_promise.proofs.Lawful.{drills-lawful}
 use Rattle.ec_promise.proofs.Rooms.{drills-told}
+use Rattle.ec_promise.proofs.Spent.{drills-spent}
 use Rattle.ec_echo.proofs.Plain.{made-plain}
 use Rattle.ec_echo.specs.Soak.{AreSorts, IsSort, Soaked, Told, TellsCounts, TellsLast, summary_text, last_text, within}
 use Rattle.ec_echo.specs.Written.{WroteWith, WroteNothing}
@@ -53,7 +54,7 @@ last_told (Err x) items transcript st result held now before later e w = inr w
 
 -- whatever source there is beside it
 pub soaked_over : (number : ℕ) (result : Status) (w : Outside) (left left_after : Option (List ℕ)) (reads reads_after : ℕ) → Soaked number result w → Soaked number result (record w { left = left; left_after = left_after; reads = reads; reads_after = reads_after })
-soaked_over number result w left left_after reads reads_after (inl s) = inl (record { left_after = s.left_after; transcript = s.transcript; end = s.end; drilled_so = s.drilled_so; lawful = s.lawful; complete = λ new. s.complete (record { tells = new.tells; empty = new.empty }); room = s.room; told = s.told })
+soaked_over number result w left left_after reads reads_after (inl s) = inl (record { left_after = s.left_after; transcript = s.transcript; end = s.end; drilled_so = s.drilled_so; lawful = s.lawful; complete = λ new. s.complete (record { tells = new.tells; empty = new.empty }); room = s.room; spent = s.spent; told = s.told })
 soaked_over number result w left left_after reads reads_after (inr s) = inr (record { result_is = s.result_is; held = s.held; disk = record { gives = s.disk.gives; crash = s.disk.crash; counts = s.disk.counts } })
 
 -- a drill from memory to memory, by what the source and the sink have before it
@@ -72,5 +73,6 @@ soaked_by number end result w script held left_after transcript made empty did t
       lawful = lawful;
       complete = λ new. (drills-complete most_objects end (within number left_after transcript w) two lawful (record { tells = new.tells; empty = new.empty }) (made-plain number left_after transcript w));
       room = drills-told most_objects end (within number left_after transcript w) two;
+      spent = drills-spent most_objects end (within number left_after transcript w) two;
       told = told;
     })

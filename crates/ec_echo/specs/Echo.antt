@@ -8,6 +8,7 @@ use Rattle.ec_drill.specs.declared.status.Status as drilled
 use Rattle.ec_promise.specs.Promise.{IsLawful}
 use Rattle.ec_promise.specs.Completes.{Completes}
 use Rattle.ec_promise.specs.Rooms.{TellsRoom}
+use Rattle.ec_promise.specs.Spent.{TellsSpent}
 use Rattle.ec_node_laws.specs.Claims.{ClaimsComeFirst}
 use Rattle.ec_serve.specs.Serve.{Outer, Outside as Serving}
 use Rattle.ec_mount.specs.Mount.{Mounts, StartsAs, Outside as Mounting}
@@ -90,9 +91,9 @@ streams w = record {
 
 -- What each form of words does. The lines that a drill wrote are lawful besides, also those of the drill of `soak`: they stand in one legal history of one uncached
 -- volume. Over a plain script on a new disk a drill ends well, unless something outside of it fails. A refusal for
--- want of room tells counts within the number of objects, and its servers serve no noted want before each open session has claimed or was ended.
+-- want of room tells counts within the number of objects, a counter that is spent is one that the disk keeps, and its servers serve no noted want before each open session has claimed or was ended.
 abbrev pub DoesAlone : Command → Status → Outside → Type 0
-DoesAlone (Drill most) st w = (end : drilled.Status) × (st ≡ of_drill end) × (did : Drilled most end w) × IsLawful most end w did × Completes most end w did × TellsRoom most end w did × ClaimsComeFirst
+DoesAlone (Drill most) st w = (end : drilled.Status) × (st ≡ of_drill end) × (did : Drilled most end w) × IsLawful most end w did × Completes most end w did × TellsRoom most end w did × TellsSpent most end w did × ClaimsComeFirst
 DoesAlone (Check most) st w = Judged most st (streams w) × IsDiskUntouched w
 DoesAlone (Make n) st w = Made n st w.held w.held_after w.writes w.writes_after × IsSourceUntouched w × IsDiskUntouched w
 DoesAlone (Soak n) st w = Soaked n st w × IsSourceUntouched w

@@ -11,6 +11,7 @@ use Rattle.ec_drill.specs.Drill.{Outside, Drilled, IsDiskUntouched}
 use Rattle.ec_promise.specs.Promise.{HasNewDisk, IsLawful}
 use Rattle.ec_promise.specs.Completes.{EndsPlainly}
 use Rattle.ec_promise.specs.Rooms.{TellsRoom}
+use Rattle.ec_promise.specs.Spent.{TellsSpent}
 use Rattle.ec_drill.specs.Limits.{most_objects}
 use Rattle.ec_drill.specs.declared.status.Status as drilled
 use Rattle.ec_drill.specs.declared.status.Status.TheVariants as drill
@@ -124,6 +125,7 @@ pub record Drills (number : ℕ) (result : Status) (w : Outside) : Type 0 where
   pub lawful : IsLawful most_objects end (within number left_after transcript w) drilled_so
   pub complete : HasNewDisk w → EndsPlainly most_objects end (within number left_after transcript w) drilled_so
   pub room : TellsRoom most_objects end (within number left_after transcript w) drilled_so
+  pub spent : TellsSpent most_objects end (within number left_after transcript w) drilled_so
   pub told : Told number end transcript result w.held w.held_after w.writes w.writes_after
 
 -- there was no memory for the script

@@ -20,6 +20,7 @@ use Rattle.ec_promise.specs.Promise.{IsLawful}
 use Rattle.ec_promise.proofs.Completes.{drills-complete}
 use Rattle.ec_promise.proofs.Lawful.{drills-lawful}
 use Rattle.ec_promise.proofs.Rooms.{drills-told}
+use Rattle.ec_promise.proofs.Spent.{drills-spent}
 use Rattle.ec_echo.specs.Echo.{Does, Echoes, Links}
 use Rattle.ec_gen.specs.Generator.{script_of}
 use Rattle.ec_drill.specs.Limits.{most_objects}
@@ -275,7 +276,7 @@ say-all boot words result source sink store n all = go all.usage
     go (inr (other, Drill most, s)) =
         let d = all.drill most s in
         let lawful = drills-lawful most d.0 (outside source sink store) d.2 in
-        (of_drill d.0, d.1, inr (Drill most, s, ((d.0, refl, d.2, lawful, drills-complete most d.0 (outside source sink store) d.2 lawful, drills-told most d.0 (outside source sink store) d.2, all.claims), no-net (Drill most) (λ k e. cc) (λ k e. cc) s)))
+        (of_drill d.0, d.1, inr (Drill most, s, ((d.0, refl, d.2, lawful, drills-complete most d.0 (outside source sink store) d.2 lawful, drills-told most d.0 (outside source sink store) d.2, drills-spent most d.0 (outside source sink store) d.2, all.claims), no-net (Drill most) (λ k e. cc) (λ k e. cc) s)))
     go (inr (other, Check most, s)) = let d = all.check most s in (d.0, d.1, inr (Check most, s, ((d.2, d.3), no-net (Check most) (λ k e. cc) (λ k e. cc) s)))
     go (inr (other, Make k, s)) = let d = all.make k s in (d.0, d.1, inr (Make k, s, ((d.2, d.3, d.4), no-net (Make k) (λ k e. cc) (λ k e. cc) s)))
     go (inr (other, Soak k, s)) = let d = all.soak k s in (d.0, d.1, inr (Soak k, s, ((soaked k d.0 d.2, d.3), no-net (Soak k) (λ k e. cc) (λ k e. cc) s)))

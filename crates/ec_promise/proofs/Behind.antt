@@ -116,7 +116,7 @@ module _ (most : ℕ) (w : Outside) (reads : List Read) (given : IsGiven w reads
   few = omega (arith, as-many (lines_of given.script) reads given.read, given.few_lines)
 
   all-kept : Each IsFaultlessRead reads → WellFormed state → AreBehindOn reads state (pieces_of reads fs state) (drill reads fs state).0
-  all-kept faultless formed = machine-behind reads fs state formed opens.whole.slots opens.whole.from_one few (few-named (lines_of given.script) reads given.read fit faultless) fit faultless (all-run w reads fs stopped faultless)
+  all-kept faultless formed = machine-behind reads fs state formed opens.whole.slots opens.whole.from_one few (few-named (lines_of given.script) reads given.read) fit faultless (all-run w reads fs stopped faultless)
 
 pub behind-kept : (most number : ℕ) (w : Outside) (r : RanWhole most number w) → BehindIsKept most number w r
 behind-kept most number w r tells faultless =

@@ -9,5 +9,6 @@ pub mod Completes
 pub mod Rooms
 pub mod Spared
 pub mod Named
+pub mod Spent
 mod Cut
 pub mod Behind

@@ -1,6 +1,6 @@
 -- The clerks that a script names are sixteen at most, and its lines are no more than they were read.
 use Rattle.std.proofs.Common.{◌≡◌, refl, sym, ap, ◌∙◌, subst, arith, ◌≤◌, ◌<◌, ◌+◌, ◌==◌, ◌||◌, ℕ, zero, suc, T, Bool, true, false, not, cond, List, [], ◌∷◌, ◌++◌, length, inl, inr}
-use Rattle.std.specs.Prelude.{filter, ⊤}
+use Rattle.std.specs.Prelude.{filter}
 use Rattle.std.proofs.lemmas.Bool.{eqb-true}
 use Rattle.std.proofs.lemmas.Bool.Decides.{nat_tests}
 use Rattle.ec_base.specs.Tables.{once}
@@ -12,14 +12,10 @@ use Rattle.ec_words.specs.declared.name.Keyword.{Keyword}
 use Rattle.ec_words.specs.declared.name.Keyword.TheVariants as keyword
 use Rattle.ec_script.specs.Grammar.{IsLine, Spells, Says}
 use Rattle.ec_script.specs.declared.line.Line.{Line}
-use Rattle.ec_script.specs.declared.line.Line.TheVariants as line
 use Rattle.ec_machine_laws.proofs.Once.{AreOnce, fewer}
-use Rattle.ec_protocol.specs.Drill.{Read, named_in, reads, unfit}
-use Rattle.ec_protocol.specs.declared.script.Line.{Line as MachineLine}
-use Rattle.ec_protocol.specs.declared.script.Line.TheVariants as machine
+use Rattle.ec_protocol.specs.Drill.{Read, clerk_in, named_in, reads, unfit}
+use Rattle.ec_coherence.proofs.Tables.{each-append}
 use Rattle.ec_drill.specs.Script.{AreRead, IsRead, machine_line}
-use Rattle.ec_lawful.specs.Drills.{AreFit, IsFit}
-use Rattle.ec_complete.specs.Complete.{IsFaultlessRead}
 
 -- Numbers below a bound, each once.
 
@@ -110,66 +106,63 @@ few-once n xs a = within (length (once xs)) (length (below n)) (below-long n) (f
     within : (a b : ℕ) → b ≡ n → a ≤ b → a ≤ n
     within a b e l = omega (arith, e, l)
 
--- The clerk of a push is one of sixteen.
+-- The clerk of a line is one of sixteen.
 
-abbrev IsSmall : MachineLine → Type 0
-IsSmall (machine.Push c n) = c < 16
-IsSmall _ = ⊤
+abbrev AreSmall : List ℕ → Type 0
+AreSmall cs = Each (λ c. c < 16) cs
 
 abbrev IsSmallOne : Line → Type 0
-IsSmallOne l = IsSmall (machine_line l)
+IsSmallOne l = AreSmall (clerk_in (machine_line l))
 
-behind_push : (ws : List Word) (l : Line) → Says keyword.Push ws l → IsSmallOne l
-behind_push [] l is = absurd is.1.0
-behind_push (w ∷ ws) l is = subst IsSmallOne is.1.1 is.1.0.0.1
+-- behind a keyword that a clerk follows
+behind_keyword : (k : Keyword) (w : Word) (ws : List Word) (l : Line) → Says k (w ∷ ws) l → IsSmallOne l
+behind_keyword keyword.Push w ws l is = subst IsSmallOne is.1.1 (is.1.0.0.1, tt)
+behind_keyword keyword.Cut w ws l is = subst IsSmallOne is.1.1 (is.1.0.0.1, tt)
+behind_keyword keyword.Uncut w ws l is = subst IsSmallOne is.1.1 (is.1.0.0.1, tt)
+behind_keyword keyword.Drop w ws l is = subst IsSmallOne is.1.1 (is.1.0.0.1, tt)
+behind_keyword keyword.Repeat w ws l is = subst IsSmallOne is.1.1 (is.1.0.0.1, tt)
+behind_keyword keyword.Deliver w ws l is = subst IsSmallOne is.1.1 (is.1.0.0.1, tt)
+behind_keyword keyword.Resend w ws l is = subst IsSmallOne is.1.1 (is.1.0.0.1, tt)
+behind_keyword keyword.Crash w ws l is = subst IsSmallOne is.1.1 (is.1.0.0.1, tt)
+behind_keyword keyword.End w ws l is = subst IsSmallOne is.1.1 (is.1.0.0.1, tt)
+behind_keyword keyword.Stop w ws l is = subst IsSmallOne is.1.1 tt
+behind_keyword keyword.Arm w ws l is = subst IsSmallOne is.1.1 tt
+behind_keyword keyword.Restart w ws l is = subst IsSmallOne is.1.1 tt
 
-behind_keyword : (k : Keyword) (ws : List Word) (l : Line) → Says k ws l → IsSmallOne l
-behind_keyword keyword.Push ws l is = behind_push ws l is
-behind_keyword keyword.Cut ws l is = subst IsSmallOne is.1.1 tt
-behind_keyword keyword.Uncut ws l is = subst IsSmallOne is.1.1 tt
-behind_keyword keyword.Drop ws l is = subst IsSmallOne is.1.1 tt
-behind_keyword keyword.Repeat ws l is = subst IsSmallOne is.1.1 tt
-behind_keyword keyword.Deliver ws l is = subst IsSmallOne is.1.1 tt
-behind_keyword keyword.Resend ws l is = subst IsSmallOne is.1.1 tt
-behind_keyword keyword.Crash ws l is = subst IsSmallOne is.1.1 tt
-behind_keyword keyword.End ws l is = subst IsSmallOne is.1.1 tt
-behind_keyword keyword.Stop ws l is = subst IsSmallOne is.1.1 tt
-behind_keyword keyword.Arm ws l is = subst IsSmallOne is.1.1 tt
-behind_keyword keyword.Restart ws l is = subst IsSmallOne is.1.1 tt
+-- a keyword alone
+alone : (k : Keyword) (l : Line) → Says k [] l → IsSmallOne l
+alone keyword.Push l is = absurd is.1.0
+alone keyword.Cut l is = absurd is.1.0
+alone keyword.Uncut l is = absurd is.1.0
+alone keyword.Drop l is = absurd is.1.0
+alone keyword.Repeat l is = absurd is.1.0
+alone keyword.Deliver l is = absurd is.1.0
+alone keyword.Resend l is = absurd is.1.0
+alone keyword.Crash l is = absurd is.1.0
+alone keyword.End l is = absurd is.1.0
+alone keyword.Stop l is = subst IsSmallOne is.1.1 tt
+alone keyword.Arm l is = absurd is.1.0
+alone keyword.Restart l is = subst IsSmallOne is.1.1 tt
 
 spelled : (ws : List Word) (l : Line) → Spells ws l → IsSmallOne l
 spelled [] l is = absurd is
-spelled (w ∷ ws) l (inl c, (head, begun)) = subst IsSmallOne begun.1.1 tt
-spelled (w ∷ ws) l (inr k, (head, says)) = behind_keyword k ws l says
+spelled (w ∷ ws) l (inl c, (head, begun)) = subst IsSmallOne begun.1.1 (head.1, tt)
+spelled (w ∷ []) l (inr k, (head, says)) = alone k l says
+spelled (w ∷ x ∷ ws) l (inr k, (head, says)) = behind_keyword k x ws l says
 
 one_line : (bytes : List ℕ) (l : Line) → IsLine bytes l → IsSmallOne l
 one_line bytes l (inl comment) = subst IsSmallOne (sym comment.1) tt
 one_line bytes l (inr is) = spelled (words_of bytes) l is
 
-named_small : (bs : List (List ℕ)) (rs : List Read) → AreRead bs rs → AreFit rs → Each IsFaultlessRead rs → Each (λ c. c < 16) (named_in rs)
-named_small bs [] are fit a = tt
-named_small [] (r ∷ rs) are fit a = absurd are
-named_small (b ∷ bs) (unfit column ∷ rs) are fit a = absurd a.0
-named_small (b ∷ bs) (reads l column ∷ rs) are fit a = go l (subst IsSmall (sym are.0.2) (one_line b are.0.0 are.0.1)) fit.0 a.0 (named_small bs rs are.1 fit.1 a.1)
-  where
-    go : (l : MachineLine) → IsSmall l → IsFit (reads l column) → IsFaultlessRead (reads l column) → Each (λ c. c < 16) (named_in rs) → Each (λ c. c < 16) (named_in (reads l column ∷ rs))
-    go machine.Comment s f a r = r
-    go (machine.Call c cl) s f a r = (f.0, r)
-    go (machine.Push c n) s f a r = (s, r)
-    go (machine.Cut c) s f a r = absurd a
-    go (machine.Uncut c) s f a r = absurd a
-    go (machine.Drop c k n) s f a r = absurd a
-    go (machine.Repeat c k n) s f a r = absurd a
-    go (machine.Deliver c k n) s f a r = absurd a
-    go (machine.Resend c) s f a r = absurd a
-    go (machine.Crash c) s f a r = absurd a
-    go (machine.End c) s f a r = absurd a
-    go machine.Stop s f a r = absurd a
-    go (machine.Arm n ch) s f a r = absurd a
-    go machine.Restart s f a r = absurd a
+named_small : (bs : List (List ℕ)) (rs : List Read) → AreRead bs rs → AreSmall (named_in rs)
+named_small [] [] are = tt
+named_small [] (r ∷ rs) are = absurd are
+named_small (b ∷ bs) [] are = absurd are
+named_small (b ∷ bs) (unfit column ∷ rs) are = named_small bs rs are.1
+named_small (b ∷ bs) (reads l column ∷ rs) are = each-append (λ (c : ℕ). c < 16) (clerk_in l) (named_in rs) (subst (λ m. AreSmall (clerk_in m)) (sym are.0.2) (one_line b are.0.0 are.0.1)) (named_small bs rs are.1)
 
-pub few-named : (bs : List (List ℕ)) (rs : List Read) → AreRead bs rs → AreFit rs → Each IsFaultlessRead rs → length (once (named_in rs)) ≤ 16
-few-named bs rs are fit a = few-once 16 (named_in rs) (named_small bs rs are fit a)
+pub few-named : (bs : List (List ℕ)) (rs : List Read) → AreRead bs rs → length (once (named_in rs)) ≤ 16
+few-named bs rs are = few-once 16 (named_in rs) (named_small bs rs are)
 
 pub as-many : (bs : List (List ℕ)) (rs : List Read) → AreRead bs rs → length rs ≡ length bs
 as-many [] [] are = refl

@@ -4,4 +4,5 @@ pub mod Left
 pub mod Promise
 pub mod Completes
 pub mod Rooms
+pub mod Spent
 pub mod Behind

@@ -4,6 +4,7 @@ use Rattle.ec_echo.specs.declared.status.Status.TheVariants as status
 use Rattle.ec_promise.proofs.Completes.{drills-complete}
 use Rattle.ec_promise.proofs.Lawful.{drills-lawful}
 use Rattle.ec_promise.proofs.Rooms.{drills-told}
+use Rattle.ec_promise.proofs.Spent.{drills-spent}
 use Rattle.ec_node_laws.proofs.Claims.{claims-first}
 use Rattle.ec_echo.proofs.Greeting.{mounts-greet}
 use Rattle.ec_echo.proofs.Soaks.{soaked_over}
@@ -14,7 +15,7 @@ use Rattle.ec_echo.proofs.run_words.Goals as goal
 pub returns-in-Drill-clause-echoes : goal.returns-in-Drill-clause-echoes
 returns-in-Drill-clause-echoes g c =
     let lawful = drills-lawful _ c.drill.result _ c.drill.ensures.drilled in
-    (c.of_drill.result, c.code-in-Drill.ensures, inr (Drill c.in-Drill.max_objects, rw c.in-Drill.is at c.in-Some.ensures, ((c.drill.result, c.of_drill.ensures, c.drill.ensures.drilled, lawful, drills-complete _ c.drill.result _ c.drill.ensures.drilled lawful, drills-told _ c.drill.result _ c.drill.ensures.drilled, claims-first), refl)))
+    (c.of_drill.result, c.code-in-Drill.ensures, inr (Drill c.in-Drill.max_objects, rw c.in-Drill.is at c.in-Some.ensures, ((c.drill.result, c.of_drill.ensures, c.drill.ensures.drilled, lawful, drills-complete _ c.drill.result _ c.drill.ensures.drilled lawful, drills-told _ c.drill.result _ c.drill.ensures.drilled, drills-spent _ c.drill.result _ c.drill.ensures.drilled, claims-first), refl)))
 
 pub returns-in-Drill-clause-usage : goal.returns-in-Drill-clause-usage
 returns-in-Drill-clause-usage g c = answers-usage _ _ _ _ _ (returns-in-Drill-clause-echoes g c)
