@@ -1,11 +1,12 @@
 // One disk is made as the other one.
-ghost use Rattle.std.specs.Prelude.{◌≡◌, ◌<◌, ◌⊎◌, true, false};
+ghost use Rattle.std.specs.Prelude.{◌≡◌, ◌<◌, ◌+◌, true, false};
 ghost use Rattle.ec_disk.specs.declared.disk.DiskAnswer.{DiskAnswer};
 ghost use Rattle.ec_disk.specs.declared.disk.DiskAnswer.TheVariants as said;
 ghost use Rattle.ec_half.specs.declared.copying.Joined.TheVariants as joined;
 ghost use Rattle.ec_half.specs.declared.copying.Copied.TheVariants as copied;
 
 use crate::half::Half;
+use crate::header::MOST;
 use ec_disk::{CrashDisk, DiskAnswer};
 
 const PIECE_BYTES: usize = 4_096;
@@ -31,7 +32,8 @@ enum Copied {
     OfOther(DiskAnswer),
 }
 
-/// Gives the source the next generation, and then the other disk, which isn't longer, its content of this length and that generation.
+/// Gives the source the next generation, and then the other disk, which isn't longer, its content of this length and that generation. Where the other
+/// one fails behind that, the source gets one generation more: the other one may hold the one before, over a content that is written no more.
 pub fn join<S: CrashDisk, O: CrashDisk>(
     source: &mut Half<'_, S>,
     other: &mut Half<'_, O>,
@@ -47,7 +49,8 @@ pub fn join<S: CrashDisk, O: CrashDisk>(
     ensures failed { result ≡ joined.Fault said.Failed → source.new.has_failed ≡ true }
     ensures alone { result ≡ joined.SourceAlone → other.new.has_failed ≡ true }
     ensures not_done { result ≡ joined.Fault said.Done → ⊥ }
-    ensures raised { (result ≡ joined.Both) ⊎ (result ≡ joined.SourceAlone) → source.new.generation.number ≡ number }
+    ensures raised { result ≡ joined.Both → source.new.generation.number ≡ number }
+    ensures raised_alone { result ≡ joined.SourceAlone → source.new.generation.number ≡ number + 1 }
     ensures other_raised { result ≡ joined.Both → other.new.generation.number ≡ number }
     ensures other_stays { result ≡ joined.SourceAlone → other.new.generation ≡ other.old.generation }
 {
@@ -58,26 +61,38 @@ pub fn join<S: CrashDisk, O: CrashDisk>(
     match copy(source, other, len) {
         Copied::Done => {}
         Copied::OfSource(fault) => return Joined::Fault(fault),
-        Copied::OfOther(fault) => return without_other(fault),
+        Copied::OfOther(fault) => return without_other(source, fault, number),
     }
     match other.sync() {
         DiskAnswer::Done => {}
-        fault => return without_other(fault),
+        fault => return without_other(source, fault, number),
     }
     match other.raise(number) {
         DiskAnswer::Done => Joined::Both,
-        fault => without_other(fault),
+        fault => without_other(source, fault, number),
     }
 }
 
-// A disk that failed behind the source's generation is left alone.
-fn without_other(fault: DiskAnswer) -> Joined
+// A disk that failed behind the source's generation is left alone: the source goes on under the next one.
+fn without_other<S: CrashDisk>(source: &mut Half<'_, S>, fault: DiskAnswer, number: u64) -> Joined
+    requires not_done { fault ≡ said.Done → ⊥ }
     ensures alone { result ≡ joined.SourceAlone → fault ≡ said.Failed }
-    ensures fault { (answer : DiskAnswer) → result ≡ joined.Fault answer → (fault ≡ answer) × (answer ≡ said.Failed → ⊥) }
+    ensures raised { result ≡ joined.SourceAlone → source.new.generation.number ≡ number + 1 }
     ensures both { result ≡ joined.Both → ⊥ }
+    ensures not_done { result ≡ joined.Fault said.Done → ⊥ }
+    ensures stop { source.new.may_stop ≡ source.old.may_stop }
+    ensures never_stops { source.old.may_stop ≡ false → (fault ≡ said.Stopped → ⊥) → result ≡ joined.Fault said.Stopped → ⊥ }
+    ensures keeps { source.old.has_failed ≡ true → source.new.has_failed ≡ true }
+    ensures failed { result ≡ joined.Fault said.Failed → source.new.has_failed ≡ true }
 {
-    match fault {
-        DiskAnswer::Failed => Joined::SourceAlone,
+    if fault != DiskAnswer::Failed {
+        return Joined::Fault(fault);
+    }
+    if number >= MOST {
+        return Joined::Fault(DiskAnswer::NoMemory);
+    }
+    match source.raise(number + 1) {
+        DiskAnswer::Done => Joined::SourceAlone,
         fault => Joined::Fault(fault),
     }
 }

@@ -1,5 +1,5 @@
 // What a power cut does with the disks of a mirror.
-ghost use Rattle.std.specs.Prelude.{◌≡◌, ◌<◌, ◌+◌, ◌^◌, None, true, false};
+ghost use Rattle.std.specs.Prelude.{◌≡◌, ◌<◌, ◌^◌, None, true, false};
 ghost use Rattle.ec_disk.specs.declared.disk.DiskAnswer.TheVariants as said;
 ghost use Rattle.ec_disk.specs.declared.disk.DiskLen.TheVariants as len;
 ghost use Rattle.ec_mirror.specs.declared.kept.Kept.TheVariants as left;
@@ -88,10 +88,11 @@ impl<'a, A: CrashDisk, B: CrashDisk> Parts<'a, A, B> {
         let number = self.number + 1;
         let Pair { first, second, .. } = &mut self.present.pair;
         match join(first, second, len, number) {
-            Joined::Both => self.renewed(),
+            Joined::Both => self.renewed(number),
             Joined::SourceAlone => {
                 self.present.pair.kept = Kept::First;
-                self.renewed()
+                let number = self.present.pair.first.generation.number;
+                self.renewed(number)
             }
             Joined::Fault(fault) => self.cut_short(fault),
         }
@@ -111,7 +112,7 @@ impl<'a, A: CrashDisk, B: CrashDisk> Parts<'a, A, B> {
         self.freeze(len);
         let number = self.number + 1;
         match self.present.pair.first.raise(number) {
-            DiskAnswer::Done => self.renewed(),
+            DiskAnswer::Done => self.renewed(number),
             fault => self.cut_short(fault),
         }
     }
@@ -130,19 +131,18 @@ impl<'a, A: CrashDisk, B: CrashDisk> Parts<'a, A, B> {
         self.freeze(len);
         let number = self.number + 1;
         match self.present.pair.second.raise(number) {
-            DiskAnswer::Done => self.renewed(),
+            DiskAnswer::Done => self.renewed(number),
             fault => self.cut_short(fault),
         }
     }
 
-    fn renewed(&mut self) -> DiskAnswer
-        requires most { self.old.number < 2 ^ 62 }
+    fn renewed(&mut self, number: u64) -> DiskAnswer
         requires dead { self.old.is_dead ≡ true }
-        requires numbered { Numbered self.old.present.pair.kept self.old.present.pair.first.generation.number self.old.present.pair.second.generation.number (self.old.number + 1) }
+        requires numbered { Numbered self.old.present.pair.kept self.old.present.pair.first.generation.number self.old.present.pair.second.generation.number number }
         ensures answer { result ≡ said.Done }
         ensures tally { self.new.tally ≡ record self.old.tally { armed = None } }
     {
-        self.thaw();
+        self.thaw(number);
         self.save();
         self.tally.armed = None;
         DiskAnswer::Done

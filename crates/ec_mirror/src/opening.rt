@@ -1,5 +1,5 @@
 // Two disks become a mirror.
-ghost use Rattle.std.specs.Prelude.{◌≡◌, ◌≤◌, ◌<◌, IfOk, OnOk, true, false};
+ghost use Rattle.std.specs.Prelude.{◌≡◌, ◌≤◌, ◌<◌, ◌+◌, IfOk, true, false};
 ghost use Rattle.ec_mirror.specs.declared.kept.Kept.TheVariants as left;
 ghost use Rattle.ec_mirror.specs.Numbers.{Numbered};
 
@@ -29,11 +29,11 @@ impl<'a, A: CrashDisk, B: CrashDisk> Mirror<'a, A, B> {
             second,
             kept: Kept::Both,
         };
-        joined(&mut pair, number + 1)?;
+        let number = joined(&mut pair, number + 1)?;
         pair.first.disarm();
         pair.second.disarm();
         Ok(Mirror {
-            parts: opened(pair, number + 1),
+            parts: opened(pair, number),
         })
     }
 }
@@ -49,17 +49,17 @@ fn begun<'a, D: CrashDisk>(disk: &'a mut D, found: Found) -> Result<Half<'a, D>,
     }
 }
 
-// Makes both disks alike, under this generation.
+// Makes both disks alike, under this generation, or goes on with one of them, under the next. The generation that it has then.
 fn joined<'a, A: CrashDisk, B: CrashDisk>(
     pair: &mut Pair<'a, A, B>,
     number: u64,
-) -> Result<(), MirrorFault>
+) -> Result<u64, MirrorFault>
     requires whole { pair.old.kept ≡ left.Both }
     requires first { pair.old.first.generation.number < number }
     requires second { pair.old.second.generation.number < number }
     ensures first_leads { pair.new.kept ≡ left.First → pair.old.second.generation.number ≤ pair.old.first.generation.number }
     ensures second_leads { pair.new.kept ≡ left.Second → pair.old.first.generation.number < pair.old.second.generation.number }
-    ensures numbered { OnOk result (Numbered pair.new.kept pair.new.first.generation.number pair.new.second.generation.number number) }
+    ensures numbered { IfOk result (λ made. Numbered pair.new.kept pair.new.first.generation.number pair.new.second.generation.number made) }
     ensures whole { pair.new.kept ≡ left.Leaving → ⊥ }
     ensures without_first { pair.new.kept ≡ left.Second → pair.new.first.has_failed ≡ true }
     ensures without_second { pair.new.kept ≡ left.First → pair.new.second.has_failed ≡ true }
@@ -69,13 +69,14 @@ fn joined<'a, A: CrashDisk, B: CrashDisk>(
         if !joined {
             pair.kept = Kept::First;
         }
+        Ok(pair.first.generation.number)
     } else {
         let joined = join_from(&mut pair.second, &mut pair.first, number)?;
         if !joined {
             pair.kept = Kept::Second;
         }
+        Ok(pair.second.generation.number)
     }
-    Ok(())
 }
 
 // Makes the other disk as the source, which gets zeros to its length where that one is longer. Whether the other one hasn't failed.
@@ -86,7 +87,8 @@ fn join_from<S: CrashDisk, O: CrashDisk>(
 ) -> Result<bool, MirrorFault>
     requires { other.old.generation.number < number }
     ensures alone { IfOk result (λ joined. joined ≡ false → other.new.has_failed ≡ true) }
-    ensures raised { OnOk result (source.new.generation.number ≡ number) }
+    ensures raised { IfOk result (λ joined. joined ≡ true → source.new.generation.number ≡ number) }
+    ensures raised_alone { IfOk result (λ joined. joined ≡ false → source.new.generation.number ≡ number + 1) }
     ensures other_raised { IfOk result (λ joined. joined ≡ true → other.new.generation.number ≡ number) }
     ensures other_stays { IfOk result (λ joined. joined ≡ false → other.new.generation.number < number) }
 {

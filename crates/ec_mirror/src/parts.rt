@@ -1,5 +1,5 @@
 // The parts of a mirror, and how it goes on.
-ghost use Rattle.std.specs.Prelude.{◌≡◌, ◌<◌, ◌≤◌, ◌+◌, ◌^◌, true, false};
+ghost use Rattle.std.specs.Prelude.{◌≡◌, ◌≤◌, true, false};
 ghost use Rattle.ec_disk.specs.declared.disk.DiskAnswer.TheVariants as said;
 ghost use Rattle.ec_mirror.specs.declared.kept.Kept.TheVariants as left;
 ghost use Rattle.ec_mirror.specs.Numbers.{Numbered};
@@ -83,16 +83,15 @@ impl<'a, A: CrashDisk, B: CrashDisk> Parts<'a, A, B> {
         }
     }
 
-    /// It's sound under the next generation, which the disks that aren't dropped have.
-    pub(crate) fn thaw(&mut self)
-        requires most { self.old.number < 2 ^ 62 }
+    /// It's sound under this generation, which the disks that aren't dropped have.
+    pub(crate) fn thaw(&mut self, number: u64)
         requires dead { self.old.is_dead ≡ true }
-        requires numbered { Numbered self.old.present.pair.kept self.old.present.pair.first.generation.number self.old.present.pair.second.generation.number (self.old.number + 1) }
+        requires numbered { Numbered self.old.present.pair.kept self.old.present.pair.first.generation.number self.old.present.pair.second.generation.number number }
         ensures tally { self.new.tally ≡ self.old.tally }
         ensures present { self.new.present ≡ self.old.present }
         ensures is_dead { self.new.is_dead ≡ false }
     {
-        self.number += 1;
+        self.number = number;
         self.frozen = Trace::new();
         self.is_dead = false;
         self.is_sound = true;
@@ -178,7 +177,7 @@ impl<'a, A: CrashDisk, B: CrashDisk> Parts<'a, A, B> {
         let answer = self.present.pair.second.raise(number);
         if answer == DiskAnswer::Done {
             self.present.pair.kept = Kept::Second;
-            self.thaw();
+            self.thaw(number);
         }
         self.count(answer)
     }
@@ -204,7 +203,7 @@ impl<'a, A: CrashDisk, B: CrashDisk> Parts<'a, A, B> {
         let answer = self.present.pair.first.raise(number);
         if answer == DiskAnswer::Done {
             self.present.pair.kept = Kept::First;
-            self.thaw();
+            self.thaw(number);
         }
         self.count(answer)
     }
