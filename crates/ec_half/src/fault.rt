@@ -1,5 +1,5 @@
 // Why two disks are no mirror.
-ghost use Rattle.std.specs.Prelude.{◌≡◌, OnOk, IsErrOf};
+ghost use Rattle.std.specs.Prelude.{◌≡◌, ℕ, OnOk, IsErrOf};
 ghost use Rattle.ec_disk.specs.declared.disk.DiskAnswer.TheVariants as said;
 ghost use Rattle.ec_half.specs.declared.fault.MirrorFault.TheVariants as fault;
 
@@ -24,6 +24,7 @@ pub fn done(answer: DiskAnswer) -> Result<(), MirrorFault>
     ensures ok { OnOk result (answer ≡ said.Done) }
     ensures failed { IsErrOf result fault.DiskFailed → answer ≡ said.Failed }
     ensures stopped { IsErrOf result fault.DiskStopped → answer ≡ said.Stopped }
+    ensures good { (k place : ℕ) → IsErrOf result (fault.BadMirror k place) → ⊥ }
 {
     match answer {
         DiskAnswer::Done => Ok(()),

@@ -1,9 +1,14 @@
 // What stands in front of a disk's content.
-ghost use Rattle.std.specs.Prelude.{◌≡◌, ◌≤◌, ◌+◌, ℕ, IsErrOf};
-ghost use Rattle.ec_disk.specs.Disk.{Counted, Rests};
+ghost use Rattle.std.specs.Prelude.{◌≡◌, ◌<◌, ◌≤◌, ◌+◌, ℕ, Ok, Err, None, Some, IsOk, IsErrOf, length};
+ghost use Rattle.std.specs.Int.{w64, from_be_bytes};
+ghost use Rattle.ec_disk.specs.Disk.{part, Counted, Rests};
 ghost use Rattle.ec_disk.specs.declared.disk.DiskAnswer.TheVariants as said;
 ghost use Rattle.ec_half.specs.Contents.{IsHalf, HasLength};
+ghost use Rattle.ec_half.specs.Headers.{Shows, IsNewest, IsFound, IsBad, IsNoHalf, MayBeHalf};
 ghost use Rattle.ec_half.specs.declared.fault.MirrorFault.TheVariants as fault;
+ghost use Rattle.ec_half.specs.declared.header.Found.TheVariants as found;
+ghost use Rattle.ec_half.specs.declared.header.Generation.{Generation};
+ghost use Rattle.ec_slots.specs.Slots.{header_bytes};
 
 use crate::fault::{MirrorFault, done};
 use ec_disk::{Disk, DiskAnswer, DiskLen};
@@ -77,6 +82,10 @@ pub enum Found {
 
 /// Looks at the first or the second disk, and writes nothing.
 pub fn look_at<D: Disk>(disk: &mut D, which: u8) -> Result<Found, MirrorFault>
+    ensures empty { result ≡ Ok found.Empty → D.tells → length (D.view disk.old).gives ≤ header_bytes }
+    ensures ok { IsOk result → D.tells → MayBeHalf (D.view disk.old).gives }
+    ensures found { (g : Generation) → result ≡ Ok (found.Half g) → D.tells → IsFound (D.view disk.old).gives g }
+    ensures bad { (k place : ℕ) → result ≡ Err (fault.BadMirror k place) → (k ≡ which) × (D.tells → IsNoHalf (D.view disk.old).gives place) }
     ensures rests { D.tells → Rests (D.view disk.old) (D.view disk.new) }
     ensures counts { Counted (D.counts disk.old) (D.counts disk.new) (IsErrOf result fault.DiskFailed) (IsErrOf result fault.DiskStopped) }
 {
@@ -97,34 +106,17 @@ pub fn look_at<D: Disk>(disk: &mut D, which: u8) -> Result<Found, MirrorFault>
 }
 
 // The generation in a header, or the place that shows that there is none.
-fn generation_in(bytes: &[u8; READ_BYTES]) -> Result<Generation, u64> {
+fn generation_in(bytes: &[u8; READ_BYTES]) -> Result<Generation, u64>
+    ensures found { (g : Generation) → result ≡ Ok g → IsFound bytes.now g }
+    ensures bad { (place : ℕ) → result ≡ Err place → IsBad bytes.now place }
+{
     if &bytes[..8] != WORD.as_slice() {
         return Err(0);
     }
     let first = number_at(bytes, 512);
     let second = number_at(bytes, 1_024);
-    let found = match (first, second) {
-        (None, None) => return Err(512),
-        (Some(number), None) => Generation {
-            number,
-            slot: Slot::First,
-            is_open: false,
-        },
-        (None, Some(number)) => Generation {
-            number,
-            slot: Slot::Second,
-            is_open: false,
-        },
-        (Some(first), Some(second)) if first < second => Generation {
-            number: second,
-            slot: Slot::Second,
-            is_open: true,
-        },
-        (Some(number), Some(_)) => Generation {
-            number,
-            slot: Slot::First,
-            is_open: true,
-        },
+    let Some(found) = newest(first, second) else {
+        return Err(512);
     };
     if found.number > MOST {
         return Err(1_024);
@@ -132,16 +124,43 @@ fn generation_in(bytes: &[u8; READ_BYTES]) -> Result<Generation, u64> {
     Ok(found)
 }
 
+// The greater of two numbers, the first one in a tie.
+fn newest(first: Option<u64>, second: Option<u64>) -> Option<Generation>
+    ensures none { result ≡ None → (first ≡ None) × (second ≡ None) }
+    ensures newest { (g : Generation) → result ≡ Some g → IsNewest first second g }
+{
+    let (number, slot, is_open) = match (first, second) {
+        (None, None) => return None,
+        (Some(number), None) => (number, Slot::First, false),
+        (None, Some(number)) => (number, Slot::Second, false),
+        (Some(first), Some(second)) if first < second => (second, Slot::Second, true),
+        (Some(number), Some(_)) => (number, Slot::First, true),
+    };
+    Some(Generation {
+        number,
+        slot,
+        is_open,
+    })
+}
+
 // The number of a slot whose gate is open.
 fn number_at(bytes: &[u8; READ_BYTES], at: usize) -> Option<u64>
     requires { at + 9 ≤ 1033 }
+    ensures { Shows bytes.now at result }
 {
     if bytes[at] != OPEN {
         return None;
     }
+    Some(number_behind(bytes, at + 1))
+}
+
+fn number_behind(bytes: &[u8; READ_BYTES], at: usize) -> u64
+    requires { at + 8 ≤ 1033 }
+    ensures { result ≡ from_be_bytes w64 (part bytes.now at 8) }
+{
     let mut number = [0; 8];
-    number.copy_from_slice(&bytes[at + 1..at + 9]);
-    Some(u64::from_be_bytes(number))
+    number.copy_from_slice(&bytes[at..at + 8]);
+    u64::from_be_bytes(number)
 }
 
 /// Writes the header of an empty disk, with generation 1.

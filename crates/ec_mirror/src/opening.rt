@@ -1,5 +1,7 @@
 // Two disks become a mirror.
-ghost use Rattle.std.specs.Prelude.{◌≡◌, ◌≤◌, ◌<◌, ◌+◌, IfOk, true, false};
+ghost use Rattle.std.specs.Prelude.{◌≡◌, ◌⊎◌, ◌≤◌, ◌<◌, ◌+◌, ℕ, Err, IsOk, IfOk, true, false};
+ghost use Rattle.ec_half.specs.Headers.{IsNoHalf, MayBeHalf};
+ghost use Rattle.ec_half.specs.declared.fault.MirrorFault.TheVariants as fault;
 ghost use Rattle.ec_mirror.specs.declared.kept.Kept.TheVariants as left;
 ghost use Rattle.ec_mirror.specs.Numbers.{Numbered};
 
@@ -8,52 +10,88 @@ use crate::mirror::Mirror;
 use crate::pair::{Moment, Pair};
 use crate::parts::Parts;
 use crate::tally::Tally;
-use ec_disk::{CrashDisk, DiskLen};
-use ec_half::{Found, Half, Joined, MOST, MirrorFault, NEW, begin, done, join, lengthen, look_at};
+use ec_disk::{CrashDisk, DiskAnswer, DiskLen};
+use ec_half::{Found, Half, Joined, MOST, MirrorFault, NEW, begin, join, lengthen, look_at};
 use ec_trace::Trace;
 
 impl<'a, A: CrashDisk, B: CrashDisk> Mirror<'a, A, B> {
     /// Makes both disks alike, by the one whose generation is greater, the first one in a tie. A disk that is armed and doesn't stop here isn't
     /// armed any more.
-    pub fn open(first: &'a mut A, second: &'a mut B) -> Result<Mirror<'a, A, B>, MirrorFault> {
-        let found_first = look_at(first, 1)?;
-        let found_second = look_at(second, 2)?;
-        let first = begun(first, found_first)?;
-        let second = begun(second, found_second)?;
-        let number = first.generation.number.max(second.generation.number);
-        if number >= MOST {
-            return Err(MirrorFault::NoMemory);
-        }
-        let mut pair = Pair {
-            first,
-            second,
-            kept: Kept::Both,
+    pub fn open(first: &'a mut A, second: &'a mut B) -> Result<Mirror<'a, A, B>, MirrorFault>
+        ensures which { (k place : ℕ) → result ≡ Err (fault.BadMirror k place) → (k ≡ 1) ⊎ (k ≡ 2) }
+        ensures bad_first { (place : ℕ) → result ≡ Err (fault.BadMirror 1 place) → A.tells → IsNoHalf (A.view first.old).gives place }
+        ensures bad_second { (place : ℕ) → result ≡ Err (fault.BadMirror 2 place) → B.tells → IsNoHalf (B.view second.old).gives place }
+        ensures first_is_good { (place : ℕ) → result ≡ Err (fault.BadMirror 2 place) → A.tells → MayBeHalf (A.view first.old).gives }
+        ensures both_are_good { IsOk result → (A.tells → MayBeHalf (A.view first.old).gives) × (B.tells → MayBeHalf (B.view second.old).gives) }
+    {
+        let found_first = match look_at(first, 1) {
+            Ok(found) => found,
+            Err(fault) => return Err(fault),
         };
-        let number = joined(&mut pair, number + 1)?;
-        pair.first.disarm();
-        pair.second.disarm();
-        Ok(Mirror {
-            parts: opened(pair, number),
-        })
+        let found_second = match look_at(second, 2) {
+            Ok(found) => found,
+            Err(fault) => return Err(fault),
+        };
+        match made(first, found_first, second, found_second) {
+            Ok(mirror) => Ok(mirror),
+            Err(answer) => Err(unmade(answer)),
+        }
     }
+}
+
+// Why disks that were good became no mirror.
+fn unmade(answer: DiskAnswer) -> MirrorFault
+    ensures { (k place : ℕ) → result ≡ fault.BadMirror k place → ⊥ }
+{
+    match answer {
+        DiskAnswer::Failed => MirrorFault::DiskFailed,
+        DiskAnswer::Stopped => MirrorFault::DiskStopped,
+        DiskAnswer::Done | DiskAnswer::NoMemory => MirrorFault::NoMemory,
+    }
+}
+
+// Both disks were looked at.
+fn made<'a, A: CrashDisk, B: CrashDisk>(
+    first: &'a mut A,
+    found_first: Found,
+    second: &'a mut B,
+    found_second: Found,
+) -> Result<Mirror<'a, A, B>, DiskAnswer> {
+    let first = begun(first, found_first)?;
+    let second = begun(second, found_second)?;
+    let number = first.generation.number.max(second.generation.number);
+    if number >= MOST {
+        return Err(DiskAnswer::NoMemory);
+    }
+    let mut pair = Pair {
+        first,
+        second,
+        kept: Kept::Both,
+    };
+    let number = joined(&mut pair, number + 1)?;
+    pair.first.disarm();
+    pair.second.disarm();
+    Ok(Mirror {
+        parts: opened(pair, number),
+    })
 }
 
 // A disk with its generation; an empty one gets a header.
-fn begun<'a, D: CrashDisk>(disk: &'a mut D, found: Found) -> Result<Half<'a, D>, MirrorFault> {
+fn begun<'a, D: CrashDisk>(disk: &'a mut D, found: Found) -> Result<Half<'a, D>, DiskAnswer> {
     match found {
         Found::Half(generation) => Ok(Half::new(disk, generation)),
-        Found::Empty => {
-            done(begin(disk))?;
-            Ok(Half::new(disk, NEW))
-        }
+        Found::Empty => match begin(disk) {
+            DiskAnswer::Done => Ok(Half::new(disk, NEW)),
+            fault => Err(fault),
+        },
     }
 }
 
-// Makes both disks alike, under this generation, or goes on with one of them, under the next. The generation that it has then.
+// Makes both disks alike, under this generation, or one of them alone, under the next. The generation that they have then.
 fn joined<'a, A: CrashDisk, B: CrashDisk>(
     pair: &mut Pair<'a, A, B>,
     number: u64,
-) -> Result<u64, MirrorFault>
+) -> Result<u64, DiskAnswer>
     requires whole { pair.old.kept ≡ left.Both }
     requires first { pair.old.first.generation.number < number }
     requires second { pair.old.second.generation.number < number }
@@ -84,7 +122,7 @@ fn join_from<S: CrashDisk, O: CrashDisk>(
     source: &mut Half<'_, S>,
     other: &mut Half<'_, O>,
     number: u64,
-) -> Result<bool, MirrorFault>
+) -> Result<bool, DiskAnswer>
     requires { other.old.generation.number < number }
     ensures alone { IfOk result (λ joined. joined ≡ false → other.new.has_failed ≡ true) }
     ensures raised { IfOk result (λ joined. joined ≡ true → source.new.generation.number ≡ number) }
@@ -95,25 +133,25 @@ fn join_from<S: CrashDisk, O: CrashDisk>(
     let len = len_of(source)?;
     let other_len = len_of(other)?;
     if len < other_len {
-        done(lengthen(source, len, other_len))?;
+        match lengthen(source, len, other_len) {
+            DiskAnswer::Done => {}
+            fault => return Err(fault),
+        }
     }
     match join(source, other, len.max(other_len), number) {
         Joined::Both => Ok(true),
         Joined::SourceAlone => Ok(false),
-        Joined::Fault(fault) => {
-            done(fault)?;
-            Err(MirrorFault::NoMemory)
-        }
+        Joined::Fault(fault) => Err(fault),
     }
 }
 
-fn len_of<D: CrashDisk>(half: &mut Half<'_, D>) -> Result<u64, MirrorFault>
+fn len_of<D: CrashDisk>(half: &mut Half<'_, D>) -> Result<u64, DiskAnswer>
     ensures { half.new.generation ≡ half.old.generation }
 {
     match half.len() {
         DiskLen::Len(len) => Ok(len),
-        DiskLen::Failed => Err(MirrorFault::DiskFailed),
-        DiskLen::Stopped => Err(MirrorFault::DiskStopped),
+        DiskLen::Failed => Err(DiskAnswer::Failed),
+        DiskLen::Stopped => Err(DiskAnswer::Stopped),
     }
 }
 
