@@ -1,5 +1,6 @@
 pub mod Lists
 pub mod Ends
+pub mod Parts
 pub mod Acts
 pub mod Nodes
 pub mod Turns

@@ -1,5 +1,5 @@
 -- One step more keeps what the value says of its list.
-use Rattle.std.proofs.Common.{max, ◌≡◌, ℕ, zero, suc, ◌+◌, ◌≤◌, true, false, List, [], ◌∷◌, ◌++◌, length, map, take, drop, Option, Some, None, Result, Ok, Err, append-nil, IfSome, IfNone, slice_get, sym, refl, ap, ◌∙◌, subst, inl, inr, ⊎_elim, arith, length-append}
+use Rattle.std.proofs.Common.{max, ◌≡◌, ℕ, Bool, zero, suc, ◌+◌, ◌≤◌, true, false, List, [], ◌∷◌, ◌++◌, length, map, take, drop, Option, Some, None, Result, Ok, Err, append-nil, IfSome, IfNone, slice_get, sym, refl, ap, ◌∙◌, subst, inl, inr, ⊎_elim, arith, length-append}
 use Rattle.std.specs.List.{All}
 use Rattle.std.proofs.lemmas.List.Elements.{All-append, All-nil}
 use Rattle.ec_base.specs.declared.ids.Age.{Age}
@@ -10,21 +10,25 @@ use Rattle.ec_link.specs.declared.link.Sent.TheVariants as sent
 use Rattle.ec_link.specs.declared.link.Got.{Got}
 use Rattle.ec_link.specs.declared.link.Got.TheVariants as gave
 use Rattle.ec_link.specs.Links.{Heard, heard, added, failed}
+use Rattle.ec_link.specs.Nets.{IsEmpty}
 use Rattle.ec_outs.specs.Outs.{Reply, each, told, sends, encoded, old_boots, first_of, answers, kept_at, first_known}
 use Rattle.ec_clerknode.specs.declared.act.Act.{Act}
 use Rattle.ec_clerknode.specs.declared.fault.NodeFault.{NodeFault}
 use Rattle.ec_clerknode.specs.declared.step.Deed.{Deed}
+use Rattle.ec_clerknode.specs.declared.step.Deed.TheVariants.{Linked}
 use Rattle.ec_clerknode.specs.declared.step.Step.{Step}
 use Rattle.ec_outs.specs.declared.kept.Kept.{Kept}
 use Rattle.ec_clerknode.specs.declared.state.Node.{Node}
 use Rattle.ec_clerknode.specs.declared.waiting.Waiting.{Waiting}
-use Rattle.ec_clerknode.specs.Folded.{floor_of}
-use Rattle.ec_clerknode.specs.Run.{highest, after, outs_of, IsDeed, IsStep, leads, IsRun, heard_of, heard_by, IsSaid, AreSaid, Wanted, Came, said_in, said_by, told_in, told_by, net_of, nets, old_boots_in, old_boot, Among}
+use Rattle.ec_clerknode.specs.Folded.{floor_of, linked, Comes}
+use Rattle.ec_clerknode.specs.Run.{highest, after, outs_of, IsDeed, IsStep, leads, IsRun, heard_of, IsSaid, AreSaid, Wanted, Came, said_in, told_in, told_by, net_of, old_boots_in, old_boot, Among}
+use Rattle.ec_clerknode.specs.Parts.{is_linked, Over, CameOver, Counted, IsLinker, LinksBy}
 use Rattle.ec_clerknode.specs.Node.{AnsweredAt, AnsweredFrom, Since, Keeps}
 use Rattle.ec_clerknode.specs.Closed.{Acts, IsOwn, Closed, Moved, Fell, Begun, Works, Waited}
 use Rattle.ec_clerknode.proofs.Lists.{get_longer, get_last}
+use Rattle.ec_clerknode.proofs.Parts.{over_push, over_new, came_over, came_push, counted_push, counted_new, links_push, no_links}
 use Rattle.ec_outs.proofs.Each.{each-push}
-use Rattle.ec_outs.proofs.Told.{added-nil, added-added}
+use Rattle.ec_outs.proofs.Told.{added-nil}
 
 pub leads-push : (c : Clerk) (xs : List Step) (s : Step) → leads c (xs ++ s ∷ []) ≡ after (leads c xs) s.deed
 leads-push c [] s = refl
@@ -54,17 +58,9 @@ heard_short gave.Closed = omega arith
 heard_short gave.Failed = omega arith
 heard_short gave.NoMemory = omega arith
 
--- nothing was lost
-came_all : (before now : Option (List Heard)) (heard : List Heard) → now ≡ added before heard → Came before heard now
-came_all before now heard e = ([], omega arith, e ∙ ap (added before) (sym (append-nil heard)))
-
 pub highest-push : (xs : List Step) (s : Step) → highest (xs ++ s ∷ []) ≡ max (highest xs) s.floor
 highest-push [] s = omega arith
 highest-push (x ∷ xs) s = omega (arith, highest-push xs s)
-
-pub nets-push : (xs : List Step) (s : Step) → nets (xs ++ s ∷ []) ≡ nets xs + (net_of s.deed + failed s.end)
-nets-push [] s = omega arith
-nets-push (x ∷ xs) s = omega (arith, nets-push xs s)
 
 first_known-push : (xs ys : List Age) → first_known (first_of xs) ys ≡ first_of (xs ++ ys)
 first_known-push [] ys = refl
@@ -102,8 +98,11 @@ pub answered_longer : (xs ys : List Step) (at number : ℕ) (answer : Reply) →
 answered_longer xs ys at number answer a = (a.0, get_longer xs ys at a.0 a.1, a.2)
 
 module _ {L : Type 0} (counts : L → ℕ) (given : L → Option (List Heard)) (got : L → Option (List (List ℕ))) where
-  pub closes : (pass : ℕ) (deed : Deed) (outs : List Out) (step : Step) (old mid new : Node L) → Moved counts given got deed outs old mid → Closed counts given got pass deed outs step mid new → Keeps counts given got old new
-  closes pass deed outs step old mid new m c first s =
+  -- A step was added: what is known of the list, where this is known of the link.
+  grows : (pass : ℕ) (deed : Deed) (outs : List Out) (step : Step) (old mid new : Node L) (first : Node L) → Moved deed outs old mid → Closed counts given got pass deed outs step mid new → Since counts given got first old
+      → Counted (counts first.link) (old.trace.items ++ step ∷ []) (counts new.link) → Over (λ s. heard_of s.deed) (given first.link) (old.trace.items ++ step ∷ []) (given new.link) → Over said_in (got first.link) (old.trace.items ++ step ∷ []) (got new.link)
+      → LinksBy first.linker (old.trace.items ++ step ∷ []) → Since counts given got first new
+  grows pass deed outs step old mid new first m c s net heard sent links =
       let xs = old.trace.items in
       let grown : new.trace.items ≡ xs ++ step ∷ [] = c.list ∙ ap (λ l. l ++ step ∷ []) m.list in
       let lead : leads first.clerk xs ≡ old.clerk = s.leads_to m.up in
@@ -116,12 +115,7 @@ module _ {L : Type 0} (counts : L → ℕ) (given : L → Option (List Heard)) (
       let now_there : slice_get new.trace.items (length xs) ≡ Some step = ap (λ l. slice_get l (length xs)) grown ∙ get_last xs step in
       let counted = s.counted in
       let place : mid.steps ≡ length xs = m.steps ∙ counted in
-      let net = m.net in
-      let net_before = s.net in
-      let net_after = c.counted in
-      let net_same : net_of step.deed ≡ net_of deed = ap net_of c.deed_is in
-      let heard_all : given new.link ≡ added (given first.link) (heard_by new.trace.items) = c.given_same ∙ (m.heard ∙ (ap (λ o. added o (heard_of deed)) (s.heard m.up) ∙ (added-added (given first.link) (heard_by xs) (heard_of deed)
-      ∙ ap (added (given first.link)) (ap (λ d. heard_by xs ++ heard_of d) (sym c.deed_is) ∙ sym (ap heard_by grown ∙ each-push (λ (x : Step). heard_of x.deed) xs step))))) in
+      let heard_all = subst (λ l. Over (λ s. heard_of s.deed) (given first.link) l (given new.link)) (sym grown) heard in
       record {
         run = subst (IsRun first.clerk) (sym grown) (run-push first.clerk xs step s.run (subst (λ x. IsStep x step) (sym lead) is_step));
         counted = c.steps ∙ (ap (λ n. n + 1) place ∙ sym (ap length grown ∙ length-append xs (step ∷ [])));
@@ -140,14 +134,48 @@ module _ {L : Type 0} (counts : L → ℕ) (given : L → Option (List Heard)) (
         old = c.old_boot ∙ (ap (λ o. first_known o (old_boots outs)) (m.boot ∙ s.old) ∙ (first_known-push (each old_boots_in xs) (old_boots outs)
             ∙ (ap (λ l. first_of (each old_boots_in xs ++ old_boots l)) (sym c.outs_are) ∙ sym (ap old_boot grown ∙ ap first_of (each-push old_boots_in xs step)))));
         top = c.top ∙ (ap (λ (n : ℕ). max n step.floor) (m.top ∙ s.top) ∙ sym (ap highest grown ∙ highest-push xs step));
-        net = omega (arith, ap nets grown, nets-push xs step);
+        net = subst (λ l. Counted (counts first.link) l (counts new.link)) (sym grown) net;
         heard = λ up. heard_all;
         said = λ up. subst AreSaid (sym grown) (said-push xs step (s.said m.up) (c.said up));
         wanted = λ down. subst Wanted (sym grown) (wanted_last xs step
             (⊎_elim (λ (e : mid.broken ≡ true). absurd (true_false (sym e ∙ m.still_up))) (λ (e : step.end ≡ sent.NoMemory). e) (c.wanted down)));
-        came = came_all (given first.link) (given new.link) (heard_by new.trace.items) heard_all;
-        sent = c.got_more ∙ (ap (λ o. added o (said_in step)) (m.sent ∙ s.sent) ∙ (added-added (got first.link) (said_by xs) (said_in step) ∙ ap (added (got first.link)) (sym (ap said_by grown ∙ each-push said_in xs step))));
+        came = came_over (given first.link) (given new.link) new.trace.items heard_all;
+        sent = subst (λ l. Over said_in (got first.link) l (got new.link)) (sym grown) sent;
+        linker = c.linker ∙ (m.linker ∙ s.linker);
+        links = subst (LinksBy first.linker) (sym grown) links;
       }
+
+  -- a step over the link that was there
+  pub closes : (pass : ℕ) (deed : Deed) (outs : List Out) (step : Step) (old mid new : Node L) → Moved deed outs old mid → is_linked deed ≡ false → given mid.link ≡ added (given old.link) (heard_of deed) → got mid.link ≡ got old.link → net_of deed + counts old.link ≤ counts mid.link
+      → Closed counts given got pass deed outs step mid new → Keeps counts given got old new
+  closes pass deed outs step old mid new m own heard sent net c first s =
+      let xs = old.trace.items in
+      let still : is_linked step.deed ≡ false = ap is_linked c.deed_is ∙ own in
+      let low = c.counted in
+      let same : net_of step.deed ≡ net_of deed = ap net_of c.deed_is in
+      grows pass deed outs step old mid new first m c s (counted_push (counts first.link) (counts old.link) (counts new.link) xs step still s.net (omega arith))
+      (over_push (λ s. heard_of s.deed) (given first.link) (given old.link) (given new.link) xs step still (s.heard m.up) (c.given_same ∙ (heard ∙ ap (λ d. added (given old.link) (heard_of d)) (sym c.deed_is))))
+      (over_push said_in (got first.link) (got old.link) (got new.link) xs step still s.sent (c.got_more ∙ ap (λ o. added o (said_in step)) sent))
+      (links_push first.linker xs step s.links (no_links first.linker step still))
+
+  -- a step over a new link, by which the clerk greets
+  pub exchanges : (pass : ℕ) (outs : List Out) (step : Step) (old mid new : Node L) → Moved Linked outs old mid → IsEmpty (given mid.link) → IsEmpty (got mid.link) → old.linker ≡ Some pass → Closed counts given got pass Linked outs step mid new → Keeps counts given got old new
+  exchanges pass outs step old mid new m none_given none_got linker c first s =
+      let xs = old.trace.items in
+      let is : is_linked step.deed ≡ true = ap is_linked c.deed_is in
+      let low = c.counted in
+      let same : net_of step.deed ≡ 0 = ap net_of c.deed_is in
+      let by : first.linker ≡ Some pass = sym s.linker ∙ linker in
+      grows pass Linked outs step old mid new first m c s (counted_new (counts first.link) (counts new.link) xs step is (omega arith))
+      (over_new (λ s. heard_of s.deed) (given first.link) (given mid.link) (given new.link) xs step is none_given (c.given_same ∙ (sym (added-nil (given mid.link)) ∙ ap (λ d. added (given mid.link) (heard_of d)) (sym c.deed_is))))
+      (over_new said_in (got first.link) (got mid.link) (got new.link) xs step is none_got c.got_more)
+      (links_push first.linker xs step s.links (λ linked. subst (λ o. IsLinker o step.pass) (sym by) c.pass_is))
+
+  -- the same, by what the clerk's greeting comes to
+  pub greets : (pass : ℕ) (outs : List Out) (step : Step) (old new : Node L) (link : L) → old.broken ≡ false → old.linker ≡ Some pass → IsEmpty (given link) → IsEmpty (got link) → Comes (linked old.clerk) old.clerk outs
+      → Closed counts given got pass Linked outs step (record old { link = link; is_down = false; owes = true }) new → Keeps counts given got old new
+  greets pass outs step old new link up linker none_given none_got came closed = exchanges pass outs step old (record old { link = link; is_down = false; owes = true }) new
+      (record { up = up; still_up = up; is = came.2; outs_are = sym came.1; clerk = sym came.0; kept = refl; told_same = refl; boot = refl; steps = refl; top = refl; list = refl; linker = refl }) none_given none_got linker closed
 
   pub kept_of : (P : Kept → Type 0) (r : Option Reply) (old new : List Kept) (number place : ℕ)
       → IfSome r (λ answer. (a : Kept) × (i : ℕ) × (slice_get old i ≡ Some a) × (a.number ≡ number) × (place ≤ a.at) × (a.reply ≡ answer) × (new ≡ take i old ++ drop (i + 1) old)) → IfNone r (new ≡ old)
@@ -165,7 +193,7 @@ module _ {L : Type 0} (counts : L → ℕ) (given : L → Option (List Heard)) (
   answer_kept steps None old new number place some h = tt
 
   pub nothing_came : (link : L) → Came (given link) [] (given link)
-  nothing_came link = came_all (given link) (given link) [] (sym (added-nil (given link)))
+  nothing_came link = ([], omega arith, sym (added-nil (given link)))
 
   -- The mark that memory was wanting was added, and the clerk is not followed any more. Its link gave at most one thing for it.
   pub falls : (pass : ℕ) (old new : Node L) (c : Clerk) (link : L) → old.broken ≡ false → Came (given old.link) [] (given link) → got link ≡ got old.link → counts old.link ≤ counts link
@@ -180,6 +208,7 @@ module _ {L : Type 0} (counts : L → ℕ) (given : L → Option (List Heard)) (
       let still_net : net_of step.deed ≡ 0 = ap net_of f.is.0 in
       let none_failed : failed step.end ≡ 0 = ap failed f.is.3 in
       let low : step.floor ≡ 0 = f.is.4 in
+      let still : is_linked step.deed ≡ false = ap is_linked f.is.0 in
       let said_none : said_in step ≡ [] = ap (λ (n : ℕ). map encoded (take n (sends step.outs.value.items))) f.is.2 in
       record {
         run = subst (IsRun first.clerk) (sym f.list) (run-push first.clerk xs step s.run (inl f.is));
@@ -192,17 +221,16 @@ module _ {L : Type 0} (counts : L → ℕ) (given : L → Option (List Heard)) (
         old = ap (λ (n : Node L). n.boot) f.same ∙ (s.old ∙ (ap first_of (sym (append-nil (each old_boots_in xs)) ∙ ap (λ l. each old_boots_in xs ++ old_boots l) (sym f.is.1))
             ∙ sym (ap old_boot f.list ∙ ap first_of (each-push old_boots_in xs step))));
         top = ap (λ (n : Node L). n.top) f.same ∙ (s.top ∙ sym (ap highest f.list ∙ (highest-push xs step ∙ omega (arith, low))));
-        net = omega (arith, ap nets f.list, nets-push xs step);
+        net = subst (λ l. Counted (counts first.link) l (counts new.link)) (sym f.list) (counted_push (counts first.link) (counts old.link) (counts new.link) xs step still net (omega arith));
         heard = λ up. absurd (true_false (sym down ∙ up));
-        sent = ap got back ∙ (sent ∙ (s.sent ∙ ap (added (got first.link)) (sym (append-nil (said_by xs)) ∙ (ap (λ l. said_by xs ++ l) (sym said_none) ∙ sym (ap said_by f.list ∙ each-push said_in xs step)))));
+        sent = subst (λ l. Over said_in (got first.link) l (got new.link)) (sym f.list) (over_push said_in (got first.link) (got old.link) (got new.link) xs step still s.sent
+            (ap got back ∙ (sent ∙ (sym (added-nil (got old.link)) ∙ ap (added (got old.link)) (sym said_none)))));
         said = λ up. absurd (true_false (sym down ∙ up));
         wanted = λ down. subst Wanted (sym f.list) (wanted_last xs step f.is.3);
-        came = (
-          came.0,
-          came.1,
-          ap given back ∙ (came.2 ∙ (ap (λ o. added o came.0) (s.heard up) ∙ (added-added (given first.link) (heard_by xs) came.0 ∙ ap (λ l. added (given first.link) (l ++ came.0)) (sym (ap heard_by f.list ∙ (each-push (λ (x : Step). heard_of x.deed) xs step
-              ∙ (ap (λ d. heard_by xs ++ heard_of d) f.is.0 ∙ append-nil (heard_by xs)))))))),
-        );
+        came = subst (λ l. CameOver (given first.link) l (given new.link)) (sym f.list) (came_push (given first.link) (given old.link) (given new.link) xs step still (ap heard_of f.is.0) (s.heard up)
+            (subst (Came (given old.link) []) (sym (ap given back)) came));
+        linker = ap (λ (n : Node L). n.linker) f.same ∙ s.linker;
+        links = subst (LinksBy first.linker) (sym f.list) (links_push first.linker xs step s.links (no_links first.linker step still));
       }
 
   pub keeps_both : (old mid new : Node L) → Keeps counts given got old mid → Keeps counts given got mid new → Keeps counts given got old new
@@ -215,7 +243,7 @@ module _ {L : Type 0} (counts : L → ℕ) (given : L → Option (List Heard)) (
   pub follows : (pass : ℕ) (act : Act) (step : Step) (old new : Node L) (c : Clerk) (link : L) → old.broken ≡ false → Acts old.clerk act c → given link ≡ added (given old.link) (heard_of act.deed) → got link ≡ got old.link
       → net_of act.deed + counts old.link ≤ counts link → Closed counts given got pass act.deed act.outs.items step (record old { clerk = c; link = link }) new → Keeps counts given got old new
   follows pass act step old new c link up acts heard sent net closed = closes pass act.deed act.outs.items step old (record old { clerk = c; link = link }) new
-      (record { up = up; still_up = up; is = acts.0; outs_are = acts.1; clerk = acts.2; kept = refl; told_same = refl; boot = refl; steps = refl; top = refl; list = refl; heard = heard; sent = sent; net = net }) closed
+      (record { up = up; still_up = up; is = acts.0; outs_are = acts.1; clerk = acts.2; kept = refl; told_same = refl; boot = refl; steps = refl; top = refl; list = refl; linker = refl }) acts.4 heard sent net closed
 
   -- a call of the clerk without the link
   pub follows_alone : (pass : ℕ) (act : Act) (step : Step) (old new : Node L) (c : Clerk) → old.broken ≡ false → Acts old.clerk act c → IsOwn act.deed
@@ -227,6 +255,7 @@ module _ {L : Type 0} (counts : L → ℕ) (given : L → Option (List Heard)) (
   pub read_none : (old : Node L) (c : Clerk) (link : L) → c ≡ old.clerk → given link ≡ added (given old.link) [] → got link ≡ got old.link → counts old.link ≤ counts link → Keeps counts given got old (record old { clerk = c; link = link })
   read_none old c link same heard sent more first s =
       let net = s.net in
+      let still : given link ≡ given old.link = heard ∙ added-nil (given old.link) in
       record {
         run = s.run;
         counted = s.counted;
@@ -236,16 +265,18 @@ module _ {L : Type 0} (counts : L → ℕ) (given : L → Option (List Heard)) (
         old = s.old;
         top = s.top;
         net = omega arith;
-        heard = λ up. heard ∙ (added-nil (given old.link) ∙ s.heard up);
-        sent = sent ∙ s.sent;
+        heard = λ up. subst (Over (λ s. heard_of s.deed) (given first.link) old.trace.items) (sym still) (s.heard up);
+        sent = subst (Over said_in (got first.link) old.trace.items) (sym sent) s.sent;
         said = s.said;
         wanted = s.wanted;
-        came = (s.came.0, s.came.1, heard ∙ (added-nil (given old.link) ∙ s.came.2));
+        came = subst (CameOver (given first.link) old.trace.items) (sym still) s.came;
+        linker = s.linker;
+        links = s.links;
       }
 
-  -- only what is known of waiting changed
-  pub keeps_waiting : (old : Node L) (w : Waiting) → Keeps counts given got old (record old { waiting = w })
-  keeps_waiting old w first s = record {
+  -- only what is known of waiting and of the link's being up changed
+  pub keeps_flags : (old : Node L) (w : Waiting) (lasts is_down owes : Bool) → Keeps counts given got old (record old { waiting = w; lasts = lasts; is_down = is_down; owes = owes })
+  keeps_flags old w lasts is_down owes first s = record {
     run = s.run;
     counted = s.counted;
     leads_to = s.leads_to;
@@ -259,7 +290,18 @@ module _ {L : Type 0} (counts : L → ℕ) (given : L → Option (List Heard)) (
     said = s.said;
     wanted = s.wanted;
     came = s.came;
+    linker = s.linker;
+    links = s.links;
   }
+
+  pub keeps_waiting : (old new : Node L) (w : Waiting) → new ≡ record old { waiting = w } → Keeps counts given got old new
+  keeps_waiting old new w e first s = subst (Since counts given got first) (sym e) (keeps_flags old w old.lasts old.is_down old.owes first s)
+
+  pub keeps_lasting : (old new : Node L) (lasts : Bool) → new ≡ record old { lasts = lasts } → Keeps counts given got old new
+  keeps_lasting old new lasts e first s = subst (Since counts given got first) (sym e) (keeps_flags old old.waiting lasts old.is_down old.owes first s)
+
+  pub keeps_owing : (old new : Node L) (owes : Bool) → new ≡ record old { owes = owes } → Keeps counts given got old new
+  keeps_owing old new owes e first s = subst (Since counts given got first) (sym e) (keeps_flags old old.waiting old.lasts old.is_down owes first s)
 
 pub begun_same : {L : Type 0} (pass : ℕ) (call : Call) (old mid new : Node L) (number : ℕ) → new.trace.items ≡ mid.trace.items → new.boot ≡ mid.boot → Begun pass call old mid (Ok number) → Begun pass call old new (Ok number)
 begun_same pass call old mid new number list boot b = let r = b.1 in (boot ∙ b.0, (r.0, r.1, r.2, r.3, (list ∙ r.4.0, r.4.1)))

@@ -1,6 +1,6 @@
 -- From one turn at the lock to what the pass knows.
 use Rattle.std.proofs.Common.{◌≡◌, ℕ, ◌+◌, ◌≤◌, ◌⊎◌, false, cond, IfOk, List, [], ◌∷◌, ◌++◌, length, Option, Some, None, Result, Ok, Err, IfSome, slice_get, sym, refl, ap, ◌∙◌, subst, inl, inr, ⊎_elim, arith, eq-eqb, ne_eqb, append_assoc, append-nil, length-append}
-use Rattle.std.specs.Prelude.{Bool, true, OnOk, IfNone, if◌then◌else◌}
+use Rattle.std.specs.Prelude.{Bool, true, not, OnOk, IfErr, IfNone, if◌then◌else◌}
 use mathlib.Core.List.{IsPrefix}
 use Rattle.ec_protocol.specs.declared.clerk.Clerk.{Clerk}
 use Rattle.std.specs.List.{All}
@@ -9,27 +9,30 @@ use Rattle.ec_base.specs.declared.ids.Age.{Age}
 use Rattle.ec_log.specs.declared.state.Asked.{Asked}
 use Rattle.ec_plain.specs.declared.call.Call.{Call}
 use Rattle.ec_protocol.specs.declared.clerk.Flushed.{Flushed}
-use Rattle.ec_link.specs.Links.{Heard, added}
+use Rattle.ec_link.specs.Links.{Heard}
 use Rattle.ec_link.specs.declared.link.Sent.TheVariants as sent
 use Rattle.ec_lock.specs.Passes.{first, front, numbers, raised, IsPassOf, Same, Marked}
 use Rattle.ec_lock.specs.Steps.{Member, of}
 use Rattle.ec_lock.specs.declared.types.Pass.{Pass}
 use Rattle.ec_lock.specs.declared.types.TracedLock.{TracedLock}
-use Rattle.ec_outs.specs.Outs.{Reply}
+use Rattle.ec_outs.specs.Outs.{Reply, sends}
 use Rattle.ec_clerknode.specs.declared.fault.NodeFault.{NodeFault}
 use Rattle.ec_clerknode.specs.declared.fault.NodeFault.TheVariants as fault
 use Rattle.ec_clerknode.specs.declared.act.Act.{Act}
-use Rattle.ec_clerknode.specs.declared.step.Deed.TheVariants.{Resent}
+use Rattle.ec_clerknode.specs.declared.step.Deed.TheVariants.{Parted, Resent}
 use Rattle.ec_clerknode.specs.declared.step.Step.{Step}
 use Rattle.ec_clerknode.specs.declared.state.Node.{Node}
 use Rattle.ec_clerknode.specs.Floors.{highest_grows}
 use Rattle.ec_clerknode.specs.Folded.{answer_to}
-use Rattle.ec_clerknode.specs.Run.{told_by, heard_by, said_by, nets, AreSaid, Wanted, Came, call_of, calls, marks, mark_of_deed, mark_of_end, Among, IsRun, leads, highest, old_boot}
+use Rattle.ec_clerknode.specs.Parts.{has_link, Over, CameOver, Counted, LinksBy}
+use Rattle.ec_clerknode.specs.Run.{told_by, heard_of, heard_by, said_in, says_bye, AreSaid, Wanted, Came, call_of, calls, marks, mark_of_deed, mark_of_end, Among, IsRun, leads, highest, old_boot}
 use Rattle.ec_clerknode.specs.Node.{Since, By, AnsweredAt, AnsweredFrom}
-use Rattle.ec_clerknode.specs.Closed.{More, Caused, Closed, EndsAs, Stops, Fails, Fell, Begun, Works, Flushes, PartsIf, PartsBehind, Resends, ReadsFlushes, Started, Waited}
-use Rattle.ec_clerknode.specs.Turns.{number_of, calls_by, Replied, Failed, Called, Worked, Partings, SaidBye, Stays, Turned, Pending, Starts, Waits, PickedLast, Asks, FlushTurned, Finished}
+use Rattle.ec_clerknode.specs.Closed.{More, Caused, Closed, GoesOn, EndsAs, Stops, Fails, Fell, Begun, Works, Flushes, PartsIf, PartsBehind, Resends, ReadsFlushes, Links, Started, Waited}
+use Rattle.ec_clerknode.specs.Turns.{number_of, calls_by, Replied, Failed, Called, Worked, Partings, SaidBye, Stays, Turned, Pending, Starts, Waits, PickedLast, Asks, FlushTurned, Finished, FinishedAlone, HandsBack, Relinked}
 use Rattle.ec_clerknode.proofs.Lists.{prefix_trans, prefix_length, prefix_get, get_last, of-append}
 use Rattle.ec_outs.proofs.Each.{each-append}
+use Rattle.ec_clerknode.proofs.Parts.{came_over, none_linked}
+use Rattle.ec_clerknode.proofs.Parts as Parts
 use Rattle.ec_outs.proofs.Told.{added-nil}
 
 true_false : true ≡ false → ⊥
@@ -123,8 +126,16 @@ module _ {L : Type 0} where
   parts_more pass v w (Ok r) b = ends_more r.1 b.1.2 where
     ends_more : (is_said : Bool) → PartsIf is_said pass b.1.0 w → (more : List Step) × More pass v w more
     ends_more true q = (b.1.1.0 ++ q.0 ∷ [], more_both pass v b.1.0 w b.1.1.0 (q.0 ∷ []) b.1.1.1 q.2)
-    ends_more false q = (b.1.1.0, (q ∙ b.1.1.1.0, b.1.1.1.1))
+    ends_more false q = (b.1.1.0 ++ q.0, more_both pass v b.1.0 w b.1.1.0 q.0 b.1.1.1 q.1)
   parts_more pass v w (Err f) b = fails_more pass [] v w f b
+
+  -- a goodbye that the link took, or none
+  pub parts_so : (pass : ℕ) (old mid new : Node L) (step : Step) (lasts is_down said : Bool) (marked : Option NodeFault) → said ≡ not is_down → step.deed ≡ Parted → says_bye (sends step.outs.value.items) ≡ true → GoesOn lasts is_down step.end marked
+      → mid.trace.items ≡ old.trace.items → More pass mid new (step ∷ []) → PartsIf said pass old new
+  parts_so pass old mid new step lasts true said marked e deed says ends same m =
+      subst (λ b. PartsIf b pass old new) (sym e) (step ∷ [], (m.0 ∙ ap (λ l. l ++ step ∷ []) same, m.1), append-nil (call_of step.deed) ∙ ap call_of deed)
+  parts_so pass old mid new step lasts false said marked e deed says ends same m = subst (λ b. PartsIf b pass old new) (sym e)
+      (step, (deed, says, ⊎_elim (λ (w : (marked ≡ None) × (step.end ≡ sent.Done)). w.1) (λ w. absurd (true_false (sym w.1))) ends), (m.0 ∙ ap (λ l. l ++ step ∷ []) same, m.1))
 
   -- it sent again, which begins nothing
   pub resent_works : (pass : ℕ) (old mid new : Node L) (r : Result (Unit {0}) NodeFault) → mid.trace.items ≡ old.trace.items → Resends pass mid new r → Works pass old new r
@@ -146,7 +157,7 @@ module _ {L : Type 0} where
 
     -- a turn that sent again, by how its step ended
     pub resends_so : (pass : ℕ) (act : Act) (step : Step) (old mid new : Node L) (r : Result (Unit {0}) NodeFault) → mid.trace.items ≡ old.trace.items → act.deed ≡ Resent → act.fault ≡ None → Closed counts given got pass act.deed act.outs.items step mid new
-        → EndsAs new.boot step.end act.fault r → Resends pass old new r
+        → EndsAs new.boot new.lasts new.is_down step.end act.fault r → Resends pass old new r
     resends_so pass act step old mid new (Ok u) same deed none k e = (e.0, (step, k.deed_is ∙ deed, (k.list ∙ ap (λ l. l ++ step ∷ []) same, (k.pass_is, tt))))
     resends_so pass act step old mid new (Err f) same deed none k e =
         let is : step.deed ≡ Resent = k.deed_is ∙ deed in
@@ -288,20 +299,61 @@ module _ {L : Type 0} where
               q.1,
             )),
           )
-      parting x false mid xs m none q up = ((none_then xs (q ∙ m.0, m.1) none, sym boot_is ∙ up), (λ said. absurd (true_false (sym said))))
+      parting x false mid xs m none q up = (
+        (none_then (xs ++ q.0) (more_both pass v mid w xs q.0 m q.1) (none_both xs q.0 none q.2), sym boot_is ∙ up),
+        (λ said. absurd (true_false (sym said))),
+      )
 
       pub partings : {A : Type 0} (r : Result (A × Bool) NodeFault) → PartsBehind pass v w r → Partings pass before after r
       partings (Ok r) b = parting r r.1 b.1.0 b.1.1.0 b.1.1.1 b.1.1.2 b.1.2 b.0
       partings (Err f) b = fails [] f b
+
+      -- the link was exchanged
+      pub relinked : (link : L) → Links pass v w link → Relinked counts given got first pass before after link
+      relinked link l =
+          let step = l.3.0 in
+          let more = l.3.2 in (
+            v.trace.items,
+            step,
+            sym more.0 ∙ is,
+            later,
+            own,
+            l.3.1,
+            more.1.0,
+            sym sv.linker ∙ l.2,
+            sv.links,
+            subst (λ x. HandsBack counts given got first v.trace.items x) (sym l.0) (sv.net, sv.sent, sv.heard l.1),
+          )
+
+      pub relinked_if : (r : Result L NodeFault) → IfOk r (λ link. Links pass v w link) → IfOk r (λ link. Relinked counts given got first pass before after link)
+      relinked_if (Ok link) l = relinked link l
+      relinked_if (Err f) l = tt
+
+    -- nothing was exchanged
+    pub kept_if : (pass : ℕ) (before after : List Step) (v w : Node L) → of number_of pass before ≡ of number_of pass v.trace.items → after ≡ w.trace.items → (r : Result L NodeFault) → IfErr r (λ f. (f ≡ fault.NoMemory) × (w ≡ v))
+        → IfErr r (λ _. of number_of pass after ≡ of number_of pass before)
+    kept_if pass before after v w own is (Ok link) e = tt
+    kept_if pass before after v w own is (Err f) e = ap (of number_of pass) (is ∙ ap (λ (n : Node L). n.trace.items) e.1) ∙ sym own
+
+    links_more : (pass : ℕ) (v w : Node L) (link : L) → Links pass v w link → (more : List Step) × More pass v w more
+    links_more pass v w link l = (l.3.0 ∷ [], l.3.2)
+
+    -- what an exchange adds, or nothing
+    pub relinks_more : (pass : ℕ) (v w : Node L) (r : Result L NodeFault) → IfOk r (λ link. Links pass v w link) → IfErr r (λ f. (f ≡ fault.NoMemory) × (w ≡ v)) → (more : List Step) × More pass v w more
+    relinks_more pass v w (Ok link) l e = links_more pass v w link l
+    relinks_more pass v w (Err f) l e = ([], (ap (λ (n : Node L). n.trace.items) e.1 ∙ sym (append-nil v.trace.items), tt))
 
     -- where a turn ended well, memory was wanting for no message before
     pub said_if : {A : Type 0} (start w : Node L) (after : List Step) → Since counts given got start w → after ≡ w.trace.items → (r : Result A NodeFault) → OnOk r (w.broken ≡ false) → OnOk r (AreSaid after)
     said_if start w after s e (Ok x) up = subst AreSaid (sym e) (s.said up)
     said_if start w after s e (Err f) up = tt
 
+    begins_over : {A : Type 0} (by : Step → List A) (now : Option (List A)) (steps : List Step) → steps ≡ [] → Over by now steps now
+    begins_over by now steps none = subst (λ l. Over by now l now) (sym none) (now, refl, sym (added-nil now))
+
     -- the value that a lock is made with
     pub begins : (n : Node L) → n.trace.items ≡ [] → n.kept.items ≡ [] → n.told.items ≡ [] → n.boot ≡ None → n.steps ≡ 0 → n.top ≡ 0 → n.broken ≡ false → Since counts given got n n
-    begins n list kept told boot steps top up = record {
+    begins n list kept told boot steps top up = let heard = begins_over (λ (s : Step). heard_of s.deed) (given n.link) n.trace.items list in record {
       run = subst (IsRun n.clerk) (sym list) tt;
       counted = steps ∙ sym (ap length list);
       leads_to = λ up. ap (leads n.clerk) list;
@@ -309,28 +361,34 @@ module _ {L : Type 0} where
       told = λ up. told ∙ sym (ap told_by list);
       old = boot ∙ sym (ap old_boot list);
       top = top ∙ sym (ap highest list);
-      net = omega (arith, ap nets list);
-      heard = λ up. sym (ap (λ l. added (given n.link) (heard_by l)) list ∙ added-nil (given n.link));
-      sent = sym (ap (λ l. added (got n.link) (said_by l)) list ∙ added-nil (got n.link));
+      net = subst (λ l. Counted (counts n.link) l (counts n.link)) (sym list) (omega arith);
+      heard = λ up. heard;
+      sent = begins_over said_in (got n.link) n.trace.items list;
       said = λ up. subst AreSaid (sym list) tt;
       wanted = λ down. absurd (true_false (sym down ∙ up));
-      came = ([], omega arith, sym (ap (λ l. added (given n.link) (heard_by l ++ [])) list ∙ added-nil (given n.link)));
+      came = came_over (given n.link) (given n.link) n.trace.items heard;
+      linker = refl;
+      links = subst (LinksBy n.linker) (sym list) tt;
     }
 
     module _ (start v : Node L) (steps : List Step) (is : steps ≡ v.trace.items) (s : Since counts given got start v) where
-      nets_are : nets steps + counts start.link ≤ counts v.link
-      nets_are = let net = s.net in omega (arith, ap nets is)
+      nets_are : Counted (counts start.link) steps (counts v.link)
+      nets_are = subst (λ l. Counted (counts start.link) l (counts v.link)) (sym is) s.net
+
+      sent_are : Over said_in (got start.link) steps (got v.link)
+      sent_are = subst (λ l. Over said_in (got start.link) l (got v.link)) (sym is) s.sent
+
+      heard_are : v.broken ≡ false → Over (λ s. heard_of s.deed) (given start.link) steps (given v.link)
+      heard_are up = subst (λ l. Over (λ (s : Step). heard_of s.deed) (given start.link) l (given v.link)) (sym is) (s.heard up)
 
       finished_none : Finished counts given got start steps None v.link
-      finished_none = (subst (IsRun start.clerk) (sym is) s.run, nets_are, s.sent ∙ ap (λ l. added (got start.link) (said_by l)) (sym is), tt)
+      finished_none = (subst (IsRun start.clerk) (sym is) s.run, nets_are, sent_are, tt)
 
       finished_some : v.broken ≡ false → Finished counts given got start steps (Some v.clerk) v.link
-      finished_some up = (
-        subst (IsRun start.clerk) (sym is) s.run,
-        nets_are,
-        s.sent ∙ ap (λ l. added (got start.link) (said_by l)) (sym is),
-        (ap (leads start.clerk) is ∙ s.leads_to up, s.heard up ∙ ap (λ l. added (given start.link) (heard_by l)) (sym is)),
-      )
+      finished_some up = (subst (IsRun start.clerk) (sym is) s.run, nets_are, sent_are, (ap (leads start.clerk) is ∙ s.leads_to up, heard_are up))
+
+      pub links_are : LinksBy start.linker steps
+      links_are = subst (LinksBy start.linker) (sym is) s.links
 
       finished_by : (b : Bool) → v.broken ≡ b → Finished counts given got start steps (if b then None else Some v.clerk) v.link
       finished_by true e = finished_none
@@ -354,8 +412,27 @@ module _ {L : Type 0} where
       pub said_then : (c : Option Clerk) → c ≡ (if v.broken then None else Some v.clerk) → IfSome c (λ _. AreSaid steps)
       said_then c e = subst (λ o. IfSome o (λ _. AreSaid steps)) (sym e) (said_where v.broken refl)
 
-      pub came_all : Came (given start.link) (heard_by steps) (given v.link)
-      came_all = subst (λ l. Came (given start.link) (heard_by l) (given v.link)) (sym is) s.came
+      pub came_all : CameOver (given start.link) steps (given v.link)
+      came_all = subst (λ l. CameOver (given start.link) l (given v.link)) (sym is) s.came
+
+      -- no link was exchanged
+      alone : start.linker ≡ None → has_link steps ≡ false
+      alone none = none_linked steps (subst (λ o. LinksBy o steps) none links_are)
+
+      pub came_one : start.linker ≡ None → Came (given start.link) (heard_by steps) (given v.link)
+      came_one none = Parts.came_alone (given start.link) (given v.link) steps (alone none) came_all
+
+      alone_if : (c : Option Clerk) → has_link steps ≡ false → Finished counts given got start steps c v.link → FinishedAlone counts given got start steps c v.link
+      alone_if None e f = (f.0, Parts.counted_alone (counts start.link) (counts v.link) steps e f.1, Parts.over_alone said_in (got start.link) (got v.link) steps e f.2, tt)
+      alone_if (Some c) e f = (
+        f.0,
+        Parts.counted_alone (counts start.link) (counts v.link) steps e f.1,
+        Parts.over_alone said_in (got start.link) (got v.link) steps e f.2,
+        (f.3.0, Parts.over_alone (λ (s : Step). heard_of s.deed) (given start.link) (given v.link) steps e f.3.1),
+      )
+
+      pub finished_alone : (c : Option Clerk) → c ≡ (if v.broken then None else Some v.clerk) → start.linker ≡ None → FinishedAlone counts given got start steps c v.link
+      finished_alone c e none = alone_if c (alone none) (finished c e)
 
       told_if : (b : Bool) → v.broken ≡ b → IfSome (if b then None else Some v.clerk) (λ _. v.told.items ≡ told_by steps)
       told_if true e = tt

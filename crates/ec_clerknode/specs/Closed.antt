@@ -17,11 +17,12 @@ use Rattle.ec_clerknode.specs.declared.act.Act.{Act}
 use Rattle.ec_clerknode.specs.declared.fault.NodeFault.{NodeFault}
 use Rattle.ec_clerknode.specs.declared.fault.NodeFault.TheVariants as fault
 use Rattle.ec_clerknode.specs.declared.step.Deed.{Deed}
-use Rattle.ec_clerknode.specs.declared.step.Deed.TheVariants.{Began, Picked, Resent}
+use Rattle.ec_clerknode.specs.declared.step.Deed.TheVariants.{Began, Picked, Resent, Linked}
 use Rattle.ec_clerknode.specs.declared.step.Step.{Step}
 use Rattle.ec_clerknode.specs.declared.state.Node.{Node}
 use Rattle.ec_clerknode.specs.Folded.{floor_of, answer_to}
 use Rattle.ec_clerknode.specs.Run.{after, outs_of, IsDeed, heard_of, net_of, call_of, mark_of_deed, calls, marks, Among, said_in, IsSaid, IsBroken, IsGoodbye}
+use Rattle.ec_clerknode.specs.Parts.{is_linked}
 use Rattle.ec_clerknode.specs.Node.{AnsweredFrom, Since, By}
 
 abbrev pub is_wanting : Sent → Bool
@@ -49,23 +50,22 @@ module _ {L : Type 0} (counts : L → ℕ) (given : L → Option (List Heard)) (
     pub counted : failed step.end + counts old.link ≤ counts new.link
     pub said : new.broken ≡ false → IsSaid step.end
     pub wanted : new.broken ≡ true → (old.broken ≡ true) ⊎ (step.end ≡ sent.NoMemory)
+    pub linker : new.linker ≡ old.linker
 
-  -- `mid` is `old` with the clerk after the deed, and with what was received for it
-  pub record Moved (deed : Deed) (outs : List Out) (old mid : Node L) : Type 0 where
-    pub up : old.broken ≡ false
-    pub still_up : mid.broken ≡ false
-    pub is : IsDeed old.clerk deed
-    pub outs_are : outs ≡ outs_of old.clerk deed
-    pub clerk : mid.clerk ≡ after old.clerk deed
-    pub kept : mid.kept.items ≡ old.kept.items
-    pub told_same : mid.told.items ≡ old.told.items
-    pub boot : mid.boot ≡ old.boot
-    pub steps : mid.steps ≡ old.steps
-    pub top : mid.top ≡ old.top
-    pub list : mid.trace.items ≡ old.trace.items
-    pub heard : given mid.link ≡ added (given old.link) (heard_of deed)
-    pub sent : got mid.link ≡ got old.link
-    pub net : net_of deed + counts old.link ≤ counts mid.link
+-- `mid` is `old` with the clerk after the deed, but for the link
+pub record Moved {L : Type 0} (deed : Deed) (outs : List Out) (old mid : Node L) : Type 0 where
+  pub up : old.broken ≡ false
+  pub still_up : mid.broken ≡ false
+  pub is : IsDeed old.clerk deed
+  pub outs_are : outs ≡ outs_of old.clerk deed
+  pub clerk : mid.clerk ≡ after old.clerk deed
+  pub kept : mid.kept.items ≡ old.kept.items
+  pub told_same : mid.told.items ≡ old.told.items
+  pub boot : mid.boot ≡ old.boot
+  pub steps : mid.steps ≡ old.steps
+  pub top : mid.top ≡ old.top
+  pub list : mid.trace.items ≡ old.trace.items
+  pub linker : mid.linker ≡ old.linker
 
 -- The mark that memory was wanting was added, by this pass, and the clerk is followed no more.
 pub record Fell {L : Type 0} (pass : ℕ) (old new : Node L) : Type 0 where
@@ -77,7 +77,7 @@ pub record Fell {L : Type 0} (pass : ℕ) (old new : Node L) : Type 0 where
 
 -- What a turn of the clerk made of it, and the fault that its mark is the cause of.
 abbrev pub Acts : Clerk → Act → Clerk → Type 0
-Acts old act new = IsDeed old act.deed × (act.outs.items ≡ outs_of old act.deed) × (new ≡ after old act.deed) × IfSome act.fault (λ f. mark_of_deed act.deed ≡ f ∷ [])
+Acts old act new = IsDeed old act.deed × (act.outs.items ≡ outs_of old act.deed) × (new ≡ after old act.deed) × IfSome act.fault (λ f. mark_of_deed act.deed ≡ f ∷ []) × (is_linked act.deed ≡ false)
 
 -- the link gave nothing for it
 abbrev pub IsOwn : Deed → Type 0
@@ -101,9 +101,13 @@ Stops boot end marked (fault.OldBoot age) = boot ≡ Some age
 Stops boot end marked (fault.Spent counter) = (boot ≡ None) × (marked ≡ Some (fault.Spent counter))
 Stops boot end marked fault.NoMemory = Unit {0}
 
-abbrev pub EndsAs : {A : Type 0} → Option Age → Sent → Option NodeFault → Result A NodeFault → Type 0
-EndsAs boot end marked (Ok x) = (boot ≡ None) × (marked ≡ None) × (end ≡ sent.Done)
-EndsAs boot end marked (Err f) = Stops boot end marked f
+-- all went well, or the link failed or was closed where another one will come
+abbrev pub GoesOn : Bool → Bool → Sent → Option NodeFault → Type 0
+GoesOn lasts is_down end marked = ((marked ≡ None) × (end ≡ sent.Done)) ⊎ ((lasts ≡ true) × (is_down ≡ true) × ((marked ≡ None) ⊎ (marked ≡ Some fault.Net)) × ((end ≡ sent.Done) ⊎ (end ≡ sent.Failed)))
+
+abbrev pub EndsAs : {A : Type 0} → Option Age → Bool → Bool → Sent → Option NodeFault → Result A NodeFault → Type 0
+EndsAs boot lasts is_down end marked (Ok x) = (boot ≡ None) × GoesOn lasts is_down end marked
+EndsAs boot lasts is_down end marked (Err f) = Stops boot end marked f
 
 -- the list has grown by these steps of this pass
 abbrev pub More : {L : Type 0} → ℕ → Node L → Node L → List Step → Type 0
@@ -139,9 +143,9 @@ Flushes pass asked old new (Err f) = Fails pass [] old new f
 
 abbrev pub PartsIf : {L : Type 0} → Bool → ℕ → Node L → Node L → Type 0
 PartsIf true pass old new = (step : Step) × IsGoodbye step × More pass old new (step ∷ [])
-PartsIf false pass old new = new.trace.items ≡ old.trace.items
+PartsIf false pass old new = (more : List Step) × More pass old new more × (calls more ≡ [])
 
--- it may have said goodbye, in one step, and begins no call
+-- It may have said goodbye, in one step, and begins no call. A goodbye that the link didn't take is none.
 abbrev pub Parts : {L : Type 0} → ℕ → Node L → Node L → Result Bool NodeFault → Type 0
 Parts pass old new (Ok is_said) = (new.boot ≡ None) × PartsIf is_said pass old new
 Parts pass old new (Err f) = Fails pass [] old new f
@@ -155,6 +159,10 @@ PartsBehind pass old new (Err f) = Fails pass [] old new f
 abbrev pub Resends : {L : Type 0} → ℕ → Node L → Node L → Result (Unit {0}) NodeFault → Type 0
 Resends pass old new (Ok u) = (new.boot ≡ None) × ((step : Step) × (step.deed ≡ Resent) × More pass old new (step ∷ []))
 Resends pass old new (Err f) = Fails pass [] old new f
+
+-- the link was exchanged: in one step the clerk greeted by the new one, and this one came back
+abbrev pub Links : {L : Type 0} → ℕ → Node L → Node L → L → Type 0
+Links pass old new link = (link ≡ old.link) × (old.broken ≡ false) × (old.linker ≡ Some pass) × ((step : Step) × (step.deed ≡ Linked) × More pass old new (step ∷ []))
 
 -- what is done with what the link gave; with nothing, nothing
 abbrev pub Hears : Clerk → Got → Clerk → Option Act → Type 0

@@ -28,6 +28,10 @@ parted c = protocol.bye c
 unfoldable pub resent : Clerk → Doing
 resent c = protocol.resend c
 
+-- it greets with its present age
+unfoldable pub linked : Clerk → Doing
+linked c = protocol.hello (protocol.doing c)
+
 -- what a flush answers
 unfoldable pub answer_to : Asked → Clerk → Flushed
 answer_to asked c = protocol.flush_answer asked c

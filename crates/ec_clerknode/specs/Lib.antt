@@ -1,5 +1,6 @@
 pub mod Folded
 pub mod Run
+pub mod Parts
 pub mod Node
 pub mod Closed
 pub mod Floors

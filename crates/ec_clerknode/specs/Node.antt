@@ -1,11 +1,12 @@
 -- What the value behind the lock says of its list of steps.
 use Rattle.std.specs.Prelude.{◌≡◌, ℕ, ◌+◌, ◌≤◌, true, false, List, [], ◌∷◌, length, Option, Some, slice_get}
 use Rattle.std.specs.List.{All}
-use Rattle.ec_link.specs.Links.{Heard, added}
+use Rattle.ec_link.specs.Links.{Heard}
 use Rattle.ec_outs.specs.Outs.{Reply, answers}
 use Rattle.ec_clerknode.specs.declared.step.Step.{Step}
 use Rattle.ec_clerknode.specs.declared.state.Node.{Node}
-use Rattle.ec_clerknode.specs.Run.{highest, IsRun, leads, heard_by, said_by, told_by, nets, old_boot, Among, AreSaid, Wanted, Came}
+use Rattle.ec_clerknode.specs.Run.{highest, IsRun, leads, heard_of, said_in, told_by, old_boot, Among, AreSaid, Wanted}
+use Rattle.ec_clerknode.specs.Parts.{Over, CameOver, Counted, LinksBy}
 
 -- the step at this place answers the call of this number
 abbrev pub AnsweredAt : List Step → ℕ → ℕ → Reply → Type 0
@@ -25,12 +26,14 @@ module _ {L : Type 0} (counts : L → ℕ) (given : L → Option (List Heard)) (
     pub told : now.broken ≡ false → now.told.items ≡ told_by now.trace.items
     pub old : now.boot ≡ old_boot now.trace.items
     pub top : now.top ≡ highest now.trace.items
-    pub net : nets now.trace.items + counts first.link ≤ counts now.link
-    pub heard : now.broken ≡ false → given now.link ≡ added (given first.link) (heard_by now.trace.items)
-    pub sent : got now.link ≡ added (got first.link) (said_by now.trace.items)
+    pub net : Counted (counts first.link) now.trace.items (counts now.link)
+    pub heard : now.broken ≡ false → Over (λ s. heard_of s.deed) (given first.link) now.trace.items (given now.link)
+    pub sent : Over said_in (got first.link) now.trace.items (got now.link)
     pub said : now.broken ≡ false → AreSaid now.trace.items
     pub wanted : now.broken ≡ true → Wanted now.trace.items
-    pub came : Came (given first.link) (heard_by now.trace.items) (given now.link)
+    pub came : CameOver (given first.link) now.trace.items (given now.link)
+    pub linker : now.linker ≡ first.linker
+    pub links : LinksBy first.linker now.trace.items
 
   abbrev pub Keeps : Node L → Node L → Type 0
   Keeps old new = (first : Node L) → Since first old → Since first new

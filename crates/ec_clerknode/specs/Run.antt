@@ -13,11 +13,11 @@ use Rattle.ec_link.specs.declared.link.Sent.TheVariants as sent
 use Rattle.ec_link.specs.Links.{Heard, body, long, failed, added}
 use Rattle.ec_outs.specs.Outs.{each, sends, told, old_boots, first_of, encoded}
 use Rattle.ec_clerknode.specs.declared.step.Deed.{Deed}
-use Rattle.ec_clerknode.specs.declared.step.Deed.TheVariants.{Began, Took, Picked, Parted, Resent, Net, Peer, Long, NotBegun, NotTaken, NotPicked, Broke}
+use Rattle.ec_clerknode.specs.declared.step.Deed.TheVariants.{Began, Took, Picked, Parted, Resent, Linked, Net, Peer, Long, NotBegun, NotTaken, NotPicked, Broke}
 use Rattle.ec_clerknode.specs.declared.step.Step.{Step}
 use Rattle.ec_clerknode.specs.declared.fault.NodeFault.{NodeFault}
 use Rattle.ec_clerknode.specs.declared.fault.NodeFault.TheVariants as fault
-use Rattle.ec_clerknode.specs.Folded.{begun, taken, picked, parted, resent, floor_of}
+use Rattle.ec_clerknode.specs.Folded.{begun, taken, picked, parted, resent, linked, floor_of}
 
 -- What a step makes of the clerk.
 
@@ -31,6 +31,7 @@ done c (Took bytes msg) = taken msg.value c
 done c (Picked asked) = picked asked.value c
 done c Parted = parted c
 done c Resent = resent c
+done c Linked = linked c
 done c Net = still c
 done c (Peer bytes fault) = still c
 done c (Long n) = still c
@@ -52,6 +53,7 @@ IsDeed c (Took bytes msg) = (said bytes.value.items ≡ Ok msg.value) × ((taken
 IsDeed c (Picked asked) = (picked asked.value c).spent ≡ None
 IsDeed c Parted = (parted c).spent ≡ None
 IsDeed c Resent = (resent c).spent ≡ None
+IsDeed c Linked = (linked c).spent ≡ None
 IsDeed c Net = Unit {0}
 IsDeed c (Peer bytes fault) = said bytes.value.items ≡ Err fault
 IsDeed c (Long n) = Unit {0}
@@ -94,6 +96,7 @@ call_of (Took bytes msg) = []
 call_of (Picked asked) = []
 call_of Parted = []
 call_of Resent = []
+call_of Linked = []
 call_of Net = []
 call_of (Peer bytes fault) = []
 call_of (Long n) = []
@@ -112,6 +115,7 @@ heard_of (Took bytes msg) = body bytes.value.items ∷ []
 heard_of (Picked asked) = []
 heard_of Parted = []
 heard_of Resent = []
+heard_of Linked = []
 heard_of Net = []
 heard_of (Peer bytes fault) = body bytes.value.items ∷ []
 heard_of (Long n) = long n ∷ []
@@ -176,6 +180,7 @@ net_of (Took bytes msg) = 0
 net_of (Picked asked) = 0
 net_of Parted = 0
 net_of Resent = 0
+net_of Linked = 0
 net_of Net = 1
 net_of (Peer bytes fault) = 0
 net_of (Long n) = 0
@@ -196,6 +201,7 @@ mark_of_deed (Took bytes msg) = []
 mark_of_deed (Picked asked) = []
 mark_of_deed Parted = []
 mark_of_deed Resent = []
+mark_of_deed Linked = []
 mark_of_deed Net = fault.Net ∷ []
 mark_of_deed (Peer bytes place) = fault.Peer place ∷ []
 mark_of_deed (Long n) = fault.Long n ∷ []

@@ -15,12 +15,13 @@ use Rattle.ec_lock.specs.declared.types.TracedLock.{TracedLock}
 use Rattle.ec_outs.specs.Outs.{Reply}
 use Rattle.ec_clerknode.specs.declared.fault.NodeFault.{NodeFault}
 use Rattle.ec_clerknode.specs.declared.step.Step.{Step}
-use Rattle.ec_clerknode.specs.declared.step.Deed.TheVariants.{Began, Picked}
+use Rattle.ec_clerknode.specs.declared.step.Deed.TheVariants.{Began, Picked, Linked}
 use Rattle.ec_clerknode.specs.declared.state.Node.{Node}
 use Rattle.ec_clerknode.specs.Closed.{Caused}
 use Rattle.ec_clerknode.specs.Folded.{answer_to}
 use Rattle.ec_clerknode.specs.Node.{AnsweredAt, AnsweredFrom}
-use Rattle.ec_clerknode.specs.Run.{highest, IsRun, leads, calls, old_boot, nets, said_by, heard_by, IsGoodbye}
+use Rattle.ec_clerknode.specs.Run.{highest, IsRun, leads, calls, old_boot, nets, said_in, said_by, heard_of, heard_by, IsGoodbye}
+use Rattle.ec_clerknode.specs.Parts.{Over, Counted, LinksBy}
 
 abbrev pub number_of : Step → Option ℕ
 number_of s = Some s.pass
@@ -112,7 +113,21 @@ abbrev pub Waits : {A : Type 0} → ℕ → List Step → List Step → ℕ → 
 Waits pass before after number place (Ok r) = Worked pass before after (Ok r) × IfSome r.1 (λ a. AnsweredFrom after place number a)
 Waits pass before after number place (Err f) = Failed pass [] before after f
 
--- the clerk and the link that are handed back, by the whole list. Where memory was wanting, there is no clerk.
+-- The clerk and the last link that are handed back, by the whole list. Where memory was wanting, there is no clerk.
 abbrev pub Finished : {L : Type 0} → (L → ℕ) → (L → Option (List Heard)) → (L → Option (List (List ℕ))) → Node L → List Step → Option Clerk → L → Type 0
-Finished counts given got first steps c link = IsRun first.clerk steps × (nets steps + counts first.link ≤ counts link) × (got link ≡ added (got first.link) (said_by steps))
+Finished counts given got first steps c link = IsRun first.clerk steps × Counted (counts first.link) steps (counts link) × Over said_in (got first.link) steps (got link)
+    × IfSome c (λ c. (leads first.clerk steps ≡ c) × Over (λ s. heard_of s.deed) (given first.link) steps (given link))
+
+-- the same where no link is exchanged
+abbrev pub FinishedAlone : {L : Type 0} → (L → ℕ) → (L → Option (List Heard)) → (L → Option (List (List ℕ))) → Node L → List Step → Option Clerk → L → Type 0
+FinishedAlone counts given got first steps c link = IsRun first.clerk steps × (nets steps + counts first.link ≤ counts link) × (got link ≡ added (got first.link) (said_by steps))
     × IfSome c (λ c. (leads first.clerk steps ≡ c) × (given link ≡ added (given first.link) (heard_by steps)))
+
+-- A link came back that was exchanged behind these steps: it tells what those of their last part heard and said.
+abbrev pub HandsBack : {L : Type 0} → (L → ℕ) → (L → Option (List Heard)) → (L → Option (List (List ℕ))) → Node L → List Step → L → Type 0
+HandsBack counts given got first steps link = Counted (counts first.link) steps (counts link) × Over said_in (got first.link) steps (got link) × Over (λ s. heard_of s.deed) (given first.link) steps (given link)
+
+-- This pass exchanged the link: it made one step behind the old front, in which the clerk greeted by the new one, and the one before came back.
+abbrev pub Relinked : {L : Type 0} → (L → ℕ) → (L → Option (List Heard)) → (L → Option (List (List ℕ))) → Node L → ℕ → List Step → List Step → L → Type 0
+Relinked counts given got first pass before after link = (steps : List Step) × (s : Step) × (steps ++ s ∷ [] ≡ after) × IsPrefix before steps × (of number_of pass before ≡ of number_of pass steps) × (s.deed ≡ Linked) × (s.pass ≡ pass)
+    × (first.linker ≡ Some pass) × LinksBy first.linker steps × HandsBack counts given got first steps link

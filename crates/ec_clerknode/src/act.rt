@@ -4,7 +4,27 @@ ghost use Rattle.std.specs.Prelude.{◌≡◌, [], Some, None};
 use crate::fault::NodeFault;
 use crate::step::Deed;
 use ec_protocol::Out;
+use ec_wire::Msg;
 use std::alloc::Global;
+
+/// Whether a message is the answer to a greeting.
+#[derive(Clone, Copy, Drop)]
+pub enum Greeted {
+    No,
+    Opened,
+    /// The server restarted, so that the clerk itself sends again what is outstanding.
+    Restarted,
+}
+
+impl Greeted {
+    pub fn by(msg: &Msg) -> Greeted {
+        match msg {
+            Msg::Opened(..) => Greeted::Opened,
+            Msg::Restarted(..) => Greeted::Restarted,
+            _ => Greeted::No,
+        }
+    }
+}
 
 #[derive(Drop)]
 pub struct Act {
@@ -12,6 +32,7 @@ pub struct Act {
     pub outs: Vec<Out>,
     /// The fault that the turn answers once the step is in the list.
     pub fault: Option<NodeFault>,
+    pub greeted: Greeted,
 }
 
 impl Act {
@@ -23,6 +44,19 @@ impl Act {
             deed,
             outs,
             fault: None,
+            greeted: Greeted::No,
+        }
+    }
+
+    /// The same for a message that was taken.
+    pub fn took(deed: Deed, outs: Vec<Out>, greeted: Greeted) -> Act
+        ensures { (result.deed ≡ deed) × (result.outs.items ≡ outs.items) × (result.fault ≡ None) }
+    {
+        Act {
+            deed,
+            outs,
+            fault: None,
+            greeted,
         }
     }
 
@@ -34,6 +68,7 @@ impl Act {
             deed,
             outs: Vec::new(alloc),
             fault: Some(fault),
+            greeted: Greeted::No,
         }
     }
 }

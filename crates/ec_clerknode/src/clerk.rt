@@ -2,7 +2,7 @@
 ghost use Rattle.std.specs.Prelude.{◌≡◌, ◌+◌, true, IfOk, IfErr, IfSome, IfNone, OnErr};
 ghost use Rattle.ec_protocol.specs.declared.clerk.ClerkFault.TheVariants as fault;
 ghost use Rattle.ec_wire.specs.Messages.{is_sound};
-ghost use Rattle.ec_clerknode.specs.Folded.{begun, taken, picked, parted, resent, answer_to, floor_of, refused_by, Comes, Refuses};
+ghost use Rattle.ec_clerknode.specs.Folded.{begun, taken, picked, parted, resent, linked, answer_to, floor_of, refused_by, Comes, Refuses};
 ghost use Rattle.ec_clerknode.specs.Run.{says_bye};
 ghost use Rattle.ec_outs.specs.Outs.{sends};
 
@@ -83,6 +83,14 @@ pub fn bye(clerk: &mut Clerk) -> Result<Option<Vec<Out>>, NoMemory>
         return Ok(None);
     }
     Ok(Some(outs))
+}
+
+/// Greets by a new link.
+#[tactic(auto, unfolding(crate::specs::Folded::linked))]
+pub fn greet(clerk: &Clerk) -> Result<Vec<Out>, NoMemory>
+    ensures { IfOk result (λ outs. Comes (linked clerk.now) clerk.now outs.items) }
+{
+    clerk.greet()
 }
 
 /// Sends again what is held and what is outstanding.

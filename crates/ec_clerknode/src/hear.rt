@@ -3,7 +3,7 @@ ghost use Rattle.std.specs.Prelude.{◌≡◌, IfOk, IfSome, Some};
 ghost use Rattle.ec_link.specs.declared.link.Got.TheVariants.{Body};
 ghost use Rattle.ec_clerknode.specs.Closed.{Hears, IsMark};
 
-use crate::act::Act;
+use crate::act::{Act, Greeted};
 use crate::clerk::{Refused, take};
 use crate::fault::NodeFault;
 use crate::step::Deed;
@@ -41,8 +41,9 @@ fn hear_body(clerk: &mut Clerk, alloc: Global, body: Vec<u8>) -> Result<Act, NoM
     match decode(alloc, &body) {
         Ok(msg) => {
             let shot = Snapshot::of(&msg);
+            let greeted = Greeted::by(&msg);
             match take(clerk, msg) {
-                Ok(outs) => Ok(Act::step(Deed::Took(bytes, shot), outs)),
+                Ok(outs) => Ok(Act::took(Deed::Took(bytes, shot), outs, greeted)),
                 Err(Refused::Spent(counter)) => Ok(Act::mark(
                     alloc,
                     Deed::NotTaken(bytes, shot, counter),

@@ -10,9 +10,11 @@ mod lane;
 mod lanes;
 mod node;
 mod passes;
+mod relinking;
 mod shared;
 mod state;
 mod step;
+mod swap;
 mod waiting;
 
 pub use ec_outs::send_all;
@@ -23,3 +25,4 @@ pub use lanes::{run_lane_calls, run_lane_ops, run_lanes};
 pub use shared::SharedClerk;
 pub use state::{Closing, Node};
 pub use step::{Deed, Step};
+pub use swap::{Seen, Swap};

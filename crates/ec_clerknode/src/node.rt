@@ -10,7 +10,7 @@ ghost use Rattle.ec_clerknode.specs.declared.fault.NodeFault.TheVariants as faul
 ghost use Rattle.ec_clerknode.specs.declared.state.State.{State};
 ghost use Rattle.ec_clerknode.specs.declared.step.Step.{Step};
 
-use crate::act::Act;
+use crate::act::{Act, Greeted};
 use crate::clerk::{self, Refused};
 use crate::fault::NodeFault;
 use crate::hear::hear;
@@ -56,6 +56,14 @@ fn is_broken_behind(was_broken: bool, end: Sent) -> bool
     }
 }
 
+// Whether the link is down behind a step that ends so.
+fn is_down_behind(was_down: bool, end: Sent) -> bool {
+    match end {
+        Sent::Failed => true,
+        Sent::Done | Sent::NoMemory => was_down,
+    }
+}
+
 impl<L: Link> State<L> {
     /// Whether a turn may do anything.
     pub fn check(&self) -> Result<(), NodeFault>
@@ -93,7 +101,7 @@ impl<L: Link> State<L> {
     }
 
     // Sends the messages, keeps the answers and adds the step. It says how the sending ended.
-    fn add_step<R: Wait + Clock>(
+    pub fn add_step<R: Wait + Clock>(
         &mut self,
         rt: &R,
         alloc: Global,
@@ -106,7 +114,9 @@ impl<L: Link> State<L> {
     {
         let shot = Snapshot::of(&outs);
         let rest = self.patience.rest(rt, &outs);
+        let is_net = deed.is_net();
         let (sent, end) = send_resting(rt, alloc, &mut self.link, &outs, rest);
+        self.is_down = is_down_behind(self.is_down || is_net, end);
         let floor = clerk::floor(&self.clerk);
         self.boot = known_old(self.boot, &outs);
         let kept = keep_all(&mut self.kept, &mut self.told, outs, self.steps);
@@ -129,7 +139,7 @@ impl<L: Link> State<L> {
     // How the turn ends.
     fn ended(&self, end: Sent, marked: Option<NodeFault>) -> Result<(), NodeFault>
         requires { IfSome marked IsMark }
-        ensures ends { EndsAs self.now.boot end marked result }
+        ensures ends { EndsAs self.now.boot self.now.lasts self.now.is_down end marked result }
         ensures up { OnOk result (self.now.broken ≡ false) }
     {
         if let Some(age) = self.boot {
@@ -139,13 +149,29 @@ impl<L: Link> State<L> {
             return Err(NodeFault::NoMemory);
         }
         match end {
-            Sent::Failed => return Err(NodeFault::Net),
+            Sent::Failed => self.outlives()?,
             Sent::NoMemory => return Err(NodeFault::NoMemory),
             Sent::Done => {}
         }
         match marked {
+            Some(NodeFault::Net) => {
+                self.outlives()?;
+                Ok(())
+            }
             Some(fault) => Err(fault),
             None => Ok(()),
+        }
+    }
+
+    // The link failed or was closed, which is no fault where another one will come.
+    fn outlives(&self) -> Result<(), NodeFault>
+        ensures ok { IfOk result (λ _. (self.now.lasts ≡ true) × (self.now.is_down ≡ true)) }
+        ensures err { IfErr result (λ f. f ≡ fault.Net) }
+    {
+        if self.lasts && self.is_down {
+            Ok(())
+        } else {
+            Err(NodeFault::Net)
         }
     }
 
@@ -159,10 +185,15 @@ impl<L: Link> State<L> {
     ) -> Result<(), NodeFault>
         requires steps { self.old.steps < last_counter }
         requires marked { IfSome act.fault IsMark }
-        ensures grown { (step : Step) × Closed (λ l. L.faults l + L.closes l) L.given L.got pass act.deed act.outs.items step self.old self.new × EndsAs self.new.boot step.end act.fault result }
+        ensures grown { (step : Step) × Closed (λ l. L.faults l + L.closes l) L.given L.got pass act.deed act.outs.items step self.old self.new × EndsAs self.new.boot self.new.lasts self.new.is_down step.end act.fault result }
         ensures up { OnOk result (self.new.broken ≡ false) }
     {
-        let Act { deed, outs, fault } = act;
+        let Act {
+            deed,
+            outs,
+            fault,
+            ..
+        } = act;
         let end = self.add_step(rt, alloc, pass, deed, outs);
         self.ended(end, fault)
     }
@@ -207,7 +238,32 @@ impl<L: Link> State<L> {
         }
     }
 
-    /// Reads the link once, and takes the message if there was one. It's true where the link gave something.
+    // Reads the link once, and takes the message if there was one. It tells what the message was, where the link gave something.
+    fn hear_link<R: Wait + Clock>(
+        &mut self,
+        rt: &R,
+        alloc: Global,
+        pass: u64,
+    ) -> Result<Option<Greeted>, NodeFault>
+        ensures keeps { Keeps (λ l. L.faults l + L.closes l) L.given L.got self.old self.new }
+        ensures works { Works pass self.old self.new result }
+        ensures up { OnOk result (self.new.broken ≡ false) }
+    {
+        self.check()?;
+        let got = self.link.recv(rt);
+        match hear(&mut self.clerk, alloc, got) {
+            Ok(None) => Ok(None),
+            Ok(Some(act)) => {
+                let greeted = act.greeted;
+                self.close(rt, alloc, pass, act)?;
+                Ok(Some(greeted))
+            }
+            Err(_) => Err(self.breaks(alloc, pass)),
+        }
+    }
+
+    /// Reads the link once, and takes the message if there was one. It's true where the link gave something. A link that is
+    /// down is read no more where another one will come.
     pub fn read<R: Wait + Clock>(
         &mut self,
         rt: &R,
@@ -219,14 +275,53 @@ impl<L: Link> State<L> {
         ensures up { OnOk result (self.new.broken ≡ false) }
     {
         self.check()?;
-        let got = self.link.recv(rt);
-        match hear(&mut self.clerk, alloc, got) {
-            Ok(None) => Ok(false),
-            Ok(Some(act)) => {
-                self.close(rt, alloc, pass, act)?;
+        if self.outlives().is_ok() {
+            return Ok(false);
+        }
+        match self.hear_link(rt, alloc, pass)? {
+            Some(greeted) => {
+                self.pay(rt, alloc, pass, greeted)?;
                 Ok(true)
             }
-            Err(_) => Err(self.breaks(alloc, pass)),
+            None => Ok(false),
+        }
+    }
+
+    // Behind the answer to the greeting of a new link what is outstanding is sent again: by the clerk itself where the server
+    // restarted, and else by this step.
+    fn pay<R: Wait + Clock>(
+        &mut self,
+        rt: &R,
+        alloc: Global,
+        pass: u64,
+        greeted: Greeted,
+    ) -> Result<(), NodeFault>
+        ensures keeps { Keeps (λ l. L.faults l + L.closes l) L.given L.got self.old self.new }
+        ensures works { Works pass self.old self.new result }
+        ensures up { OnOk result (self.new.broken ≡ false) }
+    {
+        self.check()?;
+        if !self.is_due(greeted) {
+            return Ok(());
+        }
+        self.resend(rt, alloc, pass)
+    }
+
+    // Whether what is outstanding is to be sent again now.
+    fn is_due(&mut self, greeted: Greeted) -> bool
+        ensures { self.new ≡ record self.old { owes = self.new.owes } }
+    {
+        let is_owed = self.owes && !self.is_down;
+        match greeted {
+            Greeted::No => false,
+            Greeted::Restarted => {
+                self.owes = false;
+                false
+            }
+            Greeted::Opened => {
+                self.owes = self.owes && self.is_down;
+                is_owed
+            }
         }
     }
 
@@ -260,17 +355,20 @@ impl<L: Link> State<L> {
         }
     }
 
-    // Says goodbye, where there is a session. Whether it did.
+    // Says goodbye, where there is a session and the link is up. Whether the link took it.
     fn bye<R: Wait + Clock>(&mut self, rt: &R, alloc: Global, pass: u64) -> Result<bool, NodeFault>
         ensures keeps { Keeps (λ l. L.faults l + L.closes l) L.given L.got self.old self.new }
         ensures parts { Parts pass self.old self.new result }
         ensures up { OnOk result (self.new.broken ≡ false) }
     {
         self.check()?;
+        if self.is_down {
+            return Ok(false);
+        }
         match clerk::bye(&mut self.clerk) {
             Ok(Some(outs)) => {
                 self.close(rt, alloc, pass, Act::step(Deed::Parted, outs))?;
-                Ok(true)
+                Ok(!self.is_down)
             }
             Ok(None) => Ok(false),
             Err(_) => Err(self.breaks(alloc, pass)),
@@ -319,10 +417,20 @@ impl<L: Link> State<L> {
         ensures up { OnOk result (self.new.broken ≡ false) }
     {
         self.check()?;
-        if !self.waiting.is_long(rt) {
+        if !self.is_long(rt) {
             return Ok(());
         }
         self.resend(rt, alloc, pass)
+    }
+
+    // Whether calls have waited for long, with a link.
+    fn is_long<R: Clock>(&mut self, rt: &R) -> bool
+        ensures { self.new ≡ record self.old { waiting = self.new.waiting } }
+    {
+        if self.is_down {
+            return false;
+        }
+        self.waiting.is_long(rt)
     }
 
     // Reads the link once for one that waits, and may send again where nothing came.

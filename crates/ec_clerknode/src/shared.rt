@@ -9,11 +9,13 @@ ghost use Rattle.ec_clerknode.specs.Closed.{Started, Waited, Works};
 ghost use Rattle.ec_clerknode.specs.Floors.{highest_grows};
 ghost use Rattle.ec_clerknode.specs.Node.{Since};
 ghost use Rattle.ec_clerknode.specs.Run.{highest, old_boot, told_by, heard_by, AreSaid, Wanted, Came};
-ghost use Rattle.ec_clerknode.specs.Turns.{number_of, Stays, Turned, Starts, Waits, Called, CalledPlain, Worked, Partings, SaidBye, Asks, FlushTurned, Finished};
+ghost use Rattle.ec_clerknode.specs.Turns.{number_of, Stays, Turned, Starts, Waits, Called, CalledPlain, Worked, Partings, SaidBye, Asks, FlushTurned, Finished, FinishedAlone};
+ghost use Rattle.ec_clerknode.specs.Parts.{CameOver, LinksBy};
 
 use crate::fault::NodeFault;
 use crate::state::{Closing, Node, State};
 use crate::step::Step;
+use crate::swap::Swap;
 use crate::waiting::Waiting;
 use ec_base::{Age, Counter, List, OpNo};
 use ec_clerk::Clerk;
@@ -27,6 +29,7 @@ use ec_protocol::Flushed;
 use ec_trace::Trace;
 use std::alloc::Global;
 use std::sync::Wait;
+use std::sync::atomic::AtomicU64;
 use std::time::Clock;
 
 impl<L> Node<L> {
@@ -59,13 +62,21 @@ impl<L: Link> Traced for Node<L> {
 #[derive(Drop)]
 pub struct SharedClerk<L: Link> {
     pub(crate) lock: TracedLock<Node<L>>,
-    bell: L::Bell,
+    pub(crate) bell: Swap<L::Bell>,
+    // What who links again sleeps on.
+    pub(crate) down: AtomicU64,
     pub(crate) alloc: Global,
 }
 
 impl<L: Link> SharedClerk<L> {
     // Ends a turn. The pass raises the mark to the floor of its front, and the others look where there may be something for them.
-    fn end(&self, turn: Turn<Node<L>>, pass: &mut Pass<Node<L>>, is_news: bool)
+    pub(crate) fn end<R: Wait>(
+        &self,
+        rt: &R,
+        turn: Turn<Node<L>>,
+        pass: &mut Pass<Node<L>>,
+        is_news: bool,
+    )
         requires turn { HasTurn self.now.lock pass.old turn.next }
         requires later { IsPrefix (front pass.old) turn.value.trace.items }
         requires own { (n : ℕ) → ¬ (n ≡ pass.old.number) → of number_of n (front pass.old) ≡ of number_of n turn.value.trace.items }
@@ -77,10 +88,14 @@ impl<L: Link> SharedClerk<L> {
     {
         let node = &turn.value;
         let top = node.state.top;
+        let is_down = node.state.is_down;
         self.lock.leave(turn, pass);
         self.lock.raise(pass, top);
+        if is_down {
+            self.tell_down();
+        }
         if is_news {
-            self.bell.ring();
+            self.bell.ring(rt);
         }
     }
 
@@ -103,7 +118,7 @@ impl<L: Link> SharedClerk<L> {
         let state = &mut node.state;
         let result = state.start_call(rt, self.alloc, number, call);
         let is_news = result.is_err() || turn.value.kept() > kept;
-        self.end(turn, pass, is_news);
+        self.end(rt, turn, pass, is_news);
         result
     }
 
@@ -129,7 +144,7 @@ impl<L: Link> SharedClerk<L> {
             Ok((heard, _)) => *heard,
             Err(_) => true,
         };
-        self.end(turn, pass, is_news);
+        self.end(rt, turn, pass, is_news);
         result
     }
 
@@ -149,7 +164,7 @@ impl<L: Link> SharedClerk<L> {
             Ok(heard) => *heard,
             Err(_) => true,
         };
-        self.end(turn, pass, is_news);
+        self.end(rt, turn, pass, is_news);
         result
     }
 
@@ -170,7 +185,7 @@ impl<L: Link> SharedClerk<L> {
             return Ok(reply);
         }
         for _ in rt.forever() {
-            let seen = self.bell.rings();
+            let seen = self.bell.rings(rt);
             let (heard, reply) = self.wait(rt, pass, number, place)?;
             if let Some(reply) = reply {
                 return Ok(reply);
@@ -215,7 +230,7 @@ impl<L: Link> SharedClerk<L> {
         ensures called { Called pass.old.number call (front pass.old) (front pass.new) result }
         ensures said { OnOk result (AreSaid (front pass.new)) }
     {
-        if self.bell.called() {
+        if self.bell.called(rt) {
             return self.listen_and_call(rt, pass, call);
         }
         self.make_call(rt, pass, call)
@@ -258,7 +273,7 @@ impl<L: Link> SharedClerk<L> {
             Ok((heard, _)) => *heard,
             Err(_) => true,
         };
-        self.end(turn, pass, is_news);
+        self.end(rt, turn, pass, is_news);
         result
     }
 
@@ -299,7 +314,7 @@ impl<L: Link> SharedClerk<L> {
             Ok((heard, _)) => *heard,
             Err(_) => true,
         };
-        self.end(turn, pass, is_news);
+        self.end(rt, turn, pass, is_news);
         result
     }
 
@@ -316,7 +331,7 @@ impl<L: Link> SharedClerk<L> {
             return Ok(());
         }
         for _ in rt.forever() {
-            let seen = self.bell.rings();
+            let seen = self.bell.rings(rt);
             let (heard, is_said) = self.part(rt, pass)?;
             if is_said {
                 return Ok(());
@@ -343,7 +358,7 @@ impl<L: Link> SharedClerk<L> {
         let turn = self.lock.enter(rt, pass);
         let node = &turn.value;
         let lists = node.state.losses(self.alloc);
-        self.end(turn, pass, false);
+        self.end(rt, turn, pass, false);
         lists
     }
 
@@ -357,12 +372,12 @@ impl<L: Link> SharedClerk<L> {
         let turn = self.lock.enter(rt, pass);
         let node = &turn.value;
         let boot = node.state.boot;
-        self.end(turn, pass, false);
+        self.end(rt, turn, pass, false);
         boot
     }
 
     /// What threads wait on for this clerk, outside of the lock. It rings where the link may have something new.
-    pub fn bell(&self) -> &L::Bell
+    pub fn bell(&self) -> &Swap<L::Bell>
         ensures { result.now ≡ self.now.bell }
     {
         &self.bell
@@ -380,8 +395,31 @@ impl<L: Link + Drop> SharedClerk<L> {
         ensures pass { IfOk result (λ made. IsPassOf made.0.lock made.1 × (front made.1 ≡ []) × (made.1.number ≡ 0) × (numbers made.1 ≡ 0 ∷ [])) }
         ensures clerk { IfOk result (λ made. (first made.0.lock).clerk ≡ clerk) }
         ensures link { IfOk result (λ made. (first made.0.lock).link ≡ link) }
+        ensures linker { IfOk result (λ made. (first made.0.lock).linker ≡ None) }
         ensures err { IfErr result (λ f. f ≡ fault.NoMemory) }
     {
+        SharedClerk::linked_by(alloc, clerk, link, bell, None)
+    }
+
+    /// The same, with the number of the pass that may exchange the link, where one may.
+    pub fn linked_by(
+        alloc: Global,
+        clerk: Clerk,
+        link: L,
+        bell: L::Bell,
+        linker: Option<u64>,
+    ) -> Result<(SharedClerk<L>, Pass<Node<L>>), NodeFault>
+        ensures pass { IfOk result (λ made. IsPassOf made.0.lock made.1 × (front made.1 ≡ []) × (made.1.number ≡ 0) × (numbers made.1 ≡ 0 ∷ [])) }
+        ensures clerk { IfOk result (λ made. (first made.0.lock).clerk ≡ clerk) }
+        ensures link { IfOk result (λ made. (first made.0.lock).link ≡ link) }
+        ensures linker { IfOk result (λ made. (first made.0.lock).linker ≡ linker) }
+        ensures err { IfErr result (λ f. f ≡ fault.NoMemory) }
+    {
+        let Ok(bell) = Swap::new(alloc, bell) else {
+            drop(clerk);
+            drop(link);
+            return Err(NodeFault::NoMemory);
+        };
         let state = State {
             clerk,
             link,
@@ -390,6 +428,10 @@ impl<L: Link + Drop> SharedClerk<L> {
             boot: None,
             steps: 0,
             broken: false,
+            linker,
+            lasts: false,
+            is_down: false,
+            owes: false,
             top: 0,
             patience: Patience::new(),
             waiting: Waiting::new(),
@@ -397,21 +439,32 @@ impl<L: Link + Drop> SharedClerk<L> {
         };
         let state = Box::new(alloc, state)?;
         match TracedLock::new(alloc, Node { state }) {
-            Ok((lock, pass)) => Ok((SharedClerk { lock, bell, alloc }, pass)),
+            Ok((lock, pass)) => {
+                let shared = SharedClerk {
+                    lock,
+                    bell,
+                    down: AtomicU64::new(0),
+                    alloc,
+                };
+                Ok((shared, pass))
+            }
             Err(_) => Err(NodeFault::NoMemory),
         }
     }
 
-    /// Hands the clerk and the link back. The pass's front is the whole list then. There is no clerk where a step met want of
+    /// Hands the clerk and the last link back. The pass's front is the whole list then. There is no clerk where a step met want of
     /// memory, after which nothing is begun.
     pub fn finish<R: Wait>(self, rt: &R, pass: &mut Pass<Node<L>>) -> (Option<Clerk>, L)
         requires pass { IsPassOf self.lock pass.old }
         ensures same { Same pass.old pass.new }
         ensures later { IsPrefix (front pass.old) (front pass.new) }
         ensures finished { Finished (λ l. L.faults l + L.closes l) L.given L.got (first self.lock) (front pass.new) result.0 result.1 }
+        ensures alone { (first self.lock).linker ≡ None → FinishedAlone (λ l. L.faults l + L.closes l) L.given L.got (first self.lock) (front pass.new) result.0 result.1 }
+        ensures links { LinksBy (first self.lock).linker (front pass.new) }
         ensures said { IfSome result.0 (λ _. AreSaid (front pass.new)) }
         ensures wanted { IfNone result.0 (Wanted (front pass.new)) }
-        ensures heard { Came (L.given (first self.lock).link) (heard_by (front pass.new)) (L.given result.1) }
+        ensures heard { CameOver (L.given (first self.lock).link) (front pass.new) (L.given result.1) }
+        ensures heard_alone { (first self.lock).linker ≡ None → Came (L.given (first self.lock).link) (heard_by (front pass.new)) (L.given result.1) }
     {
         let Closing { clerk, link, .. } = self.close(rt, pass);
         (clerk, link)
@@ -424,9 +477,12 @@ impl<L: Link + Drop> SharedClerk<L> {
         ensures later { IsPrefix (front pass.old) (front pass.new) }
         ensures own { (n : ℕ) → Member n (numbers pass.old) → of number_of n (front pass.old) ≡ of number_of n (front pass.new) }
         ensures finished { Finished (λ l. L.faults l + L.closes l) L.given L.got (first self.lock) (front pass.new) result.clerk result.link }
+        ensures alone { (first self.lock).linker ≡ None → FinishedAlone (λ l. L.faults l + L.closes l) L.given L.got (first self.lock) (front pass.new) result.clerk result.link }
+        ensures links { LinksBy (first self.lock).linker (front pass.new) }
         ensures said { IfSome result.clerk (λ _. AreSaid (front pass.new)) }
         ensures wanted { IfNone result.clerk (Wanted (front pass.new)) }
-        ensures heard { Came (L.given (first self.lock).link) (heard_by (front pass.new)) (L.given result.link) }
+        ensures heard { CameOver (L.given (first self.lock).link) (front pass.new) (L.given result.link) }
+        ensures heard_alone { (first self.lock).linker ≡ None → Came (L.given (first self.lock).link) (heard_by (front pass.new)) (L.given result.link) }
         ensures told { IfSome result.clerk (λ _. result.told.items ≡ told_by (front pass.new)) }
         ensures boot { result.boot ≡ old_boot (front pass.new) }
     {

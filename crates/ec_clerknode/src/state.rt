@@ -19,6 +19,14 @@ pub struct State<L> {
     pub steps: u64,
     /// Memory was wanting where the clerk, an answer or a message was lost by it. From then on nothing is begun.
     pub broken: bool,
+    /// The number of the pass that may exchange the link, where one may.
+    pub linker: Option<u64>,
+    /// A new link comes where this one fails, so that this is no fault of a call.
+    pub lasts: bool,
+    /// The link failed or was closed, and no new one has come.
+    pub is_down: bool,
+    /// It greeted by a new link, and hasn't sent again what is outstanding.
+    pub owes: bool,
     /// The highest floor that a step left.
     pub top: u64,
     /// How long a want rests.

@@ -21,6 +21,8 @@ pub enum Deed {
     Parted,
     /// It sent again what it holds and what is outstanding.
     Resent,
+    /// It greeted by a new link. What the steps behind it give and get is that link's.
+    Linked,
     /// A mark: the link failed or was closed.
     Net,
     /// A mark: this body is no message.
@@ -33,6 +35,16 @@ pub enum Deed {
     NotPicked(Snapshot<Asked>, Counter),
     /// A mark: memory was wanting for a step, and from then on nothing is known of the clerk.
     Broke,
+}
+
+impl Deed {
+    /// Whether it's a mark that the link failed or was closed.
+    pub fn is_net(&self) -> bool {
+        match self {
+            Deed::Net => true,
+            _ => false,
+        }
+    }
 }
 
 #[derive(Drop)]

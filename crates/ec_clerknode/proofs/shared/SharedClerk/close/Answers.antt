@@ -5,7 +5,7 @@ use Rattle.ec_lock.specs.Steps.{of}
 use Rattle.ec_clerknode.specs.Node.{Since}
 use Rattle.ec_clerknode.specs.Run.{old_boot}
 use Rattle.ec_clerknode.specs.Turns.{number_of}
-use Rattle.ec_clerknode.proofs.Turns.{finished, told_then, said_then, wanted_then, came_all}
+use Rattle.ec_clerknode.proofs.Turns.{finished, finished_alone, told_then, said_then, wanted_then, came_all, came_one, links_are}
 use Rattle.ec_clerknode.proofs.shared.SharedClerk.close.Goals as goal
 
 pub returns-clause-later : goal.returns-clause-later
@@ -54,3 +54,24 @@ returns-clause-wanted g c =
     let start = first c.args.self.lock in
     let since = subst (Since (λ l. g.L.Link.faults l + g.L.Link.closes l) g.L.Link.given g.L.Link.got start) (sym same) c.enter-turn.ensures.since in
     wanted_then (λ l. g.L.Link.faults l + g.L.Link.closes l) g.L.Link.given g.L.Link.got start c.into_inner-state.result (front c.enter-turn.new.pass) (c.enter-turn.ensures.front ∙ ap (λ n. n.trace.items) (sym same)) since c.unless_broken.result c.unless_broken.ensures
+
+pub returns-clause-alone : goal.returns-clause-alone
+returns-clause-alone g c =
+    let same = c.into_inner-state.ensures ∙ (c.node.view_is ∙ c.into_value-node.ensures) in
+    let start = first c.args.self.lock in
+    let since = subst (Since (λ l. g.L.Link.faults l + g.L.Link.closes l) g.L.Link.given g.L.Link.got start) (sym same) c.enter-turn.ensures.since in
+    finished_alone (λ l. g.L.Link.faults l + g.L.Link.closes l) g.L.Link.given g.L.Link.got start c.into_inner-state.result (front c.enter-turn.new.pass) (c.enter-turn.ensures.front ∙ ap (λ n. n.trace.items) (sym same)) since c.unless_broken.result c.unless_broken.ensures
+
+pub returns-clause-links : goal.returns-clause-links
+returns-clause-links g c =
+    let same = c.into_inner-state.ensures ∙ (c.node.view_is ∙ c.into_value-node.ensures) in
+    let start = first c.args.self.lock in
+    let since = subst (Since (λ l. g.L.Link.faults l + g.L.Link.closes l) g.L.Link.given g.L.Link.got start) (sym same) c.enter-turn.ensures.since in
+    links_are (λ l. g.L.Link.faults l + g.L.Link.closes l) g.L.Link.given g.L.Link.got start c.into_inner-state.result (front c.enter-turn.new.pass) (c.enter-turn.ensures.front ∙ ap (λ n. n.trace.items) (sym same)) since
+
+pub returns-clause-heard_alone : goal.returns-clause-heard_alone
+returns-clause-heard_alone g c =
+    let same = c.into_inner-state.ensures ∙ (c.node.view_is ∙ c.into_value-node.ensures) in
+    let start = first c.args.self.lock in
+    let since = subst (Since (λ l. g.L.Link.faults l + g.L.Link.closes l) g.L.Link.given g.L.Link.got start) (sym same) c.enter-turn.ensures.since in
+    came_one (λ l. g.L.Link.faults l + g.L.Link.closes l) g.L.Link.given g.L.Link.got start c.into_inner-state.result (front c.enter-turn.new.pass) (c.enter-turn.ensures.front ∙ ap (λ n. n.trace.items) (sym same)) since

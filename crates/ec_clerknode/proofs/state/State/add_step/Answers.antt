@@ -29,6 +29,7 @@ returns g c =
         given_same = search rules;
         got_more = search rules;
         counted = failed_kept kept sent end.result end.ensures.kept end.ensures.lost _ _ c.send_resting-sent.ensures.counts;
+        linker = search rules;
         said = λ up. said_kept end.result (or_false (is_wanting end.result) c.args.self.now.broken (sym broken ∙ up));
         wanted = λ down. ⊎_elim (λ (e : is_wanting end.result ≡ true). inr (wanted_kept end.result e)) (λ (e : c.args.self.now.broken ≡ true). inl e) (or_true (is_wanting end.result) c.args.self.now.broken (sym broken ∙ down));
       },

@@ -3,7 +3,7 @@ use Rattle.ec_link.specs.Links.{added, heard}
 use Rattle.ec_clerknode.specs.Closed.{Fails, Hears}
 use Rattle.ec_clerknode.proofs.Nodes.{follows, read_none, falls, heard_short, counts_more, counts_up}
 use Rattle.ec_clerknode.proofs.Turns.{fell_fails}
-use Rattle.ec_clerknode.proofs.state.State.read.Goals as goal
+use Rattle.ec_clerknode.proofs.state.State.hear_link.Goals as goal
 
 pub returns-in_err-close-in-Ok-Some-clause-keeps : goal.returns-in_err-close-in-Ok-Some-clause-keeps
 returns-in_err-close-in-Ok-Some-clause-keeps g c =

@@ -1,0 +1,45 @@
+use Rattle.std.proofs.Common.{◌≡◌, ◌+◌, IfOk, sym, ◌∙◌, subst}
+use Rattle.ec_lock.specs.Passes.{first, front}
+use Rattle.ec_clerknode.specs.Closed.{Links}
+use Rattle.ec_clerknode.proofs.Turns.{own_only, grown, later_front, relinks_more, turned, relinked_if, kept_if}
+use Rattle.ec_clerknode.proofs.relinking.SharedClerk.relink.Goals as goal
+
+pub end-requires-clause-own : goal.end-requires-clause-own
+end-requires-clause-own g c κs within =
+    let v = c.enter-turn.result.value in
+    let w = c.exchange-result.new.state in
+    own_only c.number-number.result c.enter-turn.new.pass.number (front c.enter-turn.new.pass) v w c.enter-turn.ensures.front (c.enter-turn.ensures.same.0 ∙ sym c.number-number.ensures)
+    (relinks_more (λ l. g.L.Link.faults l + g.L.Link.closes l) g.L.Link.given g.L.Link.got c.number-number.result v w c.exchange-result.result (rw (c.deref_mut.ensures.value ∙ c.node.view_is) at c.exchange-result.ensures.ok) (rw (c.deref_mut.ensures.value ∙ c.node.view_is) at c.exchange-result.ensures.err))
+
+pub end-requires-clause-later : goal.end-requires-clause-later
+end-requires-clause-later g c κs within =
+    let v = c.enter-turn.result.value in
+    let w = c.exchange-result.new.state in
+    later_front c.number-number.result (front c.enter-turn.new.pass) v w c.enter-turn.ensures.front (relinks_more (λ l. g.L.Link.faults l + g.L.Link.closes l) g.L.Link.given g.L.Link.got c.number-number.result v w c.exchange-result.result (rw (c.deref_mut.ensures.value ∙ c.node.view_is) at c.exchange-result.ensures.ok) (rw (c.deref_mut.ensures.value ∙ c.node.view_is) at c.exchange-result.ensures.err))
+
+pub end-requires-clause-since : goal.end-requires-clause-since
+end-requires-clause-since g c κs within = (rw (c.deref_mut.ensures.value ∙ c.node.view_is) at c.exchange-result.ensures.keeps) (first c.args.self.now.lock) c.enter-turn.ensures.since
+
+pub returns-clause-turned : goal.returns-clause-turned
+returns-clause-turned g c =
+    let v = c.enter-turn.result.value in
+    let w = c.exchange-result.new.state in
+    turned (λ l. g.L.Link.faults l + g.L.Link.closes l) g.L.Link.given g.L.Link.got c.args.self.now.lock c.args.pass.now c.enter-turn.new.pass c.end.new.pass v w ((rw (c.deref_mut.ensures.value ∙ c.node.view_is) at c.exchange-result.ensures.keeps) (first c.args.self.now.lock) c.enter-turn.ensures.since) c.enter-turn.ensures.later
+    (grown c.number-number.result v w (relinks_more (λ l. g.L.Link.faults l + g.L.Link.closes l) g.L.Link.given g.L.Link.got c.number-number.result v w c.exchange-result.result (rw (c.deref_mut.ensures.value ∙ c.node.view_is) at c.exchange-result.ensures.ok) (rw (c.deref_mut.ensures.value ∙ c.node.view_is) at c.exchange-result.ensures.err)))
+    c.enter-turn.ensures.same c.enter-turn.ensures.mark c.end.ensures.pass c.end.ensures.front c.end.ensures.stays c.end.ensures.raises c.enter-turn.ensures.front c.enter-turn.ensures.own
+    (own_only c.number-number.result c.enter-turn.new.pass.number (front c.enter-turn.new.pass) v w c.enter-turn.ensures.front (c.enter-turn.ensures.same.0 ∙ sym c.number-number.ensures) (relinks_more (λ l. g.L.Link.faults l + g.L.Link.closes l) g.L.Link.given g.L.Link.got c.number-number.result v w c.exchange-result.result (rw (c.deref_mut.ensures.value ∙ c.node.view_is) at c.exchange-result.ensures.ok) (rw (c.deref_mut.ensures.value ∙ c.node.view_is) at c.exchange-result.ensures.err)))
+
+pub returns-clause-ok : goal.returns-clause-ok
+returns-clause-ok g c =
+    let v = c.enter-turn.result.value in
+    let w = c.exchange-result.new.state in
+    let since = c.enter-turn.ensures.since in
+    relinked_if (λ l. g.L.Link.faults l + g.L.Link.closes l) g.L.Link.given g.L.Link.got (first c.args.self.now.lock) c.args.pass.now.number (front c.args.pass.now) (front c.end.new.pass) v w since ((rw (c.deref_mut.ensures.value ∙ c.node.view_is) at c.exchange-result.ensures.keeps) (first c.args.self.now.lock) since) c.enter-turn.ensures.later
+    (c.enter-turn.ensures.own c.args.pass.now.number c.requires.pass.1) (sym c.end.ensures.front) c.exchange-result.result
+    (subst (λ n. IfOk c.exchange-result.result (λ link. Links n v w link)) c.number-number.ensures (rw (c.deref_mut.ensures.value ∙ c.node.view_is) at c.exchange-result.ensures.ok))
+
+pub returns-clause-err : goal.returns-clause-err
+returns-clause-err g c =
+    let v = c.enter-turn.result.value in
+    let w = c.exchange-result.new.state in
+    kept_if (λ l. g.L.Link.faults l + g.L.Link.closes l) g.L.Link.given g.L.Link.got c.args.pass.now.number (front c.args.pass.now) (front c.end.new.pass) v w (c.enter-turn.ensures.own c.args.pass.now.number c.requires.pass.1) c.end.ensures.front c.exchange-result.result (rw (c.deref_mut.ensures.value ∙ c.node.view_is) at c.exchange-result.ensures.err)
