@@ -1,5 +1,5 @@
 -- A mounted clerk's run begins with the greeting of its start.
-use Rattle.std.proofs.Common.{◌≡◌, refl, sym, ap, subst, ◌∙◌, ℕ, Bool, true, false, List, [], ◌∷◌, Option, Some, None}
+use Rattle.std.proofs.Common.{◌≡◌, refl, sym, ap, subst, ◌∙◌, ℕ, Bool, true, false, List, [], ◌∷◌, ◌++◌, Option, Some, None}
 use Rattle.std.specs.Prelude.{nat_lt}
 use Rattle.ec_base.specs.Limits.{last_counter}
 use Rattle.ec_base.specs.declared.counter.Counter.{Counter}
@@ -8,9 +8,13 @@ use Rattle.ec_wire.specs.declared.msg.Msg.TheVariants.{Hello}
 use Rattle.ec_protocol.specs.Clerk.{Doing, doing, hello, new_clerk, spend, start}
 use Rattle.ec_protocol.specs.declared.clerk.Out.{Out}
 use Rattle.ec_protocol.specs.declared.clerk.Out.TheVariants as out
+use Rattle.ec_link.specs.Nets.{Ended}
 use Rattle.ec_clerknode.specs.declared.step.Step.{Step}
+use Rattle.ec_clerknode.specs.Parts.{parts}
+use Rattle.ec_clerknode.specs.Run.{said_by}
+use Rattle.ec_clerknode.proofs.Parts.{some_parts}
 use Rattle.ec_mount.specs.Mount.{Mounts, Outside}
-use Rattle.ec_mount.specs.Run.{NetSeen, Ran, Tells}
+use Rattle.ec_mount.specs.Run.{NetSeen, Ran, Tells, AreTold}
 use Rattle.ec_mount.specs.declared.status.Status.{Status}
 use Rattle.ec_mount.specs.declared.status.Status.TheVariants as status
 use Rattle.ec_echo.specs.Greeting.{GotGreeting, Greets, IsFirst, greeting_of}
@@ -31,16 +35,29 @@ first-told : (body : List ℕ) (rest : List (List ℕ)) (got : Option (List (Lis
 first-told body rest None told = tt
 first-told body rest (Some bodies) told = (rest, told)
 
+-- the first link got the body first
+first-link : (body : List ℕ) (links : List Ended) (p : List Step) (ps : List (List Step)) → AreTold (body ∷ []) links (p ∷ ps) → (e : Ended) × (more : List Ended) × (links ≡ e ∷ more) × IsFirst body e.1
+first-link body [] p ps a = absurd a
+first-link body (e ∷ es) p ps a = (e, es, refl, first-told body (said_by p) e.1 a.1)
+
 ran-greets : (id boot : ℕ) (before after : NetSeen) (steps : List Step) → Ran id boot before after steps → GotGreeting id boot before after
 ran-greets id boot before after steps r = record {
-  given = r.given;
-  got = r.got;
-  ended = r.ended;
-  first = first-told (greeting_of id boot) _ r.got (rw greets at r.sent);
+  given = one.0.0;
+  got = one.0.1;
+  more = one.1;
+  ended = r.ended ∙ ap (λ l. before.ended ++ l) one.2;
+  first = one.3;
 }
   where
+    some : (p : List Step) × (ps : List (List Step)) × (parts steps ≡ p ∷ ps)
+    some = some_parts steps
+
     greets : r.outs ≡ out.Send (Hello id (record { boot = boot; round = 0 })) ∷ []
     greets = sym (ap (λ d. d.outs) r.starts) ∙ starts-so id boot (ap (λ d. d.spent) r.starts)
+
+    one : (e : Ended) × (more : List Ended) × (r.links ≡ e ∷ more) × IsFirst (greeting_of id boot) e.1
+    one = first-link (greeting_of id boot) r.links some.0 some.1
+        (rw some.2 at (rw greets at r.told))
 
 pub mounts-greet : (id boot : ℕ) (end : Status) (w : Outside) → Mounts id boot end w → Greets id boot end w.net w.net_after
 mounts-greet id boot status.Done w m = ran-greets id boot w.net w.net_after _ (m.1).ran

@@ -1,8 +1,9 @@
--- With which start a mounted clerk greets: it's told by what its link got.
+-- With which start a mounted clerk greets: it's told by what its first link got.
 use Rattle.std.specs.Prelude.{◌≡◌, ℕ, List, [], ◌∷◌, ◌++◌, Option, None, Some, ⊤}
 use Rattle.ec_wire.specs.Codes.{msg_code}
 use Rattle.ec_wire.specs.declared.msg.Msg.TheVariants.{Hello}
 use Rattle.ec_link.specs.Links.{Heard}
+use Rattle.ec_link.specs.Nets.{Ended}
 use Rattle.ec_mount.specs.Run.{NetSeen}
 use Rattle.ec_mount.specs.declared.status.Status.{Status}
 use Rattle.ec_mount.specs.declared.status.Status.TheVariants as status
@@ -16,11 +17,12 @@ abbrev pub IsFirst : List ℕ → Option (List (List ℕ)) → Type 0
 IsFirst body None = ⊤
 IsFirst body (Some bodies) = (rest : List (List ℕ)) × (bodies ≡ body ∷ rest)
 
--- one link came back to the net, and got that greeting first
+-- links came back to the net, and the first of them got that greeting first
 pub record GotGreeting (id boot : ℕ) (before after : NetSeen) : Type 0 where
   pub given : Option (List Heard)
   pub got : Option (List (List ℕ))
-  pub ended : after.ended ≡ before.ended ++ (given, got) ∷ []
+  pub more : List Ended
+  pub ended : after.ended ≡ before.ended ++ (given, got) ∷ more
   pub first : IsFirst (greeting_of id boot) got
 
 -- So it is where the mount ended well, and where it ended by what the server sent.

@@ -10,7 +10,7 @@ use Rattle.ec_link.specs.declared.link.Sent.TheVariants as sent
 use Rattle.ec_clerknode.specs.declared.fault.NodeFault.{NodeFault}
 use Rattle.ec_clerknode.specs.declared.fault.NodeFault.TheVariants as fault
 use Rattle.ec_clerknode.specs.declared.step.Deed.{Deed}
-use Rattle.ec_clerknode.specs.declared.step.Deed.TheVariants.{Began, Took, Picked, Parted, Resent, Net, Peer, Long, NotBegun, NotTaken, NotPicked, Broke}
+use Rattle.ec_clerknode.specs.declared.step.Deed.TheVariants.{Began, Took, Picked, Parted, Resent, Linked, Net, Peer, Long, NotBegun, NotTaken, NotPicked, Broke}
 use Rattle.ec_clerknode.specs.declared.step.Step.{Step}
 use Rattle.ec_clerknode.specs.Closed.{Caused}
 use Rattle.ec_clerknode.specs.Lanes.{IsMarked, LaneFault}
@@ -86,6 +86,7 @@ deed_net (Took bytes msg) m = absurd m
 deed_net (Picked asked) m = absurd m
 deed_net Parted m = absurd m
 deed_net Resent m = absurd m
+deed_net Linked m = absurd m
 deed_net Net m = omega arith
 deed_net (Peer bytes why) m = ⊎_elim (λ (e : fault.Peer why ≡ fault.Net). absurd (cc e)) (λ r. absurd r) m
 deed_net (Long n) m = ⊎_elim (λ (e : fault.Long n ≡ fault.Net). absurd (cc e)) (λ r. absurd r) m

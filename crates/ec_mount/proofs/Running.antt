@@ -1,5 +1,5 @@
 -- From the shared clerk to what the net has of its run.
-use Rattle.std.proofs.Common.{◌≡◌, ◌<◌, ◌+◌, ℕ, List, [], ◌∷◌, ◌++◌, length, map, take, Option, Some, None, Result, Ok, Err, IfSome, refl, sym, ap, ◌∙◌, subst, inl, inr, ⊎_elim, arith}
+use Rattle.std.proofs.Common.{◌≡◌, ◌<◌, ◌+◌, ℕ, false, List, [], ◌∷◌, ◌++◌, length, map, take, Option, Some, None, Result, Ok, Err, IfSome, refl, sym, ap, ◌∙◌, subst, inl, inr, ⊎_elim, arith, append_assoc}
 use mathlib.Core.List.{IsPrefix}
 use Rattle.ec_base.specs.declared.ids.Age.{Age}
 use Rattle.ec_plain.specs.declared.call.Call.{Call}
@@ -11,21 +11,25 @@ use Rattle.ec_lock.specs.Steps.{Member, of}
 use Rattle.ec_lock.specs.declared.types.Pass.{Pass}
 use Rattle.ec_lock.specs.declared.types.TracedLock.{TracedLock}
 use Rattle.ec_link.specs.Links.{Heard, added}
-use Rattle.ec_link.specs.Nets.{is_bad, IsEmpty}
+use Rattle.ec_link.specs.Nets.{Ended, is_bad, IsEmpty}
 use Rattle.ec_outs.specs.Outs.{Reply, encoded, sends}
 use Rattle.ec_clerknode.specs.declared.fault.NodeFault.{NodeFault}
 use Rattle.ec_clerknode.specs.declared.fault.NodeFault.TheVariants as fault
 use Rattle.ec_clerknode.specs.declared.state.Node.{Node}
 use Rattle.ec_clerknode.specs.declared.step.Step.{Step}
-use Rattle.ec_clerknode.specs.Run.{IsRun, AreSaid, calls, heard_by, said_by, told_by, old_boot}
+use Rattle.ec_clerknode.specs.Parts.{has_link, part, parts, LinksBy}
+use Rattle.ec_clerknode.specs.Run.{IsRun, AreSaid, calls, heard_by, nets, said_by, told_by, old_boot}
 use Rattle.ec_clerknode.specs.Turns.{number_of, Finished}
 use Rattle.ec_clerknode.proofs.Lists.{prefix_get, prefix_trans}
-use Rattle.ec_outs.proofs.Told.{added-added, added-nil}
-use Rattle.ec_mount.specs.Run.{NetSeen, Ran, Holds, HoldsFronts, Has, Met, Lost, Spends, Unheard}
+use Rattle.ec_clerknode.proofs.Parts.{parts_alone}
+use Rattle.ec_outs.proofs.Told.{added-nil}
+use Rattle.ec_mount.specs.Run.{NetSeen, AreTold, Ran, RanAlone, Holds, HoldsFronts, Has, Met, Lost, Spends, Unheard}
 use Rattle.ec_mount.specs.Run as run
 use Rattle.ec_mount.specs.Calls.{HoldsAll, FrontsStand, IfSaid, CallsEnd, Called}
 use Rattle.ec_mount.specs.Work.{Given, LinkSeen, RanOver, Cut, Tells, UnlessWanting, Concludes, last_of, RunsOver, WorksOver, Works, WorksTo}
+use Rattle.ec_mount.specs.Linking.{AreToldFrom, HasLinked, nets_in}
 use Rattle.ec_mount.proofs.Causes.{has_longer, net_counted}
+use Rattle.ec_mount.proofs.Linking.{whole_now, told_now, told_behind, told_all, told_from, nets_parts, nets_last, some_of, bad_of}
 
 -- a link, by what is told of it
 abbrev pub seen_of : {L : Type 0} → (L → ℕ) → (L → Option (List Heard)) → (L → Option (List (List ℕ))) → L → LinkSeen
@@ -105,23 +109,37 @@ module _ {L : Type 0} (lock : TracedLock (Node L) Step) (old called closed : Pas
   unless (Err (fault.Spent k)) P p = p
   unless (Err fault.NoMemory) P p = tt
 
-  module _ (counts : L → ℕ) (given : L → Option (List Heard)) (got : L → Option (List (List ℕ))) (first : Node L) (clerk : Clerk) (link back : L) (is_clerk : first.clerk ≡ clerk) (is_link : first.link ≡ link) where
-    ran_over : (k : Clerk) → Finished counts given got first (front closed) (Some k) back → AreSaid (front closed) → RanOver clerk [] (seen_of counts given got link) (seen_of counts given got back) (front closed)
-    ran_over k f whole =
-        let net = f.1 in
+  module _ (counts : L → ℕ) (given : L → Option (List Heard)) (got : L → Option (List (List ℕ))) (first : Node L) (clerk : Clerk) (link back : L) (is_clerk : first.clerk ≡ clerk) (is_link : first.link ≡ link)
+      (before after : NetSeen) (by : LinksBy (Some 1) (front closed)) where
+    ran_over : (k : Clerk) → HasLinked counts given got first called before after → Finished counts given got first (front closed) (Some k) back → AreSaid (front closed) → RanOver clerk [] (seen_of counts given got link) (seen_of counts given got back) before after (front closed)
+    ran_over k l f said =
+        let zs = front closed in
+        let h = l.handed in
+        let one = own 1 l.within in
+        let whole = whole_now counts given got first 1 before after (front called) zs h later one by in
+        let told = told_now counts given got first 1 before after (front called) zs h later one by back f.3.1 f.2 in
+        let low = h.handed.low in
+        let few = f.1 in
+        let all = nets_parts zs in
         record {
-          run = subst (λ x. IsRun x (front closed)) is_clerk f.0;
-          whole = whole;
-          counted = omega (arith, net);
-          heard = f.3.1 ∙ ap (λ l. added (given l) (heard_by (front closed))) is_link;
-          sent = f.2 ∙ ap (λ l. added (got l) (said_by (front closed))) is_link;
+          run = subst (λ x. IsRun x zs) is_clerk f.0;
+          whole = said;
+          links = h.handed.links;
+          ended = h.handed.ended;
+          told = subst (λ x. AreToldFrom (given x) (got x) [] (h.handed.links ++ (given back, got back) ∷ []) (parts zs)) is_link
+              (subst (λ l. AreToldFrom (given first.link) (got first.link) [] (h.handed.links ++ (given back, got back) ∷ []) l) (sym whole) told);
+          low = low;
+          counted = λ some.
+              ⊎_elim (λ (m : 0 < nets_in h.handed.over). inl (h.handed.rose m)) (λ (n : 0 < nets (part zs)). inr (omega (arith, n, few)))
+              (some_of (nets_in h.handed.over) (nets (part zs)) (omega (arith, some, all, ap nets_in whole, nets_last h.handed.over (part zs))));
         }
 
-    pub runs_over : (k : Option Clerk) (told : List (List ℕ)) (boot : Option Age) (given_all : Given) → Finished counts given got first (front closed) k back → IfSome k (λ _. AreSaid (front closed)) → IfSome k (λ _. told ≡ told_by (front closed)) → boot ≡ old_boot (front closed)
-        → Concludes k told boot all made given_all → RunsOver clerk [] lanes (seen_of counts given got link) (seen_of counts given got back) given_all
-    runs_over None told boot r f whole t b h = subst (λ l. UnlessWanting l ((steps : List Step) × RanOver clerk [] (seen_of counts given got link) (seen_of counts given got back) steps × Tells lanes steps r.0 r.1 l)) (sym h) tt
-    runs_over (Some k) told boot r f whole t b h = subst (λ x. RunsOver clerk [] lanes (seen_of counts given got link) (seen_of counts given got back) x) (sym h)
-        (unless (last_of boot made) _ (front closed, ran_over k f whole, tells told t boot b boot refl))
+    pub runs_over : (k : Option Clerk) (told : List (List ℕ)) (boot : Option Age) (given_all : Given) → HasLinked counts given got first called before after → Finished counts given got first (front closed) k back → IfSome k (λ _. AreSaid (front closed)) → IfSome k (λ _. told ≡ told_by (front closed))
+        → boot ≡ old_boot (front closed) → Concludes k told boot all made given_all → RunsOver clerk [] lanes (seen_of counts given got link) (seen_of counts given got back) before after given_all
+    runs_over None told boot r l f said t b h =
+        subst (λ x. UnlessWanting x ((steps : List Step) × RanOver clerk [] (seen_of counts given got link) (seen_of counts given got back) before after steps × Tells lanes steps r.0 r.1 x)) (sym h) tt
+    runs_over (Some k) told boot r l f said t b h = subst (λ x. RunsOver clerk [] lanes (seen_of counts given got link) (seen_of counts given got back) before after x) (sym h)
+        (unless (last_of boot made) _ (front closed, ran_over k l f said, tells told t boot b boot refl))
 
 -- The link is left, which changes nothing that is told of it.
 
@@ -131,26 +149,28 @@ link_seen counts given got = record { counts = counts; given = given; got = got 
 seen_same : (a b : ℕ) (g h : Option (List Heard)) (s t : Option (List (List ℕ))) → a ≡ b → g ≡ h → s ≡ t → link_seen a g s ≡ link_seen b h t
 seen_same a b g h s t e f k = subst (λ n. link_seen a g s ≡ link_seen n h t) e (subst (λ x. link_seen a g s ≡ link_seen a x t) f (subst (λ x. link_seen a g s ≡ link_seen a g x) k refl))
 
-pub runs_left : {L : Type 0} (faults closes : L → ℕ) (given : L → Option (List Heard)) (got : L → Option (List (List ℕ))) (clerk : Clerk) (lanes : List (List Call)) (old : LinkSeen) (back link left : L) (r : Given) → link ≡ back → (faults left ≡ faults link) × (closes left ≡ closes link)
-    → (given left ≡ given link) × (got left ≡ got link) → RunsOver clerk [] lanes old (seen_of (λ l. faults l + closes l) given got back) r → RunsOver clerk [] lanes old (seen_of (λ l. faults l + closes l) given got left) r
-runs_left faults closes given got clerk lanes old back link left r is counts bodies h =
+pub runs_left : {L : Type 0} (faults closes : L → ℕ) (given : L → Option (List Heard)) (got : L → Option (List (List ℕ))) (clerk : Clerk) (lanes : List (List Call)) (old : LinkSeen) (before after : NetSeen) (back link left : L) (r : Given) → link ≡ back → (faults left ≡ faults link) × (closes left ≡ closes link)
+    → (given left ≡ given link) × (got left ≡ got link) → RunsOver clerk [] lanes old (seen_of (λ l. faults l + closes l) given got back) before after r → RunsOver clerk [] lanes old (seen_of (λ l. faults l + closes l) given got left) before after r
+runs_left faults closes given got clerk lanes old before after back link left r is counts bodies h =
     let same : seen_of (λ l. faults l + closes l) given got back ≡ seen_of (λ l. faults l + closes l) given got left =
     sym (ap (seen_of (λ l. faults l + closes l) given got) is) ∙ seen_same (faults link + closes link) (faults left + closes left) (given link) (given left) (got link) (got left) (omega (arith, counts.0, counts.1)) (sym bodies.0) (sym bodies.1) in
-    subst (λ s. RunsOver clerk [] lanes old s r) same h
+    subst (λ s. RunsOver clerk [] lanes old s before after r) same h
 
 -- Over a link that has greeted.
 
-module _ (clerk : Clerk) (outs : List Out) (lanes : List (List Call)) (old mid new : LinkSeen) (same : mid.given ≡ old.given) (sent : mid.got ≡ added old.got (map encoded (sends outs))) where
-  behind : (steps : List Step) → RanOver clerk [] mid new steps → RanOver clerk outs old new steps
+module _ (clerk : Clerk) (outs : List Out) (lanes : List (List Call)) (old mid new : LinkSeen) (before after : NetSeen) (same : mid.given ≡ old.given) (sent : mid.got ≡ added old.got (map encoded (sends outs))) where
+  behind : (steps : List Step) → RanOver clerk [] mid new before after steps → RanOver clerk outs old new before after steps
   behind steps r = record {
     run = r.run;
     whole = r.whole;
+    links = r.links;
+    ended = r.ended;
+    told = told_behind old.given mid.given old.got mid.got (map encoded (sends outs)) (r.links ++ (new.given, new.got) ∷ []) (parts steps) same sent r.told;
+    low = r.low;
     counted = r.counted;
-    heard = r.heard ∙ ap (λ g. added g (heard_by steps)) same;
-    sent = r.sent ∙ (ap (λ g. added g (said_by steps)) sent ∙ added-added old.got (map encoded (sends outs)) (said_by steps));
   }
 
-  behind_all : (all : List (List Reply)) (told : List (List ℕ)) (last : Result Reply NodeFault) → RunsOver clerk [] lanes mid new (all, told, last) → RunsOver clerk outs lanes old new (all, told, last)
+  behind_all : (all : List (List Reply)) (told : List (List ℕ)) (last : Result Reply NodeFault) → RunsOver clerk [] lanes mid new before after (all, told, last) → RunsOver clerk outs lanes old new before after (all, told, last)
   behind_all all told (Ok x) r = (r.0, behind r.0 r.1, r.2)
   behind_all all told (Err fault.Net) r = (r.0, behind r.0 r.1, r.2)
   behind_all all told (Err (fault.Peer why)) r = (r.0, behind r.0 r.1, r.2)
@@ -159,59 +179,73 @@ module _ (clerk : Clerk) (outs : List Out) (lanes : List (List Call)) (old mid n
   behind_all all told (Err (fault.Spent k)) r = (r.0, behind r.0 r.1, r.2)
   behind_all all told (Err fault.NoMemory) r = tt
 
-  pub greeted : (given : Given) → RunsOver clerk [] lanes mid new given → RunsOver clerk outs lanes old new given
+  pub greeted : (given : Given) → RunsOver clerk [] lanes mid new before after given → RunsOver clerk outs lanes old new before after given
   greeted given r = behind_all given.0 given.1 given.2 r
 
 -- Over the net.
 
-told_from : {A : Type 0} (o p : Option (List A)) (xs : List A) → IsEmpty o → p ≡ added o xs → run.Tells p xs
-told_from None p xs e is = subst (λ q. run.Tells q xs) (sym is) tt
-told_from (Some ys) p xs e is = subst (λ q. run.Tells q xs) (sym is) (ap (λ l. l ++ xs) e)
-
-bad_of : (faults closes : ℕ) → 0 < faults + closes → is_bad faults closes ≡ 1
-bad_of faults closes h = grind (arith, h)
-
-module _ (id boot : ℕ) (clerk : Clerk) (outs : List Out) (lanes : List (List Call)) (before after : NetSeen) (faults closes : ℕ) (old new : LinkSeen)
-    (starts : start id boot ≡ record { clerk = clerk; outs = outs; spent = None }) (none_given : IsEmpty old.given) (none_got : IsEmpty old.got) (counts : new.counts ≡ faults + closes)
-    (bad : after.bad ≡ before.bad + is_bad faults closes) (ended : after.ended ≡ before.ended ++ (new.given, new.got) ∷ []) where
-  ran : (steps : List Step) → RanOver clerk outs old new steps → Ran id boot before after steps
+module _ (id boot : ℕ) (clerk : Clerk) (outs : List Out) (lanes : List (List Call)) (before called mid after : NetSeen) (faults closes : ℕ) (old new : LinkSeen)
+    (starts : start id boot ≡ record { clerk = clerk; outs = outs; spent = None }) (none_given : IsEmpty old.given) (none_got : IsEmpty old.got) (counts : new.counts ≡ faults + closes) (same : (called.bad ≡ before.bad) × (called.ended ≡ before.ended))
+    (bad : after.bad ≡ mid.bad + is_bad faults closes) (ended : after.ended ≡ mid.ended ++ (new.given, new.got) ∷ []) where
+  ran : (steps : List Step) → RanOver clerk outs old new called mid steps → Ran id boot before after steps
   ran steps r = record {
     clerk = clerk;
     outs = outs;
     starts = starts;
     run = r.run;
     whole = r.whole;
-    given = new.given;
-    got = new.got;
-    ended = ended;
-    heard = told_from old.given new.given (heard_by steps) none_given r.heard;
-    sent = told_from old.got new.got (map encoded (sends outs) ++ said_by steps) none_got r.sent;
+    links = r.links ++ (new.given, new.got) ∷ [];
+    ended = ended ∙ (ap (λ l. l ++ (new.given, new.got) ∷ []) (r.ended ∙ ap (λ l. l ++ r.links) same.1) ∙ append_assoc before.ended r.links ((new.given, new.got) ∷ []));
+    told = told_all old.given old.got (map encoded (sends outs)) (r.links ++ (new.given, new.got) ∷ []) (parts steps) none_given none_got r.told;
   }
 
-  rose : 0 < new.counts → before.bad < after.bad
-  rose h = omega (arith, bad, bad_of faults closes (omega (arith, counts)))
-
-  met : (steps : List Step) (f : NodeFault) (all : List (List Reply)) (told : List (List ℕ)) → RanOver clerk outs old new steps → Cut lanes steps all told f → Met id boot lanes before after f all told
+  met : (steps : List Step) (f : NodeFault) (all : List (List Reply)) (told : List (List ℕ)) → RanOver clerk outs old new called mid steps → Cut lanes steps all told f → Met id boot lanes before after f all told
   met steps f all told r c = record { steps = steps; ran = ran steps r; old_boot = c.old_boot; has = c.has; came = c.came; told_is = c.told_is }
 
-  worked : (all : List (List Reply)) (told : List (List ℕ)) (last : Result Reply NodeFault) → RunsOver clerk outs lanes old new (all, told, last) → WorksTo id boot lanes before after all told last
+  -- a link was bad
+  rose : (steps : List Step) → RanOver clerk outs old new called mid steps → 0 < nets steps → before.bad < after.bad
+  rose steps r some =
+      let low = r.low in
+      ⊎_elim (λ (m : called.bad < mid.bad). omega (arith, bad, same.0, m)) (λ (n : 0 < new.counts). omega (arith, bad, same.0, low, bad_of faults closes (omega (arith, n, counts)))) (r.counted some)
+
+  worked : (all : List (List Reply)) (told : List (List ℕ)) (last : Result Reply NodeFault) → RunsOver clerk outs lanes old new called mid (all, told, last) → WorksTo id boot lanes before after all told last
   worked all told (Ok x) r = (r.0, ran r.0 r.1, r.2)
-  worked all told (Err fault.Net) r = let few = r.1.counted in let one = net_counted r.0 r.2.has in inr (rose (omega arith), inr (met r.0 fault.Net all told r.1 r.2))
+  worked all told (Err fault.Net) r = inr (rose r.0 r.1 (net_counted r.0 r.2.has), inr (met r.0 fault.Net all told r.1 r.2))
   worked all told (Err (fault.Peer why)) r = met r.0 (fault.Peer why) all told r.1 r.2
   worked all told (Err (fault.Long n)) r = met r.0 (fault.Long n) all told r.1 r.2
   worked all told (Err (fault.OldBoot age)) r = (r.0, ran r.0 r.1, r.2)
   worked all told (Err (fault.Spent k)) r = inr (met r.0 (fault.Spent k) all told r.1 r.2)
   worked all told (Err fault.NoMemory) r = tt
 
-  unheard : new.given ≡ old.given → Unheard before after
-  unheard e = (new.given, new.got, ended, told_from old.given new.given [] none_given (e ∙ sym (added-nil old.given)))
+  unheard : new.given ≡ old.given → mid ≡ called → Unheard before after
+  unheard e still = (
+    new.given,
+    new.got,
+    ended ∙ ap (λ l. l ++ (new.given, new.got) ∷ []) (ap (λ (n : NetSeen). n.ended) still ∙ same.1),
+    told_from old.given new.given [] none_given (e ∙ sym (added-nil old.given)),
+  )
 
-  pub works : (given : Given) → WorksOver clerk outs lanes old new given → Works id boot lanes before after given
+  lost : 0 < new.counts → mid ≡ called → before.bad < after.bad
+  lost some still = omega (arith, bad, same.0, ap (λ (n : NetSeen). n.bad) still, bad_of faults closes (omega (arith, some, counts)))
+
+  pub works : (given : Given) → WorksOver clerk outs lanes old new called mid given → Works id boot lanes before after given
   works given h =
       ⊎_elim
-      (λ (a : (given ≡ ([], [], Err fault.Net)) × (0 < new.counts) × (new.given ≡ old.given)). subst (Works id boot lanes before after) (sym a.0) (inr (rose a.1, inl (unheard a.2, (refl, refl)))))
-      (λ (b : RunsOver clerk outs lanes old new given). worked given.0 given.1 given.2 b)
+      (λ (a : (given ≡ ([], [], Err fault.Net)) × (0 < new.counts) × (new.given ≡ old.given) × (mid ≡ called)). subst (Works id boot lanes before after) (sym a.0) (inr (lost a.1 a.3, inl (unheard a.2 a.3, (refl, refl)))))
+      (λ (b : RunsOver clerk outs lanes old new called mid given). worked given.0 given.1 given.2 b)
       h
+
+-- Where one link came back, without an exchange, that is the one.
+
+alone_of : (start : List (List ℕ)) (links : List Ended) (steps : List Step) → AreTold start links (steps ∷ []) → (given : Option (List Heard)) × (got : Option (List (List ℕ))) × (links ≡ (given, got) ∷ []) × run.Tells given (heard_by steps) × run.Tells got (start ++ said_by steps)
+alone_of start [] steps a = absurd a
+alone_of start (e ∷ []) steps a = (e.0, e.1, refl, a.0, a.1)
+alone_of start (e ∷ f ∷ fs) steps a = absurd a.2
+
+pub ran_alone : (id boot : ℕ) (before after : NetSeen) (steps : List Step) → has_link steps ≡ false → Ran id boot before after steps → RanAlone id boot before after steps
+ran_alone id boot before after steps none r =
+    let one = alone_of (map encoded (sends r.outs)) r.links steps (subst (AreTold (map encoded (sends r.outs)) r.links) (parts_alone steps none) r.told) in
+    record { clerk = r.clerk; outs = r.outs; starts = r.starts; run = r.run; whole = r.whole; given = one.0; got = one.1; ended = r.ended ∙ ap (λ l. before.ended ++ l) one.2; heard = one.3; sent = one.4 }
 
 -- Over a link that greeted first.
 

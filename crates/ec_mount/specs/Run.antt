@@ -16,11 +16,12 @@ use Rattle.ec_outs.specs.Outs.{Reply, encoded, sends}
 use Rattle.ec_clerknode.specs.declared.fault.NodeFault.{NodeFault}
 use Rattle.ec_clerknode.specs.declared.fault.NodeFault.TheVariants as fault
 use Rattle.ec_clerknode.specs.declared.step.Step.{Step}
+use Rattle.ec_clerknode.specs.Parts.{parts}
 use Rattle.ec_clerknode.specs.Run.{IsRun, AreSaid, Among, heard_by, said_by, told_by, marks, old_boot}
 use Rattle.ec_clerknode.specs.Turns.{number_of, calls_by, Replied, SaidBye}
 use Rattle.ec_clerknode.specs.Lanes.{AreLanes, AreFronts}
 
--- how often a net failed, how many of the links that came back had failed or closed, and what those that came back gave and got
+-- how often a net failed, how many of the links that came back had failed or closed, and what those that came back gave and got, in order
 pub record NetSeen : Type 0 where
   pub faults : ℕ
   pub bad : ℕ
@@ -31,9 +32,27 @@ abbrev pub Tells : {A : Type 0} → Option (List A) → List A → Type 0
 Tells None xs = Unit {0}
 Tells (Some ys) xs = ys ≡ xs
 
--- The steps of a clerk from its start with this boot, in none of which memory was wanting. The link that came back gave, in order, the messages that the
--- steps take, with the bodies and lengths of their marks, and got the messages of the start and then those that the steps sent.
+-- Each link tells what the steps of its part heard and said, the first one behind these messages.
+abbrev pub AreTold : List (List ℕ) → List Ended → List (List Step) → Type 0
+AreTold start [] [] = Unit {0}
+AreTold start (e ∷ es) (p ∷ ps) = Tells e.0 (heard_by p) × Tells e.1 (start ++ said_by p) × AreTold [] es ps
+AreTold start [] (p ∷ ps) = ⊥
+AreTold start (e ∷ es) [] = ⊥
+
+-- The steps of a clerk from its start with this boot, in none of which memory was wanting. The links that came back are those of their parts, in order. Each gave,
+-- in order, the messages that the steps of its part take, with the bodies and lengths of their marks, and got those that these steps sent, the first one behind the messages of the start.
 pub record Ran (id boot : ℕ) (before after : NetSeen) (steps : List Step) : Type 0 where
+  pub clerk : Clerk
+  pub outs : List Out
+  pub starts : start id boot ≡ record { clerk = clerk; outs = outs; spent = None }
+  pub run : IsRun clerk steps
+  pub whole : AreSaid steps
+  pub links : List Ended
+  pub ended : after.ended ≡ before.ended ++ links
+  pub told : AreTold (map encoded (sends outs)) links (parts steps)
+
+-- The same where one link came back: without an exchange it's said so.
+pub record RanAlone (id boot : ℕ) (before after : NetSeen) (steps : List Step) : Type 0 where
   pub clerk : Clerk
   pub outs : List Out
   pub starts : start id boot ≡ record { clerk = clerk; outs = outs; spent = None }

@@ -4,14 +4,17 @@ use Rattle.ec_base.specs.declared.ids.Age.{Age}
 use Rattle.ec_plain.specs.declared.call.Call.{Call}
 use Rattle.ec_protocol.specs.declared.clerk.Clerk.{Clerk}
 use Rattle.ec_protocol.specs.declared.clerk.Out.{Out}
-use Rattle.ec_link.specs.Links.{Heard, added}
+use Rattle.ec_link.specs.Links.{Heard}
+use Rattle.ec_link.specs.Nets.{Ended}
 use Rattle.ec_outs.specs.Outs.{Reply, encoded, sends}
 use Rattle.ec_clerknode.specs.declared.fault.NodeFault.{NodeFault}
 use Rattle.ec_clerknode.specs.declared.fault.NodeFault.TheVariants as fault
 use Rattle.ec_clerknode.specs.declared.step.Step.{Step}
-use Rattle.ec_clerknode.specs.Run.{IsRun, AreSaid, nets, heard_by, said_by, told_by, old_boot}
+use Rattle.ec_clerknode.specs.Parts.{parts}
+use Rattle.ec_clerknode.specs.Run.{IsRun, AreSaid, nets, told_by, old_boot}
 use Rattle.ec_clerknode.specs.Lanes.{lists_of}
 use Rattle.ec_mount.specs.Run.{NetSeen, Ran, Holds, HoldsFronts, Has, Met, Lost, Spends}
+use Rattle.ec_mount.specs.Linking.{AreToldFrom}
 use Rattle.ec_mount.specs.declared.work.Answers.{Answers}
 
 -- the answers of the lanes, what was told lost, and the last answer or the fault
@@ -27,13 +30,15 @@ pub record LinkSeen : Type 0 where
   pub given : Option (List Heard)
   pub got : Option (List (List ℕ))
 
--- the link has what these steps heard and said, behind these messages
-pub record RanOver (clerk : Clerk) (outs : List Out) (old new : LinkSeen) (steps : List Step) : Type 0 where
+-- the links that came back before the last one, and then that one, have what these steps heard and said, behind these messages
+pub record RanOver (clerk : Clerk) (outs : List Out) (old new : LinkSeen) (before after : NetSeen) (steps : List Step) : Type 0 where
   pub run : IsRun clerk steps
   pub whole : AreSaid steps
-  pub counted : nets steps ≤ new.counts
-  pub heard : new.given ≡ added old.given (heard_by steps)
-  pub sent : new.got ≡ added old.got (map encoded (sends outs) ++ said_by steps)
+  pub links : List Ended
+  pub ended : after.ended ≡ before.ended ++ links
+  pub told : AreToldFrom old.given old.got (map encoded (sends outs)) (links ++ (new.given, new.got) ∷ []) (parts steps)
+  pub low : before.bad ≤ after.bad
+  pub counted : 0 < nets steps → (before.bad < after.bad) ⊎ (0 < new.counts)
 
 -- the steps hold the cause of this fault, and what came before it
 pub record Cut (lanes : List (List Call)) (steps : List Step) (all : List (List Reply)) (told : List (List ℕ)) (f : NodeFault) : Type 0 where
@@ -71,13 +76,13 @@ abbrev pub Concludes : Option Clerk → List (List ℕ) → Option Age → List 
 Concludes None told boot all last given = given.2 ≡ Err fault.NoMemory
 Concludes (Some c) told boot all last given = given ≡ (all, told, last_of boot last)
 
--- the clerk ran over the link
-abbrev pub RunsOver : Clerk → List Out → List (List Call) → LinkSeen → LinkSeen → Given → Type 0
-RunsOver clerk outs lanes old new given = UnlessWanting given.2 ((steps : List Step) × RanOver clerk outs old new steps × Tells lanes steps given.0 given.1 given.2)
+-- the clerk ran over links, of which the last one is left
+abbrev pub RunsOver : Clerk → List Out → List (List Call) → LinkSeen → LinkSeen → NetSeen → NetSeen → Given → Type 0
+RunsOver clerk outs lanes old new before after given = UnlessWanting given.2 ((steps : List Step) × RanOver clerk outs old new before after steps × Tells lanes steps given.0 given.1 given.2)
 
--- the same, or the link failed before
-abbrev pub WorksOver : Clerk → List Out → List (List Call) → LinkSeen → LinkSeen → Given → Type 0
-WorksOver clerk outs lanes old new given = ((given ≡ ([], [], Err fault.Net)) × (0 < new.counts) × (new.given ≡ old.given)) ⊎ RunsOver clerk outs lanes old new given
+-- the same, or the first link failed before
+abbrev pub WorksOver : Clerk → List Out → List (List Call) → LinkSeen → LinkSeen → NetSeen → NetSeen → Given → Type 0
+WorksOver clerk outs lanes old new before after given = ((given ≡ ([], [], Err fault.Net)) × (0 < new.counts) × (new.given ≡ old.given) × (after ≡ before)) ⊎ RunsOver clerk outs lanes old new before after given
 
 -- a clerk was started, run over a link of the net and ended
 abbrev pub WorksTo : ℕ → ℕ → List (List Call) → NetSeen → NetSeen → List (List Reply) → List (List ℕ) → Result Reply NodeFault → Type 0

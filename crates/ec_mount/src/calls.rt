@@ -13,7 +13,7 @@ use crate::telling::Who;
 use crate::waiting::{Progress, Waiting};
 use ec_base::{Counter, List};
 use ec_clerknode::{AllReplied, Node, NodeFault, Reply, SharedClerk, run_lane_calls};
-use ec_link::{Bell, Link};
+use ec_link::Link;
 use ec_lock::Pass;
 use ec_log::Asked;
 use ec_plain::Call;
@@ -46,7 +46,7 @@ fn run_lanes<L: Link + Send, R: Threads + Wait + Clock + Sync>(
     let mut own = pass;
     let all = run_lane_calls(rt, clerk, &mut own, progress, lanes);
     progress.end();
-    clerk.bell().ring();
+    clerk.bell().ring(rt);
     (own, all)
 }
 
@@ -64,7 +64,7 @@ fn flush_all<L: Link, R: Wait + Clock + Eprint>(
     let mut own = pass;
     let mut waiting = Waiting::new();
     for _ in rt.forever() {
-        let seen = clerk.bell().rings();
+        let seen = clerk.bell().rings(rt);
         if progress.is_ended() {
             return (own, None);
         }

@@ -3,6 +3,8 @@
 
 mod calls;
 mod limits;
+mod linked;
+mod linker;
 mod mounting;
 mod script;
 mod shown;

@@ -38,6 +38,29 @@ pub fn tell_start<R: Eprint>(rt: &R, who: &Who<'_>, boot: u64) {
     let _ = eprintln!(rt; "echofs: {letter} is linked, and started with boot {boot}");
 }
 
+/// The link failed or was closed.
+pub fn tell_gone<R: Eprint>(rt: &R, who: &Who<'_>) {
+    let letter = who.letter();
+    let _ = eprintln!(rt;
+        "echofs: {letter} lost its link, and calls {} again",
+        who.addr
+    );
+}
+
+pub fn tell_again<R: Eprint>(rt: &R, who: &Who<'_>) {
+    let _ = eprintln!(rt; "echofs: {} is linked again", who.letter());
+}
+
+/// No link came for too long, unless all calls have ended.
+pub fn tell_over<R: Eprint>(rt: &R, who: &Who<'_>, is_ended: bool) {
+    if !is_ended {
+        let _ = eprintln!(rt;
+            "echofs: {} reached nobody for too long, and calls no more",
+            who.letter()
+        );
+    }
+}
+
 /// No call was answered for so many seconds.
 pub fn tell_waits<R: Eprint>(rt: &R, who: &Who<'_>, seconds: u64) {
     let letter = who.letter();

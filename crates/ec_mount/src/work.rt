@@ -3,7 +3,8 @@ ghost use Rattle.std.specs.Prelude.{◌≡◌, ◌≤◌, ◌+◌, [], Err, IfSo
 ghost use Rattle.ec_clerknode.specs.Lanes.{lists_of};
 ghost use Rattle.ec_mount.specs.Work.{RunsOver, WorksOver, Works, Concludes, last_of, seen};
 
-use crate::calls::{Replies, make_calls};
+use crate::calls::Replies;
+use crate::linked::{LINKER, make_linked};
 use crate::telling::{Who, tell_start, tell_unreached};
 use ec_base::{Age, List, OpNo};
 use ec_clerk::Clerk;
@@ -93,42 +94,53 @@ fn left<L: Link, R: Around>(rt: &R, link: L, answers: &Answers) -> L
     link
 }
 
-// Runs a clerk that has greeted. The link comes back, but for want of memory.
-fn run_over<L: Link + Send + Drop, R: Around + Eprint>(
+// Runs a clerk that has greeted. The last link comes back, but for want of memory.
+fn run_over<N: Net, R: Around + Eprint>(
     rt: &R,
     alloc: Global,
     who: &Who<'_>,
-    link: L,
-    bell: L::Bell,
+    net: &mut N,
+    link: N::Link,
+    bell: <N::Link as Link>::Bell,
     clerk: Clerk,
     lanes: Vec<List<Call>>,
-) -> Option<(L, Answers)>
-    ensures { IfSome result (λ r. RunsOver clerk [] lanes.items
-        (record { counts = L.faults link + L.closes link; given = L.given link; got = L.got link })
-        (record { counts = L.faults r.0 + L.closes r.0; given = L.given r.0; got = L.got r.0 })
+) -> Option<(N::Link, Answers)>
+    ensures later { N.faults net.old ≤ N.faults net.new }
+    ensures runs { IfSome result (λ r. RunsOver clerk [] lanes.items
+        (record { counts = N.Link.faults link + N.Link.closes link; given = N.Link.given link; got = N.Link.got link })
+        (record { counts = N.Link.faults r.0 + N.Link.closes r.0; given = N.Link.given r.0; got = N.Link.got r.0 })
+        (record { faults = N.faults net.old; bad = N.bad net.old; ended = N.ended net.old })
+        (record { faults = N.faults net.new; bad = N.bad net.new; ended = N.ended net.new })
         (seen r.1)) }
 {
-    let Ok((shared, mut pass)) = SharedClerk::new(alloc, clerk, link, bell) else {
+    let Ok((shared, mut pass)) = SharedClerk::linked_by(alloc, clerk, link, bell, Some(LINKER))
+    else {
         return None;
     };
-    let made = make_calls(rt, alloc, who, &shared, &mut pass, lanes);
+    let Some(made) = make_linked(rt, alloc, who, &shared, &mut pass, net, lanes) else {
+        return None;
+    };
     let (link, answers) = conclude(shared.close(rt, &mut pass), made);
     Some((left(rt, link, &answers), answers))
 }
 
 // Greets the server and runs the clerk.
-fn work_over<L: Link + Send + Drop, R: Around + Eprint>(
+fn work_over<N: Net, R: Around + Eprint>(
     rt: &R,
     alloc: Global,
     who: &Who<'_>,
-    link: L,
+    net: &mut N,
+    link: N::Link,
     clerk: Clerk,
     outs: Vec<Out>,
     lanes: Vec<List<Call>>,
-) -> Option<(L, Answers)>
-    ensures { IfSome result (λ r. WorksOver clerk outs.items lanes.items
-        (record { counts = L.faults link + L.closes link; given = L.given link; got = L.got link })
-        (record { counts = L.faults r.0 + L.closes r.0; given = L.given r.0; got = L.got r.0 })
+) -> Option<(N::Link, Answers)>
+    ensures later { N.faults net.old ≤ N.faults net.new }
+    ensures works { IfSome result (λ r. WorksOver clerk outs.items lanes.items
+        (record { counts = N.Link.faults link + N.Link.closes link; given = N.Link.given link; got = N.Link.got link })
+        (record { counts = N.Link.faults r.0 + N.Link.closes r.0; given = N.Link.given r.0; got = N.Link.got r.0 })
+        (record { faults = N.faults net.old; bad = N.bad net.old; ended = N.ended net.old })
+        (record { faults = N.faults net.new; bad = N.bad net.new; ended = N.ended net.new })
         (seen r.1)) }
 {
     let mut link = link;
@@ -145,7 +157,7 @@ fn work_over<L: Link + Send + Drop, R: Around + Eprint>(
     };
     let (_, end) = send_all(rt, alloc, &mut link, &outs);
     match end {
-        Sent::Done => run_over(rt, alloc, who, link, bell, clerk, lanes),
+        Sent::Done => run_over(rt, alloc, who, net, link, bell, clerk, lanes),
         Sent::Failed => {
             drop(clerk);
             Some((link, none(alloc, NodeFault::Net)))
@@ -157,7 +169,7 @@ fn work_over<L: Link + Send + Drop, R: Around + Eprint>(
     }
 }
 
-/// Starts the clerk, makes its calls over a link to who listens at the address, and gives the link back to the net.
+/// Starts the clerk, makes its calls over links to who listens at the address, and gives the links back to the net.
 pub fn work<N: Net, R: Around + Eprint>(
     rt: &R,
     net: &mut N,
@@ -190,7 +202,7 @@ pub fn work<N: Net, R: Around + Eprint>(
         }
     };
     tell_start(rt, who, boot);
-    let Some((link, answers)) = work_over(rt, alloc, who, link, clerk, outs, lanes) else {
+    let Some((link, answers)) = work_over(rt, alloc, who, net, link, clerk, outs, lanes) else {
         return none(alloc, NodeFault::NoMemory);
     };
     match net.back(link) {

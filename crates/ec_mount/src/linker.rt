@@ -1,0 +1,234 @@
+// Who calls again where a link failed, beside the calls.
+ghost use Rattle.std.specs.Prelude.{◌≡◌, ◌≤◌, ℕ, Some, IfOk, IfSome, OnOk};
+ghost use Rattle.ec_lock.specs.Passes.{first, IsPassOf};
+ghost use Rattle.ec_link.specs.Nets.{IsEmpty};
+ghost use Rattle.ec_mount.specs.Linking.{Linked, LinkedMore};
+
+use crate::telling::{Who, tell_again, tell_gone, tell_over};
+use ec_base::NoMemory;
+use ec_clerknode::{Node, SharedClerk};
+use ec_link::{Around, Link, Net};
+use ec_lock::Pass;
+use std::io::Eprint;
+use std::sync::Wait;
+use std::sync::atomic::{AtomicBool, AtomicU64, Ordering};
+use std::thread;
+use std::time::{Clock, Duration, Instant};
+
+// It's called again for so many seconds since the last link ended.
+const LONGEST: u64 = 30;
+
+// The first and the longest pause between two calls, in milliseconds.
+const FIRST_PAUSE: u64 = 10;
+
+const LAST_PAUSE: u64 = 1000;
+
+// A link that was up for so many seconds was one, so that the time and the pauses begin anew.
+const STEADY: u64 = 1;
+
+/// What who links again and the calls tell each other.
+#[derive(Drop)]
+pub struct Beside<'a> {
+    who: &'a Who<'a>,
+    // 1 where who links again is there, so that calls may begin.
+    is_there: AtomicU64,
+    is_over: AtomicBool,
+}
+
+impl<'a> Beside<'a> {
+    pub fn new(who: &'a Who<'a>) -> Beside<'a> {
+        Beside {
+            who,
+            is_there: AtomicU64::new(0),
+            is_over: AtomicBool::new(false),
+        }
+    }
+
+    // Who links again is there.
+    fn begin(&self) {
+        self.is_there.store(1, Ordering::SeqCst);
+        self.is_there.wake_all();
+    }
+
+    /// Waits until who links again is there, for a second at most: where no thread could be started, a link that fails is a
+    /// fault of the calls.
+    pub fn wait_for_linker<R: Wait>(&self, rt: &R) {
+        if self.is_there.load(Ordering::SeqCst) == 0 {
+            self.is_there.park_timeout(rt, 0, Duration::from_secs(1));
+        }
+    }
+
+    /// All calls have ended.
+    pub fn end(&self) {
+        self.is_over.store(true, Ordering::SeqCst);
+    }
+
+    fn is_over(&self) -> bool {
+        self.is_over.load(Ordering::SeqCst)
+    }
+}
+
+/// When the last link ended, when the present one came, and the next pause.
+#[derive(Drop)]
+struct Linking {
+    gone: Option<Instant>,
+    up: Option<Instant>,
+    rest: u64,
+}
+
+impl Linking {
+    // The link has ended, if one was up. Where that was for a moment alone, the time goes on from the one before.
+    fn ended<R: Clock>(&mut self, rt: &R) -> bool {
+        let Some(up) = self.up.take() else {
+            return false;
+        };
+        let is_steady = match up.elapsed(rt) {
+            Ok(time) => time >= Duration::from_secs(STEADY),
+            Err(_) => false,
+        };
+        if is_steady || self.gone.is_none() {
+            self.gone = Instant::now(rt).ok();
+            self.rest = 0;
+        }
+        true
+    }
+
+    // Whether no link came for too long, or no time is told.
+    fn is_over<R: Clock>(&self, rt: &R) -> bool {
+        let Some(gone) = &self.gone else {
+            return true;
+        };
+        match gone.elapsed(rt) {
+            Ok(time) => time >= Duration::from_secs(LONGEST),
+            Err(_) => true,
+        }
+    }
+
+    // Waits between two calls, longer each time.
+    fn pause<R: Clock>(&mut self, rt: &R) {
+        if self.rest > 0 {
+            thread::sleep(rt, Duration::from_millis(self.rest));
+        }
+        self.rest = self.rest.saturating_mul(2).clamp(FIRST_PAUSE, LAST_PAUSE);
+    }
+
+    // Calls until there is a link, or all has ended, or for too long.
+    fn call_until<N: Net, R: Around>(
+        &mut self,
+        rt: &R,
+        net: &mut N,
+        beside: &Beside<'_>,
+    ) -> Option<N::Link>
+        ensures later { N.faults net.old ≤ N.faults net.new }
+        ensures same { (N.bad net.new ≡ N.bad net.old) × (N.ended net.new ≡ N.ended net.old) }
+        ensures link { IfSome result (λ link. IsEmpty (N.Link.given link) × IsEmpty (N.Link.got link)) }
+    {
+        for _ in rt.forever() {
+            self.pause(rt);
+            if beside.is_over() || self.is_over(rt) {
+                return None;
+            }
+            if let Ok(link) = net.call(rt, beside.who.addr) {
+                return Some(link);
+            }
+        }
+        unreachable!()
+    }
+}
+
+// Hands the link to the clerk, and gives the one before back to the net. False where the link is none.
+fn hand_in<N: Net, R: Around>(
+    rt: &R,
+    clerk: &SharedClerk<N::Link>,
+    pass: &mut Pass<Node<N::Link>>,
+    net: &mut N,
+    link: N::Link,
+) -> Result<bool, NoMemory>
+    requires pass { IsPassOf clerk.now.lock pass.old }
+    requires new { IsEmpty (N.Link.given link) × IsEmpty (N.Link.got link) }
+    ensures later { N.faults net.old ≤ N.faults net.new }
+    ensures linked { Linked clerk.now.lock pass.old pass.new }
+    ensures more { OnOk result (LinkedMore (λ l. N.Link.faults l + N.Link.closes l) N.Link.given N.Link.got (first clerk.now.lock) pass.old pass.new
+        (record { faults = N.faults net.old; bad = N.bad net.old; ended = N.ended net.old })
+        (record { faults = N.faults net.new; bad = N.bad net.new; ended = N.ended net.new })) }
+{
+    let mut link = link;
+    let Ok(bell) = link.bell(rt) else {
+        drop(link);
+        return Ok(false);
+    };
+    match clerk.relink(rt, pass, link, bell) {
+        Ok(old) => {
+            net.back(old)?;
+            Ok(true)
+        }
+        Err(_) => Ok(false),
+    }
+}
+
+// Links again until all has ended, or for so long that no call waits any more.
+fn keep_linked<N: Net, R: Around + Eprint>(
+    rt: &R,
+    clerk: &SharedClerk<N::Link>,
+    pass: &mut Pass<Node<N::Link>>,
+    net: &mut N,
+    beside: &Beside<'_>,
+    linking: &mut Linking,
+) -> Result<(), NoMemory>
+    requires { IsPassOf clerk.now.lock pass.old }
+    ensures later { N.faults net.old ≤ N.faults net.new }
+    ensures linked { Linked clerk.now.lock pass.old pass.new }
+    ensures more { OnOk result (LinkedMore (λ l. N.Link.faults l + N.Link.closes l) N.Link.given N.Link.got (first clerk.now.lock) pass.old pass.new
+        (record { faults = N.faults net.old; bad = N.bad net.old; ended = N.ended net.old })
+        (record { faults = N.faults net.new; bad = N.bad net.new; ended = N.ended net.new })) }
+{
+    for _ in rt.forever() {
+        let is_down = clerk.wait_down(rt, Duration::from_secs(1));
+        if beside.is_over() {
+            return Ok(());
+        }
+        if !is_down {
+            continue;
+        }
+        if linking.ended(rt) {
+            tell_gone(rt, beside.who);
+        }
+        let Some(link) = linking.call_until(rt, net, beside) else {
+            tell_over(rt, beside.who, beside.is_over());
+            return Ok(());
+        };
+        if hand_in(rt, clerk, pass, net, link)? {
+            linking.up = Instant::now(rt).ok();
+            tell_again(rt, beside.who);
+        }
+    }
+    unreachable!()
+}
+
+/// Calls the address again where the link is down, until all has ended, or for too long. Meanwhile a link that fails is no
+/// fault of a call. Each link that another one came for goes back to the net.
+pub fn link_again<N: Net, R: Around + Eprint>(
+    rt: &R,
+    clerk: &SharedClerk<N::Link>,
+    pass: &mut Pass<Node<N::Link>>,
+    net: &mut N,
+    beside: &Beside<'_>,
+) -> Result<(), NoMemory>
+    requires { IsPassOf clerk.now.lock pass.old }
+    ensures later { N.faults net.old ≤ N.faults net.new }
+    ensures linked { Linked clerk.now.lock pass.old pass.new }
+    ensures more { OnOk result (LinkedMore (λ l. N.Link.faults l + N.Link.closes l) N.Link.given N.Link.got (first clerk.now.lock) pass.old pass.new
+        (record { faults = N.faults net.old; bad = N.bad net.old; ended = N.ended net.old })
+        (record { faults = N.faults net.new; bad = N.bad net.new; ended = N.ended net.new })) }
+{
+    let mut linking = Linking {
+        gone: None,
+        up: Instant::now(rt).ok(),
+        rest: 0,
+    };
+    clerk.lasts(rt, pass, true);
+    beside.begin();
+    let result = keep_linked(rt, clerk, pass, net, beside, &mut linking);
+    clerk.lasts(rt, pass, false);
+    result
+}
