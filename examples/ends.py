@@ -17,7 +17,7 @@ program = os.path.realpath(sys.argv[1])
 port = int(sys.argv[2]) if len(sys.argv) > 2 else 4721
 rounds = int(sys.argv[3]) if len(sys.argv) > 3 else 2
 address, between = f"127.0.0.1:{port}", f"127.0.0.1:{port + 1}"
-WAIT = 30
+WAIT = 60
 NOBODY = 65534
 CLERKS = "ABCDEFGHIJKLMNOP"
 

@@ -152,3 +152,40 @@ fn tells_a_greater_boot(rt: HostRuntime) {
     drop::<NetTypes>((None, None));
     assert!(rt; are_well(&rt, "serve here 2", Mounts::Two));
 }
+
+// Takes a link at the address, and lets it go.
+fn lets_go<R: Around>(rt: &R, net: &mut MemNet) -> bool {
+    let Ok(mut door) = net.listen(rt, "here") else {
+        return false;
+    };
+    let Ok(mut link) = net.accept(rt, &mut door) else {
+        drop(door);
+        return false;
+    };
+    link.hang_up();
+    drop(link);
+    drop(door);
+    true
+}
+
+// A mount whose first link goes, and a server that comes then.
+fn are_linked_again<R: Around + Eprint>(rt: &R) -> bool {
+    let Ok((mut net, other)) = shared_net(rt.alloc()) else {
+        return false;
+    };
+    let mut spawner = Spawner::Threads(ThreadSpawner::new());
+    let (is_served, is_mounted) = thread::join(
+        rt,
+        || lets_go(rt, &mut net) && is_served(rt, "serve here 1", &mut net, &mut spawner, 0),
+        || is_answered(rt, other),
+    );
+    drop(net);
+    drop(spawner);
+    is_served && is_mounted
+}
+
+#[test]
+fn links_again(rt: HostRuntime) {
+    drop::<NetTypes>((None, None));
+    assert!(rt; are_linked_again(&rt));
+}
