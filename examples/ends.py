@@ -1,6 +1,9 @@
 #!/usr/bin/env python3
 """How mounts end: what they print where the server dies or sends nonsense, where no thread can be started, and what becomes of a mount that dies.
-Usage: examples/ends.py PROGRAM [PORT [ROUNDS]]   (the port is 4721 where none is given; 16 healthy mounts run at once, so often: 2 times)"""
+Usage: examples/ends.py PROGRAM [PORT [ROUNDS]]   (the port is 4811 where none is given, and the 11 above it are used too; 16 healthy mounts run at
+once, so often: 2 times)
+
+All cases run at the same time: a mount whose server is gone calls for 30 seconds."""
 import os
 import resource
 import select
@@ -14,9 +17,8 @@ import threading
 import time
 
 program = os.path.realpath(sys.argv[1])
-port = int(sys.argv[2]) if len(sys.argv) > 2 else 4721
+port = int(sys.argv[2]) if len(sys.argv) > 2 else 4811
 rounds = int(sys.argv[3]) if len(sys.argv) > 3 else 2
-address, between = f"127.0.0.1:{port}", f"127.0.0.1:{port + 1}"
 WAIT = 60
 NOBODY = 65534
 CLERKS = "ABCDEFGHIJKLMNOP"
@@ -36,13 +38,17 @@ def is_second_batch(body):
     return len(body) >= 34 and body[0] == FLUSH and struct.unpack_from(">Q", body, 26)[0] >= 2
 
 
+def address(at):
+    return f"127.0.0.1:{at}"
+
+
 class Server:
     """A server of so many links in a folder of its own."""
 
-    def __init__(self, count):
+    def __init__(self, at, count):
         self.folder = tempfile.TemporaryDirectory()
         self.told = open(os.path.join(self.folder.name, "told"), "w+b")
-        self.process = subprocess.Popen([program, "serve", address, str(count)], cwd=self.folder.name, stdout=subprocess.DEVNULL, stderr=self.told)
+        self.process = subprocess.Popen([program, "serve", address(at), str(count)], cwd=self.folder.name, stdout=subprocess.DEVNULL, stderr=self.told)
         end = time.monotonic() + WAIT
         while b"serves at" not in self.says() and time.monotonic() < end:
             time.sleep(0.01)
@@ -62,18 +68,19 @@ class Server:
 
 
 class Relay(threading.Thread):
-    """Passes on what a mount and the server send, up to the second batch. Then it does what it's given, with both links."""
+    """Passes on what a mount and the server at this port send, up to the second batch. Then it does what it's given, with both links. The mount comes
+    to the port behind."""
 
-    def __init__(self, then):
+    def __init__(self, at, then):
         super().__init__(daemon=True)
-        self.then = then
-        self.door = socket.create_server(("127.0.0.1", port + 1))
+        self.at, self.then = at, then
+        self.door = socket.create_server(("127.0.0.1", at + 1))
         self.is_there = threading.Event()
         self.start()
 
     def run(self):
         mount, _ = self.door.accept()
-        server = socket.create_connection(("127.0.0.1", port))
+        server = socket.create_connection(("127.0.0.1", self.at))
         with self.door, mount, server:
             kept = b""
             while True:
@@ -97,8 +104,8 @@ class Relay(threading.Thread):
                         kept = kept[end:]
 
 
-def start(clerk, at=address, lanes=None, **more):
-    mount = subprocess.Popen([program, "mount", at, clerk], stdin=subprocess.PIPE, stdout=subprocess.PIPE, stderr=subprocess.PIPE, **more)
+def start(clerk, at, lanes=None, **more):
+    mount = subprocess.Popen([program, "mount", address(at), clerk], stdin=subprocess.PIPE, stdout=subprocess.PIPE, stderr=subprocess.PIPE, **more)
     mount.stdin.write(lanes or b"")
     mount.stdin.close()
     mount.stdin = None
@@ -118,31 +125,31 @@ def wrong(mount, status, text, *words):
     return None
 
 
-def killed_server():
-    with Server(1) as server:
+def killed_server(at):
+    with Server(at, 1) as server:
         def kill(mount, link):
             server.process.kill()
             while link.recv(1 << 16):
                 pass
-        Relay(kill)
-        return wrong(start("A", between, LANES), 8, CAME, b"operation 2 isn't known to be durable")
+        Relay(at, kill)
+        return wrong(start("A", at + 1, LANES), 8, CAME, b"operation 2 isn't known to be durable")
 
 
-def nonsense():
-    with Server(1):
-        Relay(lambda mount, server: (mount.sendall(frame(b"\xff")), time.sleep(1)))
-        return wrong(start("A", between, LANES), 14, CAME + b"peer 0\n", b"operation 2 isn't known to be durable")
+def nonsense(at):
+    with Server(at, 1):
+        Relay(at, lambda mount, server: (mount.sendall(frame(b"\xff")), time.sleep(1)))
+        return wrong(start("A", at + 1, LANES), 14, CAME + b"peer 0\n", b"operation 2 isn't known to be durable")
 
 
-def nobody_listens():
-    return wrong(start("A", address, LANES), 8, b"", b"A can't reach " + address.encode() + b": ", b"efused")
+def nobody_listens(at):
+    return wrong(start("A", at, LANES), 8, b"", b"A can't reach " + address(at).encode() + b": ", b"efused")
 
 
-def healthy():
+def healthy(at):
     count = len(CLERKS) * rounds
-    with Server(count) as server:
+    with Server(at, count) as server:
         for _ in range(rounds):
-            mounts = [start(clerk, address, f"1 create /{clerk}\n2 stat /\n".encode()) for clerk in CLERKS]
+            mounts = [start(clerk, at, f"1 create /{clerk}\n2 stat /\n".encode()) for clerk in CLERKS]
             for mount in mounts:
                 mount.communicate(timeout=WAIT)
                 if mount.returncode != 0:
@@ -155,14 +162,14 @@ def healthy():
     return None if closed == count and b" ended: " not in told else f"{closed} of {count} links were closed: {told!r}"
 
 
-def dead_mount():
-    with Server(3) as server:
-        relay = Relay(lambda mount, server: dead.kill())
-        dead = start("A", between, LANES)
+def dead_mount(at):
+    with Server(at, 3):
+        relay = Relay(at, lambda mount, server: dead.kill())
+        dead = start("A", at + 1, LANES)
         if not relay.is_there.wait(WAIT):
             return "the first mount doesn't get on"
         dead.communicate()
-        later = start("B", address, b"1 read /f 0 9\n")
+        later = start("B", at, b"1 read /f 0 9\n")
         line, told = b"", b""
         while b" waits for " not in told:
             line = later.stderr.readline()
@@ -170,7 +177,7 @@ def dead_mount():
             if not line:
                 return f"the second mount doesn't wait: {told!r}"
         # what the dead mount held is free once its session has ended
-        fault = wrong(start("A"), 0, b"end sync -> ok\n")
+        fault = wrong(start("A", at), 0, b"end sync -> ok\n")
         return fault or wrong(later, 0, b"1 1 read /f 0 9 -> data 0\nend sync -> ok\n")
 
 
@@ -181,9 +188,9 @@ def alone():
         os.setuid(NOBODY)
 
 
-def no_thread():
-    with Server(1):
-        return wrong(start("A", address, LANES, preexec_fn=alone), 10, b"", b"no thread can be started")
+def no_thread(at):
+    with Server(at, 1):
+        return wrong(start("A", at, LANES, preexec_fn=alone), 10, b"", b"no thread can be started")
 
 
 CASES = {
@@ -197,14 +204,17 @@ CASES = {
 
 
 def main():
-    failed = 0
-    for name, run in CASES.items():
-        fault = run()
-        if fault:
-            failed += 1
-            print(f"{name}: {fault}")
-    print(f"ends: {len(CASES) - failed} passed, {failed} failed")
-    return failed != 0
+    faults = {}
+    running = [threading.Thread(target=lambda name, at: faults.__setitem__(name, CASES[name](at)), args=[name, port + 2 * i]) for i, name in enumerate(CASES)]
+    for one in running:
+        one.start()
+    for one in running:
+        one.join()
+    failed = [name for name in CASES if faults.get(name, "it failed")]
+    for name in failed:
+        print(f"{name}: {faults.get(name, 'it failed')}")
+    print(f"ends: {len(CASES) - len(failed)} passed, {len(failed)} failed")
+    return len(failed) != 0
 
 
 sys.exit(main())

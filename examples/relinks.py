@@ -1,10 +1,11 @@
 #!/usr/bin/env python3
 """Mounts that outlive their links: each of these ends with status 0, and each of its calls is answered.
-Usage: examples/relinks.py PROGRAM [PORT]   (the port is 4791 where none is given, and the 15 above it are used too)
+Usage: examples/relinks.py PROGRAM [PORT]   (the port is 4791 where none is given, and the 17 above it are used too)
 
-The server is killed with -9 and started again under two mounts. A relay breaks the links of two mounts at random moments. The server is stopped for
-three seconds. A mount is cut off for longer than the server waits for it: another one reads what it held, and then the first one is told what it lost.
-And where the server is gone for good, a mount ends with status 8, but not before it has called for 30 seconds. All at once in some 40 seconds."""
+The server is killed with -9 and started again under two mounts. A relay breaks the links of two mounts at random moments. The server is stopped for ten
+seconds, and away for ten seconds. A relay holds a mount's link for 30 seconds, longer than the server waits for it: another one reads what it held, and
+then the first one is told exactly what it lost. And where the server is gone for good, a mount ends with status 8, but not before it has called for 30
+seconds. All at once in some 40 seconds."""
 import os
 import random
 import select
@@ -21,6 +22,23 @@ program = os.path.realpath(sys.argv[1])
 port = int(sys.argv[2]) if len(sys.argv) > 2 else 4791
 LONGEST = 90
 CALLS = 60
+PAUSE = 10
+HELD = 30
+
+
+# The second batch is held.
+HELD_LANES = "".join(f"1 {row}\n" for row in ["create /f", "write /f 0 kept", "fsync /f", "write /f 0 GONE", "fsync /f", "read /f 0 9", "write /f 0 more", "fsync /f"])
+HELD_ANSWERS = """1 1 create /f -> ok op 1
+2 1 write /f 0 kept -> ok op 2
+3 1 fsync /f -> ok
+4 1 write /f 0 GONE -> ok op 3
+5 1 fsync /f -> lost 3
+6 1 read /f 0 9 -> data 4 kept
+7 1 write /f 0 more -> ok op 4
+8 1 fsync /f -> ok
+told lost 3
+end sync -> ok
+"""
 
 
 class Server:
@@ -62,15 +80,19 @@ class Relay:
 
     def __init__(self, at, server_at, holds=None):
         self.door, self.server_at, self.holds = socket.create_server(("127.0.0.1", at)), server_at, holds
-        self.links, self.held, self.is_cut = [], threading.Event(), False
+        self.links, self.held = [], threading.Event()
         threading.Thread(target=self.accept, daemon=True).start()
 
     def accept(self):
         while True:
             try:
                 mount, _ = self.door.accept()
+            except OSError:
+                return
+            try:
                 server = socket.create_connection(("127.0.0.1", self.server_at))
             except OSError:
+                mount.close()
                 continue
             self.links.append((mount, server))
             threading.Thread(target=self.carry, args=[mount, server], daemon=True).start()
@@ -103,6 +125,7 @@ class Relay:
         return self
 
     def __exit__(self, *_):
+        close(self.door)
         self.door.close()
         self.cut()
 
@@ -206,25 +229,35 @@ def wrong_where_stopped(at):
         mount = Mount(at, "A", writes("A", CALLS, []))
         server.awaits(b"is A's")
         server.process.send_signal(signal.SIGSTOP)
-        time.sleep(3)
+        time.sleep(PAUSE)
         server.process.send_signal(signal.SIGCONT)
         return first_wrong(mount.wrong(), wrong_there(server, "A", CALLS))
 
 
+def wrong_where_away(at):
+    with tempfile.TemporaryDirectory() as folder, Server(at, folder) as server:
+        mount = Mount(at, "A", writes("A", CALLS, []))
+        server.awaits(b"is A's")
+        server.kill()
+        time.sleep(PAUSE)
+        server.start()
+        return first_wrong(mount.wrong(), wrong_there(server, "A", CALLS))
+
+
 def wrong_where_held(at):
-    lanes = "".join(f"1 {row}\n" for row in ["create /f", "write /f 0 kept", "fsync /f", "write /f 0 GONE", "fsync /f", "read /f 0 9", "write /f 0 more", "fsync /f"])
     with tempfile.TemporaryDirectory() as folder, Server(at, folder), Relay(at + 1, at, b"GONE") as relay:
-        first = Mount(at + 1, "A", lanes)
+        first = Mount(at + 1, "A", HELD_LANES)
         relay.held.wait(LONGEST)
+        begin = time.monotonic()
         second = Mount(at, "B", "1 read /f 0 9\n")
         status, out, told = second.end()
         took = second.took
+        time.sleep(max(begin + HELD - time.monotonic(), 0))
         relay.cut()
         first_status, first_out, first_told = first.end()
-    if (status, out) != (0, "1 1 read /f 0 9 -> data 4 kept\nend sync -> ok\n") or not 18 <= took <= 28:
+    if (status, out) != (0, "1 1 read /f 0 9 -> data 4 kept\nend sync -> ok\n") or not 18 <= took <= 25:
         return f"the other: status {status} behind {took:.1f} s, {out!r} {told!r}"
-    lines = first_out.splitlines()
-    if first_status != 0 or lines[4] != "5 1 fsync /f -> lost 3" or "told lost 3" not in lines or lines[7] != "8 1 fsync /f -> ok":
+    if (first_status, first_out) != (0, HELD_ANSWERS):
         return f"status {first_status}, {first_out!r} {first_told!r}"
     return None
 
@@ -247,7 +280,8 @@ def main():
         "the server is killed and started again": wrong_where_killed,
         "links are cut": wrong_where_cut,
         "the server is stopped for a while": wrong_where_stopped,
-        "a mount is cut off for long": wrong_where_held,
+        "the server is away for a while": wrong_where_away,
+        "a link is held for long": wrong_where_held,
         "the server is gone for good": wrong_where_gone,
     }
     faults = {}
