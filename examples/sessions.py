@@ -1,6 +1,6 @@
 #!/usr/bin/env python3
 """Sessions of clerks that have no link: a server waits for them, and then ends their sessions. And two mounts of one name.
-Usage: examples/sessions.py PROGRAM [PORT]   (the port is 4741 where none is given, and the two behind it are used as well)
+Usage: examples/sessions.py PROGRAM [PORT]   (the port is 4781 where none is given, and the two behind it are used as well)
 
 All cases run at the same time. A server waits 20 s for a clerk."""
 import os
@@ -11,7 +11,7 @@ import threading
 import time
 
 program = os.path.realpath(sys.argv[1])
-port = int(sys.argv[2]) if len(sys.argv) > 2 else 4741
+port = int(sys.argv[2]) if len(sys.argv) > 2 else 4781
 LONGEST = 25
 SHORTEST = 15
 AT_ONCE = 4
