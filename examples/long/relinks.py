@@ -115,7 +115,7 @@ def hang_up(end):
 
 
 def kills(server, relay):
-    time.sleep(random.uniform(0, 2))
+    time.sleep(random.uniform(0, 1))
     server.kill()
     server.start()
 
@@ -147,10 +147,12 @@ def lanes_of(folder):
     rows = [f"mkdir /{folder}"]
     for i in range(FILES):
         name = f"/{folder}/{i}"
-        rows += [f"create {name}", f"write {name} 0 {folder}.{i}"]
+        rows += [f"create {name}", f"write {name} 0 first"]
         if draw.random() < 0.4:
             rows.append(f"fsync {name}")
-        rows.append(f"rename {name} /{folder}/n{i}")
+        rows += [f"rename {name} /{folder}/n{i}", f"write /{folder}/n{i} 0 {folder}.{i}"]
+        if draw.random() < 0.6:
+            rows.append(f"fsync /{folder}/n{i}")
         if draw.random() < 0.3:
             rows.append(f"read /{folder}/n{draw.randrange(i + 1)} 0 9")
         if draw.random() < 0.2:
