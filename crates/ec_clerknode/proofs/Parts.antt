@@ -103,10 +103,10 @@ no_links linker s e linked = absurd (cc (sym e ∙ linked))
 
 pub none_linked : (xs : List Step) → LinksBy None xs → has_link xs ≡ false
 none_linked [] h = refl
-none_linked (x ∷ xs) h = on (is_linked x.deed) refl where
-  on : (b : Bool) → is_linked x.deed ≡ b → (is_linked x.deed || has_link xs) ≡ false
-  on true e = absurd (h.0 e)
-  on false e = ap (λ b. b || has_link xs) e ∙ none_linked xs h.1
+none_linked (x ∷ xs) h = on (is_linked x.deed) refl (none_linked xs h.1) where
+  on : (b : Bool) → is_linked x.deed ≡ b → has_link xs ≡ false → (is_linked x.deed || has_link xs) ≡ false
+  on true e none = absurd (h.0 e)
+  on false e none = ap (λ b. b || has_link xs) e ∙ none
 
 pub over_alone : {A : Type 0} (by : Step → List A) (first now : Option (List A)) (xs : List Step) → has_link xs ≡ false → Over by first xs now → now ≡ added first (each by xs)
 over_alone by first now xs e o =
@@ -132,10 +132,10 @@ some_of x xs e = cc e
 
 unlinked : (n : ℕ) (xs : List Step) → LinksBy (Some n) xs → of number_of n xs ≡ [] → has_link xs ≡ false
 unlinked n [] h e = refl
-unlinked n (x ∷ xs) h e = on (is_linked x.deed) refl where
-  on : (b : Bool) → is_linked x.deed ≡ b → (is_linked x.deed || has_link xs) ≡ false
-  on true l = absurd (some_of x (of number_of n xs) (sym (ap (λ b. cond b (x ∷ of number_of n xs) (of number_of n xs)) (eq-eqb x.pass n (h.0 l))) ∙ e))
-  on false l = ap (λ b. b || has_link xs) l ∙ unlinked n xs h.1 (none_of (is_number n (number_of x)) x (of number_of n xs) e)
+unlinked n (x ∷ xs) h e = on (is_linked x.deed) refl (unlinked n xs h.1 (none_of (is_number n (number_of x)) x (of number_of n xs) e)) where
+  on : (b : Bool) → is_linked x.deed ≡ b → has_link xs ≡ false → (is_linked x.deed || has_link xs) ≡ false
+  on true l none = absurd (some_of x (of number_of n xs) (sym (ap (λ b. cond b (x ∷ of number_of n xs) (of number_of n xs)) (eq-eqb x.pass n (h.0 l))) ∙ e))
+  on false l none = ap (λ b. b || has_link xs) l ∙ none
 
 links_right : (linker : Option ℕ) (xs ys : List Step) → LinksBy linker (xs ++ ys) → LinksBy linker ys
 links_right linker [] ys h = h
@@ -172,10 +172,10 @@ stretch more (p ∷ ps) = last_on more p ps
 
 parts_alone : (xs : List Step) → has_link xs ≡ false → parts xs ≡ xs ∷ []
 parts_alone [] e = refl
-parts_alone (x ∷ xs) e = on (is_linked x.deed) refl where
-  on : (b : Bool) → is_linked x.deed ≡ b → onto x (is_linked x.deed) (parts xs) ≡ (x ∷ xs) ∷ []
-  on true l = absurd (cc (sym e ∙ ap (λ b. b || has_link xs) l))
-  on false l = ap (λ b. onto x b (parts xs)) l ∙ ap (onto x false) (parts_alone xs (or_false (is_linked x.deed) (has_link xs) e))
+parts_alone (x ∷ xs) e = on (is_linked x.deed) refl (parts_alone xs (or_false (is_linked x.deed) (has_link xs) e)) where
+  on : (b : Bool) → is_linked x.deed ≡ b → parts xs ≡ xs ∷ [] → onto x (is_linked x.deed) (parts xs) ≡ (x ∷ xs) ∷ []
+  on true l one = absurd (cc (sym e ∙ ap (λ b. b || has_link xs) l))
+  on false l one = ap (λ b. onto x b (parts xs)) l ∙ ap (onto x false) one
 
 onto_stretch : (x : Step) (b : Bool) (more p : List Step) (ps : List (List Step)) → onto x b (stretch more (p ∷ ps)) ≡ stretch more (onto x b (p ∷ ps))
 onto_stretch x true more p [] = refl

@@ -18,6 +18,8 @@ returns-clause-keeps g c first s = record {
   said = s.said;
   wanted = s.wanted;
   came = s.came;
+  linker = s.linker;
+  links = s.links;
 }
 
 pub returns-clause-answer : goal.returns-clause-answer
