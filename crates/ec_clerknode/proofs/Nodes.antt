@@ -102,7 +102,7 @@ module _ {L : Type 0} (counts : L → ℕ) (given : L → Option (List Heard)) (
   grows : (pass : ℕ) (deed : Deed) (outs : List Out) (step : Step) (old mid new : Node L) (first : Node L) → Moved deed outs old mid → Closed counts given got pass deed outs step mid new → Since counts given got first old
       → Counted (counts first.link) (old.trace.items ++ step ∷ []) (counts new.link) → Over (λ s. heard_of s.deed) (given first.link) (old.trace.items ++ step ∷ []) (given new.link) → Over said_in (got first.link) (old.trace.items ++ step ∷ []) (got new.link)
       → LinksBy first.linker (old.trace.items ++ step ∷ []) → Since counts given got first new
-  grows pass deed outs step old mid new first m c s net heard sent links =
+  grows pass deed outs step old mid new first m c s net gave took links =
       let xs = old.trace.items in
       let grown : new.trace.items ≡ xs ++ step ∷ [] = c.list ∙ ap (λ l. l ++ step ∷ []) m.list in
       let lead : leads first.clerk xs ≡ old.clerk = s.leads_to m.up in
@@ -115,7 +115,7 @@ module _ {L : Type 0} (counts : L → ℕ) (given : L → Option (List Heard)) (
       let now_there : slice_get new.trace.items (length xs) ≡ Some step = ap (λ l. slice_get l (length xs)) grown ∙ get_last xs step in
       let counted = s.counted in
       let place : mid.steps ≡ length xs = m.steps ∙ counted in
-      let heard_all = subst (λ l. Over (λ s. heard_of s.deed) (given first.link) l (given new.link)) (sym grown) heard in
+      let heard_all = subst (λ l. Over (λ s. heard_of s.deed) (given first.link) l (given new.link)) (sym grown) gave in
       record {
         run = subst (IsRun first.clerk) (sym grown) (run-push first.clerk xs step s.run (subst (λ x. IsStep x step) (sym lead) is_step));
         counted = c.steps ∙ (ap (λ n. n + 1) place ∙ sym (ap length grown ∙ length-append xs (step ∷ [])));
@@ -140,7 +140,7 @@ module _ {L : Type 0} (counts : L → ℕ) (given : L → Option (List Heard)) (
         wanted = λ down. subst Wanted (sym grown) (wanted_last xs step
             (⊎_elim (λ (e : mid.broken ≡ true). absurd (true_false (sym e ∙ m.still_up))) (λ (e : step.end ≡ sent.NoMemory). e) (c.wanted down)));
         came = came_over (given first.link) (given new.link) new.trace.items heard_all;
-        sent = subst (λ l. Over said_in (got first.link) l (got new.link)) (sym grown) sent;
+        sent = subst (λ l. Over said_in (got first.link) l (got new.link)) (sym grown) took;
         linker = c.linker ∙ (m.linker ∙ s.linker);
         links = subst (LinksBy first.linker) (sym grown) links;
       }
