@@ -2,7 +2,7 @@ use Rattle.std.proofs.Common.{◌≡◌, ◌+◌, IfOk, sym, ◌∙◌, subst}
 use Rattle.ec_lock.specs.Passes.{first, front}
 use Rattle.ec_clerknode.specs.Closed.{Links}
 use Rattle.ec_clerknode.proofs.Turns.{own_only, grown, later_front, relinks_more, turned, relinked_if, kept_if}
-use Rattle.ec_clerknode.proofs.relinking.SharedClerk.relink.Goals as goal
+use Rattle.ec_clerknode.proofs.shared.SharedClerk.relink.Goals as goal
 
 pub end-requires-clause-own : goal.end-requires-clause-own
 end-requires-clause-own g c κs within =

@@ -1,6 +1,6 @@
 use Rattle.std.proofs.Common.{◌+◌, refl, ◌∙◌}
 use Rattle.ec_clerknode.proofs.Nodes.{greets}
-use Rattle.ec_clerknode.proofs.relinking.State.relink.Goals as goal
+use Rattle.ec_clerknode.proofs.state.State.relink.Goals as goal
 
 pub returns-clause-keeps : goal.returns-clause-keeps
 returns-clause-keeps g c =

@@ -6,7 +6,7 @@ use Rattle.ec_clerknode.specs.Turns.{number_of}
 use Rattle.ec_clerknode.proofs.Lists.{prefix_self}
 use Rattle.ec_clerknode.proofs.Nodes.{keeps_lasting}
 use Rattle.ec_clerknode.proofs.Turns.{turned}
-use Rattle.ec_clerknode.proofs.relinking.SharedClerk.lasts.Goals as goal
+use Rattle.ec_clerknode.proofs.shared.SharedClerk.lasts.Goals as goal
 
 pub end-requires-clause-later : goal.end-requires-clause-later
 end-requires-clause-later g c κs within =
