@@ -46,5 +46,5 @@ returns-in-Err-clause-keeps g c = falls (λ l. g.L.Link.faults l + g.L.Link.clos
 pub returns-in-Err-clause-parts : goal.returns-in-Err-clause-parts
 returns-in-Err-clause-parts g c = subst (λ f. Fails c.args.pass [] c.args.self.now c.breaks.new.self f) (sym c.breaks.ensures.fault) (fell_fails c.args.pass [] c.args.self.now _ c.breaks.new.self refl c.breaks.ensures.fell)
 
-pub returns-then-is_down-clause-parts : goal.returns-then-is_down-clause-parts
-returns-then-is_down-clause-parts g c = (c.in_ok-check.ensures.ok.2, ([], (sym (append-nil c.args.self.now.trace.items), tt), refl))
+pub returns-then-self-clause-parts : goal.returns-then-self-clause-parts
+returns-then-self-clause-parts g c = (c.in_ok-check.ensures.ok.2, ([], (sym (append-nil c.args.self.now.trace.items), tt), refl))
