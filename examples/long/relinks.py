@@ -115,7 +115,7 @@ def hang_up(end):
 
 
 def kills(server, relay):
-    time.sleep(random.uniform(0, 1))
+    time.sleep(random.uniform(0, 2))
     server.kill()
     server.start()
 
@@ -147,7 +147,7 @@ def lanes_of(folder):
     rows = [f"mkdir /{folder}"]
     for i in range(FILES):
         name = f"/{folder}/{i}"
-        rows += [f"create {name}", f"write {name} 0 first"]
+        rows += [f"create {name}", f"write {name} 0 x"]
         if draw.random() < 0.4:
             rows.append(f"fsync {name}")
         rows += [f"rename {name} /{folder}/n{i}", f"write /{folder}/n{i} 0 {folder}.{i}"]

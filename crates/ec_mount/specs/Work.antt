@@ -1,5 +1,5 @@
 -- No public clause cites this module: it says what the private steps of a mount's run do.
-use Rattle.std.specs.Prelude.{◌≡◌, ◌≤◌, ◌<◌, ◌⊎◌, ℕ, List, [], ◌++◌, map, Option, Some, None, Result, Ok, Err}
+use Rattle.std.specs.Prelude.{◌≡◌, ◌≤◌, ◌<◌, ◌⊎◌, ℕ, List, [], ◌∷◌, ◌++◌, map, Option, Some, None, Result, Ok, Err}
 use Rattle.ec_base.specs.declared.ids.Age.{Age}
 use Rattle.ec_plain.specs.declared.call.Call.{Call}
 use Rattle.ec_protocol.specs.declared.clerk.Clerk.{Clerk}

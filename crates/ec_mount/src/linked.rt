@@ -74,7 +74,7 @@ pub fn make_linked<N: Net, R: Around + Eprint>(
         return None;
     }
     let mut lanes = lanes;
-    let beside = Beside::new(who);
+    let beside = Beside::new(&*who);
     let (linked, made) = join_mut(
         rt,
         &mut || -> Result<(), NoMemory>
