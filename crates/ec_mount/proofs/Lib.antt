@@ -1,5 +1,6 @@
 pub mod Causes
 pub mod Passing
+pub mod Joined
 pub mod Linking
 pub mod Running
 pub mod Texts

@@ -1,9 +1,9 @@
 -- Links that came back while the calls went on.
 use Rattle.std.specs.Prelude.{OnOk}
-use Rattle.std.proofs.Common.{◌≡◌, ◌+◌, ◌<◌, ◌≤◌, ◌⊎◌, ℕ, zero, suc, Result, Ok, Err, Bool, true, false, List, [], ◌∷◌, ◌++◌, Option, Some, None, sym, refl, ap, ◌∙◌, subst, inl, inr, ⊎_elim, arith, append_assoc}
+use Rattle.std.proofs.Common.{◌≡◌, ◌+◌, ◌<◌, ◌≤◌, ◌⊎◌, ℕ, zero, suc, Result, Ok, Err, Bool, true, false, List, [], ◌∷◌, ◌++◌, Option, Some, None, sym, refl, ap, ◌∙◌, subst, inl, inr, ⊎_elim, arith, append_assoc, append-nil}
 use mathlib.Core.List.{IsPrefix}
 use Rattle.ec_lock.specs.Passes.{front, numbers, IsPassOf}
-use Rattle.ec_lock.specs.Steps.{of}
+use Rattle.ec_lock.specs.Steps.{Member, of}
 use Rattle.ec_lock.specs.declared.types.Pass.{Pass}
 use Rattle.ec_lock.specs.declared.types.TracedLock.{TracedLock}
 use Rattle.ec_link.specs.Links.{Heard, added, failed}
@@ -14,10 +14,10 @@ use Rattle.ec_clerknode.specs.declared.step.Step.{Step}
 use Rattle.ec_clerknode.specs.Parts.{has_link, is_linked, onto, part, parts, IsBase, Over, Counted, LinksBy}
 use Rattle.ec_clerknode.specs.Run.{heard_of, heard_by, said_in, said_by, net_of, nets}
 use Rattle.ec_clerknode.specs.Turns.{number_of, Turned, Relinked}
-use Rattle.ec_clerknode.proofs.Lists.{prefix_self, prefix_trans}
+use Rattle.ec_clerknode.proofs.Lists.{prefix_self, prefix_trans, member_right}
 use Rattle.ec_clerknode.proofs.Parts.{went_on, some_parts, parts_more, parts_new, part_new, has_two, has_parts}
 use Rattle.ec_mount.specs.Run.{NetSeen, AreTold, Tells}
-use Rattle.ec_mount.specs.Linking.{AreToldFrom, nets_in, Linked, Handed, HandedBy, LinkedMore}
+use Rattle.ec_mount.specs.Linking.{AreToldFrom, nets_in, Linked, Handed, HandedBy, LinkedMore, HasLinked}
 
 -- A pass had turns, or none.
 
@@ -193,3 +193,24 @@ module _ {L : Type 0} (counts : L → ℕ) (given : L → Option (List Heard)) (
   more_around lock old one two new a b (Ok x) t own l m u own_too =
       more_both old one new a a b t.stays.0 (more_turned lock old one a t own) (more_both one two new a b b l.same.0 m (more_turned lock two new b u own_too))
   more_around lock old one two new a b (Err f) t own l m u own_too = tt
+
+  -- a pass that has made no step
+  handed_none : (n : ℕ) (net : NetSeen) (steps : List Step) → of number_of n steps ≡ [] → HandedBy counts given got first n net net steps
+  handed_none n net steps none = record {
+    steps = [];
+    later = (steps, refl);
+    own = sym none;
+    handed = record { over = []; whole = refl; links = []; ended = sym (append-nil net.ended); told = tt; low = omega arith; rose = λ some. omega (arith, some) };
+  }
+
+  -- who linked again was drawn from a pass, and came back to it
+  pub has_linked : (lock : TracedLock (Node L) Step) (own drawn back called joined : Pass (Node L) Step) (before after : NetSeen) → drawn.number ≡ 1 → front drawn ≡ front own → of number_of drawn.number (front own) ≡ [] → Linked lock drawn back → LinkedMore counts given got first drawn back before after
+      → IsPrefix (front back) (front joined) → ((n : ℕ) → Member n (numbers back) → of number_of n (front back) ≡ of number_of n (front joined)) → numbers joined ≡ numbers called ++ numbers back → HasLinked counts given got first joined before after
+  has_linked lock own drawn back called joined before after one same none l more later others both =
+      let is : back.number ≡ 1 = l.same.0 ∙ one in
+      let mine : Member 1 (numbers back) = subst (λ n. Member n (numbers back)) is l.is_pass.1 in
+      let handed = more before (handed_none drawn.number before (front drawn) (ap (of number_of drawn.number) same ∙ none)) in
+      record {
+        within = subst (Member 1) (sym both) (member_right 1 (numbers called) (numbers back) mine);
+        handed = handed_of 1 before after after (front back) (front joined) (subst (λ n. HandedBy counts given got first n before after (front back)) one handed) later (others 1 mine) refl refl;
+      }

@@ -1,5 +1,6 @@
 -- From the shared clerk to what the net has of its run.
 use Rattle.std.proofs.Common.{◌≡◌, ◌<◌, ◌+◌, ℕ, false, List, [], ◌∷◌, ◌++◌, length, map, take, Option, Some, None, Result, Ok, Err, IfSome, refl, sym, ap, ◌∙◌, subst, inl, inr, ⊎_elim, arith, append_assoc}
+use Rattle.std.proofs.lemmas.List.{append_cancel_left}
 use mathlib.Core.List.{IsPrefix}
 use Rattle.ec_base.specs.declared.ids.Age.{Age}
 use Rattle.ec_plain.specs.declared.call.Call.{Call}
@@ -21,7 +22,7 @@ use Rattle.ec_clerknode.specs.Parts.{has_link, part, parts, LinksBy}
 use Rattle.ec_clerknode.specs.Run.{IsRun, AreSaid, calls, heard_by, nets, said_by, told_by, old_boot}
 use Rattle.ec_clerknode.specs.Turns.{number_of, Finished}
 use Rattle.ec_clerknode.proofs.Lists.{prefix_get, prefix_trans}
-use Rattle.ec_clerknode.proofs.Parts.{parts_alone}
+use Rattle.ec_clerknode.proofs.Parts.{part_whole, parts_more, has_two, has_parts}
 use Rattle.ec_outs.proofs.Told.{added-nil}
 use Rattle.ec_mount.specs.Run.{NetSeen, AreTold, Ran, RanAlone, Holds, HoldsFronts, Has, Met, Lost, Spends, Unheard}
 use Rattle.ec_mount.specs.Run as run
@@ -242,10 +243,25 @@ alone_of start [] steps a = absurd a
 alone_of start (e ∷ []) steps a = (e.0, e.1, refl, a.0, a.1)
 alone_of start (e ∷ f ∷ fs) steps a = absurd a.2
 
+one_part : (steps : List Step) → has_link steps ≡ false → parts steps ≡ steps ∷ []
+one_part steps none = parts_more [] steps [] none refl ∙ ap (λ p. p ∷ []) (part_whole steps none)
+
 pub ran_alone : (id boot : ℕ) (before after : NetSeen) (steps : List Step) → has_link steps ≡ false → Ran id boot before after steps → RanAlone id boot before after steps
 ran_alone id boot before after steps none r =
-    let one = alone_of (map encoded (sends r.outs)) r.links steps (subst (AreTold (map encoded (sends r.outs)) r.links) (parts_alone steps none) r.told) in
+    let one = alone_of (map encoded (sends r.outs)) r.links steps (subst (AreTold (map encoded (sends r.outs)) r.links) (one_part steps none) r.told) in
     record { clerk = r.clerk; outs = r.outs; starts = r.starts; run = r.run; whole = r.whole; given = one.0; got = one.1; ended = r.ended ∙ ap (λ l. before.ended ++ l) one.2; heard = one.3; sent = one.4 }
+
+two_none : (start : List (List ℕ)) (e : Ended) (ps : List (List Step)) → AreTold start (e ∷ []) ps → has_two ps ≡ false
+two_none start e [] a = refl
+two_none start e (p ∷ []) a = refl
+two_none start e (p ∷ q ∷ qs) a = absurd a.2.2
+
+-- where one link came back, none was exchanged
+pub ran_one : (id boot : ℕ) (before after : NetSeen) (steps : List Step) (e : Ended) → after.ended ≡ before.ended ++ e ∷ [] → Ran id boot before after steps → RanAlone id boot before after steps
+ran_one id boot before after steps e one r =
+    let start = map encoded (sends r.outs) in
+    let links : r.links ≡ e ∷ [] = append_cancel_left before.ended r.links (e ∷ []) (sym r.ended ∙ one) in
+    ran_alone id boot before after steps (has_parts steps ∙ two_none start e (parts steps) (subst (λ l. AreTold start l (parts steps)) links r.told)) r
 
 -- Over a link that greeted first.
 
