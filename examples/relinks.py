@@ -163,11 +163,11 @@ class Mount:
         self.thread.join()
         return self.done
 
-    # What is wrong with it where all its calls are to be answered well, or None.
-    def wrong(self):
+    # What is wrong with it where all its calls are to be answered well, and these words told, or None.
+    def wrong(self, *words):
         status, out, told = self.end()
         lines, rows = out.splitlines(), self.lanes.splitlines()
-        if status != 0 or len(lines) != len(rows) + 1 or lines[-1] != "end sync -> ok" or " lost" in out:
+        if status != 0 or len(lines) != len(rows) + 1 or lines[-1] != "end sync -> ok" or " lost" in out or any(word not in told for word in words):
             return f"status {status}, {len(lines)} lines for {len(rows)} calls: {out[-300:]!r} {told[-600:]!r}"
         return None
 
@@ -241,7 +241,7 @@ def wrong_where_away(at):
         server.kill()
         time.sleep(PAUSE)
         server.start()
-        return first_wrong(mount.wrong(), wrong_there(server, "A", CALLS))
+        return first_wrong(mount.wrong(f"A lost its link, and calls 127.0.0.1:{at} again", "A is linked again"), wrong_there(server, "A", CALLS))
 
 
 def wrong_where_held(at):
@@ -270,7 +270,7 @@ def wrong_where_gone(at):
         begin = time.monotonic()
         status, out, told = mount.end()
         took = time.monotonic() - begin
-    if status != 8 or not 29 <= took <= 40:
+    if status != 8 or not 29 <= took <= 40 or "A reached nobody for too long, and calls no more" not in told:
         return f"status {status} behind {took:.1f} s, {told!r}"
     return None
 
