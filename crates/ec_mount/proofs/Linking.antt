@@ -137,21 +137,21 @@ module _ {L : Type 0} (counts : L → ℕ) (given : L → Option (List Heard)) (
   -- A link was exchanged, and the one before came back.
   module _ (start before after : NetSeen) (front new : List Step) (link : L) (faults closes : ℕ) (h : HandedBy counts given got first n start before front) (r : Relinked counts given got first n front new link)
       (are : counts link ≡ faults + closes) (bad : after.bad ≡ before.bad + is_bad faults closes) (ended : after.ended ≡ before.ended ++ (given link, got link) ∷ []) where
-    by : LinksBy (Some n) r.0
-    by = subst (λ o. LinksBy o r.0) r.7 r.8
+    links_by : LinksBy (Some n) r.0
+    links_by = subst (λ o. LinksBy o r.0) r.7 r.8
 
-    is : is_linked r.1.deed ≡ true
-    is = ap is_linked r.5
+    links_now : is_linked r.1.deed ≡ true
+    links_now = ap is_linked r.5
 
     whole_then : parts r.0 ≡ h.handed.over ++ part r.0 ∷ []
-    whole_then = whole_now start before front r.0 h r.3 r.4 by
+    whole_then = whole_now start before front r.0 h r.3 r.4 links_by
 
     pub handed_more : HandedBy counts given got first n start after new
     handed_more =
         let k = h.handed in
         let xs = r.0 in
         let s = r.1 in
-        let told = told_now start before front xs h r.3 r.4 by link r.9.2 r.9.1 in
+        let told = told_now start before front xs h r.3 r.4 links_by link r.9.2 r.9.1 in
         let few = r.9.0 in
         let low = k.low in
         record {
@@ -160,7 +160,7 @@ module _ {L : Type 0} (counts : L → ℕ) (given : L → Option (List Heard)) (
           own = refl;
           handed = record {
             over = k.over ++ part xs ∷ [];
-            whole = subst (λ l. parts l ≡ (k.over ++ part xs ∷ []) ++ part l ∷ []) r.2 (parts_new xs s is ∙ (ap (λ l. l ++ (s ∷ []) ∷ []) whole_then ∙ ap (λ q. (k.over ++ part xs ∷ []) ++ q ∷ []) (sym (part_new xs s is))));
+            whole = subst (λ l. parts l ≡ (k.over ++ part xs ∷ []) ++ part l ∷ []) r.2 (parts_new xs s links_now ∙ (ap (λ l. l ++ (s ∷ []) ∷ []) whole_then ∙ ap (λ q. (k.over ++ part xs ∷ []) ++ q ∷ []) (sym (part_new xs s links_now))));
             links = k.links ++ (given link, got link) ∷ [];
             ended = ended ∙ (ap (λ l. l ++ (given link, got link) ∷ []) k.ended ∙ append_assoc start.ended k.links ((given link, got link) ∷ []));
             told = told;
@@ -207,8 +207,7 @@ module _ {L : Type 0} (counts : L → ℕ) (given : L → Option (List Heard)) (
   pub has_linked : (lock : TracedLock (Node L) Step) (own drawn back called joined : Pass (Node L) Step) (before after : NetSeen) → drawn.number ≡ 1 → front drawn ≡ front own → of number_of drawn.number (front own) ≡ [] → Linked lock drawn back → LinkedMore counts given got first drawn back before after
       → IsPrefix (front back) (front joined) → ((n : ℕ) → Member n (numbers back) → of number_of n (front back) ≡ of number_of n (front joined)) → numbers joined ≡ numbers called ++ numbers back → HasLinked counts given got first joined before after
   has_linked lock own drawn back called joined before after one same none l more later others both =
-      let is : back.number ≡ 1 = l.same.0 ∙ one in
-      let mine : Member 1 (numbers back) = subst (λ n. Member n (numbers back)) is l.is_pass.1 in
+      let mine : Member 1 (numbers back) = subst (λ n. Member n (numbers back)) (l.same.0 ∙ one) l.is_pass.1 in
       let handed = more before (handed_none drawn.number before (front drawn) (ap (of number_of drawn.number) same ∙ none)) in
       record {
         within = subst (Member 1) (sym both) (member_right 1 (numbers called) (numbers back) mine);

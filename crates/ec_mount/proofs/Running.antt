@@ -93,12 +93,12 @@ module _ {L : Type 0} (lock : TracedLock (Node L) Step) (old called closed : Pas
     told_more none (fault.Spent k) h s = cut none (fault.Spent k) h s
     told_more none fault.NoMemory h s = tt
 
-    told_all : (none : boot ≡ None) (r : Result Reply NodeFault) → CallsEnd lock called lanes all r → Tells lanes (front closed) all told r
-    told_all none (Ok last) d = (sym boot_is ∙ none, holds_all last d, told_is)
-    told_all none (Err f) d = told_more none f d.0 d.1
+    told_so : (none : boot ≡ None) (r : Result Reply NodeFault) → CallsEnd lock called lanes all r → Tells lanes (front closed) all told r
+    told_so none (Ok last) d = (sym boot_is ∙ none, holds_all last d, told_is)
+    told_so none (Err f) d = told_more none f d.0 d.1
 
     tells : (b : Option Age) → boot ≡ b → Tells lanes (front closed) all told (last_of b made)
-    tells None e = told_all e made c.done
+    tells None e = told_so e made c.done
     tells (Some age) e = sym boot_is ∙ e
 
   unless : {A : Type 0} (r : Result A NodeFault) (P : Type 0) → P → UnlessWanting r P

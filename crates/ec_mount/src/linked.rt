@@ -33,7 +33,7 @@ fn call_all<L: Link + Send, R: Threads + Wait + Clock + Eprint + Sync>(
     clerk: &SharedClerk<L>,
     pass: &mut Pass<Node<L>>,
     lanes: &mut Vec<List<Call>>,
-    beside: &Beside<'_>,
+    beside: &Beside,
 ) -> Replies
     requires pass { IsPassOf clerk.now.lock pass.old }
     requires none { calls_by pass.old.number (front pass.old) ≡ [] }
@@ -74,7 +74,7 @@ pub fn make_linked<N: Net, R: Around + Eprint>(
         return None;
     }
     let mut lanes = lanes;
-    let beside = Beside::new(&*who);
+    let beside = Beside::new();
     let (linked, made) = join_mut(
         rt,
         &mut || -> Result<(), NoMemory>
@@ -84,16 +84,18 @@ pub fn make_linked<N: Net, R: Around + Eprint>(
             ensures more { OnOk result (LinkedMore (λ l. N.Link.faults l + N.Link.closes l) N.Link.given N.Link.got (first clerk.entry.now.lock) other.entry other.exit
                 (record { faults = N.faults net.entry.now; bad = N.bad net.entry.now; ended = N.ended net.entry.now })
                 (record { faults = N.faults net.exit.now; bad = N.bad net.exit.now; ended = N.ended net.exit.now })) }
-        { link_again(rt, clerk, &mut other, net, &beside) },
+        { link_again(rt, who, clerk, &mut other, net, &beside) },
         &mut || -> Replies
             requires { IsSync R.row × IsPassOf clerk.now.lock pass.now × (calls_by pass.now.number (front pass.now) ≡ []) }
             ensures { Called clerk.entry.now.lock pass.entry.now lanes.entry.items pass.exit.now (lists_of result.lanes) result.last }
         { call_all(rt, alloc, who, clerk, pass, &mut lanes, &beside) },
     );
     clerk.join(pass, other);
-    if linked.is_err() {
-        drop(made);
-        return None;
+    match linked {
+        Ok(()) => Some(made),
+        Err(_) => {
+            drop(made);
+            None
+        }
     }
-    Some(made)
 }

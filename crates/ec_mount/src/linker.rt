@@ -28,17 +28,15 @@ const STEADY: u64 = 1;
 
 /// What who links again and the calls tell each other.
 #[derive(Drop)]
-pub struct Beside<'a> {
-    who: &'a Who<'a>,
+pub struct Beside {
     // 1 where who links again is there, so that calls may begin.
     is_there: AtomicU64,
     is_over: AtomicBool,
 }
 
-impl<'a> Beside<'a> {
-    pub fn new(who: &'a Who<'a>) -> Beside<'a> {
+impl Beside {
+    pub fn new() -> Beside {
         Beside {
-            who,
             is_there: AtomicU64::new(0),
             is_over: AtomicBool::new(false),
         }
@@ -117,7 +115,8 @@ impl Linking {
         &mut self,
         rt: &R,
         net: &mut N,
-        beside: &Beside<'_>,
+        who: &Who<'_>,
+        beside: &Beside,
     ) -> Option<N::Link>
         ensures later { N.faults net.old ≤ N.faults net.new }
         ensures same { (N.bad net.new ≡ N.bad net.old) × (N.ended net.new ≡ N.ended net.old) }
@@ -128,7 +127,7 @@ impl Linking {
             if beside.is_over() || self.is_over(rt) {
                 return None;
             }
-            if let Ok(link) = net.call(rt, beside.who.addr) {
+            if let Ok(link) = net.call(rt, who.addr) {
                 return Some(link);
             }
         }
@@ -169,10 +168,11 @@ fn hand_in<N: Net, R: Around>(
 // Links again until all has ended, or for so long that no call waits any more.
 fn keep_linked<N: Net, R: Around + Eprint>(
     rt: &R,
+    who: &Who<'_>,
     clerk: &SharedClerk<N::Link>,
     pass: &mut Pass<Node<N::Link>>,
     net: &mut N,
-    beside: &Beside<'_>,
+    beside: &Beside,
     linking: &mut Linking,
 ) -> Result<(), NoMemory>
     requires { IsPassOf clerk.now.lock pass.old }
@@ -191,15 +191,15 @@ fn keep_linked<N: Net, R: Around + Eprint>(
             continue;
         }
         if linking.ended(rt) {
-            tell_gone(rt, beside.who);
+            tell_gone(rt, who);
         }
-        let Some(link) = linking.call_until(rt, net, beside) else {
-            tell_over(rt, beside.who, beside.is_over());
+        let Some(link) = linking.call_until(rt, net, who, beside) else {
+            tell_over(rt, who, beside.is_over());
             return Ok(());
         };
         if hand_in(rt, clerk, pass, net, link)? {
             linking.up = Instant::now(rt).ok();
-            tell_again(rt, beside.who);
+            tell_again(rt, who);
         }
     }
     unreachable!()
@@ -209,10 +209,11 @@ fn keep_linked<N: Net, R: Around + Eprint>(
 /// fault of a call. Each link that another one came for goes back to the net.
 pub fn link_again<N: Net, R: Around + Eprint>(
     rt: &R,
+    who: &Who<'_>,
     clerk: &SharedClerk<N::Link>,
     pass: &mut Pass<Node<N::Link>>,
     net: &mut N,
-    beside: &Beside<'_>,
+    beside: &Beside,
 ) -> Result<(), NoMemory>
     requires { IsPassOf clerk.now.lock pass.old }
     ensures later { N.faults net.old ≤ N.faults net.new }
@@ -228,7 +229,7 @@ pub fn link_again<N: Net, R: Around + Eprint>(
     };
     clerk.lasts(rt, pass, true);
     beside.begin();
-    let result = keep_linked(rt, clerk, pass, net, beside, &mut linking);
+    let result = keep_linked(rt, who, clerk, pass, net, beside, &mut linking);
     clerk.lasts(rt, pass, false);
     result
 }
