@@ -97,7 +97,7 @@ nets_last [] p = omega arith
 nets_last (o ∷ os) p = omega (arith, nets_last os p)
 
 pub some_of : (m n : ℕ) → 0 < m + n → (0 < m) ⊎ (0 < n)
-some_of zero n l = inr l
+some_of zero n l = inr (omega (arith, l))
 some_of (suc m) n l = inl (omega arith)
 
 pub bad_of : (faults closes : ℕ) → 0 < faults + closes → is_bad faults closes ≡ 1

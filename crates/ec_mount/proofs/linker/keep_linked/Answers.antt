@@ -17,3 +17,12 @@ loop-preserved g c = (
   linked_both c.args.clerk.now.lock c.args.pass.now c.loop.pass c.hand_in.new.pass c.loop.invariant.3 c.hand_in.ensures.linked,
   more_both (λ l. g.N.Link.Link.faults l + g.N.Link.Link.closes l) g.N.Link.Link.given g.N.Link.Link.got (first c.args.clerk.now.lock) c.args.pass.now c.loop.pass c.hand_in.new.pass (record { faults = g.N.Net.faults c.args.net.now; bad = g.N.Net.bad c.args.net.now; ended = g.N.Net.ended c.args.net.now }) (record { faults = g.N.Net.faults c.call_until.new.net; bad = g.N.Net.bad c.call_until.new.net; ended = g.N.Net.ended c.call_until.new.net }) (record { faults = g.N.Net.faults c.hand_in.new.net; bad = g.N.Net.bad c.hand_in.new.net; ended = g.N.Net.ended c.hand_in.new.net }) c.loop.invariant.3.same.0 (more_still (λ l. g.N.Link.Link.faults l + g.N.Link.Link.closes l) g.N.Link.Link.given g.N.Link.Link.got (first c.args.clerk.now.lock) c.args.pass.now c.loop.pass (record { faults = g.N.Net.faults c.args.net.now; bad = g.N.Net.bad c.args.net.now; ended = g.N.Net.ended c.args.net.now }) (record { faults = g.N.Net.faults c.loop.net; bad = g.N.Net.bad c.loop.net; ended = g.N.Net.ended c.loop.net }) (record { faults = g.N.Net.faults c.call_until.new.net; bad = g.N.Net.bad c.call_until.new.net; ended = g.N.Net.ended c.call_until.new.net }) c.call_until.ensures.same.0 c.call_until.ensures.same.1 c.loop.invariant.4) c.in_ok-hand_in.ensures.more,
 )
+
+pub loop-preserved-then-branch : goal.loop-preserved-then-branch
+loop-preserved-then-branch g c = (
+  search rules,
+  search rules,
+  (let few = c.loop.invariant.2 in let more = c.call_until.ensures.later in let last = c.hand_in.ensures.later in omega arith),
+  linked_both c.args.clerk.now.lock c.args.pass.now c.loop.pass c.hand_in.new.pass c.loop.invariant.3 c.hand_in.ensures.linked,
+  more_both (λ l. g.N.Link.Link.faults l + g.N.Link.Link.closes l) g.N.Link.Link.given g.N.Link.Link.got (first c.args.clerk.now.lock) c.args.pass.now c.loop.pass c.hand_in.new.pass (record { faults = g.N.Net.faults c.args.net.now; bad = g.N.Net.bad c.args.net.now; ended = g.N.Net.ended c.args.net.now }) (record { faults = g.N.Net.faults c.call_until.new.net; bad = g.N.Net.bad c.call_until.new.net; ended = g.N.Net.ended c.call_until.new.net }) (record { faults = g.N.Net.faults c.hand_in.new.net; bad = g.N.Net.bad c.hand_in.new.net; ended = g.N.Net.ended c.hand_in.new.net }) c.loop.invariant.3.same.0 (more_still (λ l. g.N.Link.Link.faults l + g.N.Link.Link.closes l) g.N.Link.Link.given g.N.Link.Link.got (first c.args.clerk.now.lock) c.args.pass.now c.loop.pass (record { faults = g.N.Net.faults c.args.net.now; bad = g.N.Net.bad c.args.net.now; ended = g.N.Net.ended c.args.net.now }) (record { faults = g.N.Net.faults c.loop.net; bad = g.N.Net.bad c.loop.net; ended = g.N.Net.ended c.loop.net }) (record { faults = g.N.Net.faults c.call_until.new.net; bad = g.N.Net.bad c.call_until.new.net; ended = g.N.Net.ended c.call_until.new.net }) c.call_until.ensures.same.0 c.call_until.ensures.same.1 c.loop.invariant.4) c.in_ok-hand_in.ensures.more,
+)
