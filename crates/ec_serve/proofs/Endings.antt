@@ -21,7 +21,7 @@ use Rattle.ec_servernode.specs.Run.{number_of, halted, records, record_of}
 use Rattle.ec_servernode.specs.Node.{queue_at, state_of, Chain, CountsUp}
 use Rattle.ec_servernode.specs.Turns.{RunsFrom, Finished}
 use Rattle.ec_lock.specs.Steps.{Member, of}
-use Rattle.ec_serve.specs.Goings.{served_later}
+use Rattle.ec_threads.specs.Goings.{served_later}
 use Rattle.ec_serve.specs.Serve.{Outer, AllBack, Tends, KeeperEnds, RanWhole, RanOut, EndsAs, Spends, boxes_of, Ran, RanFrom, EndsBy}
 use Rattle.ec_serve.specs.Endings.{ending_of, unstarted}
 use Rattle.ec_serve.specs.declared.ending.Ending.{Ending}

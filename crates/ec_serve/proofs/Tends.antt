@@ -9,7 +9,7 @@ use Rattle.ec_link.specs.declared.spawn.Spawned.{Spawned}
 use Rattle.ec_link.specs.declared.spawn.Spawned.TheVariants as spawned
 use Rattle.ec_lock.specs.Steps.{Member}
 use Rattle.ec_servernode.specs.declared.step.Step.{Step}
-use Rattle.ec_serve.specs.Links.{Back, Moment, GoesOn}
+use Rattle.ec_threads.specs.Moments.{Back, Moment, GoesOn}
 use Rattle.ec_serve.specs.Serve.{Outer, AllBack, Tends, tended_of}
 use Rattle.ec_serve.specs.declared.ending.Tended.{Tended as Ends}
 use Rattle.ec_serve.specs.declared.ending.Tended.TheVariants as tended

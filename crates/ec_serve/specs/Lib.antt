@@ -1,4 +1,2 @@
-pub mod Links
-pub mod Goings
 pub mod Endings
 pub mod Serve

@@ -22,7 +22,7 @@ use Rattle.ec_servernode.specs.declared.step.Halt.TheVariants as halt
 use Rattle.ec_servernode.specs.declared.step.Step.{Step}
 use Rattle.ec_servernode.specs.Run.{IsRun, halted, records, record_of, put_all, for_clerk}
 use Rattle.ec_servernode.specs.Node.{Chain, ChainInDoubt}
-use Rattle.ec_serve.specs.Links.{Back, AreServed}
+use Rattle.ec_threads.specs.Moments.{Back, AreServed}
 use Rattle.ec_serve.specs.declared.ending.Ending.{Ending}
 use Rattle.ec_serve.specs.declared.ending.Ending.TheVariants as ending
 use Rattle.ec_serve.specs.declared.ending.Tended.{Tended}

@@ -1,14 +1,10 @@
 //! A server over a net: it opens a disk, and serves each link that comes in a thread of its own.
 #![tactic(auto)]
 
-mod connection;
-mod connections;
 mod ending;
 mod opening;
 mod serving;
 mod tending;
-mod threads;
-mod warden;
 
 pub use ending::Ending;
 pub use serving::serve;

@@ -8,13 +8,12 @@ ghost use Rattle.ec_link.specs.declared.spawn.Spawned.TheVariants as spawned;
 ghost use Rattle.ec_servernode.specs.Turns.{IsServerPass};
 ghost use Rattle.ec_serve.specs.Serve.{Tends, tended_of};
 
-use crate::connections::Connections;
 use crate::ending::Tended;
-use crate::threads::run_all;
 use ec_bells::{Bells, Watch, tell_door, tell_no_door};
 use ec_link::{Around, Net, NetFault, Spawned, Spawner};
 use ec_server::Keeper;
 use ec_servernode::{ServerPass, SharedServer};
+use ec_threads::{Connections, run_all};
 use ec_trace::Trace;
 use std::io::Eprint;
 

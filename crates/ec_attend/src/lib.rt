@@ -1,0 +1,8 @@
+//! One link of a server, which is served to its end, and who ends the sessions of clerks that have no link.
+#![tactic(auto)]
+
+mod connection;
+mod warden;
+
+pub use connection::{Connection, Ended, serve_connection};
+pub use warden::watch_over;

@@ -1,9 +1,0 @@
-use Rattle.ec_lock.specs.Passes.{Same}
-use Rattle.ec_servernode.specs.Turns.{IsServerPass}
-use Rattle.ec_serve.specs.Links.{IsServed}
-use Rattle.ec_serve.proofs.connection.take_turns.Given as goal
-
-abbrev pub invariant-loop : goal.invariant-loop
-invariant-loop g l =
-    (goal.iterator-loop g).can_next l.iterator' × (goal.iterator-loop g).is_finite l.iterator' × IsServerPass g.K.Keeper.kept l.server.lock l.pass
-    × Same l.fn.pass.pass l.pass.pass × IsServed g.L.Link.given g.L.Link.got l.pass.pass l.link
