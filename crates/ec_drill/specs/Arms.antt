@@ -4,7 +4,8 @@ use Rattle.ec_disk.specs.Disk.{Counts, NoneDue, after_calls}
 use Rattle.ec_protocol.specs.World.{Fate, runs, stops_without, stops_with, Moving, moving, deliver, due, forget, pending}
 use Rattle.ec_protocol.specs.Drill.{Fates, Read, reads, unfit, this_fate, later_fates, first_fates, rest_fates, onward, line_happens, carry_out, max_pending}
 use Rattle.ec_protocol.specs.declared.world.World.{World}
-use Rattle.ec_world.specs.Steps.{Takes, IsShown, armed_by}
+use Rattle.ec_marking.specs.Runs.{Takes}
+use Rattle.ec_world.specs.Steps.{IsShown, armed_by}
 use Rattle.ec_protocol.specs.declared.script.Line.{Line}
 use Rattle.ec_protocol.specs.declared.script.Line.TheVariants as line
 use Rattle.ec_protocol.specs.declared.world.Event.{Event}

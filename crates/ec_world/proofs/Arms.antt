@@ -1,27 +1,16 @@
 -- What steps make of the arm of a disk.
-use Rattle.std.proofs.Common.{◌≡◌, ◌≤◌, ◌<◌, ◌+◌, ◌-◌, ℕ, Option, None, Some, refl, ap, sym, subst, ◌∙◌, arith, inl}
+use Rattle.std.proofs.Common.{◌≡◌, ◌≤◌, ◌-◌, ℕ, Option, None, refl, sym, subst, ◌∙◌, arith}
 use Rattle.ec_base.specs.Outside.{Rose}
-use Rattle.ec_disk.specs.Disk.{Counts, Counted, NoneDue, after_calls}
+use Rattle.ec_disk.specs.Disk.{Counts, Counted}
 use Rattle.ec_durable.specs.declared.state.Durable.{Durable}
 use Rattle.ec_protocol.specs.World.{Fate, runs, stops_without, stops_with}
-use Rattle.ec_world.specs.Keeping.{HasStoppedIn, RunsIn}
+use Rattle.ec_marking.specs.Runs.{HasRun, Takes}
+use Rattle.ec_marking.specs.Keeping.{HasStoppedIn, RunsIn}
 use Rattle.ec_world.specs.Serving.{FateIn, ArmsBehind}
-use Rattle.ec_world.specs.Steps.{HasRun, FateOf, Takes}
-use Rattle.ec_world.specs.declared.keeping.Came.{Came}
-use Rattle.ec_world.specs.declared.keeping.Came.TheVariants as came
-use Rattle.ec_world.specs.declared.marks.Mark.{Mark}
-
-no_turn : (a : Option ℕ) → a ≡ after_calls 0 a
-no_turn None = refl
-no_turn (Some left) = ap (λ (k : ℕ). Some k) (omega arith)
-
-none_at_first : (a : Option ℕ) → NoneDue 0 a
-none_at_first None = tt
-none_at_first (Some left) = omega arith
-
--- no call of the disk
-pub run_same : (before after : Durable) (a : Counts) → after ≡ before → HasRun before after a a
-run_same before after a same = record { turns = 0; takes = inl (refl, same); next = no_turn a.armed; none_due = none_at_first a.armed }
+use Rattle.ec_world.specs.Steps.{FateOf}
+use Rattle.ec_marking.specs.declared.keeping.Came.{Came}
+use Rattle.ec_marking.specs.declared.keeping.Came.TheVariants as came
+use Rattle.ec_marking.specs.declared.marks.Mark.{Mark}
 
 run_on : (before mid after : Durable) (a b c : Counts) → after ≡ mid → c.armed ≡ b.armed → HasRun before mid a b → HasRun before after a c
 run_on before mid after a b c same arms h = record { turns = h.turns; takes = subst (λ (d : Durable). Takes h.turns before d) (sym same) h.takes; next = arms ∙ h.next; none_due = h.none_due }

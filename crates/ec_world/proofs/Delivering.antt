@@ -22,15 +22,16 @@ use Rattle.ec_server.specs.declared.server.Server.{Server}
 use Rattle.ec_store.specs.Store.{IsHeld, view_of as state_of}
 use Rattle.ec_store.specs.declared.store.Store.{Store}
 use Rattle.ec_running.specs.Faults.{of_step}
-use Rattle.ec_world.specs.Keeping.{Unchanged}
-use Rattle.ec_world.specs.Laws.{held_stands, in_step_stands}
+use Rattle.ec_marking.specs.Keeping.{Unchanged}
+use Rattle.ec_marking.specs.Held.{held_stands}
+use Rattle.ec_world.specs.Laws.{in_step_stands}
 use Rattle.ec_world.specs.Serving.{serves, Breaks}
 use Rattle.ec_world.specs.Steps.{Fated, Refuses, IsLeft, as_before, under}
 use Rattle.ec_world.specs.Worlds.{view_of, server_of, Stands, IsInStep, Keeps}
 use Rattle.ec_running.specs.declared.fault.StepFault.{StepFault}
 use Rattle.ec_running.specs.declared.fault.StepFault.TheVariants as step_fault
 use Rattle.ec_world.specs.declared.world.World.{World}
-use Rattle.ec_world.proofs.Arms.{run_same}
+use Rattle.ec_marking.proofs.Runs.{run_same}
 use Rattle.ec_world.proofs.Served.{deliver_server}
 
 -- A step that has no effect: the disk isn't called.

@@ -24,22 +24,24 @@ use Rattle.ec_protocol.specs.World.{Fate, runs, stops_without, stops_with, Movin
 use Rattle.ec_server.specs.Servers.{standing}
 use Rattle.ec_server.specs.declared.server.Server.{Server}
 use Rattle.ec_store.specs.Store.{IsHeld, view_of as state_of}
-use Rattle.ec_world.specs.Cutting.{LeavesEither, TakesBack}
+use Rattle.ec_marking.specs.Runs.{LeavesEither}
+use Rattle.ec_world.specs.Cutting.{TakesBack}
 use Rattle.ec_running.specs.Faults.{of_step}
-use Rattle.ec_world.specs.Keeping.{IsDone, InDoubt, LeavesSome, HasStoppedIn, IsStop, RunsIn}
-use Rattle.ec_world.specs.Laws.{held_stands, in_step_keeps}
-use Rattle.ec_world.specs.Marks.{IsMark, gone}
+use Rattle.ec_marking.specs.Keeping.{IsDone, InDoubt, LeavesSome, HasStoppedIn, IsStop, RunsIn}
+use Rattle.ec_marking.specs.Held.{held_stands}
+use Rattle.ec_world.specs.Laws.{in_step_keeps}
+use Rattle.ec_marking.specs.Marks.{IsMark, gone}
 use Rattle.ec_world.specs.Serving.{serves, IsDoneBy, CameTo, FateIn, Finishes, ArmsBehind, Breaks, FailsSince, stopped_in, with_durable}
 use Rattle.ec_world.specs.Steps.{IsTold, IsShown, Fated, IsLeft, as_before, as_behind, under}
 use Rattle.ec_world.specs.Worlds.{view_of, server_of, Stands, IsInStep, Keeps}
 use Rattle.ec_running.specs.declared.fault.StepFault.{StepFault}
 use Rattle.ec_running.specs.declared.fault.StepFault.TheVariants as step_fault
-use Rattle.ec_world.specs.declared.keeping.Came.{Came}
-use Rattle.ec_world.specs.declared.keeping.Came.TheVariants as came
-use Rattle.ec_world.specs.declared.marks.Mark.{Mark}
+use Rattle.ec_marking.specs.declared.keeping.Came.{Came}
+use Rattle.ec_marking.specs.declared.keeping.Came.TheVariants as came
+use Rattle.ec_marking.specs.declared.marks.Mark.{Mark}
 use Rattle.ec_world.specs.declared.world.World.{World}
 use Rattle.ec_world.proofs.Arms.{fate_is}
-use Rattle.ec_world.proofs.Came.{same_ok}
+use Rattle.ec_marking.proofs.Came.{same_ok}
 use Rattle.ec_world.proofs.Fresh.{fresh}
 use Rattle.ec_world.proofs.Served.{goes_on}
 

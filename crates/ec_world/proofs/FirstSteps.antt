@@ -23,17 +23,17 @@ use Rattle.ec_stands.specs.Stands.{StandsFor}
 use Rattle.ec_store.specs.Store.{IsHeld, view_of}
 use Rattle.ec_store.specs.declared.store.Store.{Store}
 use Rattle.ec_trace.specs.declared.Trace.{Trace}
-use Rattle.ec_world.specs.Keeping.{IsDone, CameOf, Unchanged, IfDone}
-use Rattle.ec_world.specs.Laws.{held_stands}
-use Rattle.ec_world.specs.Marks.{Marked, MarkOf}
+use Rattle.ec_marking.specs.Keeping.{IsDone, CameOf, Unchanged, IfDone}
+use Rattle.ec_marking.specs.Held.{held_stands}
+use Rattle.ec_marking.specs.Marks.{Marked, MarkOf}
 use Rattle.ec_world.specs.Opening.{Unread, Starts, Begins, EndsBy, EndsOne, EndsWith, KeptBy, Unstarted, IsOfDisk}
 use Rattle.ec_world.specs.Steps.{Opens, Unopened}
 use Rattle.ec_world.specs.Worlds.{view_of as whole, Stands, IsInStep}
-use Rattle.ec_world.specs.declared.keeping.Came.{Came}
-use Rattle.ec_world.specs.declared.keeping.Came.TheVariants as came
-use Rattle.ec_world.specs.declared.marks.Mark.{Mark}
+use Rattle.ec_marking.specs.declared.keeping.Came.{Came}
+use Rattle.ec_marking.specs.declared.keeping.Came.TheVariants as came
+use Rattle.ec_marking.specs.declared.marks.Mark.{Mark}
 use Rattle.ec_world.specs.declared.world.World.{World as Whole}
-use Rattle.ec_world.proofs.Begun.{start_marks}
+use Rattle.ec_marking.proofs.Begun.{start_marks}
 
 -- The start.
 

@@ -13,12 +13,13 @@ use Rattle.ec_server.specs.declared.server.Server.{Server}
 use Rattle.ec_store.specs.Store.{IsHeld, view_of as state_of}
 use Rattle.ec_store.specs.declared.store.Store.{Store}
 use Rattle.ec_running.specs.Faults.{of_step}
-use Rattle.ec_world.specs.Steps.{under, HasRun, Fated, Refuses, Declines, behind_arm, CountsOf, IsLeft}
+use Rattle.ec_marking.specs.Runs.{HasRun}
+use Rattle.ec_world.specs.Steps.{under, Fated, Refuses, Declines, behind_arm, CountsOf, IsLeft}
 use Rattle.ec_world.specs.Worlds.{view_of, Stands, IsInStep}
 use Rattle.ec_running.specs.declared.fault.StepFault.{StepFault}
 use Rattle.ec_running.specs.declared.fault.StepFault.TheVariants as step
 use Rattle.ec_world.specs.declared.world.World.{World}
-use Rattle.ec_world.proofs.Arms.{run_same}
+use Rattle.ec_marking.proofs.Runs.{run_same}
 use Rattle.ec_world.proofs.Quiet.{refuses}
 
 -- an event that comes to this on a disk that isn't called behind the arm

@@ -14,9 +14,10 @@ use Rattle.ec_stands.specs.Stands.{StandsFor, IsBadAt}
 use Rattle.ec_store.specs.Opening.{WasLeftOrStands}
 use Rattle.ec_store.specs.Store.{StandsForEither}
 use Rattle.ec_world.proofs.Telling.{signs_tell}
-use Rattle.ec_world.specs.Cutting.{LeavesEither, TakesBack, left_of}
-use Rattle.ec_world.specs.Signs.{sign_of, is_there}
-use Rattle.ec_world.specs.declared.signs.Sign.{Sign}
+use Rattle.ec_marking.specs.Runs.{LeavesEither}
+use Rattle.ec_world.specs.Cutting.{TakesBack, left_of}
+use Rattle.ec_marking.specs.Signs.{sign_of, is_there}
+use Rattle.ec_marking.specs.declared.signs.Sign.{Sign}
 
 -- what is left now is among what was left since an earlier moment
 pub leaves_either : (r : Record) (d : Durable) (old new : View) → ((since : ℕ) (image : List ℕ) → since ≤ new.moment → new.may_leave image → new.left_since since image) → LeavesOnly old new (StandsForEither r d) → LeavesEither r d new

@@ -1,8 +1,6 @@
 pub mod Arms
-mod Begun
 pub mod Boots
 pub mod Calls
-pub mod Came
 pub mod ClerkSteps
 pub mod CutOff
 pub mod Delivering
@@ -13,7 +11,6 @@ pub mod Fresh
 pub mod Happens
 pub mod Kept
 pub mod Left
-pub mod Moved
 pub mod Outs
 pub mod Pooled
 pub mod Quiet

@@ -17,7 +17,7 @@ use Rattle.ec_world.specs.Worlds.{view_of, IsInStep, Keeps}
 use Rattle.ec_running.specs.declared.fault.StepFault.{StepFault}
 use Rattle.ec_running.specs.declared.fault.StepFault.TheVariants as step
 use Rattle.ec_world.specs.declared.world.World.{World}
-use Rattle.ec_world.proofs.Arms.{run_same}
+use Rattle.ec_marking.proofs.Runs.{run_same}
 
 -- a step that makes no call of the disk
 pub fated : {A : Type 0} (r : Result A StepFault) (tells : Type 0) (before : Durable) (lines : List Shown) (counts : Counts) (ch : Choice) (steps : Fate → Moving) (m : Moving) → m.world.durable ≡ before → OnOk r (steps runs ≡ m) → OnOk r (Fated tells before lines counts counts ch steps m)

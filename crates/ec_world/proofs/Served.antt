@@ -14,9 +14,9 @@ use Rattle.ec_protocol.specs.declared.world.WorldFault.TheVariants as fault
 use Rattle.ec_protocol.specs.Server.{Serving}
 use Rattle.ec_protocol.specs.World.{Fate, runs, Moving, moving, fails, with_world, show_noted, noted, send_all, committed, served, deliver, deliver_to, to_server, to_clerk, settled, is_for_server}
 use Rattle.ec_protocol.specs.Server as machine
-use Rattle.ec_world.specs.Marks.{MarkOf, gone}
+use Rattle.ec_marking.specs.Marks.{MarkOf, gone}
 use Rattle.ec_world.specs.Serving.{serves}
-use Rattle.ec_world.specs.declared.marks.Mark.{Mark}
+use Rattle.ec_marking.specs.declared.marks.Mark.{Mark}
 
 pub noted_serves : (x : Option Noted) (s : Option Server) (d : Durable) (u : World) → with_world (serves s d) (show_noted x (moving u)) ≡ show_noted x (moving (serves s d u))
 noted_serves None s d u = refl

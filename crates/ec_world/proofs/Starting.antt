@@ -1,22 +1,16 @@
 -- Starts of a server.
-use Rattle.std.proofs.Common.{◌≡◌, ◌+◌, ◌⊎◌, inl, inr, ⊎_elim, ℕ, Bool, true, false, eq-eqb, List, [], ◌∷◌, ◌++◌, Option, None, Some, Result, Ok, Err, refl, sym, ap, subst, ◌∙◌}
-use Rattle.std.specs.Prelude.{◌==◌, nat_le, IfErr, IsErrAnd}
-use Rattle.ec_base.specs.Limits.{last_counter}
+use Rattle.std.proofs.Common.{◌≡◌, ◌+◌, ℕ, Bool, true, false, List, [], ◌∷◌, ◌++◌, Option, None, Some, Result, Ok, Err, refl, sym, ap, subst, ◌∙◌}
+use Rattle.std.specs.Prelude.{IfErr, IsErrAnd}
 use Rattle.ec_base.specs.declared.counter.Counter.{Counter}
-use Rattle.ec_base.specs.declared.counter.Counter.TheVariants as counter
 use Rattle.ec_disk.specs.Disk.{View}
 use Rattle.ec_durable.specs.Durable.{step}
 use Rattle.ec_durable.specs.declared.state.Durable.{Durable}
 use Rattle.ec_durable.specs.declared.record.Record.{Record}
 use Rattle.ec_durable.specs.declared.record.Record.TheVariants as record_of
-use Rattle.ec_durable.specs.declared.record.RecordFault.{RecordFault}
-use Rattle.ec_durable.specs.declared.record.RecordFault.TheVariants as record_fault
-use Rattle.ec_protocol.specs.Server.{Serving, start, new_server, serving, spend, commit, stay, tell_all}
+use Rattle.ec_protocol.specs.Server.{Serving, start}
 use Rattle.ec_protocol.specs.declared.server.Server.{Server as State}
-use Rattle.ec_server.specs.ServeLaws.{told_all}
 use Rattle.ec_history.specs.declared.shown.Shown.{Shown}
 use Rattle.ec_history.specs.declared.shown.Shown.TheVariants as show
-use Rattle.ec_stands.specs.Stands.{StandsFor}
 use Rattle.ec_protocol.specs.World.{Fate, runs, Moving, moving, fails, with_world, show_line, show_noted, send_all, come_up, restarted, restart, on_disk}
 use Rattle.ec_protocol.specs.declared.server.Served.{Served}
 use Rattle.ec_protocol.specs.declared.world.Noted.{Noted}
@@ -29,53 +23,21 @@ use Rattle.ec_store.specs.Store.{view_of as state_of}
 use Rattle.ec_wire.specs.declared.msg.Msg.{Msg}
 use Rattle.ec_world.proofs.Finish.{chosen_by, fate_of, told_fate, came_fate, sends_keep, IsTaken, left_behind, some_left, either_behind, done_leaves}
 use Rattle.ec_world.proofs.Fresh.{fresh}
-use Rattle.ec_world.specs.Cutting.{LeavesEither, TakesBack}
-use Rattle.ec_running.specs.Faults.{of_step}
-use Rattle.ec_world.specs.Keeping.{IsDone, InDoubt, LeavesSome, HasStoppedIn}
-use Rattle.ec_world.specs.Marks.{IsMark, MarkOf}
-use Rattle.ec_world.specs.Serving.{serves, with_durable, left_in, CameUp, Finishes, Breaks}
-use Rattle.ec_world.specs.Signs.{sign_of}
+use Rattle.ec_marking.specs.Runs.{LeavesEither}
+use Rattle.ec_world.specs.Cutting.{TakesBack}
+use Rattle.ec_marking.specs.Keeping.{IsDone, InDoubt, LeavesSome, HasStoppedIn}
+use Rattle.ec_marking.specs.Marks.{IsMark, MarkOf}
+use Rattle.ec_world.specs.Serving.{serves, with_durable, left_in, CameUp, Finishes}
+use Rattle.ec_marking.specs.Signs.{sign_of}
 use Rattle.ec_world.specs.Steps.{IsLeft, under}
 use Rattle.ec_world.specs.Worlds.{view_of, server_of}
 use Rattle.ec_running.specs.declared.fault.StepFault.{StepFault}
 use Rattle.ec_running.specs.declared.fault.StepFault.TheVariants as step_fault
-use Rattle.ec_world.specs.declared.keeping.Came.{Came}
-use Rattle.ec_world.specs.declared.keeping.Came.TheVariants as came
-use Rattle.ec_world.specs.declared.marks.Mark.{Mark}
+use Rattle.ec_marking.specs.declared.keeping.Came.{Came}
+use Rattle.ec_marking.specs.declared.keeping.Came.TheVariants as came
+use Rattle.ec_marking.specs.declared.marks.Mark.{Mark}
 use Rattle.ec_world.specs.declared.world.World.{World}
-
--- A start that spends nothing has a record: the new epoch.
-
-step_epoch : (d : Durable) → step (record_of.Epoch (d.epoch + 1)) d ≡ Ok (record d { epoch = d.epoch + 1 })
-step_epoch d =
-    let by : Bool → Result Durable RecordFault = λ b. elim b [ false ↦ Err record_fault.BadNumber | true ↦ Ok (record d { epoch = d.epoch + 1 }) ] in
-    ap by (eq-eqb (d.epoch + 1) (d.epoch + 1) refl)
-
-started_by : Durable → Bool → Serving
-started_by d b = elim b [ true ↦ spend counter.Epoch (serving (new_server d)) | false ↦ commit (record_of.Epoch (d.epoch + 1)) (λ u. tell_all 0 u.server.durable.sessions u) stay (serving (new_server d)) ]
-
-committed_by : Durable → Result Durable RecordFault → Serving
-committed_by d res =
-    let t = serving (new_server d) in
-    elim res [ Ok e ↦ tell_all 0 e.sessions (record t { server = record (t.server) { durable = e }; rec = Some (record_of.Epoch (d.epoch + 1)) }) | Err f ↦ t ]
-
-pub start_records : (d : Durable) → (start d).spent ≡ None → (start d).rec ≡ Some (record_of.Epoch (start d).server.durable.epoch)
-unfolding started_by committed_by
-start_records d none = go (nat_le last_counter d.epoch) none
-  where
-    told : (t : Serving) → t ≡ committed_by d (Ok (record d { epoch = d.epoch + 1 })) → t.rec ≡ Some (record_of.Epoch t.server.durable.epoch)
-    told t is =
-        let e : Durable = record d { epoch = d.epoch + 1 } in
-        let u : Serving = record (serving (new_server d)) { server = record (new_server d) { durable = e }; rec = Some (record_of.Epoch (d.epoch + 1)) } in
-        let same = told_all 0 e.sessions u in
-        ap (λ (x : Serving). x.rec) is ∙ same.1 ∙ ap (λ (s : State). Some (record_of.Epoch s.durable.epoch)) (sym same.0 ∙ sym (ap (λ (x : Serving). x.server) is))
-
-    spent : (n : Counter) → Some n ≡ None → ⊥
-    spent n e = absurd cc
-
-    go : (b : Bool) → (started_by d b).spent ≡ None → (started_by d b).rec ≡ Some (record_of.Epoch (started_by d b).server.durable.epoch)
-    go true none = absurd (spent counter.Epoch none)
-    go false none = told (started_by d false) (ap (committed_by d) (step_epoch d))
+use Rattle.ec_marking.proofs.Started.{start_records}
 
 -- A restart, as the code takes it: the server, the state and the records first, then what is shown and sent.
 

@@ -17,7 +17,7 @@ use Rattle.ec_durable.specs.declared.record.Record.TheVariants.{Batch, Open, End
 use Rattle.ec_durable.specs.declared.record.RecordFault.{RecordFault}
 use Rattle.ec_durable.specs.declared.record.RecordFault.TheVariants.{NoSession, Done, Beyond, BadAge, BadNumber, NoRoom}
 use Rattle.ec_durable.specs.declared.state.Durable.{Durable}
-use Rattle.ec_world.specs.Signs.{sign_of, is_there}
+use Rattle.ec_marking.specs.Signs.{sign_of, is_there}
 
 same_Ok : {d e : Durable} → ◌≡◌ {A = Result Durable RecordFault} (Ok d) (Ok e) → d ≡ e
 same_Ok {d = d} p = ap (λ (r : Result Durable RecordFault). elim r as (λ z. Durable) [ Ok x ↦ x | Err f ↦ d ]) p

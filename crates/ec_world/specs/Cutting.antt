@@ -1,16 +1,10 @@
 -- What a power cut behind a record leaves.
-use Rattle.std.specs.Prelude.{◌≡◌, ℕ, List, Bool, true, false}
+use Rattle.std.specs.Prelude.{◌≡◌, Bool, true, false}
 use Rattle.ec_disk.specs.Disk.{View}
 use Rattle.ec_disk.specs.declared.disk.Choice.{Choice}
 use Rattle.ec_disk.specs.declared.disk.Choice.TheVariants as choice
 use Rattle.ec_durable.specs.declared.state.Durable.{Durable}
-use Rattle.ec_durable.specs.declared.record.Record.{Record}
 use Rattle.ec_stands.specs.Stands.{StandsFor}
-use Rattle.ec_store.specs.Store.{StandsForEither}
-
--- Whatever a crash leaves stands for the state before the record, or for the stepped one.
-abbrev pub LeavesEither : Record → Durable → View → Type 0
-LeavesEither r d now = (image : List ℕ) → now.may_leave image → StandsForEither r d image
 
 -- What was synced stands for the state before a record: with the choice `Old` a power cut leaves nothing of it.
 abbrev pub TakesBack : Choice → Durable → View → Bool → Type 0

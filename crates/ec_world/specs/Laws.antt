@@ -1,14 +1,11 @@
 -- What follows for a world that is in step with its disk.
-use Rattle.std.proofs.Common.{◌≡◌, refl, sym, ap, subst, ◌∙◌, ℕ, List, Option, None, Some}
+use Rattle.std.proofs.Common.{sym, subst, ℕ, List, Option}
 use Rattle.ec_disk.specs.Disk.{View, Rests}
-use Rattle.ec_durable.specs.declared.state.Durable.{Durable}
-use Rattle.ec_layout.specs.Layout.{Layout}
-use Rattle.ec_layout.specs.Selected.{IsOn}
-use Rattle.ec_stands.specs.Laws.{lies_stands}
 use Rattle.ec_stands.specs.Stands.{StandsFor}
 use Rattle.ec_server.specs.declared.server.Server.{Server}
 use Rattle.ec_store.specs.Store.{IsHeld, Holds, view_of as state_of}
 use Rattle.ec_store.specs.declared.store.Store.{Store}
+use Rattle.ec_marking.specs.Held.{held_stands}
 use Rattle.ec_world.specs.declared.world.World.{World}
 use Rattle.ec_world.specs.Worlds.{view_of, Stands, IsInStep, Keeps}
 
@@ -28,10 +25,6 @@ held_rests old new s rests h = record {
 
 pub in_step_rests : (tells : Type 0) (old new : View) (w : World) → (tells → Rests old new) → IsInStep tells old w → IsInStep tells new w
 in_step_rests tells old new w rests h = record { server = h.server; disk = λ told. held_rests old new w.store (rests told) (h.disk told) }
-
--- whatever a crash leaves of the disk stands for the store's state
-pub held_stands : (now : View) (s : Store) → IsHeld now s → (image : List ℕ) → now.may_leave image → StandsFor image (state_of s)
-held_stands now s h image left = lies_stands image h.layout h.base (state_of s) h.places (h.on.laid image left) h.checkpoint h.steps
 
 pub in_step_stands : (tells : Type 0) (now : View) (w : World) → IsInStep tells now w → tells → (image : List ℕ) → now.may_leave image → StandsFor image (view_of w).durable
 in_step_stands tells now w h told image left = held_stands now w.store (h.disk told) image left

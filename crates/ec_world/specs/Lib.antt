@@ -1,14 +1,10 @@
 pub mod Calls
 pub mod Cutting
-pub mod Keeping
 pub mod Laws
-pub mod Marking
-pub mod Marks
 pub mod Noted
 pub mod Opening
 pub mod Reaching
 pub mod Sending
 pub mod Serving
-pub mod Signs
 pub mod Steps
 pub mod Worlds

@@ -14,13 +14,13 @@ use Rattle.ec_protocol.specs.declared.world.World.{World as Moved}
 use Rattle.ec_protocol.specs.World.{Fate, runs, stops_without, stops_with, Moving, moving, noted, on_disk, stop, show_line}
 use Rattle.ec_server.specs.declared.server.Server.{Server}
 use Rattle.ec_store.specs.declared.store.Store.{Store}
-use Rattle.ec_world.specs.Keeping.{IsDone, CameOf}
+use Rattle.ec_marking.specs.Keeping.{IsDone, CameOf}
 use Rattle.ec_world.specs.Steps.{IsTold, IsShown}
 use Rattle.ec_running.specs.declared.fault.StepFault.{StepFault}
 use Rattle.ec_running.specs.declared.fault.StepFault.TheVariants as step
-use Rattle.ec_world.specs.declared.keeping.Came.{Came}
-use Rattle.ec_world.specs.declared.keeping.Came.TheVariants as came
-use Rattle.ec_world.specs.declared.marks.Mark.{Mark}
+use Rattle.ec_marking.specs.declared.keeping.Came.{Came}
+use Rattle.ec_marking.specs.declared.keeping.Came.TheVariants as came
+use Rattle.ec_marking.specs.declared.marks.Mark.{Mark}
 use Rattle.ec_world.specs.declared.world.World.{World}
 
 -- the machine's world with this server and this durable state

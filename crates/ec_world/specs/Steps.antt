@@ -1,12 +1,11 @@
 -- What the calls of a world promise.
-use Rattle.std.specs.Prelude.{◌≡◌, ◌⊎◌, ◌≤◌, ◌++◌, ◌∷◌, ℕ, Option, List, [], length, Ok, Err, None, Some, IsSome}
+use Rattle.std.specs.Prelude.{◌≡◌, ◌⊎◌, ◌++◌, ◌∷◌, ℕ, Option, List, [], length, Err, None, Some, IsSome}
 use Rattle.ec_base.specs.Outside.{Rose}
-use Rattle.ec_disk.specs.Disk.{View, Counts, Counted, NoneDue, after_calls}
+use Rattle.ec_disk.specs.Disk.{Counts, Counted}
 use Rattle.ec_disk.specs.declared.disk.Choice.{Choice}
 use Rattle.ec_disk.specs.declared.disk.Choice.TheVariants as choice
 use Rattle.ec_durable.specs.declared.state.Durable.{Durable}
-use Rattle.ec_durable.specs.Durable.{formatted, step as record_step}
-use Rattle.ec_durable.specs.declared.record.Record.{Record}
+use Rattle.ec_durable.specs.Durable.{formatted}
 use Rattle.ec_base.specs.Limits.{clerk_count}
 use Rattle.ec_history.specs.declared.shown.Shown.{Shown}
 use Rattle.ec_history.specs.declared.shown.Shown.TheVariants.{Stopped}
@@ -16,6 +15,7 @@ use Rattle.ec_durable.specs.WellFormed.{WellFormed}
 use Rattle.ec_stands.specs.Stands.{StandsFor, IsBadAt}
 use Rattle.ec_protocol.specs.World.{Fate, runs, stops_without, stops_with, Moving, open_world}
 use Rattle.ec_protocol.specs.declared.world.World.{World as State}
+use Rattle.ec_marking.specs.Runs.{HasRun}
 use Rattle.ec_world.specs.Worlds.{view_of}
 use Rattle.ec_running.specs.declared.fault.StepFault.{StepFault}
 use Rattle.ec_running.specs.declared.fault.StepFault.TheVariants as step
@@ -50,18 +50,6 @@ Unopened DiskFailed tells gives now may_leave most = Unit {0}
 Unopened NoMemory tells gives now may_leave most = Unit {0}
 
 -- Steps.
-
--- The reads, writes and syncs of a step that runs: none where no record is committed, and four for one, or nine and more where the journal begins
--- anew for it.
-abbrev pub Takes : ℕ → Durable → Durable → Type 0
-Takes turns before after = ((turns ≡ 0) × (after ≡ before)) ⊎ ((r : Record) × (record_step r before ≡ Ok after) × ((turns ≡ 4) ⊎ (9 ≤ turns)))
-
--- None of them was due to stop.
-pub record HasRun (before after : Durable) (old new : Counts) : Type 0 where
-  pub turns : ℕ
-  pub takes : Takes turns before after
-  pub next : new.armed ≡ after_calls turns old.armed
-  pub none_due : NoneDue turns old.armed
 
 -- A stop comes only on an armed disk, whose stops rise, and ends the arm.
 pub record HasStopped (old new : Counts) : Type 0 where

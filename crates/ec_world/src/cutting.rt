@@ -8,12 +8,13 @@ ghost use Rattle.ec_durable.specs.declared.state.Durable.{Durable};
 ghost use Rattle.ec_stands.specs.Stands.{StandsFor};
 ghost use Rattle.ec_store.specs.Store.{IsHeld, view_of};
 ghost use Rattle.ec_store.specs.declared.fault.StoreFault.TheVariants as store_fault;
-ghost use Rattle.ec_world.specs.Cutting.{LeavesEither, TakesBack, left_of};
-ghost use Rattle.ec_world.specs.Signs.{sign_of};
+ghost use Rattle.ec_marking.specs.Runs.{LeavesEither};
+ghost use Rattle.ec_world.specs.Cutting.{TakesBack, left_of};
+ghost use Rattle.ec_marking.specs.Signs.{sign_of};
 ghost use Rattle.ec_running.specs.declared.fault.StepFault.TheVariants as fault;
 
-use crate::signs::Sign;
 use ec_disk::{Choice, CrashDisk, Disk, DiskAnswer};
+use ec_marking::Sign;
 use ec_running::StepFault;
 use ec_store::{Store, StoreFault};
 use std::alloc::Global;

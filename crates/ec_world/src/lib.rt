@@ -4,17 +4,13 @@
 mod answers;
 mod clerks;
 mod cutting;
-mod keeping;
 mod lines;
-mod marking;
-mod marks;
 mod messages;
 mod network;
 mod opening;
 mod restarting;
 mod serving;
 mod shows;
-mod signs;
 mod step;
 mod stopping;
 mod world;

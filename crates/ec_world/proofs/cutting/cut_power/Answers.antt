@@ -2,7 +2,7 @@ use Rattle.std.proofs.Common.{◌≡◌, ◌∙◌, sym, ap, subst, Bool}
 use Rattle.ec_durable.specs.declared.state.Durable.{Durable}
 use Rattle.ec_store.specs.Store.{view_of}
 use Rattle.ec_world.specs.Cutting.{TakesBack, left_of}
-use Rattle.ec_world.specs.Signs.{is_there}
+use Rattle.ec_marking.specs.Signs.{is_there}
 use Rattle.ec_world.proofs.Left.{cut_leaves, sign_tells, takes_back}
 use Rattle.ec_world.proofs.cutting.cut_power.Goals as goal
 

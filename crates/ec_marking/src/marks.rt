@@ -3,7 +3,7 @@ ghost use Rattle.std.specs.Prelude.{◌≡◌, IfOk};
 ghost use Rattle.ec_base.specs.Tables.{keys};
 ghost use Rattle.ec_durable.specs.Durable.{slot};
 ghost use Rattle.ec_protocol.specs.World as machine;
-ghost use Rattle.ec_world.specs.Marks.{IsMark};
+ghost use Rattle.ec_marking.specs.Marks.{IsMark};
 
 use crate::signs::Sign;
 use ec_base::{ClerkId, List, NoMemory, OpNo};
@@ -13,19 +13,19 @@ use ec_trace::Trace;
 use ec_volume::Update;
 use std::alloc::Global;
 
-// A record that was committed, or may have been.
+/// A record that was committed, or may have been.
 #[derive(Drop)]
-pub(crate) struct Mark {
-    // what it shows
-    pub(crate) noted: Option<Noted>,
-    pub(crate) sign: Sign,
-    // all records, with it as the last one
-    pub(crate) records: Trace<Record>,
+pub struct Mark {
+    /// What it shows.
+    pub noted: Option<Noted>,
+    pub sign: Sign,
+    /// All records, with it as the last one.
+    pub records: Trace<Record>,
 }
 
 impl Mark {
-    // The mark of a record on this state, behind these records.
-    pub(crate) fn of(
+    /// The mark of a record on this state, behind these records.
+    pub fn of(
         alloc: Global,
         change: &Record,
         state: &Durable,

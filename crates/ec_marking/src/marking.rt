@@ -1,6 +1,6 @@
 // A keeper that marks the record that it commits.
 ghost use Rattle.std.specs.Prelude.{◌≡◌, ◌⊎◌, ◌++◌, ◌∷◌, [], length, None};
-ghost use Rattle.ec_world.specs.Marking.{HasMarked, MayHaveMarked};
+ghost use Rattle.ec_marking.specs.Marking.{HasMarked, MayHaveMarked};
 
 use crate::marks::Mark;
 use ec_base::NoMemory;

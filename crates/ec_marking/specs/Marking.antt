@@ -4,8 +4,8 @@ use Rattle.ec_base.specs.Outside.{Rose}
 use Rattle.ec_disk.specs.Disk.{Counts, Counted}
 use Rattle.ec_durable.specs.declared.state.Durable.{Durable}
 use Rattle.ec_durable.specs.declared.record.Record.{Record}
-use Rattle.ec_world.specs.Marks.{Marked}
-use Rattle.ec_world.specs.declared.marks.Mark.{Mark}
+use Rattle.ec_marking.specs.Marks.{Marked}
+use Rattle.ec_marking.specs.declared.marks.Mark.{Mark}
 
 -- The record was committed, and has its mark.
 pub record HasMarked (mark : Option Mark) (r : Record) (d : Durable) (before : List Record) (old new : Counts) : Type 0 where

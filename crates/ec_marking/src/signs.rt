@@ -1,27 +1,28 @@
 // What of a state shows that a record is in it.
 ghost use Rattle.std.specs.Prelude.{◌≡◌};
-ghost use Rattle.ec_world.specs.Signs.{sign_of, is_there};
+ghost use Rattle.ec_marking.specs.Signs.{sign_of, is_there};
 
 use ec_base::ClerkId;
 use ec_durable::{Durable, Record};
 
-// A state that takes the record doesn't have its sign, and the stepped one has it.
+/// What of a state shows that a record is in it: a state that takes the record doesn't have its sign, and the stepped one has it.
 #[derive(Clone, Copy, Debug, Drop, PartialEq, Eq)]
-pub(crate) enum Sign {
-    // the clerk's window has the batch
+pub enum Sign {
+    /// The clerk's window has the batch.
     Batch(ClerkId, u64),
-    // a session above this one is the next
+    /// A session above this one is the next.
     Open(u64),
-    // the clerk has no open session
+    /// The clerk has no open session.
     End(ClerkId),
-    // an id above this one is the next
+    /// An id above this one is the next.
     Ids(u32),
-    // the epoch is this one at least
+    /// The epoch is this one at least.
     Epoch(u64),
 }
 
 impl Sign {
-    pub(crate) fn of(change: &Record) -> Sign
+    /// That of a record.
+    pub fn of(change: &Record) -> Sign
         ensures { result ≡ sign_of change.now }
     {
         match change {
@@ -33,7 +34,8 @@ impl Sign {
         }
     }
 
-    pub(crate) fn is_in(&self, state: &Durable) -> bool
+    /// Whether the state has it.
+    pub fn is_in(&self, state: &Durable) -> bool
         ensures { result ≡ is_there self.now state.now }
     {
         match self {

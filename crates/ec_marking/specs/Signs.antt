@@ -5,8 +5,8 @@ use Rattle.ec_durable.specs.Durable.{slot, has_batch}
 use Rattle.ec_durable.specs.declared.state.Durable.{Durable}
 use Rattle.ec_durable.specs.declared.record.Record.{Record}
 use Rattle.ec_durable.specs.declared.record.Record.TheVariants as record_of
-use Rattle.ec_world.specs.declared.signs.Sign.{Sign}
-use Rattle.ec_world.specs.declared.signs.Sign.TheVariants as sign
+use Rattle.ec_marking.specs.declared.signs.Sign.{Sign}
+use Rattle.ec_marking.specs.declared.signs.Sign.TheVariants as sign
 
 abbrev pub sign_of : Record → Sign
 sign_of (record_of.Batch c s b ops) = sign.Batch c b

@@ -12,12 +12,12 @@ use Rattle.ec_server.specs.declared.server.Server.{Server}
 use Rattle.ec_server.specs.declared.fault.ServerFault.{ServerFault}
 use Rattle.ec_server.specs.declared.fault.ServerFault.TheVariants as server
 use Rattle.ec_store.specs.declared.store.Store.{Store}
-use Rattle.ec_world.specs.Keeping.{IsDone, Turns, IsMarked, IfDone}
-use Rattle.ec_world.specs.Marks.{Marked, MarkOf}
-use Rattle.ec_world.specs.declared.keeping.Came.{Came}
-use Rattle.ec_world.specs.declared.keeping.Came.TheVariants as came
-use Rattle.ec_world.specs.declared.marks.Mark.{Mark}
-use Rattle.ec_world.proofs.Starting.{start_records}
+use Rattle.ec_marking.specs.Keeping.{IsDone, Turns, IsMarked, IfDone}
+use Rattle.ec_marking.specs.Marks.{Marked, MarkOf}
+use Rattle.ec_marking.specs.declared.keeping.Came.{Came}
+use Rattle.ec_marking.specs.declared.keeping.Came.TheVariants as came
+use Rattle.ec_marking.specs.declared.marks.Mark.{Mark}
+use Rattle.ec_marking.proofs.Started.{start_records}
 
 -- the record of a start that is done
 pub start_is : (tells : Type 0) (d : Durable) (before : List Record) (server' : Server) (store : Store) (now : View) (served : Served) (mark : Option Mark) → IsDone tells (start d) d before server' store now served mark

@@ -15,12 +15,11 @@ use Rattle.ec_server.specs.declared.fault.ServerFault.{ServerFault}
 use Rattle.ec_server.specs.declared.fault.ServerFault.TheVariants as server
 use Rattle.ec_store.specs.Store.{IsHeld, view_of}
 use Rattle.ec_store.specs.declared.store.Store.{Store}
-use Rattle.ec_world.specs.Cutting.{LeavesEither}
-use Rattle.ec_world.specs.Marks.{IsMark, MarkOf, Marked}
-use Rattle.ec_world.specs.Steps.{HasRun}
-use Rattle.ec_world.specs.declared.keeping.Came.{Came}
-use Rattle.ec_world.specs.declared.keeping.Came.TheVariants.{Done, Stopped, DiskFailed, NoMemory}
-use Rattle.ec_world.specs.declared.marks.Mark.{Mark}
+use Rattle.ec_marking.specs.Runs.{LeavesEither, HasRun}
+use Rattle.ec_marking.specs.Marks.{IsMark, MarkOf, Marked}
+use Rattle.ec_marking.specs.declared.keeping.Came.{Came}
+use Rattle.ec_marking.specs.declared.keeping.Came.TheVariants.{Done, Stopped, DiskFailed, NoMemory}
+use Rattle.ec_marking.specs.declared.marks.Mark.{Mark}
 
 -- The machine's step was done over the state d, behind these records; its record has its mark.
 pub record IsDone (tells : Type 0) (done : Serving) (d : Durable) (before : List Record) (server : Server) (store : Store) (now : View) (served : Served) (mark : Option Mark) : Type 0 where

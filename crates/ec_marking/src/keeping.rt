@@ -5,8 +5,8 @@ ghost use Rattle.ec_wire.specs.Messages.{is_sound};
 ghost use Rattle.ec_protocol.specs.Server as machine;
 ghost use Rattle.ec_server.specs.Servers.{standing, StandsOn};
 ghost use Rattle.ec_store.specs.Store.{IsHeld, view_of};
-ghost use Rattle.ec_world.specs.Keeping.{IsDone, CameOf, Unchanged, Turns, HasMark, IsStop, RunsIn, IfDone, IsMarked};
-ghost use Rattle.ec_world.specs.declared.keeping.Came.TheVariants as came;
+ghost use Rattle.ec_marking.specs.Keeping.{IsDone, CameOf, Unchanged, Turns, HasMark, IsStop, RunsIn, IfDone, IsMarked};
+ghost use Rattle.ec_marking.specs.declared.keeping.Came.TheVariants as came;
 
 use crate::marking::{Marking, Marks};
 use crate::marks::Mark;
@@ -21,19 +21,19 @@ use ec_trace::Trace;
 use ec_wire::Msg;
 use std::alloc::Global;
 
-// What came of a step that spends no counter.
+/// What came of a step that spends no counter.
 #[derive(Drop)]
-pub(crate) enum Came<T: Drop> {
-    // with the mark of its record, if it has one
+pub enum Came<T: Drop> {
+    /// With the mark of its record, if it has one.
     Done(T, Option<Mark>),
-    // the disk stopped in this record
+    /// The disk stopped in this record.
     Stopped(Mark),
     DiskFailed,
     NoMemory,
 }
 
-// Takes a sound message of a clerk. A counter that the step would spend changes nothing.
-pub(crate) fn take<D: Disk>(
+/// Takes a sound message of a clerk. A counter that the step would spend changes nothing.
+pub fn take<D: Disk>(
     alloc: Global,
     store: &mut Store,
     disk: &mut D,
@@ -90,8 +90,8 @@ fn take_by<D: Disk>(
     turned(answer, keeper.marks.mark.take())
 }
 
-// Ends the clerk's open session.
-pub(crate) fn end<D: Disk>(
+/// Ends the clerk's open session.
+pub fn end<D: Disk>(
     alloc: Global,
     store: &mut Store,
     disk: &mut D,
@@ -144,8 +144,8 @@ fn end_by<D: Disk>(
     turned(answer, keeper.marks.mark.take())
 }
 
-// Starts a server.
-pub(crate) fn start<D: Disk>(
+/// Starts a server.
+pub fn start<D: Disk>(
     alloc: Global,
     store: &mut Store,
     disk: &mut D,

@@ -10,11 +10,11 @@ use Rattle.ec_server.specs.Servers.{standing, StandsOn}
 use Rattle.ec_server.specs.declared.server.Server.{Server}
 use Rattle.ec_server.specs.declared.fault.ServerFault.TheVariants as server
 use Rattle.ec_store.specs.Store.{view_of}
-use Rattle.ec_world.specs.Keeping.{IsDone, Turns, HasMark}
-use Rattle.ec_world.specs.declared.marks.Mark.{Mark}
-use Rattle.ec_world.proofs.Came.{Undone, disk_did, disk_broke, means, done_is, undone, has_mark, came_is, spent_is, same_is, ok_counted, ok_ran, err_counted, came_ran, counts_are, leaves_spends, unstarted_spends, steps_any}
-use Rattle.ec_world.proofs.Begun.{marked_is, stands_is}
-use Rattle.ec_world.proofs.keeping.start_by.Goals as goal
+use Rattle.ec_marking.specs.Keeping.{IsDone, Turns, HasMark}
+use Rattle.ec_marking.specs.declared.marks.Mark.{Mark}
+use Rattle.ec_marking.proofs.Came.{Undone, disk_did, disk_broke, means, done_is, undone, has_mark, came_is, spent_is, same_is, ok_counted, ok_ran, err_counted, came_ran, counts_are, leaves_spends, unstarted_spends, steps_any}
+use Rattle.ec_marking.proofs.Begun.{marked_is, stands_is}
+use Rattle.ec_marking.proofs.keeping.start_by.Goals as goal
 
 pub turned-requires : goal.turned-requires
 turned-requires g c =

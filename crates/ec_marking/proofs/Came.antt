@@ -22,23 +22,22 @@ use Rattle.ec_server.specs.declared.fault.ServerFault.{ServerFault}
 use Rattle.ec_server.specs.declared.fault.ServerFault.TheVariants as server
 use Rattle.ec_store.specs.Store.{IsHeld, StandsForEither, view_of}
 use Rattle.ec_store.specs.declared.store.Store.{Store}
-use Rattle.ec_world.specs.Cutting.{LeavesEither}
-use Rattle.ec_world.specs.Keeping.{IsDone, InDoubt, LeavesSome, CameOf, Unchanged, HasMark, Turns, IsStop, RunsIn}
-use Rattle.ec_world.specs.Steps.{HasRun}
-use Rattle.ec_world.proofs.Arms.{run_same}
+use Rattle.ec_marking.specs.Runs.{LeavesEither, HasRun}
+use Rattle.ec_marking.specs.Keeping.{IsDone, InDoubt, LeavesSome, CameOf, Unchanged, HasMark, Turns, IsStop, RunsIn}
+use Rattle.ec_marking.proofs.Runs.{run_same}
 use Rattle.ec_keeper.specs.Keeps.{Keeps, Leaves}
 use Rattle.ec_keeper.specs.declared.keeper.DiskKeeper.{DiskKeeper}
 use Rattle.ec_codes.specs.Formats.{Format}
 use Rattle.ec_durable.specs.Codes.{record_code}
 use Rattle.ec_journal.specs.Journal.{need_of}
 use Rattle.ec_layout.specs.Selected.{free_now}
-use Rattle.ec_world.specs.Laws.{held_stands}
-use Rattle.ec_world.specs.Marking.{HasMarked, MayHaveMarked, IsUnmarked, HasStopped}
-use Rattle.ec_world.specs.declared.marking.Marking.{Marking}
-use Rattle.ec_world.specs.Marks.{Marked, MarkOf}
-use Rattle.ec_world.specs.declared.keeping.Came.{Came}
-use Rattle.ec_world.specs.declared.keeping.Came.TheVariants as came
-use Rattle.ec_world.specs.declared.marks.Mark.{Mark}
+use Rattle.ec_marking.specs.Held.{held_stands}
+use Rattle.ec_marking.specs.Marking.{HasMarked, MayHaveMarked, IsUnmarked, HasStopped}
+use Rattle.ec_marking.specs.declared.marking.Marking.{Marking}
+use Rattle.ec_marking.specs.Marks.{Marked, MarkOf}
+use Rattle.ec_marking.specs.declared.keeping.Came.{Came}
+use Rattle.ec_marking.specs.declared.keeping.Came.TheVariants as came
+use Rattle.ec_marking.specs.declared.marks.Mark.{Mark}
 
 -- What is known of the keeper's store, disk and mark behind a record that was committed.
 pub record Committed (tells : Type 0) (old new : Store) (now : View) (mark : Option Mark) (before : List Record) (a b : Counts) (r : Record) : Type 0 where

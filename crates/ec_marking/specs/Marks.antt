@@ -3,8 +3,8 @@ use Rattle.std.specs.Prelude.{◌≡◌, ◌++◌, ◌∷◌, List, [], Option, 
 use Rattle.ec_durable.specs.declared.state.Durable.{Durable}
 use Rattle.ec_durable.specs.declared.record.Record.{Record}
 use Rattle.ec_protocol.specs.World.{Moving, noted, show_noted, with_world}
-use Rattle.ec_world.specs.Signs.{sign_of}
-use Rattle.ec_world.specs.declared.marks.Mark.{Mark}
+use Rattle.ec_marking.specs.Signs.{sign_of}
+use Rattle.ec_marking.specs.declared.marks.Mark.{Mark}
 
 -- the mark of a record on this state, behind these records
 pub record IsMark (mark : Mark) (r : Record) (d : Durable) (before : List Record) : Type 0 where
