@@ -23,7 +23,6 @@ use std::sync::{Arc, Wait};
 use std::time::Clock;
 
 /// One end of a pair of links in memory.
-#[derive(Drop)]
 pub struct MemLink {
     alloc: Global,
     line: Line,
@@ -37,8 +36,26 @@ pub struct MemLink {
     happened: Happenings,
 }
 
+impl Drop for MemLink {
+    fn drop(self) {
+        let MemLink {
+            alloc: _,
+            line,
+            frames,
+            late,
+            fails,
+            calls: _,
+            happened,
+        } = self;
+        drop(line);
+        drop(frames);
+        drop(late);
+        drop(fails);
+        drop(happened);
+    }
+}
+
 // What joins one end of a pair to the other.
-#[derive(Drop)]
 pub struct Line {
     // None behind a `hang_up`.
     to: Option<Sender<Vec<u8>>>,
@@ -48,28 +65,77 @@ pub struct Line {
     there: Knocker,
 }
 
+impl Drop for Line {
+    fn drop(self) {
+        let Line {
+            to,
+            from,
+            here,
+            there,
+        } = self;
+        drop(to);
+        drop(from);
+        drop(here);
+        drop(there);
+    }
+}
+
+// Where one end of a pair is rung, and where it rings.
+struct Rings {
+    here: Arc<AtomicU64>,
+    there: Knocker,
+}
+
+impl Drop for Rings {
+    fn drop(self) {
+        let Rings { here, there } = self;
+        drop(here);
+        drop(there);
+    }
+}
+
+impl Rings {
+    // The end that sends and gets by these.
+    fn line(self, to: Sender<Vec<u8>>, from: Receiver<Vec<u8>>) -> Line {
+        let Rings { here, there } = self;
+        Line {
+            to: Some(to),
+            from,
+            here,
+            there,
+        }
+    }
+}
+
 fn no_rings(alloc: Global) -> Result<Arc<AtomicU64>, NoMemory> {
     Arc::new(alloc, AtomicU64::new(0)).ok().ok_or(NoMemory)
 }
 
+// Those that are rung here, and there.
+fn rings(here: &Arc<AtomicU64>, there: &Arc<AtomicU64>) -> Result<Rings, NoMemory> {
+    let here = Arc::try_clone(here)?;
+    let there = Knocker::new(Arc::try_clone(there)?);
+    Ok(Rings { here, there })
+}
+
+// The rings of both ends of a new pair.
+fn both_rings(alloc: Global) -> Result<(Rings, Rings), NoMemory> {
+    let at_left = no_rings(alloc)?;
+    let at_right = no_rings(alloc)?;
+    let left = rings(&at_left, &at_right)?;
+    let right = rings(&at_right, &at_left)?;
+    Ok((left, right))
+}
+
 // Both lines of a new pair.
 pub fn lines(alloc: Global) -> Result<(Line, Line), NoMemory> {
+    let (left, right) = both_rings(alloc)?;
     let (to_right, from_left) = unbounded(alloc)?;
     let (to_left, from_right) = unbounded(alloc)?;
-    let (at_left, at_right) = (no_rings(alloc)?, no_rings(alloc)?);
-    let left = Line {
-        to: Some(to_right),
-        from: from_right,
-        here: Arc::try_clone(&at_left)?,
-        there: Knocker::new(Arc::try_clone(&at_right)?),
-    };
-    let right = Line {
-        to: Some(to_left),
-        from: from_left,
-        here: at_right,
-        there: Knocker::new(at_left),
-    };
-    Ok((left, right))
+    Ok((
+        left.line(to_right, from_right),
+        right.line(to_left, from_left),
+    ))
 }
 
 /// Two ends of a new link.

@@ -43,12 +43,88 @@ impl Drop for MemDoor {
 }
 
 // A door, as the net knows it.
-#[derive(Drop)]
 struct Listener {
     addr: String,
     links: Sender<Line>,
     bell: MemBell,
     is_open: Arc<AtomicBool>,
+}
+
+impl Drop for Listener {
+    fn drop(self) {
+        let Listener {
+            addr,
+            links,
+            bell,
+            is_open,
+        } = self;
+        drop(addr);
+        drop(links);
+        drop(bell);
+        drop(is_open);
+    }
+}
+
+// What a door and its listener share beside its links.
+struct Shared {
+    rings: Arc<AtomicU64>,
+    is_open: Arc<AtomicBool>,
+}
+
+impl Drop for Shared {
+    fn drop(self) {
+        let Shared { rings, is_open } = self;
+        drop(rings);
+        drop(is_open);
+    }
+}
+
+impl Shared {
+    // That of a new door, which is open.
+    fn new(alloc: Global) -> Result<Shared, NoMemory> {
+        let rings = Arc::new(alloc, AtomicU64::new(0)).ok().ok_or(NoMemory)?;
+        let is_open = Arc::new(alloc, AtomicBool::new(true)).ok().ok_or(NoMemory)?;
+        Ok(Shared { rings, is_open })
+    }
+
+    fn share(&self) -> Result<Shared, NoMemory> {
+        let rings = Arc::try_clone(&self.rings)?;
+        let is_open = Arc::try_clone(&self.is_open)?;
+        Ok(Shared { rings, is_open })
+    }
+
+    fn listener(self, addr: String, links: Sender<Line>) -> Listener {
+        let Shared { rings, is_open } = self;
+        Listener {
+            addr,
+            links,
+            bell: MemBell::new(rings),
+            is_open,
+        }
+    }
+
+    fn door(self, links: Receiver<Line>) -> MemDoor {
+        let Shared { rings, is_open } = self;
+        MemDoor {
+            links,
+            rings,
+            is_open,
+        }
+    }
+}
+
+// A door of this address, and what the net knows of it.
+fn new_door(alloc: Global, addr: &str) -> Result<(Listener, MemDoor), NoMemory> {
+    let addr = String::from_str(alloc, addr)?;
+    let shared = Shared::new(alloc)?;
+    let other = shared.share()?;
+    let (to_door, links) = unbounded(alloc)?;
+    Ok((shared.listener(addr, to_door), other.door(links)))
+}
+
+fn add(listeners: &mut Vec<Listener>, listener: Listener) -> Result<(), NoMemory> {
+    listeners.push(listener)?;
+    Ok(())
 }
 
 /// A net in memory. Its addresses are any text.
@@ -141,28 +217,9 @@ impl MemNet {
         if find(&listeners, addr).is_some() {
             return Err(NetFault::Failed);
         }
-        let (to_door, links) = unbounded(self.alloc)?;
-        let open = Arc::new(self.alloc, AtomicBool::new(true))
-            .ok()
-            .ok_or(NetFault::NoMemory)?;
-        let is_open = Arc::try_clone(&open)?;
-        let rings = Arc::new(self.alloc, AtomicU64::new(0))
-            .ok()
-            .ok_or(NetFault::NoMemory)?;
-        let listener = Listener {
-            addr: String::from_str(self.alloc, addr)?,
-            links: to_door,
-            bell: MemBell::new(Arc::try_clone(&rings)?),
-            is_open: open,
-        };
-        if listeners.push(listener).is_err() {
-            return Err(NetFault::NoMemory);
-        }
-        Ok(MemDoor {
-            links,
-            rings,
-            is_open,
-        })
+        let (listener, door) = new_door(self.alloc, addr)?;
+        add(&mut listeners, listener)?;
+        Ok(door)
     }
 
     // Hands one end of a pair to who listens at the address.

@@ -14,6 +14,7 @@ use crate::lull::Lull;
 use crate::net::NetFault;
 use crate::rest::Rests;
 use crate::tcp_bell::{Parts, TcpBell};
+use ec_base::NoMemory;
 use ec_frame::{FrameFault, Frames, frame};
 use std::alloc::Global;
 use std::io::{self, ErrorKind, Read, Write};
@@ -32,7 +33,6 @@ const MAX_SILENCE: u64 = 10;
 const PIECE: usize = 4096;
 
 /// One end of a link over TCP. No call waits for the peer.
-#[derive(Drop)]
 pub struct TcpLink {
     alloc: Global,
     stream: TcpStream,
@@ -51,6 +51,90 @@ pub struct TcpLink {
     happened: Happenings,
 }
 
+impl Drop for TcpLink {
+    fn drop(self) {
+        let TcpLink {
+            alloc: _,
+            stream,
+            frames,
+            late,
+            lull,
+            unsent,
+            rests,
+            stuck: _,
+            parts,
+            happened,
+        } = self;
+        drop(stream);
+        drop(frames);
+        drop(late);
+        drop(lull);
+        drop(unsent);
+        drop(rests);
+        drop(parts);
+        drop(happened);
+    }
+}
+
+// What a link keeps of what came and of what is to go.
+struct Kept {
+    frames: Frames,
+    lull: Lull,
+    rests: Rests,
+}
+
+impl Drop for Kept {
+    fn drop(self) {
+        let Kept {
+            frames,
+            lull,
+            rests,
+        } = self;
+        drop(frames);
+        drop(lull);
+        drop(rests);
+    }
+}
+
+impl Kept {
+    fn new(alloc: Global) -> Result<Kept, NoMemory>
+        ensures { IfOk result (λ kept. kept.frames.left ≡ []) }
+    {
+        let frames = Frames::new(alloc)?;
+        let lull = Lull::new(alloc)?;
+        let rests = Rests::new(alloc)?;
+        Ok(Kept {
+            frames,
+            lull,
+            rests,
+        })
+    }
+
+    // The link of this socket that keeps it.
+    fn link(self, alloc: Global, stream: TcpStream, parts: Option<Parts>) -> TcpLink
+        requires none { self.frames.left ≡ [] }
+        ensures { IsNewOver result }
+    {
+        let Kept {
+            frames,
+            lull,
+            rests,
+        } = self;
+        TcpLink {
+            alloc,
+            stream,
+            frames,
+            late: Vec::new(alloc),
+            lull,
+            unsent: Vec::new(alloc),
+            rests,
+            stuck: None,
+            parts,
+            happened: Happenings::new(),
+        }
+    }
+}
+
 impl TcpLink {
     // Takes a connected socket, and what its bell needs where that is there.
     pub(crate) fn over(
@@ -63,19 +147,8 @@ impl TcpLink {
         if stream.set_nonblocking(true).is_err() || stream.set_nodelay(true).is_err() {
             return Err(NetFault::Failed);
         }
-        let frames = Frames::new(alloc)?;
-        Ok(TcpLink {
-            alloc,
-            stream,
-            frames,
-            late: Vec::new(alloc),
-            lull: Lull::new(alloc)?,
-            unsent: Vec::new(alloc),
-            rests: Rests::new(alloc)?,
-            stuck: None,
-            parts,
-            happened: Happenings::new(),
-        })
+        let kept = Kept::new(alloc)?;
+        Ok(kept.link(alloc, stream, parts))
     }
 
     // Puts a frame behind what is unsent, and hands the socket what it takes.

@@ -33,10 +33,17 @@ struct Waiting {
 }
 
 /// What a bell needs of the system. It's made before there is a socket, so that one that comes has its bell.
-#[derive(Drop)]
 pub struct Parts {
     waiting: Waiting,
     waker: Waker,
+}
+
+impl Drop for Parts {
+    fn drop(self) {
+        let Parts { waiting, waker } = self;
+        drop(waiting);
+        drop(waker);
+    }
 }
 
 impl Parts {
@@ -46,6 +53,11 @@ impl Parts {
         let waker = Waker::new(poll.registry(), RING)?;
         let waiting = Waiting { poll, events };
         Ok(Parts { waiting, waker })
+    }
+
+    fn apart(self) -> (Waiting, Waker) {
+        let Parts { waiting, waker } = self;
+        (waiting, waker)
     }
 }
 
@@ -79,7 +91,7 @@ impl TcpBell {
         lull: Lull,
         alarm: Alarm,
     ) -> io::Result<TcpBell> {
-        let Parts { waiting, waker } = parts;
+        let (waiting, waker) = parts.apart();
         let fd = socket.as_raw_fd();
         waiting.poll.registry().register(
             &mut SourceFd(&fd),
