@@ -5,7 +5,6 @@ mod answers;
 mod clerks;
 mod cutting;
 mod lines;
-mod messages;
 mod network;
 mod opening;
 mod restarting;

@@ -5,9 +5,8 @@ ghost use Rattle.ec_world.specs.Worlds.{view_of, Keeps};
 ghost use Rattle.ec_world.specs.Sending.{IsFor};
 ghost use Rattle.ec_world.specs.Steps.{under, Declines};
 
-use crate::messages::copy_of;
 use crate::world::World;
-use ec_base::{ClerkId, NoMemory};
+use ec_base::{ClerkId, Duplicate, NoMemory};
 use ec_running::{StepFault, running};
 use std::alloc::Global;
 
@@ -80,7 +79,7 @@ impl World {
             return Err(StepFault::NoSuchMsg);
         };
         let clerk = sent.clerk;
-        let msg = copy_of(&sent.msg)?;
+        let msg = sent.msg.duplicate()?;
         let outs = running::take(&mut self.clerks, clerk, msg)?;
         self.pool.settle(number);
         match outs {
