@@ -44,7 +44,6 @@ pub struct Issuer {
 }
 
 /// A start of a clerk.
-#[derive(Drop)]
 pub struct Start {
     pub clerk: ClerkId,
     pub boot: u64,
@@ -52,6 +51,19 @@ pub struct Start {
     pub owed: Owes,
     /// How many operations its entries had, and those that aren't covered, the lost ones too.
     pub pending: Deferred,
+}
+
+impl Drop for Start {
+    fn drop(self) {
+        let Start {
+            clerk: _,
+            boot: _,
+            owed,
+            pending,
+        } = self;
+        drop(owed);
+        drop(pending);
+    }
 }
 
 /// The volume behind the kept operations. Below it lies the one behind the first so many of them; a
