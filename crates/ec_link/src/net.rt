@@ -43,7 +43,7 @@ pub trait Net: Send {
     type Link: Link + Send + Drop;
 
     /// An address at which links are accepted.
-    type Door: Drop;
+    type Door: Send + Drop;
 
     /// What who accepts at a door waits on.
     type DoorBell: Bell + Send + Sync + Drop;
