@@ -1,5 +1,5 @@
 // The clerk's calls, in words that stay folded above.
-ghost use Rattle.std.specs.Prelude.{◌≡◌, ◌+◌, true, IfOk, IfErr, IfSome, IfNone, OnErr};
+ghost use Rattle.std.specs.Prelude.{◌≡◌, ◌+◌, [], true, IfOk, IfErr, IfSome, IfNone, OnErr};
 ghost use Rattle.ec_protocol.specs.declared.clerk.ClerkFault.TheVariants as fault;
 ghost use Rattle.ec_wire.specs.Messages.{is_sound};
 ghost use Rattle.ec_clerknode.specs.Folded.{begun, taken, picked, parted, resent, linked, answer_to, floor_of, refused_by, Comes, Refuses};
@@ -73,7 +73,7 @@ pub fn flush(clerk: &mut Clerk, asked: Asked) -> Result<(Flushed, Vec<Out>), Ref
 pub fn bye(clerk: &mut Clerk) -> Result<Option<Vec<Out>>, NoMemory>
     ensures ok { IfOk result (λ made. IfSome made (λ outs. Comes (parted clerk.old) clerk.new outs.items)) }
     ensures said { IfOk result (λ made. IfSome made (λ outs. says_bye (sends outs.items) ≡ true)) }
-    ensures none { IfOk result (λ made. IfNone made (clerk.new ≡ clerk.old)) }
+    ensures none { IfOk result (λ made. IfNone made ((clerk.new ≡ clerk.old) × ((parted clerk.old).outs ≡ []))) }
 {
     let Ok(outs) = clerk.bye() else {
         return Err(NoMemory);

@@ -1,5 +1,5 @@
 // The server that several threads share.
-ghost use Rattle.std.specs.Prelude.{◌≡◌, ℕ, ◌+◌, ◌<◌, ◌≤◌, cond, List, [], ◌∷◌, Some, None, Ok, Err, IfOk, IfErr, IsTrue, MatchResult, Option};
+ghost use Rattle.std.specs.Prelude.{◌≡◌, ℕ, ◌+◌, ◌<◌, ◌≤◌, ◌⊎◌, cond, List, [], ◌∷◌, Some, None, Ok, Err, IfOk, IfErr, IsTrue, MatchResult, Option};
 ghost use mathlib.Core.List.{IsPrefix};
 ghost use Rattle.ec_base.specs.Limits.{clerk_count};
 ghost use Rattle.ec_durable.specs.Durable.{slot};
@@ -9,6 +9,8 @@ ghost use Rattle.ec_wire.specs.Messages.{is_sound};
 ghost use Rattle.ec_lock.specs.Passes.{first, front, numbers, Same};
 ghost use Rattle.ec_lock.specs.Steps.{Member, of};
 ghost use Rattle.ec_server.specs.Servers.{StandsOn};
+ghost use Rattle.ec_servernode.specs.declared.fault.ServeFault.TheVariants as fault;
+ghost use Rattle.ec_servernode.specs.declared.step.Halt.{Halt as Why};
 ghost use Rattle.ec_servernode.specs.Floors.{no_floor};
 ghost use Rattle.ec_servernode.specs.Node.{Since, queue_at, state_of};
 ghost use Rattle.ec_servernode.specs.Safe.{StaysSafe};
@@ -395,6 +397,7 @@ impl<K: Keeper + Drop> SharedServer<K> {
         ensures later { IsPrefix (front pass.old.pass) (front pass.new.pass) }
         ensures none { Adds pass.old.pass.number (front pass.old.pass) (front pass.new.pass) [] }
         ensures opened { IfOk result (λ o. o ≡ is_open (slot (leads (state_of K.kept (first self.now.lock)) (front pass.new.pass)).durable clerk)) }
+        ensures err { IfErr result (λ f. ((f ≡ fault.Down) × ((why : Why) × (halted (front pass.new.pass) ≡ Some why))) ⊎ (f ≡ fault.NoMemory)) }
     {
         let turn = self.lock.enter(rt, &mut pass.pass);
         let answer = turn.value.is_open(clerk);

@@ -1,8 +1,11 @@
-use Rattle.std.proofs.Common.{[], refl, sym, ap, ◌∙◌, subst}
+use Rattle.std.proofs.Common.{◌≡◌, ◌⊎◌, Option, Some, [], refl, sym, ap, ◌∙◌, subst}
+use Rattle.std.specs.Prelude.{IfErr}
 use mathlib.Core.List.{IsPrefix}
 use Rattle.ec_lock.specs.Passes.{first, front}
 use Rattle.ec_lock.specs.Steps.{of}
-use Rattle.ec_servernode.specs.Run.{number_of}
+use Rattle.ec_servernode.specs.Run.{number_of, halted}
+use Rattle.ec_servernode.specs.declared.fault.ServeFault.TheVariants as fault
+use Rattle.ec_servernode.specs.declared.step.Halt.{Halt}
 use Rattle.ec_servernode.proofs.Lists.{prefix_self}
 use Rattle.ec_servernode.proofs.Served.{pass_is, adds, no_more_of, open_is}
 use Rattle.ec_servernode.proofs.Fronts.{same_both}
@@ -40,3 +43,8 @@ returns-clause-none g c =
 
 pub returns-clause-opened : goal.returns-clause-opened
 returns-clause-opened g c = open_is g.K.Keeper.kept g.K.Keeper.counts g.K.Keeper.did g.K.Keeper.broke (first c.args.self.now.lock) c.enter-turn.result.value (front c.leave.new.pass) c.leave.ensures.front c.enter-turn.ensures.since c.args.clerk c.is_open-answer.result c.is_open-answer.ensures.ok
+
+pub returns-clause-err : goal.returns-clause-err
+returns-clause-err g c =
+    subst (λ (h : Option Halt). IfErr c.is_open-answer.result (λ f. ((f ≡ fault.Down) × ((why : Halt) × (h ≡ Some why))) ⊎ (f ≡ fault.NoMemory)))
+    (c.enter-turn.ensures.since.halt_is ∙ ap halted (sym c.leave.ensures.front)) c.is_open-answer.ensures.err
