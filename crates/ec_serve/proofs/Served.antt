@@ -22,7 +22,7 @@ serves_on count ending.NotStarted d w mid between opens le ran = ((d, opens), ra
 serves_on count (ending.Spent n) d w mid between opens le ran = (d, opens, ran)
 
 -- nothing was opened
-pub serves_not : {A : Type 0} (count : ℕ) (f : StoreFault) (r : Result A StoreFault) (w : Outside) (Stopping : Type 0) → r ≡ Err f → ((place : ℕ) → r ≡ Err (store.BadDisk place) → w.tells → (length w.disk.gives ≡ 0 → ⊥) × IsBadAt w.disk.gives place)
+pub serves_not : {A : Type 0} (count : ℕ) (f : StoreFault) (r : Result A StoreFault) (w : Outside) (Stopping : Type 0) → r ≡ Err f → ((place : ℕ) → r ≡ Err (store.BadDisk place) → w.tells → (length w.disk.gives ≡ 0 → ⊥) × IsBadAt w.disk.gives place × (w.disk_after.gives ≡ w.disk.gives))
     → Counted w.counts w.counts_after (r ≡ Err store.DiskFailed) Stopping → Serves count (unopened f) w
 serves_not count (store.BadDisk place) r w Stopping is bad counted = bad place is
 serves_not count store.DiskFailed r w Stopping is bad counted = counted.failed is

@@ -145,9 +145,9 @@ pub record RanOn (d : Durable) (tells : Type 0) (now : View) : Type 0 where
 abbrev pub ServesOn : Durable → ℕ → Ending → Outside → Type 0
 ServesOn d count end w = EndsAs ((ran : RanOn d w.tells w.disk_after) × AllBack count ran.run w.links w.links_after) (λ n. Spends d n) w.counts.faults w.counts_after.faults w.links w.links_after end
 
--- the disk isn't empty, stands for no state, and this is its first bad place
+-- the disk isn't empty, stands for no state, this is its first bad place, and it gives what it gave
 abbrev pub IsBad : Outside → ℕ → Type 0
-IsBad w place = w.tells → (length w.disk.gives ≡ 0 → ⊥) × IsBadAt w.disk.gives place
+IsBad w place = w.tells → (length w.disk.gives ≡ 0 → ⊥) × IsBadAt w.disk.gives place × (w.disk_after.gives ≡ w.disk.gives)
 
 -- the disk was opened: it's none that is bad
 abbrev pub IsOpened : Outside → Type 0

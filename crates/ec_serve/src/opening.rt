@@ -17,7 +17,7 @@ pub const MOST_OBJECTS: u32 = 1_024;
 pub fn store_on<D: Disk>(alloc: Global, disk: &mut D) -> Result<Store, StoreFault>
     ensures opens { IfOk result (λ store. Opens D.tells (D.view disk.old).gives (view_of store)) }
     ensures held { IfOk result (λ store. D.tells → IsHeld (D.view disk.new) store) }
-    ensures bad { (place : ℕ) → IsErrOf result (fault.BadDisk place) → D.tells → (length (D.view disk.old).gives ≡ 0 → ⊥) × IsBadAt (D.view disk.old).gives place }
+    ensures bad { (place : ℕ) → IsErrOf result (fault.BadDisk place) → D.tells → (length (D.view disk.old).gives ≡ 0 → ⊥) × IsBadAt (D.view disk.old).gives place × ((D.view disk.new).gives ≡ (D.view disk.old).gives) }
     ensures counts { Counted (D.counts disk.old) (D.counts disk.new) (IsErrOf result fault.DiskFailed) (IsErrOf result fault.DiskStopped) }
 {
     let bytes = match disk.len() {

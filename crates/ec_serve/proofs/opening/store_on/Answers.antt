@@ -23,4 +23,5 @@ pub returns-else-bytes-eq0-clause-bad : goal.returns-else-bytes-eq0-clause-bad
 returns-else-bytes-eq0-clause-bad g c = λ place is told. (
   (λ none. c.if-bytes-eq0.false (c.len.ensures.len told _ c.in-Len.is ∙ none)),
   subst (λ (xs : List ℕ). IsBadAt xs place) (c.len.ensures.rests told).gives (c.open.ensures.bad place is told),
+  c.open.ensures.unchanged place is told ∙ (c.len.ensures.rests told).gives,
 )
