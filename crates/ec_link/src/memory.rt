@@ -112,7 +112,7 @@ fn no_rings(alloc: Global) -> Result<Arc<AtomicU64>, NoMemory> {
 }
 
 // Those that are rung here, and there.
-fn rings(here: &Arc<AtomicU64>, there: &Arc<AtomicU64>) -> Result<Rings, NoMemory> {
+fn make_rings(here: &Arc<AtomicU64>, there: &Arc<AtomicU64>) -> Result<Rings, NoMemory> {
     let here = Arc::try_clone(here)?;
     let there = Knocker::new(Arc::try_clone(there)?);
     Ok(Rings { here, there })
@@ -122,8 +122,8 @@ fn rings(here: &Arc<AtomicU64>, there: &Arc<AtomicU64>) -> Result<Rings, NoMemor
 fn both_rings(alloc: Global) -> Result<(Rings, Rings), NoMemory> {
     let at_left = no_rings(alloc)?;
     let at_right = no_rings(alloc)?;
-    let left = rings(&at_left, &at_right)?;
-    let right = rings(&at_right, &at_left)?;
+    let left = make_rings(&at_left, &at_right)?;
+    let right = make_rings(&at_right, &at_left)?;
     Ok((left, right))
 }
 
