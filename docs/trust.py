@@ -23,7 +23,7 @@ ROOT = os.path.dirname(os.path.dirname(os.path.realpath(__file__)))
 SOURCE, FUNCTION = "ec_named/src/lib.rt", "echo_main"
 PAGE = f"{ROOT}/docs/DEFINITIONS.md"
 # What is to be read at most, in lines, files and definitions; whether `check` fails where it's more.
-OF_LINES = "history lines replies reports losses fsync room bytes own_calls sessions together complete write_behind statuses".split()
+OF_LINES = "history lines replies reports losses fsync room bytes own_calls sessions spent together complete write_behind statuses".split()
 WANTED = [
     ("lines for history", 850, True),
     ("lines for all promises of a drill's lines", 1400, False),

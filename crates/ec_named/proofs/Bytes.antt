@@ -17,7 +17,7 @@ use Rattle.ec_drill.specs.Cuts.{IsFront, IsPartOf}
 use Rattle.ec_drill.specs.Drill.{RefusedInPart}
 use Rattle.ec_named.specs.Forms.{outside}
 use Rattle.ec_named.specs.Seen.{Stream, Store}
-use Rattle.ec_named.specs.Told.{EndsEarly, IsPart, Wrote}
+use Rattle.ec_named.specs.Told.{BarsRun, EndsEarly, IsPart, WroteNone}
 
 kept-none : (held now : Option (List ℕ)) → Keeps held now → Appends held now []
 kept-none None now k = k
@@ -52,22 +52,31 @@ ends-early (show.Unsettled ∷ ss) each = absurd each.0
 
 -- Where no line of a run was written.
 module _ (result : ℕ) (source sink : Stream) (store : Store) where
-  pub silent-wrote : Keeps sink.bytes sink.bytes_after → Wrote result sink []
-  silent-wrote k = record { why = []; at_most_one = omega arith; says = tt; part = []; in_part = inl refl; whole = λ five nine. refl; bytes = kept-none sink.bytes sink.bytes_after k }
-
-  pub line-wrote : (s : Shown) → EndsEarly s → Appends sink.bytes sink.bytes_after (shown_text s) → Wrote result sink []
-  line-wrote s why a = record {
-    why = s ∷ [];
-    at_most_one = omega arith;
-    says = (why, tt);
-    part = [];
-    in_part = inl refl;
-    whole = λ five nine. refl;
-    bytes = more-none sink.bytes sink.bytes_after (text_of (s ∷ [])) (more-none sink.bytes sink.bytes_after (shown_text s) a);
+  pub silent-wrote : Keeps sink.bytes sink.bytes_after → WroteNone result sink
+  silent-wrote k = record {
+    wrote = record { why = []; at_most_one = omega arith; says = tt; part = []; in_part = inl refl; whole = λ five nine. refl; bytes = kept-none sink.bytes sink.bytes_after k };
+    bars = tt;
   }
 
-  pub refused-wrote : ((result ≡ 5 → ⊥) → (result ≡ 9 → ⊥) → ⊥) → RefusedInPart (outside source sink store) → Wrote result sink []
-  refused-wrote barred r = record { why = []; at_most_one = omega arith; says = tt; part = r.last; in_part = front r.part; whole = λ five nine. absurd (barred five nine); bytes = r.bytes }
+  pub line-wrote : (s : Shown) → EndsEarly s → BarsRun s → Appends sink.bytes sink.bytes_after (shown_text s) → WroteNone result sink
+  line-wrote s why bars a = record {
+    wrote = record {
+      why = s ∷ [];
+      at_most_one = omega arith;
+      says = (why, tt);
+      part = [];
+      in_part = inl refl;
+      whole = λ five nine. refl;
+      bytes = more-none sink.bytes sink.bytes_after (text_of (s ∷ [])) (more-none sink.bytes sink.bytes_after (shown_text s) a);
+    };
+    bars = (bars, tt);
+  }
+
+  pub refused-wrote : ((result ≡ 5 → ⊥) → (result ≡ 9 → ⊥) → ⊥) → RefusedInPart (outside source sink store) → WroteNone result sink
+  refused-wrote barred r = record {
+    wrote = record { why = []; at_most_one = omega arith; says = tt; part = r.last; in_part = front r.part; whole = λ five nine. absurd (barred five nine); bytes = r.bytes };
+    bars = tt;
+  }
     where
       front : (r.last ≡ []) ⊎ IsFront (shown_text r.line) r.last → IsPart r.last
       front (inl e) = inl e

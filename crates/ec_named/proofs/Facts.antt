@@ -17,8 +17,10 @@ use Rattle.ec_promise.specs.Behind.{BehindIsKept, IsKeptBehind, PartIsKept}
 use Rattle.ec_promise.specs.Pieces.{first_lines, pieces_of}
 use Rattle.ec_promise.specs.Promise.{AreLawfulOn, AreStoredOn, CleanIsLawful, CutIsLawful, HasNewDisk, IsLawful, PartIsLawful, PlainIsComplete, SpentIsLawful, WholeIsLawful}
 use Rattle.ec_promise.specs.Rooms.{CleanTellsRoom, CutTellsRoom, PartTellsRoom, RoomIsTold, TellsRoom}
+use Rattle.ec_promise.specs.Spent.{CleanTellsSpent, CutTellsSpent, PartTellsSpent, SpentIsTold, TellsSpent}
 use Rattle.ec_promise.proofs.Lawful.{drills-lawful}
 use Rattle.ec_promise.proofs.Rooms.{drills-told}
+use Rattle.ec_promise.proofs.Spent.{drills-spent}
 use Rattle.ec_drill.specs.Drill.{Outside, Drilled, HoldsState, IsCut, IsCutClean, IsGiven, IsToldAll, RanInPart, RanWhole, state_after}
 use Rattle.ec_drill.specs.declared.status.Status.{Status}
 use Rattle.ec_drill.specs.declared.status.Status.TheVariants as own
@@ -26,7 +28,7 @@ use Rattle.ec_echo.specs.Statuses.{code, of_drill}
 use Rattle.ec_named.specs.Forms.{outside}
 use Rattle.ec_named.specs.Runs.{IsUncut}
 use Rattle.ec_named.specs.Seen.{Stream, Store}
-use Rattle.ec_named.specs.Told.{IsPart, Wrote}
+use Rattle.ec_named.specs.Told.{IsPart, WroteNone}
 use Rattle.ec_named.proofs.Bytes.{is-part, line-wrote, more-none, refused-wrote, silent-wrote}
 
 pub record Facts (most result : ℕ) (source sink : Stream) (store : Store) : Type 0 where
@@ -43,6 +45,7 @@ pub record Facts (most result : ℕ) (source sink : Stream) (store : Store) : Ty
   pub bytes : Appends sink.bytes sink.bytes_after (text_of shown ++ part)
   pub lawful : IsToldAll (outside source sink store) reads → ∥ AreLawfulOn reads state pieces shown ∥₁
   pub room : RoomIsTold (outside source sink store) reads state shown
+  pub spent : SpentIsTold (outside source sink store) reads shown
   pub behind : IsKeptBehind (outside source sink store) reads state pieces shown
   pub plain : IsUncut result → HasNewDisk (outside source sink store) → IsPlainScript most reads → ∥ (result ≡ 0) × IsComplete (images state.volume) (lines_in reads) shown result ∥₁
   -- the state behind a run that ended by itself
@@ -55,13 +58,13 @@ module _ (most result : ℕ) (source sink : Stream) (store : Store) where
   w = outside source sink store
 
   abbrev Known : Type 0
-  Known = Facts most result source sink store ⊎ Wrote result sink []
+  Known = Facts most result source sink store ⊎ WroteNone result sink
 
   -- of a run that ended by itself
   run-facts : (number : ℕ) (r : RanWhole most number w) → result ≡ number → (IsToldAll w r.reads → ∥ AreLawfulOn r.reads r.state (pieces_of r.reads r.fates r.state) r.shown ∥₁)
       → ((result ≡ 15 → ⊥) → IsToldAll w r.reads → ∥ AreStoredOn r.reads r.state (state_after r.reads r.fates r.state) (pieces_of r.reads r.fates r.state) r.shown ∥₁)
-      → BehindIsKept most number w r → PlainIsComplete most number w r → RoomIsTold w r.reads r.state r.shown → Known
-  run-facts number r e lawful stored behind plain room = inl (record {
+      → BehindIsKept most number w r → PlainIsComplete most number w r → RoomIsTold w r.reads r.state r.shown → SpentIsTold w r.reads r.shown → Known
+  run-facts number r e lawful stored behind plain room spent = inl (record {
     reads = r.reads;
     given = r.given;
     state = r.state;
@@ -74,6 +77,7 @@ module _ (most result : ℕ) (source sink : Stream) (store : Store) where
     bytes = more-none sink.bytes sink.bytes_after (text_of r.shown) r.bytes;
     lawful = lawful;
     room = room;
+    spent = spent;
     behind = behind;
     plain = λ uncut new is. subst (λ (k : ℕ). ∥ (k ≡ 0) × IsComplete (images r.state.volume) (lines_in r.reads) r.shown k ∥₁) (sym e) (plain new is);
     end = state_after r.reads r.fates r.state;
@@ -81,15 +85,15 @@ module _ (most result : ℕ) (source sink : Stream) (store : Store) where
     stored = λ uncut. stored;
   })
 
-  whole-facts : (number : ℕ) (r : RanWhole most number w) → result ≡ number → WholeIsLawful most number w r × BehindIsKept most number w r × PlainIsComplete most number w r → RoomIsTold w r.reads r.state r.shown → Known
-  whole-facts number r e is room = run-facts number r e (λ told. ∥∥₁_map (is.0 told) (λ a. ((a.0).whole).lawful)) (λ unspent told. ∥∥₁_map (is.0 told) (λ a. a.0)) is.1 is.2 room
+  whole-facts : (number : ℕ) (r : RanWhole most number w) → result ≡ number → WholeIsLawful most number w r × BehindIsKept most number w r × PlainIsComplete most number w r → RoomIsTold w r.reads r.state r.shown → SpentIsTold w r.reads r.shown → Known
+  whole-facts number r e is room spent = run-facts number r e (λ told. ∥∥₁_map (is.0 told) (λ a. ((a.0).whole).lawful)) (λ unspent told. ∥∥₁_map (is.0 told) (λ a. a.0)) is.1 is.2 room spent
 
-  spent-facts : (r : RanWhole most 15 w) → result ≡ 15 → SpentIsLawful most 15 w r × BehindIsKept most 15 w r × PlainIsComplete most 15 w r → RoomIsTold w r.reads r.state r.shown → Known
-  spent-facts r e is room = run-facts 15 r e (λ told. ∥∥₁_map (is.0 told) (λ a. (a.0).lawful)) (λ unspent. absurd (unspent e)) is.1 is.2 room
+  spent-facts : (r : RanWhole most 15 w) → result ≡ 15 → SpentIsLawful most 15 w r × BehindIsKept most 15 w r × PlainIsComplete most 15 w r → RoomIsTold w r.reads r.state r.shown → SpentIsTold w r.reads r.shown → Known
+  spent-facts r e is room spent = run-facts 15 r e (λ told. ∥∥₁_map (is.0 told) (λ a. (a.0).lawful)) (λ unspent. absurd (unspent e)) is.1 is.2 room spent
 
   -- of one that was cut off
-  part-facts : (last : List ℕ) (r : RanInPart most w last) → (IsUncut result → ⊥) → ((result ≡ 5 → ⊥) → (result ≡ 9 → ⊥) → last ≡ []) → PartIsLawful most w last r × PartIsKept most w last r → PartTellsRoom most w last r → Known
-  part-facts last r cut whole is room = inl (record {
+  part-facts : (last : List ℕ) (r : RanInPart most w last) → (IsUncut result → ⊥) → ((result ≡ 5 → ⊥) → (result ≡ 9 → ⊥) → last ≡ []) → PartIsLawful most w last r × PartIsKept most w last r → PartTellsRoom most w last r → PartTellsSpent most w last r → Known
+  part-facts last r cut whole is room spent = inl (record {
     reads = r.reads;
     given = r.given;
     state = r.state;
@@ -102,6 +106,7 @@ module _ (most result : ℕ) (source sink : Stream) (store : Store) where
     bytes = r.bytes;
     lawful = λ told. ∥∥₁_map ((is.0).0 told) (λ a. a.0);
     room = room;
+    spent = spent;
     behind = is.1;
     plain = λ uncut. absurd (cut uncut);
     end = r.state;
@@ -109,27 +114,27 @@ module _ (most result : ℕ) (source sink : Stream) (store : Store) where
     stored = λ uncut. absurd (cut uncut);
   })
 
-  cut-facts : (IsUncut result → ⊥) → ((result ≡ 5 → ⊥) → (result ≡ 9 → ⊥) → ⊥) → (c : IsCut most w) → CutIsLawful most w c → CutTellsRoom most w c → Known
-  cut-facts cut barred (inl part) is room = part-facts part.0 part.1 cut (λ five nine. absurd (barred five nine)) is room
-  cut-facts cut barred (inr refused) is room = inr (refused-wrote result source sink store barred refused)
+  cut-facts : (IsUncut result → ⊥) → ((result ≡ 5 → ⊥) → (result ≡ 9 → ⊥) → ⊥) → (c : IsCut most w) → CutIsLawful most w c → CutTellsRoom most w c → CutTellsSpent most w c → Known
+  cut-facts cut barred (inl part) is room spent = part-facts part.0 part.1 cut (λ five nine. absurd (barred five nine)) is room spent
+  cut-facts cut barred (inr refused) is room spent = inr (refused-wrote result source sink store barred refused)
 
-  clean-facts : (IsUncut result → ⊥) → (c : IsCutClean most w) → CleanIsLawful most w c → CleanTellsRoom most w c → Known
-  clean-facts cut (inl part) is room = part-facts [] part cut (λ five nine. refl) is room
-  clean-facts cut (inr silent) is room = inr (silent-wrote result source sink store silent)
+  clean-facts : (IsUncut result → ⊥) → (c : IsCutClean most w) → CleanIsLawful most w c → CleanTellsRoom most w c → CleanTellsSpent most w c → Known
+  clean-facts cut (inl part) is room spent = part-facts [] part cut (λ five nine. refl) is room spent
+  clean-facts cut (inr silent) is room spent = inr (silent-wrote result source sink store silent)
 
-  facts-of : (st : Status) → result ≡ code (of_drill st) → (d : Drilled most st w) → IsLawful most st w d → TellsRoom most st w d → Known
-  facts-of own.Done e d is room = whole-facts 0 d e is room
-  facts-of own.BadLine e d is room = whole-facts 3 d e is room
-  facts-of own.Limit e (inl tells) is room = inr (line-wrote result source sink store (show.Limit tells.0 tells.1) tt tells.4)
-  facts-of own.Limit e (inr d) is room = whole-facts 11 d e is room
-  facts-of own.Spent e d is room = spent-facts d e is room
-  facts-of own.SinkFault e d is room = cut-facts (λ uncut. uncut.0 e) (λ five nine. five e) d.1 is room
-  facts-of own.DiskFault e d is room = clean-facts (λ uncut. uncut.1 e) d.1 is room
-  facts-of own.NoMemory e (inl cut) is room = cut-facts (λ uncut. uncut.2 e) (λ five nine. nine e) cut is room
-  facts-of own.NoMemory e (inr silent) is room = inr (silent-wrote result source sink store silent)
-  facts-of own.Usage e d is room = absurd d
-  facts-of own.SourceFault e d is room = inr (silent-wrote result source sink store d.1)
-  facts-of own.BadDisk e d is room = inr (line-wrote result source sink store (show.DiskBad d.0) tt d.4)
+  facts-of : (st : Status) → result ≡ code (of_drill st) → (d : Drilled most st w) → IsLawful most st w d → TellsRoom most st w d → TellsSpent most st w d → Known
+  facts-of own.Done e d is room spent = whole-facts 0 d e is room spent
+  facts-of own.BadLine e d is room spent = whole-facts 3 d e is room spent
+  facts-of own.Limit e (inl tells) is room spent = inr (line-wrote result source sink store (show.Limit tells.0 tells.1) tt tt tells.4)
+  facts-of own.Limit e (inr d) is room spent = whole-facts 11 d e is room spent
+  facts-of own.Spent e d is room spent = spent-facts d e is room spent
+  facts-of own.SinkFault e d is room spent = cut-facts (λ uncut. uncut.0 e) (λ five nine. five e) d.1 is room spent
+  facts-of own.DiskFault e d is room spent = clean-facts (λ uncut. uncut.1 e) d.1 is room spent
+  facts-of own.NoMemory e (inl cut) is room spent = cut-facts (λ uncut. uncut.2 e) (λ five nine. nine e) cut is room spent
+  facts-of own.NoMemory e (inr silent) is room spent = inr (silent-wrote result source sink store silent)
+  facts-of own.Usage e d is room spent = absurd d
+  facts-of own.SourceFault e d is room spent = inr (silent-wrote result source sink store d.1)
+  facts-of own.BadDisk e d is room spent = inr (line-wrote result source sink store (show.DiskBad d.0) tt tt d.4)
 
-  pub facts : (st : Status) → result ≡ code (of_drill st) → Drilled most st w → Facts most result source sink store ⊎ Wrote result sink []
-  facts st e d = facts-of st e d (drills-lawful most st w d) (drills-told most st w d)
+  pub facts : (st : Status) → result ≡ code (of_drill st) → Drilled most st w → Facts most result source sink store ⊎ WroteNone result sink
+  facts st e d = facts-of st e d (drills-lawful most st w d) (drills-told most st w d) (drills-spent most st w d)

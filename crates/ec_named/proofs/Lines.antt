@@ -14,7 +14,7 @@ use Rattle.ec_rooms.specs.Rooms.{AreWithinRoom}
 use Rattle.ec_rooms.proofs.Rooms.{front-within}
 use Rattle.ec_promise.specs.Promise.{AreLawfulOn}
 use Rattle.ec_named.specs.Seen.{Stream, Store, IsNew}
-use Rattle.ec_named.specs.Told.{HoldsOfLines, OfLines, OnFronts, Wrote, WroteLines}
+use Rattle.ec_named.specs.Told.{HoldsOfLines, OfLines, OnFronts, Wrote, WroteLines, WroteNone}
 use Rattle.ec_named.proofs.Bytes.{ends-early, formatted-greatest}
 use Rattle.ec_named.proofs.Facts.{Facts}
 
@@ -63,11 +63,11 @@ module _ (most result : ℕ) (source sink : Stream) (store : Store) where
     fronts-held f a room = held (OnFronts P) f a (λ front rest e. from (placed_on (images f.state.volume) a.top) f.state.max_objects front (a.fronts front rest e)
         (front-within f.state.max_objects front (rest ++ a.last) (subst (AreWithinRoom f.state.max_objects) (a.written ∙ ap (λ (ls : List Shown). ls ++ a.last) (sym e) ∙ append_assoc front rest a.last) room)))
 
-    pub of-lines : ((base : Base) (limit : ℕ) → P base limit []) → Facts most result source sink store ⊎ Wrote result sink [] → OfLines P result sink store most
+    pub of-lines : ((base : Base) (limit : ℕ) → P base limit []) → Facts most result source sink store ⊎ WroteNone result sink → OfLines P result sink store most
     of-lines none (inl f) known = ∥∥₁_map₂ (f.lawful (inl known)) (f.room (inl known)) (λ a room. fronts-held f a room)
-    of-lines none (inr wrote) known = ∣ none-held P none wrote ∣₁
+    of-lines none (inr wrote) known = ∣ none-held P none wrote.wrote ∣₁
 
   -- the bytes
-  pub wrote-lines : Facts most result source sink store ⊎ Wrote result sink [] → WroteLines result sink most
+  pub wrote-lines : Facts most result source sink store ⊎ WroteNone result sink → WroteLines result sink most
   wrote-lines (inl f) = (f.shown, record { why = []; at_most_one = omega arith; says = tt; part = f.part; in_part = f.in_part; whole = f.whole; bytes = subst (λ (ls : List Shown). Appends sink.bytes sink.bytes_after (text_of ls ++ f.part)) (sym (append-nil f.shown)) f.bytes })
-  wrote-lines (inr wrote) = ([], wrote)
+  wrote-lines (inr wrote) = ([], wrote.wrote)

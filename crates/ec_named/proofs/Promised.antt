@@ -36,14 +36,14 @@ use Rattle.ec_echo.specs.declared.status.Status.{Status}
 use Rattle.ec_echo.specs.declared.status.Status.TheVariants as status
 use Rattle.ec_named.specs.Forms.{Asks, DoesCheck, DoesDrill, DoesMake, DoesMount, DoesServe, IsAlone, OnCheck, OnDrill, OnMake, OnMount, OnServe, OnSoak, TouchesNothing, outside}
 use Rattle.ec_named.specs.Promises.{ExactReports, Fsync, History, IsExactAt, IsLawfulAt, IsPlainAt, LawfulLosses, LinesInPlace, OfEntries, PlainReplies, Room}
-use Rattle.ec_named.specs.Runs.{Causes, Complete, OwnCalls, Sessions, Stores, Together, WriteBehind}
+use Rattle.ec_named.specs.Runs.{Causes, Complete, OwnCalls, Sessions, Spent, Stores, Together, WriteBehind}
 use Rattle.ec_named.specs.Seen.{Stream, Store}
 use Rattle.ec_named.specs.Soaks.{DoesSoak, SoaksOnce, made, transcribed}
 use Rattle.ec_named.specs.States.{DiskOfCut, InOrder, Leaves, StatesInOrder}
-use Rattle.ec_named.specs.Told.{OfLines, Wrote, WroteLines}
+use Rattle.ec_named.specs.Told.{OfLines, WroteLines, WroteNone}
 use Rattle.ec_named.proofs.Facts.{Facts, facts}
 use Rattle.ec_named.proofs.Lines.{of-lines, wrote-lines}
-use Rattle.ec_named.proofs.Runs.{cause, complete, end-as-asked, own-calls, stored, together, writes-behind}
+use Rattle.ec_named.proofs.Runs.{cause, complete, end-as-asked, own-calls, spends-few, stored, together, writes-behind}
 use Rattle.ec_named.proofs.Words.{spells-once}
 
 -- what was done by these words, with this exit status
@@ -153,11 +153,11 @@ module _ (boot : ℕ) (words : List (List ℕ)) (result : ℕ) (source sink : St
   abbrev w : Outside
   w = outside source sink store
 
-  known : (most : ℕ) → DoesDrill result w most → Facts most result source sink store ⊎ Wrote result sink []
+  known : (most : ℕ) → DoesDrill result w most → Facts most result source sink store ⊎ WroteNone result sink
   known most d = facts most result source sink store d.0 d.1 d.2
 
   abbrev Known : ℕ → Type 0
-  Known most = Facts most result source sink store ⊎ Wrote result sink []
+  Known most = Facts most result source sink store ⊎ WroteNone result sink
 
   on-facts : (P : ℕ → Type 0) → ((most : ℕ) → Known most → P most) → OnDrill words P
   on-facts P from most s = from most (known most (does-drill boot words result w n did most s))
@@ -202,6 +202,9 @@ module _ (boot : ℕ) (words : List (List ℕ)) (result : ℕ) (source sink : St
   pub has-sessions : OnDrill words (Sessions result source sink store)
   has-sessions = on-facts (Sessions result source sink store) (λ most. end-as-asked most result source sink store)
 
+  pub tells-spent : OnDrill words (Spent result source sink store)
+  tells-spent = on-facts (Spent result source sink store) (λ most. spends-few most result source sink store)
+
   pub is-behind : OnDrill words (WriteBehind result source sink store)
   is-behind = on-facts (WriteBehind result source sink store) (λ most. writes-behind most result source sink store)
 
@@ -236,6 +239,7 @@ module _ (boot : ℕ) (words : List (List ℕ)) (result : ℕ) (source sink : St
         plain = made-plain number s.left_after s.transcript w;
         complete = complete most_objects (code (of_drill s.end)) from to store s.end refl s.drilled_so known;
         together = together most_objects (code (of_drill s.end)) from to store known;
+        spent = spends-few most_objects (code (of_drill s.end)) from to store known;
         told = s.told;
       })
 

@@ -11,6 +11,7 @@ use Rattle.ec_lawful.specs.Drills.{lines_in}
 use Rattle.ec_lawful.specs.Headline.{placed_on}
 use Rattle.ec_rooms.specs.Rooms.{AreWithinRoom}
 use Rattle.ec_rooms.proofs.Rooms.{front-within}
+use Rattle.ec_spent.specs.Spent.{AllSpendFew}
 use Rattle.ec_complete.specs.Complete.{IsComplete, IsFaultlessRead}
 use Rattle.ec_complete.specs.Pieces.{ArePiecesBehind}
 use Rattle.ec_complete.specs.PlainScripts.{IsPlainScript}
@@ -24,9 +25,9 @@ use Rattle.ec_drill.specs.declared.status.Status.{Status}
 use Rattle.ec_drill.specs.declared.status.Status.TheVariants as own
 use Rattle.ec_echo.specs.Statuses.{code, of_drill}
 use Rattle.ec_named.specs.Forms.{outside}
-use Rattle.ec_named.specs.Runs.{AreBehind, AreLawfulTogether, AreOwn, AreStored, Causes, Complete, EndAsAsked, Gave, IsUncut, OfRun, OwnCalls, Sessions, Stores, Together, WriteBehind}
+use Rattle.ec_named.specs.Runs.{AreBehind, AreLawfulTogether, AreOwn, AreStored, Causes, Complete, EndAsAsked, Gave, IsUncut, OfRun, OwnCalls, Sessions, Spent, Stores, Together, WriteBehind}
 use Rattle.ec_named.specs.Seen.{Stream, Store, GivesAsBefore, IsNew}
-use Rattle.ec_named.specs.Told.{HoldsOfLines, Wrote}
+use Rattle.ec_named.specs.Told.{HoldsOfLines, WroteNone}
 use Rattle.ec_named.proofs.Bytes.{ends-early, one-greatest}
 use Rattle.ec_named.proofs.Facts.{Facts}
 use Rattle.ec_named.proofs.Lines.{held}
@@ -42,7 +43,7 @@ module _ (most result : ℕ) (source sink : Stream) (store : Store) where
   gave-of reads g = record { script = g.script; given = (g.is_script).given; at_end = (g.is_script).at_end; few_bytes = (g.is_script).few_bytes; few_lines = g.few_lines; read = g.read }
 
   of-run : (P : List Read → Base → ℕ → List Shown → List Shown → Type 0) → ((f : Facts most result source sink store) → IsToldAll w f.reads → ∥ HoldsOfLines most result sink store (P f.reads) ∥₁)
-      → Facts most result source sink store ⊎ Wrote result sink [] → OfRun P result source sink store most
+      → Facts most result source sink store ⊎ WroteNone result sink → OfRun P result source sink store most
   of-run P from (inl f) = inl (record { reads = f.reads; gave = gave-of f.reads f.given; holds = from f })
   of-run P from (inr wrote) = inr wrote
 
@@ -52,17 +53,21 @@ module _ (most result : ℕ) (source sink : Stream) (store : Store) where
   asked-of : (f : Facts most result source sink store) (a : AreLawfulOn f.reads f.state f.pieces f.shown) → EndAsAsked f.reads (base-of f a) f.state.max_objects a.told a.last
   asked-of f a = record { lines = a.lines; front = a.front; pieces = f.pieces; in_pieces = a.in_pieces; counted = a.counted; numbered = a.numbered; ends = a.ends; spared = a.spared }
 
-  pub own-calls : Facts most result source sink store ⊎ Wrote result sink [] → OwnCalls result source sink store most
+  pub own-calls : Facts most result source sink store ⊎ WroteNone result sink → OwnCalls result source sink store most
   own-calls = of-run AreOwn (λ f told. ∥∥₁_map (f.lawful told) (λ a. held most result source sink store (AreOwn f.reads) f a (own-of f a)))
 
-  pub end-as-asked : Facts most result source sink store ⊎ Wrote result sink [] → Sessions result source sink store most
+  pub end-as-asked : Facts most result source sink store ⊎ WroteNone result sink → Sessions result source sink store most
   end-as-asked = of-run EndAsAsked (λ f told. ∥∥₁_map (f.lawful told) (λ a. held most result source sink store (EndAsAsked f.reads) f a (asked-of f a)))
 
   together-of : (f : Facts most result source sink store) (a : AreLawfulOn f.reads f.state f.pieces f.shown) → AreWithinRoom f.state.max_objects f.shown → AreLawfulTogether f.reads (base-of f a) f.state.max_objects a.told a.last
   together-of f a room = record { fronts = a.fronts; room = front-within f.state.max_objects a.told a.last (subst (AreWithinRoom f.state.max_objects) a.written room); own = own-of f a; ends = asked-of f a }
 
-  pub together : Facts most result source sink store ⊎ Wrote result sink [] → Together result source sink store most
+  pub together : Facts most result source sink store ⊎ WroteNone result sink → Together result source sink store most
   together = of-run AreLawfulTogether (λ f told. ∥∥₁_map₂ (f.lawful told) (f.room told) (λ a room. held most result source sink store (AreLawfulTogether f.reads) f a (together-of f a room)))
+
+  pub spends-few : Facts most result source sink store ⊎ WroteNone result sink → Spent result source sink store most
+  spends-few = of-run (λ reads base limit lines why. AllSpendFew (lines ++ why)) (λ f told. ∥∥₁_map (f.lawful told) (λ a.
+      held most result source sink store (λ base limit lines why. AllSpendFew (lines ++ why)) f a (subst AllSpendFew a.written (f.spent told))))
 
   -- Plain scripts.
 
@@ -85,7 +90,7 @@ module _ (most result : ℕ) (source sink : Stream) (store : Store) where
   plainly-ends own.BadDisk e d is source uncut = absurd is
   plainly-ends own.Usage e d is source uncut = absurd is
 
-  pub complete : (st : Status) → result ≡ code (of_drill st) → Drilled most st w → Facts most result source sink store ⊎ Wrote result sink [] → Complete result source sink store most
+  pub complete : (st : Status) → result ≡ code (of_drill st) → Drilled most st w → Facts most result source sink store ⊎ WroteNone result sink → Complete result source sink store most
   complete st e d known = record {
     answers = λ uncut new. of-run Plain (λ f told. ∥∥₁_map (f.lawful told) (λ a. held most result source sink store (Plain f.reads) f a (plain-answers uncut new f a))) known;
     ends_well = λ new given. plainly-ends st e d (drills-complete most st w d (drills-lawful most st w d) (record { tells = new.0; empty = new.1 }) given);
@@ -109,7 +114,7 @@ module _ (most result : ℕ) (source sink : Stream) (store : Store) where
     behind = subst (λ (top : ℕ). ArePiecesBehind (placed_on (images f.state.volume) top) (lines_in f.reads) [] f.pieces) (one-greatest (images f.state.volume) b.top a.top b.greatest a.greatest) b.behind;
   })
 
-  pub writes-behind : Facts most result source sink store ⊎ Wrote result sink [] → WriteBehind result source sink store most
+  pub writes-behind : Facts most result source sink store ⊎ WroteNone result sink → WriteBehind result source sink store most
   writes-behind = of-run Behind (λ f told. ∥∥₁_map (f.lawful told) (λ a. held most result source sink store (Behind f.reads) f a (lies-behind f a)))
 
   -- The disk.
@@ -125,7 +130,7 @@ module _ (most result : ℕ) (source sink : Stream) (store : Store) where
     stored = s.stored;
   })
 
-  pub stored : Facts most result source sink store ⊎ Wrote result sink [] → Stores result source sink store most
+  pub stored : Facts most result source sink store ⊎ WroteNone result sink → Stores result source sink store most
   stored known uncut unspent = of-run (AreStored store) (λ f told. ∥∥₁_map (f.stored uncut unspent told) (stored-on uncut f)) known
 
   -- Causes.

@@ -20,6 +20,7 @@ use Rattle.ec_drill.specs.Script.{AreRead}
 use Rattle.ec_lawful.specs.Headline.{AreEndsAsked, AreLawful, ArePieces, InScript, Lines, Pieces, joined}
 use Rattle.ec_lawful.specs.Drills.{lines_in}
 use Rattle.ec_rooms.specs.Rooms.{AreWithinRoom}
+use Rattle.ec_spent.specs.Spent.{AllSpendFew}
 use Rattle.ec_complete.specs.Complete.{IsComplete, IsFaultlessRead}
 use Rattle.ec_complete.specs.Pieces.{ArePiecesBehind}
 use Rattle.ec_complete.specs.PlainScripts.{IsPlainScript}
@@ -27,7 +28,7 @@ use Rattle.ec_promise.specs.Completes.{GivesPlainScript}
 use Rattle.ec_promise.specs.Spared.{LosesNothing, spares}
 use Rattle.ec_named.specs.Forms.{outside}
 use Rattle.ec_named.specs.Seen.{Stream, Store, GivesAsBefore, IsNew}
-use Rattle.ec_named.specs.Told.{EndsEarly, HoldsOfLines, OnFronts, Wrote}
+use Rattle.ec_named.specs.Told.{EndsEarly, HoldsOfLines, OnFronts, WroteNone}
 
 -- the source was read to its end, and gave these lines, within the limits
 pub record Gave (source : Stream) (reads : List Read) : Type 0 where
@@ -46,7 +47,7 @@ pub record Carried (most result : ℕ) (source sink : Stream) (store : Store) (P
 
 -- So it is, or no line of a run was written.
 abbrev pub OfRun : (List Read → Base → ℕ → List Shown → List Shown → Type 0) → ℕ → Stream → Stream → Store → ℕ → Type 0
-OfRun P result source sink store most = Carried most result source sink store P ⊎ Wrote result sink []
+OfRun P result source sink store most = Carried most result source sink store P ⊎ WroteNone result sink
 
 -- the drill wasn't cut off by a fault of the sink or the disk, or for want of memory
 abbrev pub IsUncut : ℕ → Type 0
@@ -87,6 +88,10 @@ pub record AreLawfulTogether (reads : List Read) (base : Base) (limit : ℕ) (to
 
 abbrev pub Together : ℕ → Stream → Stream → Store → ℕ → Type 0
 Together = OfRun AreLawfulTogether
+
+-- A line that tells a spent counter names boots, sessions, epochs or ids, which the disk keeps.
+abbrev pub Spent : ℕ → Stream → Stream → Store → ℕ → Type 0
+Spent = OfRun (λ reads base limit told why. AllSpendFew (told ++ why))
 
 -- A plain script on a new disk, which its lines alone tell.
 pub record Complete (result : ℕ) (source sink : Stream) (store : Store) (most : ℕ) : Type 0 where

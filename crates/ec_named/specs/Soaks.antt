@@ -11,7 +11,7 @@ use Rattle.ec_echo.specs.Soak.{IsUnmade, Told}
 use Rattle.ec_echo.specs.Statuses.{code, of_drill}
 use Rattle.ec_echo.specs.declared.status.Status.{Status}
 use Rattle.ec_named.specs.Forms.{outside}
-use Rattle.ec_named.specs.Runs.{Complete, Together}
+use Rattle.ec_named.specs.Runs.{Complete, Spent, Together}
 use Rattle.ec_named.specs.Seen.{Stream, Store}
 
 -- a source in memory that had the script of this number
@@ -31,6 +31,7 @@ pub record SoaksOnce (number : ℕ) (result : Status) (sink : Stream) (store : S
   pub plain : GivesPlainScript most_objects (outside (made number left_after) (transcribed transcript) store)
   pub complete : Complete (code (of_drill end)) (made number left_after) (transcribed transcript) store most_objects
   pub together : Together (code (of_drill end)) (made number left_after) (transcribed transcript) store most_objects
+  pub spent : Spent (code (of_drill end)) (made number left_after) (transcribed transcript) store most_objects
   pub told : Told number end transcript result sink.bytes sink.bytes_after sink.faults sink.faults_after
 
 -- so it was, or there was no memory for the script

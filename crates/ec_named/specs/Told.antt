@@ -35,6 +35,17 @@ pub record Wrote (result : ℕ) (sink : Stream) (told : List Shown) : Type 0 whe
   pub whole : (result ≡ 5 → ⊥) → (result ≡ 9 → ⊥) → part ≡ []
   pub bytes : Appends sink.bytes sink.bytes_after (text_of (told ++ why) ++ part)
 
+-- the line says why no line of a script was carried out
+abbrev pub BarsRun : Shown → Type 0
+BarsRun (DiskBad place) = ⊤
+BarsRun (Limit name n) = ⊤
+BarsRun _ = ⊥
+
+-- No line of a run was written.
+pub record WroteNone (result : ℕ) (sink : Stream) : Type 0 where
+  pub wrote : Wrote result sink []
+  pub bars : EachLine BarsRun wrote.why
+
 -- Whole lines were written, and with status 5 or 9 perhaps a part of one more.
 abbrev pub WroteLines : ℕ → Stream → ℕ → Type 0
 WroteLines result sink most = (told : List Shown) × Wrote result sink told

@@ -8,7 +8,7 @@ ghost use Rattle.ec_node_laws.specs.Claims.{ClaimsComeFirst};
 ghost use Rattle.ec_named.specs.Seen.{stream, store};
 ghost use Rattle.ec_named.specs.Told.{WroteLines};
 ghost use Rattle.ec_named.specs.Promises.{History, LinesInPlace, PlainReplies, ExactReports, LawfulLosses, Fsync, Room};
-ghost use Rattle.ec_named.specs.Runs.{Together, OwnCalls, Sessions, Complete, WriteBehind, Stores, Causes};
+ghost use Rattle.ec_named.specs.Runs.{Together, OwnCalls, Sessions, Spent, Complete, WriteBehind, Stores, Causes};
 ghost use Rattle.ec_named.specs.Soaks.{DoesSoak};
 ghost use Rattle.ec_named.specs.States.{StatesInOrder, DiskOfCut};
 ghost use Rattle.ec_named.specs.Forms.{OnDrill, OnCheck, OnMake, OnSoak, OnServe, OnMount, Asks, DoesDrill, DoesCheck, DoesMake, DoesServe, DoesMount, TouchesNothing, IsAlone, outside, links};
@@ -45,6 +45,7 @@ pub fn echo_main<R: Around + Eprint, S: Source, K: Sink, D: CrashDisk + Send, N:
     // Beside its script.
     ensures own_calls { OnDrill (map string_bytes words.now) (OwnCalls result (stream S.left S.faults source.old source.new) (stream K.held K.faults sink.old sink.new) (store D.tells D.view D.counts disk.old disk.new)) }
     ensures sessions { OnDrill (map string_bytes words.now) (Sessions result (stream S.left S.faults source.old source.new) (stream K.held K.faults sink.old sink.new) (store D.tells D.view D.counts disk.old disk.new)) }
+    ensures spent { OnDrill (map string_bytes words.now) (Spent result (stream S.left S.faults source.old source.new) (stream K.held K.faults sink.old sink.new) (store D.tells D.view D.counts disk.old disk.new)) }
     ensures together { OnDrill (map string_bytes words.now) (Together result (stream S.left S.faults source.old source.new) (stream K.held K.faults sink.old sink.new) (store D.tells D.view D.counts disk.old disk.new)) }
     ensures complete { OnDrill (map string_bytes words.now) (Complete result (stream S.left S.faults source.old source.new) (stream K.held K.faults sink.old sink.new) (store D.tells D.view D.counts disk.old disk.new)) }
     ensures write_behind { OnDrill (map string_bytes words.now) (WriteBehind result (stream S.left S.faults source.old source.new) (stream K.held K.faults sink.old sink.new) (store D.tells D.view D.counts disk.old disk.new)) }

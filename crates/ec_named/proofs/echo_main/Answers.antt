@@ -1,5 +1,5 @@
 use Rattle.ec_node_laws.proofs.Claims.{claims-first}
-use Rattle.ec_named.proofs.Promised.{are-in-order, are-placed, asks, covers-fsync, does-check, does-drill, does-make, does-mount, does-serve, does-soak, has-bytes, has-causes, has-history, has-left, has-losses, has-own, has-replies, has-reports, has-sessions, is-alone, is-behind, is-complete, is-stored, is-together, tells-room, touches-nothing}
+use Rattle.ec_named.proofs.Promised.{are-in-order, are-placed, asks, covers-fsync, does-check, does-drill, does-make, does-mount, does-serve, does-soak, has-bytes, has-causes, has-history, has-left, has-losses, has-own, has-replies, has-reports, has-sessions, is-alone, is-behind, is-complete, is-stored, is-together, tells-room, tells-spent, touches-nothing}
 use Rattle.ec_named.specs.Seen.{stream, store}
 use Rattle.ec_named.proofs.echo_main.Goals as goal
 
@@ -36,6 +36,11 @@ returns-clause-fsync g c =
 pub returns-clause-room : goal.returns-clause-room
 returns-clause-room g c =
     tells-room _ _ _ (stream g.S.Source.left g.S.Source.faults c.args.source.now c.run_words.new.source) (stream g.K.Sink.held g.K.Sink.faults c.args.sink.now c.run_words.new.sink)
+    (store g.D.Disk.tells g.D.Disk.view g.D.Disk.counts c.args.disk.now c.run_words.new.disk) _ c.run_words.ensures.echoes
+
+pub returns-clause-spent : goal.returns-clause-spent
+returns-clause-spent g c =
+    tells-spent _ _ _ (stream g.S.Source.left g.S.Source.faults c.args.source.now c.run_words.new.source) (stream g.K.Sink.held g.K.Sink.faults c.args.sink.now c.run_words.new.sink)
     (store g.D.Disk.tells g.D.Disk.view g.D.Disk.counts c.args.disk.now c.run_words.new.disk) _ c.run_words.ensures.echoes
 
 pub returns-clause-bytes : goal.returns-clause-bytes
