@@ -1,5 +1,5 @@
 pub mod Runs
 pub mod Started
-pub mod Came
+pub mod Outcomes
 pub mod Begun
 pub mod Moved

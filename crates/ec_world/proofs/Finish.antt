@@ -41,7 +41,7 @@ use Rattle.ec_marking.specs.declared.keeping.Came.TheVariants as came
 use Rattle.ec_marking.specs.declared.marks.Mark.{Mark}
 use Rattle.ec_world.specs.declared.world.World.{World}
 use Rattle.ec_world.proofs.Arms.{fate_is}
-use Rattle.ec_marking.proofs.Came.{same_ok}
+use Rattle.ec_marking.proofs.Outcomes.{same_ok}
 use Rattle.ec_world.proofs.Fresh.{fresh}
 use Rattle.ec_world.proofs.Served.{goes_on}
 

@@ -12,7 +12,7 @@ use Rattle.ec_server.specs.declared.fault.ServerFault.TheVariants as server
 use Rattle.ec_store.specs.Store.{view_of}
 use Rattle.ec_marking.specs.Keeping.{IsDone, Turns, HasMark}
 use Rattle.ec_marking.specs.declared.marks.Mark.{Mark}
-use Rattle.ec_marking.proofs.Came.{Undone, disk_did, disk_broke, means, done_is, undone, has_mark, came_is, spent_is, same_is, ok_counted, ok_ran, err_counted, came_ran, counts_are, leaves_spends, unstarted_spends, steps_up}
+use Rattle.ec_marking.proofs.Outcomes.{Undone, disk_did, disk_broke, means, done_is, undone, has_mark, came_is, spent_is, same_is, ok_counted, ok_ran, err_counted, came_ran, counts_are, leaves_spends, unstarted_spends, steps_up}
 use Rattle.ec_marking.proofs.keeping.take_by.Goals as goal
 
 pub turned-requires : goal.turned-requires
