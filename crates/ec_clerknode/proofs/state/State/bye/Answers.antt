@@ -34,8 +34,8 @@ returns-in_ok-close-in-Ok-Some-clause-parts g c =
 
 pub returns-in-Ok-None-clause-keeps : goal.returns-in-Ok-None-clause-keeps
 returns-in-Ok-None-clause-keeps g c =
-    let same : c.bye.new.clerk ≡ c.args.self.now.clerk = subst (λ o. IfNone o (c.bye.new.clerk ≡ c.args.self.now.clerk)) c.in-Ok-None.field-0-is c.in-Ok-None.ensures.none in
-    read_none (λ l. g.L.Link.faults l + g.L.Link.closes l) g.L.Link.given g.L.Link.got c.args.self.now c.bye.new.clerk c.args.self.now.link same (sym (added-nil (g.L.Link.given c.args.self.now.link))) refl (omega arith)
+    let none : (c.bye.new.clerk ≡ c.args.self.now.clerk) × ((parted c.args.self.now.clerk).outs ≡ []) = subst (λ o. IfNone o ((c.bye.new.clerk ≡ c.args.self.now.clerk) × ((parted c.args.self.now.clerk).outs ≡ []))) c.in-Ok-None.field-0-is c.in-Ok-None.ensures.none in
+    read_none (λ l. g.L.Link.faults l + g.L.Link.closes l) g.L.Link.given g.L.Link.got c.args.self.now c.bye.new.clerk c.args.self.now.link none.0 (sym (added-nil (g.L.Link.given c.args.self.now.link))) refl (omega arith)
 
 pub returns-in-Ok-None-clause-parts : goal.returns-in-Ok-None-clause-parts
 returns-in-Ok-None-clause-parts g c = (c.in_ok-check.ensures.ok.2, ([], (sym (append-nil c.args.self.now.trace.items), tt), refl))
