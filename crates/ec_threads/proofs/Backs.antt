@@ -1,5 +1,5 @@
 -- A link that came, and one that comes back.
-use Rattle.std.proofs.Common.{◌≡◌, ℕ, Bool, true, false, Option, List, sym, ap, ◌∙◌, subst}
+use Rattle.std.proofs.Common.{◌≡◌, ℕ, Bool, true, false, Option, List, [], ◌∷◌, sym, ap, ◌∙◌, subst}
 use Rattle.ec_link.specs.Links.{Heard}
 use Rattle.ec_link.specs.Nets.{is_bad, IsEmpty}
 use Rattle.std.specs.declared.snapshot.Snapshot.{Snapshot}
