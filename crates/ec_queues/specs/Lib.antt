@@ -1,0 +1,3 @@
+pub mod Queued
+pub mod Adds
+pub mod Reached
