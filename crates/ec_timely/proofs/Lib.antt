@@ -1,0 +1,4 @@
+pub mod Lines
+pub mod Outside
+pub mod Taking
+pub mod Steps
