@@ -1,6 +1,7 @@
 pub mod Causes
 pub mod Passing
 pub mod Joined
+pub mod Parts
 pub mod Linking
 pub mod Running
 pub mod Texts

@@ -4,5 +4,6 @@ pub mod Run
 pub mod Linking
 pub mod Mount
 pub mod Calls
+pub mod Parts
 pub mod Work
 pub mod Writes

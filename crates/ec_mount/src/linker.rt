@@ -4,10 +4,11 @@ ghost use Rattle.ec_lock.specs.Passes.{first, IsPassOf};
 ghost use Rattle.ec_link.specs.Nets.{IsEmpty};
 ghost use Rattle.ec_mount.specs.Linking.{Linked, LinkedMore};
 
+use crate::lending::Lending;
 use crate::telling::{Who, tell_again, tell_gone, tell_over};
 use ec_base::NoMemory;
 use ec_clerknode::{Node, SharedClerk};
-use ec_link::{Around, Link, Net};
+use ec_link::{Around, Link};
 use ec_lock::Pass;
 use std::io::Eprint;
 use std::sync::Wait;
@@ -111,16 +112,17 @@ impl Linking {
     }
 
     // Calls until there is a link, or all has ended, or for too long.
-    fn call_until<N: Net, R: Around>(
+    fn call_until<M: Lending, R: Around>(
         &mut self,
         rt: &R,
-        net: &mut N,
+        net: &mut M,
         who: &Who<'_>,
         beside: &Beside,
-    ) -> Option<N::Link>
-        ensures later { N.faults net.old ≤ N.faults net.new }
-        ensures same { (N.bad net.new ≡ N.bad net.old) × (N.ended net.new ≡ N.ended net.old) }
-        ensures link { IfSome result (λ link. IsEmpty (N.Link.given link) × IsEmpty (N.Link.got link)) }
+    ) -> Option<M::Link>
+        ensures later { M.faults net.old ≤ M.faults net.new }
+        ensures name { M.name net.new ≡ M.name net.old }
+        ensures same { (M.bad net.new ≡ M.bad net.old) × (M.ended net.new ≡ M.ended net.old) }
+        ensures link { IfSome result (λ link. IsEmpty (M.Link.given link) × IsEmpty (M.Link.got link)) }
     {
         for _ in rt.forever() {
             self.pause(rt);
@@ -136,20 +138,21 @@ impl Linking {
 }
 
 // Hands the link to the clerk, and gives the one before back to the net. False where the link is none.
-fn hand_in<N: Net, R: Around>(
+fn hand_in<M: Lending, R: Around>(
     rt: &R,
-    clerk: &SharedClerk<N::Link>,
-    pass: &mut Pass<Node<N::Link>>,
-    net: &mut N,
-    link: N::Link,
+    clerk: &SharedClerk<M::Link>,
+    pass: &mut Pass<Node<M::Link>>,
+    net: &mut M,
+    link: M::Link,
 ) -> Result<bool, NoMemory>
     requires pass { IsPassOf clerk.now.lock pass.old }
-    requires new { IsEmpty (N.Link.given link) × IsEmpty (N.Link.got link) }
-    ensures later { N.faults net.old ≤ N.faults net.new }
+    requires new { IsEmpty (M.Link.given link) × IsEmpty (M.Link.got link) }
+    ensures later { M.faults net.old ≤ M.faults net.new }
+    ensures name { M.name net.new ≡ M.name net.old }
     ensures linked { Linked clerk.now.lock pass.old pass.new }
-    ensures more { OnOk result (LinkedMore (λ l. N.Link.faults l + N.Link.closes l) N.Link.given N.Link.got (first clerk.now.lock) pass.old pass.new
-        (record { faults = N.faults net.old; bad = N.bad net.old; ended = N.ended net.old })
-        (record { faults = N.faults net.new; bad = N.bad net.new; ended = N.ended net.new })) }
+    ensures more { OnOk result (LinkedMore (λ l. M.Link.faults l + M.Link.closes l) M.Link.given M.Link.got (first clerk.now.lock) pass.old pass.new
+        (record { faults = M.faults net.old; bad = M.bad net.old; ended = M.ended net.old })
+        (record { faults = M.faults net.new; bad = M.bad net.new; ended = M.ended net.new })) }
 {
     let mut link = link;
     let Ok(bell) = link.bell(rt) else {
@@ -166,21 +169,22 @@ fn hand_in<N: Net, R: Around>(
 }
 
 // Links again until all has ended, or for so long that no call waits any more.
-fn keep_linked<N: Net, R: Around + Eprint>(
+fn keep_linked<M: Lending, R: Around + Eprint>(
     rt: &R,
     who: &Who<'_>,
-    clerk: &SharedClerk<N::Link>,
-    pass: &mut Pass<Node<N::Link>>,
-    net: &mut N,
+    clerk: &SharedClerk<M::Link>,
+    pass: &mut Pass<Node<M::Link>>,
+    net: &mut M,
     beside: &Beside,
     linking: &mut Linking,
 ) -> Result<(), NoMemory>
     requires { IsPassOf clerk.now.lock pass.old }
-    ensures later { N.faults net.old ≤ N.faults net.new }
+    ensures later { M.faults net.old ≤ M.faults net.new }
+    ensures name { M.name net.new ≡ M.name net.old }
     ensures linked { Linked clerk.now.lock pass.old pass.new }
-    ensures more { OnOk result (LinkedMore (λ l. N.Link.faults l + N.Link.closes l) N.Link.given N.Link.got (first clerk.now.lock) pass.old pass.new
-        (record { faults = N.faults net.old; bad = N.bad net.old; ended = N.ended net.old })
-        (record { faults = N.faults net.new; bad = N.bad net.new; ended = N.ended net.new })) }
+    ensures more { OnOk result (LinkedMore (λ l. M.Link.faults l + M.Link.closes l) M.Link.given M.Link.got (first clerk.now.lock) pass.old pass.new
+        (record { faults = M.faults net.old; bad = M.bad net.old; ended = M.ended net.old })
+        (record { faults = M.faults net.new; bad = M.bad net.new; ended = M.ended net.new })) }
 {
     for _ in rt.forever() {
         let is_down = clerk.wait_down(rt, Duration::from_secs(1));
@@ -207,20 +211,21 @@ fn keep_linked<N: Net, R: Around + Eprint>(
 
 /// Calls the address again where the link is down, until all has ended, or for too long. Meanwhile a link that fails is no
 /// fault of a call. Each link that another one came for goes back to the net.
-pub fn link_again<N: Net, R: Around + Eprint>(
+pub fn link_again<M: Lending, R: Around + Eprint>(
     rt: &R,
     who: &Who<'_>,
-    clerk: &SharedClerk<N::Link>,
-    pass: &mut Pass<Node<N::Link>>,
-    net: &mut N,
+    clerk: &SharedClerk<M::Link>,
+    pass: &mut Pass<Node<M::Link>>,
+    net: &mut M,
     beside: &Beside,
 ) -> Result<(), NoMemory>
     requires { IsPassOf clerk.now.lock pass.old }
-    ensures later { N.faults net.old ≤ N.faults net.new }
+    ensures later { M.faults net.old ≤ M.faults net.new }
+    ensures name { M.name net.new ≡ M.name net.old }
     ensures linked { Linked clerk.now.lock pass.old pass.new }
-    ensures more { OnOk result (LinkedMore (λ l. N.Link.faults l + N.Link.closes l) N.Link.given N.Link.got (first clerk.now.lock) pass.old pass.new
-        (record { faults = N.faults net.old; bad = N.bad net.old; ended = N.ended net.old })
-        (record { faults = N.faults net.new; bad = N.bad net.new; ended = N.ended net.new })) }
+    ensures more { OnOk result (LinkedMore (λ l. M.Link.faults l + M.Link.closes l) M.Link.given M.Link.got (first clerk.now.lock) pass.old pass.new
+        (record { faults = M.faults net.old; bad = M.bad net.old; ended = M.ended net.old })
+        (record { faults = M.faults net.new; bad = M.bad net.new; ended = M.ended net.new })) }
 {
     let mut linking = Linking {
         gone: None,

@@ -113,11 +113,10 @@ fn run_over<N: Net, R: Around + Eprint>(
         (record { faults = N.faults net.new; bad = N.bad net.new; ended = N.ended net.new })
         (seen r.1)) }
 {
-    let Ok((shared, mut pass)) = SharedClerk::linked_by(alloc, clerk, link, bell, Some(LINKER))
-    else {
+    let Ok((shared, pass)) = SharedClerk::linked_by(alloc, clerk, link, bell, Some(LINKER)) else {
         return None;
     };
-    let Some(made) = make_linked(rt, alloc, who, &shared, &mut pass, net, lanes) else {
+    let Some((mut pass, made)) = make_linked(rt, alloc, who, &shared, pass, net, lanes) else {
         return None;
     };
     let (link, answers) = conclude(shared.close(rt, &mut pass), made);

@@ -18,13 +18,13 @@ returns-in_ok-back-in-Ok-relink-clause-linked g c = linked_turned c.args.clerk.n
 pub returns-in_ok-back-in-Ok-relink-clause-more : goal.returns-in_ok-back-in-Ok-relink-clause-more
 returns-in_ok-back-in-Ok-relink-clause-more g c start h =
     let old = c.in-Ok-relink.old in
-    handed_more (λ l. g.N.Link.Link.faults l + g.N.Link.Link.closes l) g.N.Link.Link.given g.N.Link.Link.got (first c.args.clerk.now.lock) c.args.pass.now.number start (record { faults = g.N.Net.faults c.args.net.now; bad = g.N.Net.bad c.args.net.now; ended = g.N.Net.ended c.args.net.now }) (record { faults = g.N.Net.faults c.back.new.self; bad = g.N.Net.bad c.back.new.self; ended = g.N.Net.ended c.back.new.self })
-    (front c.args.pass.now) (front c.relink.new.pass) old (g.N.Link.Link.faults old) (g.N.Link.Link.closes old) h c.in-Ok-relink.ensures.ok refl c.in_ok-back-in-Ok-relink.ensures.bad c.in_ok-back-in-Ok-relink.ensures.ended
+    handed_more (λ l. g.M.Link.Link.faults l + g.M.Link.Link.closes l) g.M.Link.Link.given g.M.Link.Link.got (first c.args.clerk.now.lock) c.args.pass.now.number start (record { faults = g.M.Lending.faults c.args.net.now; bad = g.M.Lending.bad c.args.net.now; ended = g.M.Lending.ended c.args.net.now }) (record { faults = g.M.Lending.faults c.back.new.self; bad = g.M.Lending.bad c.back.new.self; ended = g.M.Lending.ended c.back.new.self })
+    (front c.args.pass.now) (front c.relink.new.pass) old (g.M.Link.Link.faults old) (g.M.Link.Link.closes old) h c.in-Ok-relink.ensures.ok refl c.in_ok-back-in-Ok-relink.ensures.bad c.in_ok-back-in-Ok-relink.ensures.ended
 
 pub returns-in-Err-clause-linked : goal.returns-in-Err-clause-linked
 returns-in-Err-clause-linked g c = linked_turned c.args.clerk.now.lock c.args.pass.now c.relink.new.pass c.relink.ensures.turned
 
 pub returns-in-Err-clause-more : goal.returns-in-Err-clause-more
 returns-in-Err-clause-more g c start h =
-    handed_later (λ l. g.N.Link.Link.faults l + g.N.Link.Link.closes l) g.N.Link.Link.given g.N.Link.Link.got (first c.args.clerk.now.lock) c.args.pass.now.number start (record { faults = g.N.Net.faults c.args.net.now; bad = g.N.Net.bad c.args.net.now; ended = g.N.Net.ended c.args.net.now }) (front c.args.pass.now) (front c.relink.new.pass) h c.relink.ensures.turned.goes.1
-    (sym c.in-Err.ensures.err) (record { faults = g.N.Net.faults c.args.net.now; bad = g.N.Net.bad c.args.net.now; ended = g.N.Net.ended c.args.net.now }) refl refl
+    handed_later (λ l. g.M.Link.Link.faults l + g.M.Link.Link.closes l) g.M.Link.Link.given g.M.Link.Link.got (first c.args.clerk.now.lock) c.args.pass.now.number start (record { faults = g.M.Lending.faults c.args.net.now; bad = g.M.Lending.bad c.args.net.now; ended = g.M.Lending.ended c.args.net.now }) (front c.args.pass.now) (front c.relink.new.pass) h c.relink.ensures.turned.goes.1
+    (sym c.in-Err.ensures.err) (record { faults = g.M.Lending.faults c.args.net.now; bad = g.M.Lending.bad c.args.net.now; ended = g.M.Lending.ended c.args.net.now }) refl refl

@@ -11,5 +11,5 @@ returns-clause-linked g c =
 
 pub returns-clause-more : goal.returns-clause-more
 returns-clause-more g c =
-    more_around (λ l. g.N.Link.Link.faults l + g.N.Link.Link.closes l) g.N.Link.Link.given g.N.Link.Link.got (first c.args.clerk.now.lock) c.args.clerk.now.lock c.args.pass.now c.lasts.new.pass c.keep_linked-result.new.pass c.lasts-2.new.pass (record { faults = g.N.Net.faults c.args.net.now; bad = g.N.Net.bad c.args.net.now; ended = g.N.Net.ended c.args.net.now }) (record { faults = g.N.Net.faults c.keep_linked-result.new.net; bad = g.N.Net.bad c.keep_linked-result.new.net; ended = g.N.Net.ended c.keep_linked-result.new.net }) c.keep_linked-result.result
+    more_around (λ l. g.M.Link.Link.faults l + g.M.Link.Link.closes l) g.M.Link.Link.given g.M.Link.Link.got (first c.args.clerk.now.lock) c.args.clerk.now.lock c.args.pass.now c.lasts.new.pass c.keep_linked-result.new.pass c.lasts-2.new.pass (record { faults = g.M.Lending.faults c.args.net.now; bad = g.M.Lending.bad c.args.net.now; ended = g.M.Lending.ended c.args.net.now }) (record { faults = g.M.Lending.faults c.keep_linked-result.new.net; bad = g.M.Lending.bad c.keep_linked-result.new.net; ended = g.M.Lending.ended c.keep_linked-result.new.net }) c.keep_linked-result.result
     c.lasts.ensures.turned c.lasts.ensures.same c.keep_linked-result.ensures.linked c.keep_linked-result.ensures.more c.lasts-2.ensures.turned c.lasts-2.ensures.same
