@@ -1,6 +1,6 @@
 -- Who linked again and who made the calls, at the same time.
 use Rattle.std.specs.Prelude.{OnOk}
-use Rattle.std.proofs.Common.{◌≡◌, ◌<◌, ◌≤◌, ℕ, List, [], ◌∷◌, length, Option, Some, None, Ok, slice_index_or, refl, sym, subst, arith}
+use Rattle.std.proofs.Common.{◌≡◌, ◌<◌, ◌≤◌, ℕ, List, [], ◌∷◌, ◌++◌, length, length-append, take, drop, Option, Some, None, Ok, slice_index_or, refl, sym, ap, ◌∙◌, subst, arith}
 use Rattle.ec_plain.specs.declared.call.Call.{Call}
 use Rattle.ec_lock.specs.Passes.{first}
 use Rattle.ec_lock.specs.declared.types.Pass.{Pass}
@@ -17,6 +17,24 @@ use Rattle.ec_mount.specs.declared.calls.Replies.{Replies}
 use Rattle.ec_mount.specs.declared.linked.Did.{Did}
 use Rattle.ec_mount.specs.declared.linked.Did.TheVariants as did
 
+module _ {S : Type 0} (one two a b : S) (qs : List S) where
+  two_last : (x y : S) (qs : List S) → x ∷ y ∷ [] ≡ (qs ++ a ∷ []) ++ b ∷ [] → x ∷ y ∷ [] ≡ a ∷ b ∷ []
+  two_last x y [] e = e
+  two_last x y (q ∷ qs) e = absurd (omega (arith, ap length e, length-append (qs ++ a ∷ []) (b ∷ []), length-append qs (a ∷ [])))
+
+  two_only : (news : List S) → length news ≡ 2 → take 2 (news ++ drop (length news) (one ∷ two ∷ [])) ≡ (qs ++ a ∷ []) ++ b ∷ [] → news ≡ a ∷ b ∷ []
+  two_only [] l e = absurd (omega (arith, l))
+  two_only (x ∷ []) l e = absurd (omega (arith, l))
+  two_only (x ∷ y ∷ []) l e = two_last x y qs e
+  two_only (x ∷ y ∷ z ∷ zs) l e = absurd (omega (arith, l))
+
+  -- a list of two was lent and then emptied from its end
+  pub emptied : (olds news ps : List S) (n : ℕ) → olds ≡ one ∷ two ∷ [] → n ≡ 2 → length news ≡ n → take n (news ++ drop (length news) olds) ≡ ps ++ b ∷ [] → ps ≡ qs ++ a ∷ [] → news ≡ a ∷ b ∷ []
+  emptied olds news ps n are is len last next =
+      two_only news (len ∙ is)
+      (subst (λ k. take k (news ++ drop (length news) (one ∷ two ∷ [])) ≡ take n (news ++ drop (length news) olds)) is (subst (λ o. take n (news ++ drop (length news) o) ≡ take n (news ++ drop (length news) olds)) are refl)
+      ∙ (last ∙ ap (λ l. l ++ b ∷ []) next))
+
 -- the two of a list, each with what it became
 module _ {S : Type 0} (P : S → S → Type 0) (one two a b : S) (olds news : List S) (are : olds ≡ one ∷ two ∷ []) (is : news ≡ a ∷ b ∷ [])
     (each : (i : ℕ) (d : S) → i < length olds → P (slice_index_or olds i d) (slice_index_or news i d)) where
@@ -30,7 +48,7 @@ module _ {L M : Type 0} (lock : TracedLock (Node L) Step) (name : M → ℕ) (se
   -- neither has run
   pub ran_none : (lent : Option M) (pass : Pass (Node L) Step) (lanes : List (List Call)) (d : Option Did) → d ≡ None → PartRan lock name seen counts given got lent pass lanes lent pass d
   ran_none (Some m) pass lanes d e = (refl, omega arith, subst (LinkerDid lock name seen counts given got m pass m pass) (sym e) tt)
-  ran_none None pass lanes d e = subst (CallerDid lock name seen counts given got pass lanes pass) (sym e) tt
+  ran_none None pass lanes d e = subst (CallerDid lock pass lanes pass) (sym e) tt
 
   module _ (before : M) (old new : Pass (Node L) Step) (lanes : List (List Call)) (lent : Option M) (d : Option Did) (p : PartRan lock name seen counts given got (Some before) old lanes lent new d) where
     -- the net is there still
@@ -50,7 +68,11 @@ module _ {L M : Type 0} (lock : TracedLock (Node L) Step) (name : M → ℕ) (se
       pub linked_by : d ≡ Some (did.Linked (Ok tt)) → Linked lock old new × LinkedMore counts given got (first lock) old new (seen before) (seen after)
       linked_by e = subst (LinkerDid lock name seen counts given got before old after new) e ran_by.2
 
-  -- the calls were made
-  pub called_by : (old new : Pass (Node L) Step) (lanes : List (List Call)) (lent : Option M) (d : Option Did) (made : Replies) → d ≡ Some (did.Called made) → PartRan lock name seen counts given got None old lanes lent new d → Called lock old lanes new (lists_of made.lanes) made.last
-  called_by old new lanes None d made e p = subst (CallerDid lock name seen counts given got old lanes new) e p
-  called_by old new lanes (Some m) d made e p = absurd p
+  -- who makes the calls has no net
+  pub caller_did : (old new : Pass (Node L) Step) (lanes : List (List Call)) (lent : Option M) (d : Option Did) → PartRan lock name seen counts given got None old lanes lent new d → CallerDid lock old lanes new d
+  caller_did old new lanes None d p = p
+  caller_did old new lanes (Some m) d p = absurd p
+
+-- the calls were made
+pub called_by : {L : Type 0} (lock : TracedLock (Node L) Step) (old new : Pass (Node L) Step) (lanes : List (List Call)) (d : Option Did) (made : Replies) → d ≡ Some (did.Called made) → CallerDid lock old lanes new d → Called lock old lanes new (lists_of made.lanes) made.last
+called_by lock old new lanes d made e p = subst (CallerDid lock old lanes new) e p

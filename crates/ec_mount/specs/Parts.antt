@@ -17,27 +17,28 @@ use Rattle.ec_mount.specs.Linking.{Linked, LinkedMore}
 use Rattle.ec_mount.specs.declared.linked.Did.{Did}
 use Rattle.ec_mount.specs.declared.linked.Did.TheVariants as did
 
-module _ {L M : Type 0} (lock : TracedLock (Node L) Step) where
-  -- a pass of the lock, which has begun no call where it's to make them
-  abbrev pub IsReady : Pass (Node L) Step → Option M → Type 0
-  IsReady pass lent = IsPassOf lock pass × (lent ≡ None → calls_by pass.number (front pass) ≡ [])
+module _ {L : Type 0} (lock : TracedLock (Node L) Step) where
+  -- it made the calls, or did nothing
+  abbrev pub CallerDid : Pass (Node L) Step → List (List Call) → Pass (Node L) Step → Option Did → Type 0
+  CallerDid old lanes new None = Unit {0}
+  CallerDid old lanes new (Some (did.Linked r)) = ⊥
+  CallerDid old lanes new (Some (did.Called made)) = Called lock old lanes new (lists_of made.lanes) made.last
 
-  module _ (name : M → ℕ) (seen : M → NetSeen) (counts : L → ℕ) (given : L → Option (List Heard)) (got : L → Option (List (List ℕ))) where
-    -- it linked again, or did nothing
-    abbrev pub LinkerDid : M → Pass (Node L) Step → M → Pass (Node L) Step → Option Did → Type 0
-    LinkerDid before old after new None = Unit {0}
-    LinkerDid before old after new (Some (did.Linked r)) = Linked lock old new × OnOk r (LinkedMore counts given got (first lock) old new (seen before) (seen after))
-    LinkerDid before old after new (Some (did.Called made)) = ⊥
+  module _ {M : Type 0} where
+    -- a pass of the lock, which has begun no call where it's to make them
+    abbrev pub IsReady : Pass (Node L) Step → Option M → Type 0
+    IsReady pass lent = IsPassOf lock pass × (lent ≡ None → calls_by pass.number (front pass) ≡ [])
 
-    -- it made the calls, or did nothing
-    abbrev pub CallerDid : Pass (Node L) Step → List (List Call) → Pass (Node L) Step → Option Did → Type 0
-    CallerDid old lanes new None = Unit {0}
-    CallerDid old lanes new (Some (did.Linked r)) = ⊥
-    CallerDid old lanes new (Some (did.Called made)) = Called lock old lanes new (lists_of made.lanes) made.last
+    module _ (name : M → ℕ) (seen : M → NetSeen) (counts : L → ℕ) (given : L → Option (List Heard)) (got : L → Option (List (List ℕ))) where
+      -- it linked again, or did nothing
+      abbrev pub LinkerDid : M → Pass (Node L) Step → M → Pass (Node L) Step → Option Did → Type 0
+      LinkerDid before old after new None = Unit {0}
+      LinkerDid before old after new (Some (did.Linked r)) = Linked lock old new × OnOk r (LinkedMore counts given got (first lock) old new (seen before) (seen after))
+      LinkerDid before old after new (Some (did.Called made)) = ⊥
 
-    -- a part has run: who links again still has the net that was lent to it
-    abbrev pub PartRan : Option M → Pass (Node L) Step → List (List Call) → Option M → Pass (Node L) Step → Option Did → Type 0
-    PartRan (Some before) old lanes (Some after) new met = (name after ≡ name before) × ((seen before).faults ≤ (seen after).faults) × LinkerDid before old after new met
-    PartRan (Some before) old lanes None new met = ⊥
-    PartRan None old lanes (Some after) new met = ⊥
-    PartRan None old lanes None new met = CallerDid old lanes new met
+      -- a part has run: who links again still has the net that was lent
+      abbrev pub PartRan : Option M → Pass (Node L) Step → List (List Call) → Option M → Pass (Node L) Step → Option Did → Type 0
+      PartRan (Some before) old lanes (Some after) new met = (name after ≡ name before) × ((seen before).faults ≤ (seen after).faults) × LinkerDid before old after new met
+      PartRan (Some before) old lanes None new met = ⊥
+      PartRan None old lanes (Some after) new met = ⊥
+      PartRan None old lanes None new met = CallerDid old lanes new met

@@ -63,5 +63,4 @@ impl<'a, N: Net> Lending for Lent<'a, N> {
 /// Does nothing, but this use of a reference that came back ties it to what was lent.
 pub fn take_back<T>(lent: &mut T)
     ensures { lent.new ≡ lent.old }
-{
-}
+{}

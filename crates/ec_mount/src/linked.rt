@@ -8,7 +8,7 @@ ghost use Rattle.ec_clerknode.specs.Turns.{calls_by};
 ghost use Rattle.ec_mount.specs.Calls.{Called};
 ghost use Rattle.ec_mount.specs.Linking.{HasLinked};
 ghost use Rattle.ec_mount.specs.declared.linked.Did.TheVariants as did;
-ghost use Rattle.ec_mount.specs.Parts.{IsReady, PartRan};
+ghost use Rattle.ec_mount.specs.Parts.{CallerDid, IsReady, PartRan};
 
 use crate::calls::{Replies, make_calls};
 use crate::lending::{Lending, Lent, take_back};
@@ -21,11 +21,10 @@ use ec_lock::Pass;
 use ec_plain::Call;
 use std::alloc::Global;
 use std::io::Eprint;
-use std::mem;
 use std::sync::Wait;
-use std::thread;
 use std::thread::Threads;
 use std::time::Clock;
+use std::{mem, thread};
 
 /// The pass with this number exchanges links: the first that is drawn.
 pub const LINKER: u64 = 1;
@@ -115,7 +114,7 @@ fn run_parts<M: Lending, R: Around + Eprint>(
 }
 
 // Runs both at the same time. For want of memory neither has run.
-fn run_both<M: Lending + Drop, R: Around + Eprint>(
+fn run_two<M: Lending + Drop, R: Around + Eprint>(
     rt: &R,
     alloc: Global,
     who: &Who<'_>,
@@ -147,6 +146,55 @@ fn run_both<M: Lending + Drop, R: Around + Eprint>(
         unreachable!();
     };
     (one, two)
+}
+
+// The passes of who linked again and of the calls, and what both came to.
+#[derive(Drop)]
+struct Both<L: Link> {
+    other: Pass<Node<L>>,
+    pass: Pass<Node<L>>,
+    linked: Option<Did>,
+    called: Option<Did>,
+}
+
+// Links again by the net that is lent, and makes the calls at the same time. The net comes back.
+fn run_both<M: Lending + Drop, R: Around + Eprint>(
+    rt: &R,
+    alloc: Global,
+    who: &Who<'_>,
+    clerk: &SharedClerk<M::Link>,
+    lent: &mut Option<M>,
+    other: Pass<Node<M::Link>>,
+    pass: Pass<Node<M::Link>>,
+    lanes: Vec<List<Call>>,
+) -> Both<M::Link>
+    requires lent { lent.old ≡ None → ⊥ }
+    requires other { IsPassOf clerk.now.lock other }
+    requires pass { IsPassOf clerk.now.lock pass × (calls_by pass.number (front pass) ≡ []) }
+    ensures linked { PartRan clerk.now.lock M.name (λ m. record { faults = M.faults m; bad = M.bad m; ended = M.ended m }) (λ l. M.Link.faults l + M.Link.closes l) M.Link.given M.Link.got
+        lent.old other [] lent.new result.other result.linked }
+    ensures called { CallerDid clerk.now.lock pass lanes.items result.pass result.called }
+{
+    let linker = Part {
+        pass: other,
+        lent: lent.take(),
+        lanes: Vec::new(alloc),
+        did: None,
+    };
+    let caller = Part {
+        pass,
+        lent: None,
+        lanes,
+        did: None,
+    };
+    let (linker, caller) = run_two(rt, alloc, who, clerk, linker, caller);
+    *lent = linker.lent;
+    Both {
+        other: linker.pass,
+        pass: caller.pass,
+        linked: linker.did,
+        called: caller.did,
+    }
 }
 
 // Whether who links again has ended without want of memory.
@@ -187,40 +235,23 @@ pub fn make_linked<N: Net, R: Around + Eprint>(
         (record { faults = N.faults net.old; bad = N.bad net.old; ended = N.ended net.old })
         (record { faults = N.faults net.new; bad = N.bad net.new; ended = N.ended net.new })) }
 {
-    let mut pass = pass;
-    let other = clerk.split(rt, &mut pass)?;
+    let mut own = pass;
+    let other = clerk.split(rt, &mut own)?;
     if other.number() != LINKER {
         return None;
     }
-    let linker = Part {
-        pass: other,
-        lent: Some(Lent { net }),
-        lanes: Vec::new(alloc),
-        did: None,
-    };
-    let caller = Part {
-        pass,
-        lent: None,
-        lanes,
-        did: None,
-    };
-    let (linker, caller) = run_both(rt, alloc, who, clerk, linker, caller);
-    let Part {
-        pass: other,
-        lent,
-        lanes: _,
-        did: linked,
-    } = linker;
-    let Part {
-        pass,
-        lent: _,
-        lanes: _,
-        did: called,
-    } = caller;
+    let mut lent = Some(Lent { net });
+    let both = run_both(rt, alloc, who, clerk, &mut lent, other, own, lanes);
     let Some(Lent { net: back }) = lent else {
         unreachable!();
     };
     take_back(back);
+    let Both {
+        other,
+        pass,
+        linked,
+        called,
+    } = both;
     if !has_linked(linked) {
         return None;
     }
