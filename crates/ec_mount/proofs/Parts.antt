@@ -1,6 +1,6 @@
 -- Who linked again and who made the calls, at the same time.
 use Rattle.std.specs.Prelude.{OnOk}
-use Rattle.std.proofs.Common.{◌≡◌, ◌<◌, ◌≤◌, ℕ, List, [], ◌∷◌, ◌++◌, length, length-append, take, drop, Option, Some, None, Ok, slice_index_or, refl, sym, ap, ◌∙◌, subst, arith}
+use Rattle.std.proofs.Common.{◌≡◌, ◌<◌, ◌≤◌, ℕ, zero, suc, List, [], ◌∷◌, ◌++◌, length, length-append, take, drop, Option, Some, None, Ok, slice_index_or, refl, sym, ap, ◌∙◌, subst, arith}
 use Rattle.ec_plain.specs.declared.call.Call.{Call}
 use Rattle.ec_lock.specs.Passes.{first}
 use Rattle.ec_lock.specs.declared.types.Pass.{Pass}
@@ -43,6 +43,19 @@ module _ {S : Type 0} (P : S → S → Type 0) (one two a b : S) (olds news : Li
 
   pub second_of : P two b
   second_of = subst (λ n. P two (slice_index_or n 1 two)) is (subst (λ o. P (slice_index_or o 1 two) (slice_index_or news 1 two)) are (each 1 two (subst (λ o. 1 < length o) (sym are) (omega arith))))
+
+-- what holds of one of two holds of each
+pub each_of : {S : Type 0} (P : S → Type 0) (one two : S) (olds : List S) → olds ≡ one ∷ two ∷ [] → P one → P two → (k : ℕ) (d : S) → k < length olds → P (slice_index_or olds k d)
+each_of P one two olds are p q k d l = subst (λ o. P (slice_index_or o k d)) (sym are) (go k (subst (λ o. k < length o) are l))
+  where
+    go : (k : ℕ) → k < 2 → P (slice_index_or (one ∷ two ∷ []) k d)
+    go zero l = p
+    go (suc zero) l = q
+    go (suc (suc k)) l = absurd (omega (arith, l))
+
+-- what was called with this value left that one
+pub left_so : {S : Type 0} (P : S → S → Type 0) (a b x y : S) → a ≡ x → b ≡ y → P a b → P x y
+left_so P a b x y e f p = subst (λ s. P s y) e (subst (P a) f p)
 
 module _ {L M : Type 0} (lock : TracedLock (Node L) Step) (name : M → ℕ) (seen : M → NetSeen) (counts : L → ℕ) (given : L → Option (List Heard)) (got : L → Option (List (List ℕ))) where
   -- neither has run

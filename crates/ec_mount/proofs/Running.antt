@@ -254,7 +254,7 @@ ran_alone id boot before after steps none r =
 two_none : (start : List (List ℕ)) (e : Ended) (ps : List (List Step)) → AreTold start (e ∷ []) ps → has_two ps ≡ false
 two_none start e [] a = refl
 two_none start e (p ∷ []) a = refl
-two_none start e (p ∷ q ∷ qs) a = absurd a.2.2
+two_none start e (p ∷ q ∷ qs) a = absurd a.2
 
 -- where one link came back, none was exchanged
 pub ran_one : (id boot : ℕ) (before after : NetSeen) (steps : List Step) (e : Ended) → after.ended ≡ before.ended ++ e ∷ [] → Ran id boot before after steps → RanAlone id boot before after steps

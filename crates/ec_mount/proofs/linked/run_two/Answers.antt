@@ -1,8 +1,13 @@
 use Rattle.std.proofs.Common.{◌≡◌, ◌+◌, [], ◌∷◌, ◌++◌, ap, ◌∙◌, arith}
-use Rattle.ec_mount.specs.Parts.{PartRan}
+use Rattle.ec_mount.specs.Parts.{IsReady, PartRan}
 use Rattle.ec_mount.specs.declared.linked.Part.{Part}
-use Rattle.ec_mount.proofs.Parts.{emptied, first_of, second_of, ran_none}
+use Rattle.ec_mount.proofs.Parts.{emptied, first_of, second_of, each_of}
 use Rattle.ec_mount.proofs.linked.run_two.Goals as goal
+
+pub run_parts-requires-after_bounds : goal.run_parts-requires-after_bounds
+run_parts-requires-after_bounds g c κs within =
+    let are = c.in-Ok-push-2.ensures.items ∙ ap (λ l. l ++ c.args.two ∷ []) (c.in-Ok-push.ensures.items ∙ ap (λ l. l ++ c.args.one ∷ []) c.in-Ok.ensures.items) in
+    each_of (λ (s : Part g.row.M.Denot g.row.M-Link.Denot g.row.M-Link-Bell.Denot). IsReady c.args.clerk.now.lock s.pass s.lent) c.args.one c.args.two c.deref_mut.result.now (c.deref_mut.ensures.value ∙ are) c.requires.one.0 c.requires.two.0
 
 pub returns-clause-one : goal.returns-clause-one
 returns-clause-one g c =
