@@ -318,7 +318,7 @@ module _ (first : ℕ → ℕ) (fate : Fate) (x : LeaseWorld) (h : Holds (Asks f
       by true = receive-agrees c b x (nth-issued n (at_or [] c x.issued) b q) a
       by false = nothing-agrees x a
 
-  each-agrees : (e : LeaseEvent) → (happens fate e x).fault ≡ None → LeasesAgree (happens fate e x).world
+  pub each-agrees : (e : LeaseEvent) → (happens fate e x).fault ≡ None → LeasesAgree (happens fate e x).world
   each-agrees (event.World e) f = event-agrees e f
   each-agrees (event.Tick n) f = tick-agrees x n a
   each-agrees (event.Skew c s) f = record { new = a.new; received = a.received; noted = a.noted; past = a.past }
