@@ -1,18 +1,17 @@
 -- What is read of a header is what stands there.
-use Rattle.std.proofs.Common.{Result, Ok, Err, ◌≡◌, ◌+◌, ◌≤◌, ◌<◌, ◌⊎◌, inl, inr, ⊎_elim, refl, ℕ, List, length, Bool, true, false, Option, Some, None, sym, subst, ◌∙◌, ap, arith}
+use Rattle.std.proofs.Common.{Result, Ok, Err, ◌≡◌, ◌+◌, ◌≤◌, ◌<◌, ◌⊎◌, inl, inr, ⊎_elim, refl, ℕ, List, length, Bool, true, false, Option, None, sym, subst, ◌∙◌, ap, arith}
 use Rattle.std.proofs.lemmas.List.{ext_get_or}
 use Rattle.std.specs.Int.{w64, from_be_bytes}
 use Rattle.ec_disk.specs.Disk.{View, byte, part}
 use Rattle.ec_disk.specs.Images.{length-part, byte-part}
 use Rattle.ec_slots.specs.declared.slot.Slot.{Slot}
 use Rattle.ec_slots.specs.declared.slot.Slot.TheVariants as slot
-use Rattle.ec_slots.specs.Slots.{gate_in, number_in, open_gate, other, place_of}
+use Rattle.ec_slots.specs.Slots.{gate_in, number_in, other, place_of}
 use Rattle.ec_half.specs.declared.fault.MirrorFault.{MirrorFault}
 use Rattle.ec_half.specs.declared.fault.MirrorFault.TheVariants as fault
 use Rattle.ec_half.specs.declared.header.Found.{Found}
-use Rattle.ec_half.specs.declared.header.Found.TheVariants as found_as
 use Rattle.ec_half.specs.declared.header.Generation.{Generation}
-use Rattle.ec_half.specs.Headers.{word, most_generation, Shows, of_slot, IsNewest, IsFound, HasGeneration, IsBad, NoWord, NoGate, TooGreat, IsNoHalf}
+use Rattle.ec_half.specs.Headers.{word, most_generation, Shows, of_slot, IsNewest, IsFound, IsBad, NoWord, NoGate, TooGreat, IsNoHalf}
 
 shown_of : (image : List ℕ) (a b : Option ℕ) (s : Slot) → Shows image 512 a → Shows image 1024 b → Shows image (place_of s) (of_slot a b s)
 shown_of image a b slot.First first second = first
@@ -117,9 +116,6 @@ place_is a b e = cc
 
 pub generation_of : (a b : Generation) → ◌≡◌ {A = Result Generation ℕ} (Ok a) (Ok b) → a ≡ b
 generation_of a b e = cc
-
-pub half_of : (a b : Generation) → ◌≡◌ {A = Result Found MirrorFault} (Ok (found_as.Half a)) (Ok (found_as.Half b)) → a ≡ b
-half_of a b e = cc
 
 pub which_is : (j k a b : ℕ) → ◌≡◌ {A = Result Found MirrorFault} (Err (fault.BadMirror j a)) (Err (fault.BadMirror k b)) → k ≡ j
 which_is j k a b e = cc

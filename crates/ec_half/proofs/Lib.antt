@@ -1,2 +1,4 @@
+pub mod Copies
+pub mod Fills
 pub mod Halves
 pub mod Headers

@@ -5,6 +5,8 @@ use Rattle.ec_disk.specs.Disk.{byte, part}
 use Rattle.ec_slots.specs.declared.slot.Slot.{Slot}
 use Rattle.ec_slots.specs.declared.slot.Slot.TheVariants as slot
 use Rattle.ec_slots.specs.Slots.{gate_in, number_in, open_gate, other, header_bytes}
+use Rattle.ec_half.specs.declared.header.Found.{Found}
+use Rattle.ec_half.specs.declared.header.Found.TheVariants as found
 use Rattle.ec_half.specs.declared.header.Generation.{Generation}
 
 abbrev pub word : List ℕ
@@ -59,3 +61,8 @@ pub record IsNoHalf (image : List ℕ) (place : ℕ) : Type 0 where
 -- a disk that is empty, or has a generation
 abbrev pub MayBeHalf : List ℕ → Type 0
 MayBeHalf image = (length image ≤ header_bytes) ⊎ ((g : Generation) × IsFound image g)
+
+-- what a disk is found to be, by what a read gives
+abbrev pub IsOf : Found → List ℕ → Type 0
+IsOf found.Empty image = length image ≤ header_bytes
+IsOf (found.Half g) image = (header_bytes < length image) × IsFound image g

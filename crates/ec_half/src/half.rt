@@ -3,7 +3,9 @@ ghost use Rattle.std.specs.Prelude.{◌≡◌, ◌≤◌, ◌+◌, ℕ, List, []
 ghost use Rattle.ec_base.specs.Outside.{Rose};
 ghost use Rattle.ec_disk.specs.declared.disk.DiskAnswer.TheVariants as said;
 ghost use Rattle.ec_disk.specs.declared.disk.DiskLen.TheVariants as len;
-ghost use Rattle.ec_half.specs.Contents.{IsHalf, HasLength};
+ghost use Rattle.ec_disk.specs.Choices.{cut};
+ghost use Rattle.ec_disk.specs.Disk.{InRange, part, written};
+ghost use Rattle.ec_half.specs.Contents.{IsHalf, HasHeader, HasLength, behind, Rested, Stays, Fewer, Loosened, AllSynced};
 ghost use Rattle.ec_slots.specs.Slots.{header_bytes};
 
 use crate::header::{Generation, HEADER_BYTES, raise};
@@ -14,6 +16,8 @@ use ec_trace::Trace;
 pub struct Half<'a, D: CrashDisk> {
     pub disk: &'a mut D,
     pub generation: Generation,
+    /// The greatest generation that it may hold: a raise that isn't done may have written one.
+    pub most: u64,
     /// The content's length, where it's known.
     pub len: Option<u64>,
     /// The disk may be armed.
@@ -22,6 +26,7 @@ pub struct Half<'a, D: CrashDisk> {
     pub has_failed: bool,
     // The disk as it was handed in, in proofs alone.
     pub from: Trace<D>,
+    ghost bounded: { generation.number ≤ most },
     ghost unarmed: { may_stop ≡ false → (D.counts disk.now).armed ≡ None },
     ghost whole: { (n : ℕ) → len ≡ Some n → D.tells → IsHalf (D.view disk.now) n },
     ghost later: { (before : D) → from.items ≡ before ∷ [] → (D.counts before).faults ≤ (D.counts disk.now).faults },
@@ -34,11 +39,13 @@ impl<'a, D: CrashDisk> Half<'a, D> {
         ensures disk { result.disk.now ≡ disk.old }
         ensures from { result.from.items ≡ disk.old ∷ [] }
         ensures generation { result.generation ≡ generation }
+        ensures most { result.most ≡ generation.number }
     {
         let from = Trace::new().and(&*disk);
         Half {
             disk,
             generation,
+            most: generation.number,
             len: None,
             may_stop: true,
             has_failed: false,
@@ -65,12 +72,17 @@ impl<'a, D: CrashDisk> Half<'a, D> {
         ensures failed { result ≡ said.Failed → self.new.has_failed ≡ true }
         ensures keeps { self.old.has_failed ≡ true → self.new.has_failed ≡ true }
         ensures generation { self.new.generation ≡ self.old.generation }
+        ensures bytes { D.tells → result ≡ said.Done → into.new ≡ part (behind (D.view self.old.disk.now)).gives at (length into.old) }
+        ensures rests { D.tells → Rested (behind (D.view self.old.disk.now)) (behind (D.view self.new.disk.now)) }
+        ensures known { self.new.len ≡ self.old.len }
+        ensures most { self.new.most ≡ self.old.most }
     {
         let Some(place) = self.place_of(at, into.len()) else {
             return DiskAnswer::NoMemory;
         };
         let answer = self.disk.read_at(place, into);
-        self.note(answer)
+        self.note(answer);
+        answer
     }
 
     /// Where it isn't done, the content's length isn't known any more.
@@ -80,6 +92,11 @@ impl<'a, D: CrashDisk> Half<'a, D> {
         ensures failed { result ≡ said.Failed → self.new.has_failed ≡ true }
         ensures keeps { self.old.has_failed ≡ true → self.new.has_failed ≡ true }
         ensures generation { self.new.generation ≡ self.old.generation }
+        ensures written { D.tells → result ≡ said.Done → HasHeader (D.view self.old.disk.now) → (behind (D.view self.new.disk.now)).gives ≡ written at piece.now (behind (D.view self.old.disk.now)).gives }
+        ensures header { D.tells → result ≡ said.Done → HasHeader (D.view self.old.disk.now) → HasHeader (D.view self.new.disk.now) }
+        ensures loosened { D.tells → Loosened (InRange at (length piece.now)) (behind (D.view self.old.disk.now)) (behind (D.view self.new.disk.now)) }
+        ensures known { result ≡ said.Done → (n : ℕ) → self.old.len ≡ Some n → self.new.len ≡ Some (max n (at + length piece.now)) }
+        ensures most { self.new.most ≡ self.old.most }
     {
         let Some(end) = at.checked_add(piece.len() as u64) else {
             return DiskAnswer::NoMemory;
@@ -90,10 +107,12 @@ impl<'a, D: CrashDisk> Half<'a, D> {
         let len = self.len;
         self.len = None;
         let answer = self.disk.write_at(place, piece);
-        if answer == DiskAnswer::Done {
-            self.len = grown(len, end);
+        if answer != DiskAnswer::Done {
+            self.note(answer);
+            return answer;
         }
-        self.note(answer)
+        self.len = grown(len, end);
+        DiskAnswer::Done
     }
 
     pub fn sync(&mut self) -> DiskAnswer
@@ -102,9 +121,16 @@ impl<'a, D: CrashDisk> Half<'a, D> {
         ensures failed { result ≡ said.Failed → self.new.has_failed ≡ true }
         ensures keeps { self.old.has_failed ≡ true → self.new.has_failed ≡ true }
         ensures generation { self.new.generation ≡ self.old.generation }
+        ensures stays { D.tells → Stays (behind (D.view self.old.disk.now)) (behind (D.view self.new.disk.now)) }
+        ensures all_synced { D.tells → result ≡ said.Done → AllSynced (behind (D.view self.new.disk.now)) }
+        ensures saved { D.tells → result ≡ said.Done → (behind (D.view self.new.disk.now)).synced ≡ (behind (D.view self.new.disk.now)).gives }
+        ensures unsaved { D.tells → (result ≡ said.Done → ⊥) → (behind (D.view self.new.disk.now)).synced ≡ (behind (D.view self.old.disk.now)).synced }
+        ensures known { self.new.len ≡ self.old.len }
+        ensures most { self.new.most ≡ self.old.most }
     {
         let answer = self.disk.sync();
-        self.note(answer)
+        self.note(answer);
+        answer
     }
 
     /// The content's length, for which the disk is asked where it isn't known.
@@ -114,6 +140,11 @@ impl<'a, D: CrashDisk> Half<'a, D> {
         ensures failed { result ≡ len.Failed → self.new.has_failed ≡ true }
         ensures keeps { self.old.has_failed ≡ true → self.new.has_failed ≡ true }
         ensures generation { self.new.generation ≡ self.old.generation }
+        ensures len { D.tells → (n : ℕ) → result ≡ len.Len n → n ≡ length (behind (D.view self.old.disk.now)).gives }
+        ensures header { D.tells → HasHeader (D.view self.old.disk.now) → HasHeader (D.view self.new.disk.now) }
+        ensures rests { D.tells → Rested (behind (D.view self.old.disk.now)) (behind (D.view self.new.disk.now)) }
+        ensures known { self.new.len ≡ self.old.len }
+        ensures most { self.new.most ≡ self.old.most }
     {
         if let Some(len) = self.len {
             return DiskLen::Len(len);
@@ -136,18 +167,26 @@ impl<'a, D: CrashDisk> Half<'a, D> {
         ensures keeps { self.old.has_failed ≡ true → self.new.has_failed ≡ true }
         ensures raised { result ≡ said.Done → self.new.generation.number ≡ number }
         ensures generation { (result ≡ said.Done → ⊥) → self.new.generation ≡ self.old.generation }
+        ensures stays { D.tells → result ≡ said.Done → Stays (behind (D.view self.old.disk.now)) (behind (D.view self.new.disk.now)) }
+        ensures all_synced { D.tells → result ≡ said.Done → AllSynced (behind (D.view self.new.disk.now)) }
+        ensures saved { D.tells → result ≡ said.Done → (behind (D.view self.new.disk.now)).synced ≡ (behind (D.view self.new.disk.now)).gives }
+        ensures known { result ≡ said.Done → (n : ℕ) × (self.new.len ≡ Some n) }
+        ensures most { (n : ℕ) → self.old.most ≤ n → number ≤ n → self.new.most ≤ n }
     {
         let len = match self.known_len() {
             Ok(len) => len,
             Err(fault) => return fault,
         };
         self.len = None;
+        self.most = self.most.max(number);
         let answer = raise(self.disk, self.generation, number);
-        if answer == DiskAnswer::Done {
-            self.generation = self.generation.next(number);
-            self.len = Some(len);
+        if answer != DiskAnswer::Done {
+            self.note(answer);
+            return answer;
         }
-        self.note(answer)
+        self.generation = self.generation.next(number);
+        self.len = Some(len);
+        DiskAnswer::Done
     }
 
     pub fn power_cut(&mut self, choice: Choice) -> DiskAnswer
@@ -156,10 +195,16 @@ impl<'a, D: CrashDisk> Half<'a, D> {
         ensures failed { result ≡ said.Failed → self.new.has_failed ≡ true }
         ensures keeps { self.old.has_failed ≡ true → self.new.has_failed ≡ true }
         ensures generation { self.new.generation ≡ self.old.generation }
+        ensures fewer { D.tells → Fewer (behind (D.view self.old.disk.now)) (behind (D.view self.new.disk.now)) }
+        ensures leaves { D.tells → result ≡ said.Done → (behind (D.view self.new.disk.now)).gives ≡ cut choice (behind (D.view self.old.disk.now)).gives (behind (D.view self.old.disk.now)).synced }
+        ensures all_synced { D.tells → result ≡ said.Done → AllSynced (behind (D.view self.new.disk.now)) }
+        ensures saved { D.tells → result ≡ said.Done → (behind (D.view self.new.disk.now)).synced ≡ (behind (D.view self.new.disk.now)).gives }
+        ensures most { self.new.most ≡ self.old.most }
     {
         self.len = None;
         let answer = self.disk.power_cut(choice);
-        self.note(answer)
+        self.note(answer);
+        answer
     }
 
     /// Ends an arm.
@@ -167,6 +212,9 @@ impl<'a, D: CrashDisk> Half<'a, D> {
         ensures may_stop { self.new.may_stop ≡ false }
         ensures failed { self.new.has_failed ≡ self.old.has_failed }
         ensures generation { self.new.generation ≡ self.old.generation }
+        ensures rests { D.tells → Rested (behind (D.view self.old.disk.now)) (behind (D.view self.new.disk.now)) }
+        ensures known { self.new.len ≡ self.old.len }
+        ensures most { self.new.most ≡ self.old.most }
     {
         self.disk.disarm();
         self.may_stop = false;
@@ -181,6 +229,9 @@ impl<'a, D: CrashDisk> Half<'a, D> {
         ensures generation { self.new.generation ≡ self.old.generation }
         ensures not_done { IsErrOf result said.Done → ⊥ }
         ensures len { IfOk result (λ len. D.tells → HasLength (D.view self.new.disk.now) len) }
+        ensures rests { D.tells → Rested (behind (D.view self.old.disk.now)) (behind (D.view self.new.disk.now)) }
+        ensures known_still { self.new.len ≡ self.old.len }
+        ensures most { self.new.most ≡ self.old.most }
     {
         if let Some(len) = self.len {
             return Ok(len);
@@ -197,24 +248,26 @@ impl<'a, D: CrashDisk> Half<'a, D> {
     }
 
     // A call that failed is noted.
-    fn note(&mut self, answer: DiskAnswer) -> DiskAnswer
+    fn note(&mut self, answer: DiskAnswer)
         requires failed { answer ≡ said.Failed → (before : D) → self.old.from.items ≡ before ∷ [] → Rose (D.counts before).faults (D.counts self.old.disk.now).faults }
-        ensures answer { result ≡ answer }
         ensures may_stop { self.new.may_stop ≡ self.old.may_stop }
-        ensures failed { result ≡ said.Failed → self.new.has_failed ≡ true }
+        ensures failed { answer ≡ said.Failed → self.new.has_failed ≡ true }
         ensures keeps { self.old.has_failed ≡ true → self.new.has_failed ≡ true }
         ensures generation { self.new.generation ≡ self.old.generation }
+        ensures disk { self.new.disk.now ≡ self.old.disk.now }
+        ensures known { self.new.len ≡ self.old.len }
+        ensures most { self.new.most ≡ self.old.most }
     {
         if answer == DiskAnswer::Failed {
             self.has_failed = true;
         }
-        answer
     }
 }
 
 // The length of a content of which the bytes up to this place were written.
 fn grown(len: Option<u64>, end: u64) -> Option<u64>
-    ensures { (n : ℕ) → result ≡ Some n → (m : ℕ) × (len ≡ Some m) × (n ≡ max m end) }
+    ensures known { (n : ℕ) → result ≡ Some n → (m : ℕ) × (len ≡ Some m) × (n ≡ max m end) }
+    ensures grows { (m : ℕ) → len ≡ Some m → result ≡ Some (max m end) }
 {
     match len {
         Some(len) => Some(len.max(end)),

@@ -1,13 +1,14 @@
 // What stands in front of a disk's content.
-ghost use Rattle.std.specs.Prelude.{◌≡◌, ◌<◌, ◌≤◌, ◌+◌, ℕ, Ok, Err, None, Some, IsOk, IsErrOf, length};
+ghost use Rattle.std.specs.Prelude.{◌≡◌, ◌<◌, ◌≤◌, ◌+◌, ℕ, Ok, Err, None, Some, IsOk, IfOk, IsErrOf, length};
 ghost use Rattle.std.specs.Int.{w64, from_be_bytes};
-ghost use Rattle.ec_disk.specs.Disk.{part, Counted, Rests};
+ghost use Rattle.ec_disk.specs.Disk.{part, Counted, IsSynced, Rests};
 ghost use Rattle.ec_disk.specs.declared.disk.DiskAnswer.TheVariants as said;
-ghost use Rattle.ec_half.specs.Contents.{IsHalf, HasLength};
-ghost use Rattle.ec_half.specs.Headers.{Shows, IsNewest, IsFound, IsBad, IsNoHalf, MayBeHalf};
+ghost use Rattle.ec_half.specs.Contents.{IsHalf, HasHeader, HasLength};
+ghost use Rattle.ec_half.specs.Headers.{Shows, IsNewest, IsFound, IsBad, IsNoHalf, IsOf, MayBeHalf};
 ghost use Rattle.ec_half.specs.declared.fault.MirrorFault.TheVariants as fault;
 ghost use Rattle.ec_half.specs.declared.header.Found.TheVariants as found;
 ghost use Rattle.ec_half.specs.declared.header.Generation.{Generation};
+ghost use Rattle.ec_slots.specs.Contents.{content};
 ghost use Rattle.ec_slots.specs.Slots.{header_bytes};
 
 use crate::fault::{MirrorFault, done};
@@ -56,6 +57,8 @@ impl Generation {
 /// Raises a disk's generation to this number, by the slot that doesn't hold the present one.
 pub fn raise<D: Disk>(disk: &mut D, present: Generation, number: u64) -> DiskAnswer
     ensures half { result ≡ said.Done → D.tells → (len : ℕ) → HasLength (D.view disk.old) len → IsHalf (D.view disk.new) len }
+    ensures content { result ≡ said.Done → D.tells → HasHeader (D.view disk.old) → content (D.view disk.new).gives ≡ content (D.view disk.old).gives }
+    ensures synced { result ≡ said.Done → D.tells → IsSynced (D.view disk.new) }
     ensures counts { Counted (D.counts disk.old) (D.counts disk.new) (result ≡ said.Failed) (result ≡ said.Stopped) }
 {
     let spare = present.slot.other();
@@ -82,9 +85,8 @@ pub enum Found {
 
 /// Looks at the first or the second disk, and writes nothing.
 pub fn look_at<D: Disk>(disk: &mut D, which: u8) -> Result<Found, MirrorFault>
-    ensures empty { result ≡ Ok found.Empty → D.tells → length (D.view disk.old).gives ≤ header_bytes }
     ensures ok { IsOk result → D.tells → MayBeHalf (D.view disk.old).gives }
-    ensures found { (g : Generation) → result ≡ Ok (found.Half g) → D.tells → IsFound (D.view disk.old).gives g }
+    ensures found { IfOk result (λ found. D.tells → IsOf found (D.view disk.old).gives) }
     ensures bad { (k place : ℕ) → result ≡ Err (fault.BadMirror k place) → (k ≡ which) × (D.tells → IsNoHalf (D.view disk.old).gives place) }
     ensures rests { D.tells → Rests (D.view disk.old) (D.view disk.new) }
     ensures counts { Counted (D.counts disk.old) (D.counts disk.new) (IsErrOf result fault.DiskFailed) (IsErrOf result fault.DiskStopped) }
@@ -165,6 +167,8 @@ fn number_behind(bytes: &[u8; READ_BYTES], at: usize) -> u64
 
 /// Writes the header of an empty disk, with generation 1.
 pub fn begin<D: Disk>(disk: &mut D) -> DiskAnswer
+    ensures header { result ≡ said.Done → D.tells → HasHeader (D.view disk.new) }
+    ensures content { result ≡ said.Done → D.tells → length (D.view disk.old).gives ≤ header_bytes → content (D.view disk.new).gives ≡ content (D.view disk.old).gives }
     ensures counts { Counted (D.counts disk.old) (D.counts disk.new) (result ≡ said.Failed) (result ≡ said.Stopped) }
 {
     let mut bytes = [0; 4_096];

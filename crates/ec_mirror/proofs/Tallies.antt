@@ -1,8 +1,8 @@
 -- What a turn does to a mirror's counts.
-use Rattle.std.proofs.Common.{◌≡◌, ◌≤◌, ◌⊎◌, ◌-◌, ℕ, Option, Some, None, inl, inr, refl, sym, ◌∙◌, ap, subst, arith}
+use Rattle.std.proofs.Common.{◌≡◌, ◌≤◌, ℕ, Option, Some, None, inr, refl, sym, ◌∙◌, subst, arith}
 use Rattle.std.specs.Prelude.{IsSome}
 use Rattle.std.proofs.lemmas.Bool.Decides.{nat_tests}
-use Rattle.ec_base.specs.Outside.{Rose, one_more}
+use Rattle.ec_base.specs.Outside.{one_more}
 use Rattle.ec_disk.specs.Counting.{counted_both}
 use Rattle.ec_disk.specs.Disk.{Counts, Counted, CountsDown, IsDue, IsOver, after_calls}
 use Rattle.ec_disk.specs.declared.disk.DiskAnswer.{DiskAnswer}

@@ -138,7 +138,7 @@ impl<'a, A: CrashDisk, B: CrashDisk> Parts<'a, A, B> {
 
     fn renewed(&mut self, number: u64) -> DiskAnswer
         requires dead { self.old.is_dead ≡ true }
-        requires numbered { Numbered self.old.present.pair.kept self.old.present.pair.first.generation.number self.old.present.pair.second.generation.number number }
+        requires numbered { Numbered self.old.present.pair.kept self.old.present.pair.first.generation.number self.old.present.pair.first.most self.old.present.pair.second.generation.number self.old.present.pair.second.most number }
         ensures answer { result ≡ said.Done }
         ensures tally { self.new.tally ≡ record self.old.tally { armed = None } }
     {

@@ -1,9 +1,12 @@
 // Two disks become a mirror.
-ghost use Rattle.std.specs.Prelude.{◌≡◌, ◌⊎◌, ◌≤◌, ◌<◌, ◌+◌, ℕ, Err, IsOk, IfOk, true, false};
-ghost use Rattle.ec_half.specs.Headers.{IsNoHalf, MayBeHalf};
+ghost use Rattle.std.specs.Prelude.{◌≡◌, ◌⊎◌, ◌≤◌, ◌<◌, ◌+◌, ℕ, Err, IsOk, IfOk, length, true, false};
+ghost use Rattle.ec_half.specs.Contents.{behind, HasHeader, Rested};
+ghost use Rattle.ec_half.specs.Headers.{IsNoHalf, IsOf, MayBeHalf};
 ghost use Rattle.ec_half.specs.declared.fault.MirrorFault.TheVariants as fault;
 ghost use Rattle.ec_mirror.specs.declared.kept.Kept.TheVariants as left;
+ghost use Rattle.ec_mirror.specs.Joins.{content_of, joined_of, lead, number_of};
 ghost use Rattle.ec_mirror.specs.Numbers.{Numbered};
+ghost use Rattle.ec_slots.specs.Contents.{content, filled};
 
 use crate::kept::Kept;
 use crate::mirror::Mirror;
@@ -23,6 +26,8 @@ impl<'a, A: CrashDisk, B: CrashDisk> Mirror<'a, A, B> {
         ensures bad_second { (place : ℕ) → result ≡ Err (fault.BadMirror 2 place) → B.tells → IsNoHalf (B.view second.old).gives place }
         ensures first_is_good { (place : ℕ) → result ≡ Err (fault.BadMirror 2 place) → A.tells → MayBeHalf (A.view first.old).gives }
         ensures both_are_good { IsOk result → (A.tells → MayBeHalf (A.view first.old).gives) × (B.tells → MayBeHalf (B.view second.old).gives) }
+        ensures content { IfOk result (λ mirror. A.tells → B.tells → (lead mirror.parts.present.pair.kept (behind (A.view mirror.parts.present.pair.first.disk.now)) (behind (B.view mirror.parts.present.pair.second.disk.now))).gives ≡ content_of (A.view first.old).gives (B.view second.old).gives) }
+        ensures alike { IfOk result (λ mirror. A.tells → B.tells → mirror.parts.present.pair.kept ≡ left.Both → (behind (A.view mirror.parts.present.pair.first.disk.now)).gives ≡ (behind (B.view mirror.parts.present.pair.second.disk.now)).gives) }
     {
         let found_first = match look_at(first, 1) {
             Ok(found) => found,
@@ -56,7 +61,10 @@ fn made<'a, A: CrashDisk, B: CrashDisk>(
     found_first: Found,
     second: &'a mut B,
     found_second: Found,
-) -> Result<Mirror<'a, A, B>, DiskAnswer> {
+) -> Result<Mirror<'a, A, B>, DiskAnswer>
+    ensures content { IfOk result (λ mirror. A.tells → B.tells → IsOf found_first (A.view first.old).gives → IsOf found_second (B.view second.old).gives → (lead mirror.parts.present.pair.kept (behind (A.view mirror.parts.present.pair.first.disk.now)) (behind (B.view mirror.parts.present.pair.second.disk.now))).gives ≡ content_of (A.view first.old).gives (B.view second.old).gives) }
+    ensures alike { IfOk result (λ mirror. A.tells → B.tells → IsOf found_first (A.view first.old).gives → IsOf found_second (B.view second.old).gives → mirror.parts.present.pair.kept ≡ left.Both → (behind (A.view mirror.parts.present.pair.first.disk.now)).gives ≡ (behind (B.view mirror.parts.present.pair.second.disk.now)).gives) }
+{
     let first = begun(first, found_first)?;
     let second = begun(second, found_second)?;
     let number = first.generation.number.max(second.generation.number);
@@ -77,7 +85,12 @@ fn made<'a, A: CrashDisk, B: CrashDisk>(
 }
 
 // A disk with its generation; an empty one gets a header.
-fn begun<'a, D: CrashDisk>(disk: &'a mut D, found: Found) -> Result<Half<'a, D>, DiskAnswer> {
+fn begun<'a, D: CrashDisk>(disk: &'a mut D, found: Found) -> Result<Half<'a, D>, DiskAnswer>
+    ensures most { IfOk result (λ half. half.most ≡ half.generation.number) }
+    ensures number { IfOk result (λ half. D.tells → IsOf found (D.view disk.old).gives → half.generation.number ≡ number_of (D.view disk.old).gives) }
+    ensures header { IfOk result (λ half. D.tells → IsOf found (D.view disk.old).gives → HasHeader (D.view half.disk.now)) }
+    ensures content { IfOk result (λ half. D.tells → IsOf found (D.view disk.old).gives → content (D.view half.disk.now).gives ≡ content (D.view disk.old).gives) }
+{
     match found {
         Found::Half(generation) => Ok(Half::new(disk, generation)),
         Found::Empty => match begin(disk) {
@@ -93,28 +106,34 @@ fn joined<'a, A: CrashDisk, B: CrashDisk>(
     number: u64,
 ) -> Result<u64, DiskAnswer>
     requires whole { pair.old.kept ≡ left.Both }
-    requires first { pair.old.first.generation.number < number }
-    requires second { pair.old.second.generation.number < number }
+    requires first { pair.old.first.most < number }
+    requires second { pair.old.second.most < number }
     ensures first_leads { pair.new.kept ≡ left.First → pair.old.second.generation.number ≤ pair.old.first.generation.number }
     ensures second_leads { pair.new.kept ≡ left.Second → pair.old.first.generation.number < pair.old.second.generation.number }
-    ensures numbered { IfOk result (λ made. Numbered pair.new.kept pair.new.first.generation.number pair.new.second.generation.number made) }
+    ensures numbered { IfOk result (λ made. Numbered pair.new.kept pair.new.first.generation.number pair.new.first.most pair.new.second.generation.number pair.new.second.most made) }
     ensures whole { pair.new.kept ≡ left.Leaving → ⊥ }
     ensures without_first { pair.new.kept ≡ left.Second → pair.new.first.has_failed ≡ true }
     ensures without_second { pair.new.kept ≡ left.First → pair.new.second.has_failed ≡ true }
+    ensures content { IfOk result (λ made. A.tells → B.tells → HasHeader (A.view pair.old.first.disk.now) → HasHeader (B.view pair.old.second.disk.now) → (lead pair.new.kept (behind (A.view pair.new.first.disk.now)) (behind (B.view pair.new.second.disk.now))).gives ≡ joined_of pair.old.first.generation.number pair.old.second.generation.number (behind (A.view pair.old.first.disk.now)).gives (behind (B.view pair.old.second.disk.now)).gives) }
+    ensures alike { IfOk result (λ made. A.tells → B.tells → HasHeader (A.view pair.old.first.disk.now) → HasHeader (B.view pair.old.second.disk.now) → pair.new.kept ≡ left.Both → (behind (A.view pair.new.first.disk.now)).gives ≡ (behind (B.view pair.new.second.disk.now)).gives) }
 {
     if pair.second.generation.number <= pair.first.generation.number {
         let joined = join_from(&mut pair.first, &mut pair.second, number)?;
-        if !joined {
-            pair.kept = Kept::First;
-        }
+        pair.kept = kept_by(joined, Kept::First);
         Ok(pair.first.generation.number)
     } else {
         let joined = join_from(&mut pair.second, &mut pair.first, number)?;
-        if !joined {
-            pair.kept = Kept::Second;
-        }
+        pair.kept = kept_by(joined, Kept::Second);
         Ok(pair.second.generation.number)
     }
+}
+
+// The disks that count, where one of them goes on alone or both do.
+fn kept_by(joined: bool, alone: Kept) -> Kept
+    ensures both { joined ≡ true → result ≡ left.Both }
+    ensures alone { joined ≡ false → result ≡ alone }
+{
+    if joined { Kept::Both } else { alone }
 }
 
 // Makes the other disk as the source, which gets zeros to its length where that one is longer. Whether the other one hasn't failed.
@@ -123,20 +142,24 @@ fn join_from<S: CrashDisk, O: CrashDisk>(
     other: &mut Half<'_, O>,
     number: u64,
 ) -> Result<bool, DiskAnswer>
-    requires { other.old.generation.number < number }
+    requires source { source.old.most < number }
+    requires other { other.old.most < number }
     ensures alone { IfOk result (λ joined. joined ≡ false → other.new.has_failed ≡ true) }
     ensures raised { IfOk result (λ joined. joined ≡ true → source.new.generation.number ≡ number) }
     ensures raised_alone { IfOk result (λ joined. joined ≡ false → source.new.generation.number ≡ number + 1) }
     ensures other_raised { IfOk result (λ joined. joined ≡ true → other.new.generation.number ≡ number) }
     ensures other_stays { IfOk result (λ joined. joined ≡ false → other.new.generation.number < number) }
+    ensures most { IfOk result (λ joined. joined ≡ true → source.new.most ≤ number) }
+    ensures most_alone { IfOk result (λ joined. source.new.most ≤ number + 1) }
+    ensures other_most { IfOk result (λ joined. other.new.most ≤ number) }
+    ensures content { IfOk result (λ joined. S.tells → O.tells → HasHeader (S.view source.old.disk.now) → (behind (S.view source.new.disk.now)).gives ≡ filled (behind (S.view source.old.disk.now)).gives (length (behind (O.view other.old.disk.now)).gives)) }
+    ensures alike { IfOk result (λ joined. joined ≡ true → S.tells → O.tells → HasHeader (S.view source.old.disk.now) → HasHeader (O.view other.old.disk.now) → (behind (O.view other.new.disk.now)).gives ≡ (behind (S.view source.new.disk.now)).gives) }
 {
     let len = len_of(source)?;
     let other_len = len_of(other)?;
-    if len < other_len {
-        match lengthen(source, len, other_len) {
-            DiskAnswer::Done => {}
-            fault => return Err(fault),
-        }
+    match lengthen(source, len, other_len) {
+        DiskAnswer::Done => {}
+        fault => return Err(fault),
     }
     match join(source, other, len.max(other_len), number) {
         Joined::Both => Ok(true),
@@ -146,7 +169,11 @@ fn join_from<S: CrashDisk, O: CrashDisk>(
 }
 
 fn len_of<D: CrashDisk>(half: &mut Half<'_, D>) -> Result<u64, DiskAnswer>
-    ensures { half.new.generation ≡ half.old.generation }
+    ensures generation { half.new.generation ≡ half.old.generation }
+    ensures most { half.new.most ≡ half.old.most }
+    ensures len { IfOk result (λ len. D.tells → len ≡ length (behind (D.view half.old.disk.now)).gives) }
+    ensures rests { D.tells → Rested (behind (D.view half.old.disk.now)) (behind (D.view half.new.disk.now)) }
+    ensures header { D.tells → HasHeader (D.view half.old.disk.now) → HasHeader (D.view half.new.disk.now) }
 {
     match half.len() {
         DiskLen::Len(len) => Ok(len),
@@ -159,9 +186,10 @@ fn opened<'a, A: CrashDisk, B: CrashDisk>(pair: Pair<'a, A, B>, number: u64) -> 
     requires first { pair.first.may_stop ≡ false }
     requires second { pair.second.may_stop ≡ false }
     requires whole { pair.kept ≡ left.Leaving → ⊥ }
-    requires numbered { Numbered pair.kept pair.first.generation.number pair.second.generation.number number }
+    requires numbered { Numbered pair.kept pair.first.generation.number pair.first.most pair.second.generation.number pair.second.most number }
     requires without_first { pair.kept ≡ left.Second → pair.first.has_failed ≡ true }
     requires without_second { pair.kept ≡ left.First → pair.second.has_failed ≡ true }
+    ensures { result.present.pair ≡ pair.entry }
 {
     let saved = Trace::new().and(&pair);
     Parts {

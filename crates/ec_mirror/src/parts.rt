@@ -40,7 +40,7 @@ pub(crate) struct Parts<'a, A: CrashDisk, B: CrashDisk> {
     ghost leaving: { present.pair.kept ≡ left.Leaving → present.pair.first.has_failed ≡ true },
     ghost without_first: { present.pair.kept ≡ left.Second → present.pair.first.has_failed ≡ true },
     ghost without_second: { present.pair.kept ≡ left.First → present.pair.second.has_failed ≡ true },
-    ghost numbered: { is_dead ≡ false → Numbered present.pair.kept present.pair.first.generation.number present.pair.second.generation.number number },
+    ghost numbered: { is_dead ≡ false → Numbered present.pair.kept present.pair.first.generation.number present.pair.first.most present.pair.second.generation.number present.pair.second.most number },
     // The mirror has failed only where both disks have, or one of them alone.
     ghost both_failed: { 1 ≤ tally.faults → failed_alone ≡ false → (present.pair.first.has_failed ≡ true) × (present.pair.second.has_failed ≡ true) },
     ghost one_failed: { 1 ≤ tally.faults → present.pair.first.has_failed ≡ false → present.pair.second.has_failed ≡ true },
@@ -86,7 +86,7 @@ impl<'a, A: CrashDisk, B: CrashDisk> Parts<'a, A, B> {
     /// It's sound under this generation, which the disks that aren't dropped have.
     pub(crate) fn thaw(&mut self, number: u64)
         requires dead { self.old.is_dead ≡ true }
-        requires numbered { Numbered self.old.present.pair.kept self.old.present.pair.first.generation.number self.old.present.pair.second.generation.number number }
+        requires numbered { Numbered self.old.present.pair.kept self.old.present.pair.first.generation.number self.old.present.pair.first.most self.old.present.pair.second.generation.number self.old.present.pair.second.most number }
         ensures tally { self.new.tally ≡ self.old.tally }
         ensures present { self.new.present ≡ self.old.present }
         ensures is_dead { self.new.is_dead ≡ false }
