@@ -167,13 +167,16 @@ contains-head q qs = Contains-append_left (q ∷ []) qs q (Contains-push [] q)
 
 -- the first call of a clerk's queue
 module _ (f : ℕ → Queue) (w : World) (c : ℕ) (q : ℕ × Call) (qs : Queue) (a : QueuesAgree (but c (q ∷ qs) f) w) where
+  pub head-in : Contains (but c (q ∷ qs) f c) q
+  head-in = subst (λ z. Contains (cond z (q ∷ qs) (f c)) q) (sym (same c)) (contains-head q qs)
+
   pub head-may : MayResume w c q.0 q.1
-  head-may = a.may c q.0 q.1 (subst (λ z. Contains (cond z (q ∷ qs) (f c)) q) (sym (same c)) (contains-head q qs))
+  head-may = a.may c q.0 q.1 head-in
 
   apart-own : AreApart (q ∷ qs)
   apart-own = subst (λ z. AreApart (cond z (q ∷ qs) (f c))) (same c) (a.apart c)
 
-  in-rest : (d : ℕ) (r : ℕ × Call) → Contains (but c qs f d) r → Contains (but c (q ∷ qs) f d) r
+  pub in-rest : (d : ℕ) (r : ℕ × Call) → Contains (but c qs f d) r → Contains (but c (q ∷ qs) f d) r
   in-rest d r i = by (d == c) i
     where
       by : (z : Bool) → Contains (cond z qs (f d)) r → Contains (cond z (q ∷ qs) (f d)) r

@@ -10,6 +10,7 @@ use Rattle.ec_durable.specs.WellFormed.{WellFormed}
 use Rattle.ec_durable.specs.declared.state.Durable.{Durable}
 use Rattle.ec_protocol.specs.World.{Fate, forget, moving, open_world, show_line}
 use Rattle.ec_protocol.specs.declared.world.World.{World}
+use Rattle.ec_queues.specs.Adds.{MayBe}
 use Rattle.ec_queues.specs.Queued.{MayResume}
 use Rattle.ec_queues.specs.Reached.{QueuedReached}
 use Rattle.ec_lawful.specs.Steps.{MayHappen}
@@ -37,6 +38,11 @@ queues x c = at_or [] c x.queued
 abbrev pub MayStep : LeaseWorld → LeaseEvent → Type 0
 MayStep x (event.World e) = MayHappen x.world e
 MayStep x _ = ⊤
+
+-- P holds of the call of an event, if it's one
+abbrev pub MayAsk : (ℕ → ℕ → Call → Type 0) → LeaseEvent → Type 0
+MayAsk P (event.World e) = MayBe P e
+MayAsk P _ = ⊤
 
 -- A world with leases over this state: it was opened, and then events happened that may, whatever the disk did in them and whatever clocks showed.
 pub data LeaseReached (d : Durable) : LeaseWorld → Type 0 where
