@@ -1,2 +1,3 @@
 pub mod Queues
 pub mod Reaching
+pub mod Runs

@@ -129,7 +129,7 @@ module _ (d : Durable) (wf : WellFormed d) (sixteen : length d.sessions ≡ 16) 
   whole : (w : World) → QueuedReached d w → Holds Whole w
   whole w r = let h = holds w r in (h.0, h.1.0, h.2)
 
-  asks : (w : World) → QueuedReached d w → Holds (Asks (opened_in d).first_boot) w
+  pub asks : (w : World) → QueuedReached d w → Holds (Asks (opened_in d).first_boot) w
   asks w r = let h = holds w r in (h.0, (h.1.0.all, h.1.1), h.2)
 
   -- A clerk that isn't held has nothing untold, if it's in a session.
@@ -516,7 +516,6 @@ module _ (d : Durable) (wf : WellFormed d) (sixteen : length d.sessions ≡ 16) 
   any-ask (event.Grant c) = tt
   any-ask (event.Hand c n) = tt
   any-ask event.Renew = tt
-
 
   both : (x : LeaseWorld) → LeaseReached d x → Both d wf sixteen unmade Any x
   both _ (opens l e w q) = record { good = opens-good d wf sixteen unmade Any l e w q; leases = opening-agrees l e w }

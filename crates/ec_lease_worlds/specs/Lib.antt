@@ -1,2 +1,3 @@
 pub mod Queues
 pub mod Printed
+pub mod Runs

@@ -5,6 +5,7 @@
 
 ghost use Rattle.ec_lease_worlds.specs.Printed.{LeasesArePrinted};
 ghost use Rattle.ec_lease_worlds.specs.Queues.{LeaseWorldsAreReached};
+ghost use Rattle.ec_lease_worlds.specs.Runs.{LeaseRunsAreLeased};
 
 /// Each world with leases, between two steps, stands over a world that is reached where calls wait before
 /// they begin: its lines are lawful, and what its clerks hold is what is kept. Its Leases agree with its
@@ -17,4 +18,10 @@ pub fn lease_worlds_are_reached()
 /// So each front of its lines is legal in printed order.
 pub fn printed_order_is_legal_with_leases()
     ensures { LeasesArePrinted }
+{}
+
+/// Each run over a script with leases, to its end or to a fault, whatever the disk does and whatever clocks
+/// show: its lines without `held` are lawful, and each front of them is legal in printed order.
+pub fn lease_runs_are_legal_in_printed_order()
+    ensures { LeaseRunsAreLeased }
 {}
