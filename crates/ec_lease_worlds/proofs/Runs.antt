@@ -1,6 +1,6 @@
 -- A run over a script with leases: each of its worlds is reached, and its lines are those of its pieces.
-use Rattle.std.proofs.Common.{◌≡◌, refl, sym, ap, subst, ◌∙◌, inl, inr, ◌⊎◌, arith, ◌<◌, ◌+◌, ℕ, suc, zero, Bool, true, false, ◌==◌, ◌||◌, length, List, [], ◌∷◌, ◌++◌, Option, Some, None, append-nil, append_assoc}
-use Rattle.std.specs.Prelude.{map, nat_lt, Ok, ⊤}
+use Rattle.std.proofs.Common.{◌≡◌, refl, sym, ap, subst, ◌∙◌, inl, inr, ◌⊎◌, arith, ◌<◌, ◌≤◌, ◌+◌, ◌-◌, ℕ, suc, zero, Bool, true, false, ◌==◌, ◌||◌, length, List, [], ◌∷◌, ◌++◌, Option, Some, None, append-nil, append_assoc}
+use Rattle.std.specs.Prelude.{slice_get, map, nat_lt, Ok, ⊤}
 use Rattle.std.specs.List.{list_any}
 use Rattle.ec_base.specs.Tables.{at, at_or, put}
 use Rattle.ec_base.specs.declared.counter.Counter.{Counter}
@@ -27,7 +27,7 @@ use Rattle.ec_protocol.specs.Drill.{Fates, this_fate, later_fates, first_fates, 
 use Rattle.ec_protocol.specs.declared.script.Line.{Line as Scripted}
 use Rattle.ec_protocol.specs.declared.script.Line.TheVariants as line
 use Rattle.ec_coherence.proofs.Tables.{none_some, same_some}
-use Rattle.ec_lawful.specs.Calls.{IsOf}
+use Rattle.ec_lawful.specs.Calls.{AreOf, IsOf}
 use Rattle.ec_lawful.specs.Headline.{FrontsAreLawful, placed_on}
 use Rattle.ec_lawful.specs.Olds.{opened_in}
 use Rattle.ec_lawful.specs.Reached.{IsInOrder}
@@ -56,7 +56,7 @@ use Rattle.ec_lease_machine.specs.declared.world.LeaseShown.TheVariants.{Line, H
 use Rattle.ec_lease_machine.specs.declared.world.LeaseWorld.{LeaseWorld}
 use Rattle.ec_lease_laws.proofs.Steps.{begun, each-agrees, gone_on, opening-agrees}
 use Rattle.ec_lease_worlds.specs.Queues.{MayAsk, MayStep, queues}
-use Rattle.ec_lease_worlds.specs.Runs.{AreLeased, IsFit, lease_run, unheld}
+use Rattle.ec_lease_worlds.specs.Runs.{AreLeased, IsCallIn, IsFit, lease_run, unheld}
 use Rattle.ec_lease_worlds.proofs.Reaching.{Begins, Both, asks, begins-all, forgets-good, happens-good, left-good, next, note-leaves, opens-good, renew-leaves, unsettles-good}
 
 no-fault : {A : Type 0} {B : Type 0} {f : B} → Some f ≡ None → A
@@ -266,19 +266,43 @@ IsUnspent Done = ⊤
 IsUnspent (BadLine n k) = ⊤
 IsUnspent (TooMany n) = ⊤
 
-module _ (d : Durable) (wf : WellFormed d) (sixteen : length d.sessions ≡ 16) (unmade : images d.volume 0 ≡ Gone) where
+-- Lines of a script.
+
+at-place : (before : List LeaseRead) (r : LeaseRead) (rest : List LeaseRead) → slice_get (before ++ r ∷ rest) (length before) ≡ Some r
+at-place [] r rest = refl
+at-place (b ∷ before) r rest = at-place before r rest
+
+one-longer : (before : List LeaseRead) (r : LeaseRead) → length (before ++ r ∷ []) ≡ length before + 1
+one-longer [] r = refl
+one-longer (b ∷ before) r = ap (λ k. suc k) (one-longer before r) ∙ shifted (length before)
+  where
+    shifted : (k : ℕ) → suc (k + 1) ≡ suc k + 1
+    shifted k = omega arith
+
+module _ (d : Durable) (wf : WellFormed d) (sixteen : length d.sessions ≡ 16) (unmade : images d.volume 0 ≡ Gone) (script : List LeaseRead) where
+  -- a call of the script, in a line before this one
+  abbrev S : ℕ → ℕ → ℕ → Call → Type 0
+  S n l c cl = (l < n) × IsCallIn script l c cl
+
+  its : (n l c : ℕ) (cl : Call) → S n l c cl → IsCallIn script l c cl
+  its n l c cl p = p.1
+
   -- a world that has shown these lines
   record Stands (ss : List Shown) (x : LeaseWorld) : Type 0 where
     reached : QueuedReached d x.world
     timely : AreTimely [] x.world.shown
     lines : x.world.shown ≡ ss
+    own : EachLine (IsOf (IsCallIn script)) x.world.shown
 
-  module _ (P : ℕ → ℕ → Call → Type 0) where
+  module _ (P : ℕ → ℕ → Call → Type 0) (sub : (l c : ℕ) (cl : Call) → P l c cl → IsCallIn script l c cl) where
+    own-of : (w : World) → AreOf P w → EachLine (IsOf (IsCallIn script)) w.shown
+    own-of w o = each-turn (IsOf P) (IsOf (IsCallIn script)) (of-turn P (IsCallIn script) sub) w.shown o.shown
+
     abbrev B : LeaseWorld → Type 0
     B x = Both d wf sixteen unmade P x
 
     stands-in : (ss : List Shown) (x : LeaseWorld) → B x → x.world.shown ≡ ss → Stands ss x
-    stands-in ss x b q = record { reached = b.good.reached; timely = b.good.timely; lines = q }
+    stands-in ss x b q = record { reached = b.good.reached; timely = b.good.timely; lines = q; own = own-of x.world b.good.of }
 
     -- steps that began behind these lines
     record Came (ss : List Shown) (m : LeaseMoving) : Type 0 where
@@ -329,7 +353,7 @@ module _ (d : Durable) (wf : WellFormed d) (sixteen : length d.sessions ≡ 16) 
         goes : is_held c m.world ≡ false → ((x : LeaseMoving) → x.fault ≡ None → Begins d wf sixteen unmade P c qs x.world → x.world.world.shown ≡ ss ++ unheld x.shown → Came ss (begin_each c qs x))
             → (o : Option WorldFault) → (resume c q.0 q.1 w).fault ≡ o → Came ss (elim (step-of o).fault as (λ z. LeaseMoving) [ Some e ↦ step-of o | None ↦ begin_each c qs (step-of o) ])
         goes free more (Some f) e = resume-spent c q.0 q.1 w f e (λ n s. record {
-          stands = record { reached = a.reached; timely = a.timely; lines = onward-lines (fault.World f) };
+          stands = record { reached = a.reached; timely = a.timely; lines = onward-lines (fault.World f); own = own-of w a.of };
           good = λ u. absurd (subst (λ g. IsOther (Some (fault.World g))) s u);
         })
         goes free more None e = more (step-of None) refl (subst (λ x. Begins d wf sixteen unmade P c qs x.world) is (next d wf sixteen unmade P c q qs m a free (ap (λ x. x.fault) is))) (now-lines e)
@@ -360,6 +384,7 @@ module _ (d : Durable) (wf : WellFormed d) (sixteen : length d.sessions ≡ 16) 
         reached = (k.stands).reached;
         timely = (k.stands).timely;
         lines = (k.stands).lines ∙ ap (λ z. z ++ unheld n.shown) l ∙ append_assoc ss (unheld m.shown) (unheld n.shown) ∙ ap (λ z. ss ++ z) (sym (unheld-append m.shown n.shown));
+        own = (k.stands).own;
       };
       good = k.good;
     }
@@ -408,68 +433,71 @@ module _ (d : Durable) (wf : WellFormed d) (sixteen : length d.sessions ≡ 16) 
     message-came fate f (Some n) x b may = step-came fate (event.World (f n)) x b (may n).0 (may n).1
 
   -- a line may be carried out whose number is that of the next one
-  line-came : (fate : Fate) (n : ℕ) (l : LeaseLine) (x : LeaseWorld) → Both d wf sixteen unmade (Below n) x → ((k : ℕ) → IsFit (reads l k)) → Came (Below (n + 1)) x.world.shown (line_happens fate n l x)
-  line-came fate n l x b fit = at-line l fit
+  line-came : (fate : Fate) (n : ℕ) (l : LeaseLine) (col : ℕ) → 1 ≤ n → slice_get script (n - 1) ≡ Some (reads l col) → (x : LeaseWorld) → Both d wf sixteen unmade (S n) x → ((k : ℕ) → IsFit (reads l k)) → Came (S (n + 1)) (its (n + 1)) x.world.shown (line_happens fate n l x)
+  line-came fate n l col one here x b fit = at-line l fit here
     where
       -- all numbers are below the next one
-      c : Both d wf sixteen unmade (Below (n + 1)) x
+      c : Both d wf sixteen unmade (S (n + 1)) x
       c = record {
         good = record {
           reached = b.good.reached;
           queued = b.good.queued;
           timely = b.good.timely;
           of = record {
-            calls = λ e m k cl q. more k n (b.good.of.calls e m k cl q);
-            shown = each-turn (IsOf (Below n)) (IsOf (Below (n + 1))) (of-turn (Below n) (Below (n + 1)) (λ k e cl p. more k n p)) x.world.shown b.good.of.shown;
+            calls = λ e m k cl q. more k e cl (b.good.of.calls e m k cl q);
+            shown = each-turn (IsOf (S n)) (IsOf (S (n + 1))) (of-turn (S n) (S (n + 1)) more) x.world.shown b.good.of.shown;
           };
-          mine = λ e k cl i. more k n (b.good.mine e k cl i);
+          mine = λ e k cl i. more k e cl (b.good.mine e k cl i);
         };
         leases = b.leases;
       }
         where
-          more : (k m : ℕ) → k < m → k < m + 1
-          more k m p = omega (arith, p)
+          wider : (k m : ℕ) → k < m → k < m + 1
+          wider k m p = omega (arith, p)
+
+          more : (k e : ℕ) (cl : Call) → S n k e cl → S (n + 1) k e cl
+          more k e cl p = (wider k n p.0, p.1)
 
       next-one : (m : ℕ) → m < m + 1
       next-one m = omega arith
 
-      does : (e : Event) → MayStep x (event.World e) → MayAsk (Below (n + 1)) (event.World e) → Came (Below (n + 1)) x.world.shown (world_happens fate e x)
-      does e may be = step-came (Below (n + 1)) fate (event.World e) x c may be
+      does : (e : Event) → MayStep x (event.World e) → MayAsk (S (n + 1)) (event.World e) → Came (S (n + 1)) (its (n + 1)) x.world.shown (world_happens fate e x)
+      does e may be = step-came (S (n + 1)) (its (n + 1)) fate (event.World e) x c may be
 
-      at-drill : (s : Scripted) → ((k : ℕ) → IsFit (reads (lines.Drill s) k)) → Came (Below (n + 1)) x.world.shown (drill_line fate n s x)
-      at-drill line.Comment fit = moving-came (Below (n + 1)) x c
-      at-drill (line.Call e cl) fit = does (of_world.Call e n cl) (record { unshown = unshown n x.world.shown b.good.of.shown; unused = λ o m k dl q. b.good.of.calls o m k dl q }, (fit 0).0, (fit 0).1) (next-one n)
-      at-drill (line.Push e m) fit = does (of_world.Push e m) tt tt
-      at-drill (line.Cut e) fit = does (of_world.Cut e) tt tt
-      at-drill (line.Uncut e) fit = does (of_world.Uncut e) tt tt
-      at-drill (line.Drop e k m) fit = message-came (Below (n + 1)) fate of_world.Drop (find e k m x.world) x c (λ j. (tt, tt))
-      at-drill (line.Repeat e k m) fit = message-came (Below (n + 1)) fate of_world.Repeat (find e k m x.world) x c (λ j. (tt, tt))
-      at-drill (line.Deliver e k m) fit = message-came (Below (n + 1)) fate of_world.Deliver (find e k m x.world) x c (λ j. (tt, tt))
-      at-drill (line.Resend e) fit = does (of_world.Resend e) tt tt
-      at-drill (line.Crash e) fit = does (of_world.Crash e) tt tt
-      at-drill (line.End e) fit = does (of_world.End e) tt tt
-      at-drill line.Stop fit = does of_world.Stop tt tt
-      at-drill (line.Arm m ch) fit = does (of_world.Arm m ch) tt tt
-      at-drill line.Restart fit = does of_world.Restart tt tt
+      at-drill : (s : Scripted) → ((k : ℕ) → IsFit (reads (lines.Drill s) k)) → slice_get script (n - 1) ≡ Some (reads (lines.Drill s) col) → Came (S (n + 1)) (its (n + 1)) x.world.shown (drill_line fate n s x)
+      at-drill line.Comment fit at = moving-came (S (n + 1)) (its (n + 1)) x c
+      at-drill (line.Call e cl) fit at = does (of_world.Call e n cl) (record { unshown = unshown n x.world.shown (each-turn (IsOf (S n)) (IsOf (Below n)) (of-turn (S n) (Below n) (λ k o dl p. p.0)) x.world.shown b.good.of.shown); unused = λ o m k dl q. (b.good.of.calls o m k dl q).0 }, (fit 0).0, (fit 0).1) (next-one n, (one, col, at))
+      at-drill (line.Push e m) fit at = does (of_world.Push e m) tt tt
+      at-drill (line.Cut e) fit at = does (of_world.Cut e) tt tt
+      at-drill (line.Uncut e) fit at = does (of_world.Uncut e) tt tt
+      at-drill (line.Drop e k m) fit at = message-came (S (n + 1)) (its (n + 1)) fate of_world.Drop (find e k m x.world) x c (λ j. (tt, tt))
+      at-drill (line.Repeat e k m) fit at = message-came (S (n + 1)) (its (n + 1)) fate of_world.Repeat (find e k m x.world) x c (λ j. (tt, tt))
+      at-drill (line.Deliver e k m) fit at = message-came (S (n + 1)) (its (n + 1)) fate of_world.Deliver (find e k m x.world) x c (λ j. (tt, tt))
+      at-drill (line.Resend e) fit at = does (of_world.Resend e) tt tt
+      at-drill (line.Crash e) fit at = does (of_world.Crash e) tt tt
+      at-drill (line.End e) fit at = does (of_world.End e) tt tt
+      at-drill line.Stop fit at = does of_world.Stop tt tt
+      at-drill (line.Arm m ch) fit at = does (of_world.Arm m ch) tt tt
+      at-drill line.Restart fit at = does of_world.Restart tt tt
 
-      at-line : (s : LeaseLine) → ((k : ℕ) → IsFit (reads s k)) → Came (Below (n + 1)) x.world.shown (line_happens fate n s x)
-      at-line (lines.Drill s) fit = at-drill s fit
-      at-line (lines.Tick k) fit = step-came (Below (n + 1)) fate (event.Tick k) x c tt tt
-      at-line (lines.Skew e s) fit = step-came (Below (n + 1)) fate (event.Skew e s) x c tt tt
-      at-line (lines.Grant e) fit = step-came (Below (n + 1)) fate (event.Grant e) x c tt tt
-      at-line (lines.Hand e k) fit = step-came (Below (n + 1)) fate (event.Hand e k) x c tt tt
+      at-line : (s : LeaseLine) → ((k : ℕ) → IsFit (reads s k)) → slice_get script (n - 1) ≡ Some (reads s col) → Came (S (n + 1)) (its (n + 1)) x.world.shown (line_happens fate n s x)
+      at-line (lines.Drill s) fit at = at-drill s fit at
+      at-line (lines.Tick k) fit at = step-came (S (n + 1)) (its (n + 1)) fate (event.Tick k) x c tt tt
+      at-line (lines.Skew e s) fit at = step-came (S (n + 1)) (its (n + 1)) fate (event.Skew e s) x c tt tt
+      at-line (lines.Grant e) fit at = step-came (S (n + 1)) (its (n + 1)) fate (event.Grant e) x c tt tt
+      at-line (lines.Hand e k) fit at = step-came (S (n + 1)) (its (n + 1)) fate (event.Hand e k) x c tt tt
 
   -- The lines of a script, from this number on.
 
   -- how a run ends that began behind these lines
   record Ended (ss : List Shown) (r : LeaseRan) : Type 0 where
     stands : Stands (ss ++ unheld (joined r.pieces)) r.world
-    good : IsUnspent r.ending → (n : ℕ) × Both d wf sixteen unmade (Below n) r.world
+    good : IsUnspent r.ending → (n : ℕ) × Both d wf sixteen unmade (S n) r.world
 
   -- of one piece
-  one-ended : (n : ℕ) (ss : List Shown) (x : LeaseWorld) (piece : List LeaseShown) (e : Ending) → Stands (ss ++ unheld piece) x → (IsUnspent e → Both d wf sixteen unmade (Below n) x) → Ended ss (ends x piece e)
+  one-ended : (n : ℕ) (ss : List Shown) (x : LeaseWorld) (piece : List LeaseShown) (e : Ending) → Stands (ss ++ unheld piece) x → (IsUnspent e → Both d wf sixteen unmade (S n) x) → Ended ss (ends x piece e)
   one-ended n ss x piece e s g = record {
-    stands = record { reached = s.reached; timely = s.timely; lines = s.lines ∙ ap (λ z. ss ++ unheld z) (sym (append-nil piece)) };
+    stands = record { reached = s.reached; timely = s.timely; lines = s.lines ∙ ap (λ z. ss ++ unheld z) (sym (append-nil piece)); own = s.own };
     good = λ u. (n, g u);
   }
 
@@ -483,11 +511,23 @@ module _ (d : Durable) (wf : WellFormed d) (sixteen : length d.sessions ≡ 16) 
   faulted n k fault.NoSuchLease u = tt
   faulted n k fault.NoMemory u = tt
 
-  run-ended : (k n : ℕ) (ls : List LeaseRead) (fs : List Fates) (x : LeaseWorld) → Both d wf sixteen unmade (Below n) x → Each IsFit ls → Ended x.world.shown (run_from k n ls fs x)
-  run-ended k n [] fs x b fit = record { stands = stands-in (Below n) (x.world.shown ++ []) x b (sym (append-nil x.world.shown)); good = λ u. (n, b) }
-  run-ended k n (unfit col ∷ ls) fs x b fit = one-ended n x.world.shown x [] (BadLine n col) (stands-in (Below n) (x.world.shown ++ []) x b (sym (append-nil x.world.shown))) (λ u. b)
-  run-ended k n (reads l col ∷ ls) fs x b fit = by m.fault refl (λ y c. run-ended k (n + 1) ls (rest_fates fs) y c fit.1)
+  run-ended : (before : List LeaseRead) (k n : ℕ) (ls : List LeaseRead) (fs : List Fates) (x : LeaseWorld) → script ≡ before ++ ls → n ≡ length before + 1 → Both d wf sixteen unmade (S n) x → Each IsFit ls → Ended x.world.shown (run_from k n ls fs x)
+  run-ended before k n [] fs x whole at b fit = record { stands = stands-in (S n) (its n) (x.world.shown ++ []) x b (sym (append-nil x.world.shown)); good = λ u. (n, b) }
+  run-ended before k n (unfit col ∷ ls) fs x whole at b fit = one-ended n x.world.shown x [] (BadLine n col) (stands-in (S n) (its n) (x.world.shown ++ []) x b (sym (append-nil x.world.shown))) (λ u. b)
+  run-ended before k n (reads l col ∷ ls) fs x whole at b fit = by m.fault refl (λ y c. run-ended (before ++ reads l col ∷ []) k (n + 1) ls (rest_fates fs) y (whole ∙ sym (append_assoc before (reads l col ∷ []) ls)) (ap (λ j. j + 1) at ∙ ap (λ j. j + 1) (sym (one-longer before (reads l col)))) c fit.1)
     where
+      first-line : 1 ≤ n
+      first-line = positive n (length before) at
+        where
+          positive : (m j : ℕ) → m ≡ j + 1 → 1 ≤ m
+          positive m j e = omega (arith, e)
+
+      here : slice_get script (n - 1) ≡ Some (reads l col)
+      here = ap (λ z. slice_get z (n - 1)) whole ∙ ap (slice_get (before ++ reads l col ∷ ls)) (less n (length before) at) ∙ at-place before (reads l col) ls
+        where
+          less : (m j : ℕ) → m ≡ j + 1 → m - 1 ≡ j
+          less m j e = omega (arith, e)
+
       m : LeaseMoving
       m = carry_out k (first_fates fs) n l x
 
@@ -514,14 +554,14 @@ module _ (d : Durable) (wf : WellFormed d) (sixteen : length d.sessions ≡ 16) 
           fits (lines.Grant c) f = tt
           fits (lines.Hand c i) f = tt
 
-      c : Came (Below (n + 1)) x.world.shown m
-      c = settle-came (Below (n + 1)) k (later_fates (first_fates fs)) x.world.shown (renewed (line_happens (this_fate (first_fates fs)) n l x))
-          (renewed-came (Below (n + 1)) x.world.shown (line_happens (this_fate (first_fates fs)) n l x) (line-came (this_fate (first_fates fs)) n l x b any-column))
+      c : Came (S (n + 1)) (its (n + 1)) x.world.shown m
+      c = settle-came (S (n + 1)) (its (n + 1)) k (later_fates (first_fates fs)) x.world.shown (renewed (line_happens (this_fate (first_fates fs)) n l x))
+          (renewed-came (S (n + 1)) (its (n + 1)) x.world.shown (line_happens (this_fate (first_fates fs)) n l x) (line-came (this_fate (first_fates fs)) n l col first-line here x b any-column))
 
       -- the lines behind it
-      on : m.fault ≡ None → ((y : LeaseWorld) → Both d wf sixteen unmade (Below (n + 1)) y → Ended y.world.shown (run_from k (n + 1) ls (rest_fates fs) y)) → Ended x.world.shown (piece_before m.shown (run_from k (n + 1) ls (rest_fates fs) (forgotten m.world)))
+      on : m.fault ≡ None → ((y : LeaseWorld) → Both d wf sixteen unmade (S (n + 1)) y → Ended y.world.shown (run_from k (n + 1) ls (rest_fates fs) y)) → Ended x.world.shown (piece_before m.shown (run_from k (n + 1) ls (rest_fates fs) (forgotten m.world)))
       on q more =
-          let g = forgets-good d wf sixteen unmade (Below (n + 1)) m.world (c.good (fault-none (Below (n + 1)) m q)) in
+          let g = forgets-good d wf sixteen unmade (S (n + 1)) m.world (c.good (fault-none (S (n + 1)) (its (n + 1)) m q)) in
           let r = more (forgotten m.world) g in
           record {
             stands = record {
@@ -531,16 +571,17 @@ module _ (d : Durable) (wf : WellFormed d) (sixteen : length d.sessions ≡ 16) 
                   ∙ ap (λ z. z ++ unheld (joined (run_from k (n + 1) ls (rest_fates fs) (forgotten m.world)).pieces)) (c.stands).lines
                   ∙ append_assoc x.world.shown (unheld m.shown) (unheld (joined (run_from k (n + 1) ls (rest_fates fs) (forgotten m.world)).pieces))
                   ∙ ap (λ z. x.world.shown ++ z) (sym (unheld-append m.shown (joined (run_from k (n + 1) ls (rest_fates fs) (forgotten m.world)).pieces)));
+              own = (r.stands).own;
             };
             good = r.good;
           }
 
-      checked : m.fault ≡ None → ((y : LeaseWorld) → Both d wf sixteen unmade (Below (n + 1)) y → Ended y.world.shown (run_from k (n + 1) ls (rest_fates fs) y)) → (z : Bool)
+      checked : m.fault ≡ None → ((y : LeaseWorld) → Both d wf sixteen unmade (S (n + 1)) y → Ended y.world.shown (run_from k (n + 1) ls (rest_fates fs) y)) → (z : Bool)
           → Ended x.world.shown (elim z as (λ y. LeaseRan) [ true ↦ ends m.world m.shown (TooMany (world.pending m.world.world)) | false ↦ piece_before m.shown (run_from k (n + 1) ls (rest_fates fs) (forgotten m.world)) ])
-      checked q more true = one-ended (n + 1) x.world.shown m.world m.shown (TooMany (world.pending m.world.world)) c.stands (λ u. c.good (fault-none (Below (n + 1)) m q))
+      checked q more true = one-ended (n + 1) x.world.shown m.world m.shown (TooMany (world.pending m.world.world)) c.stands (λ u. c.good (fault-none (S (n + 1)) (its (n + 1)) m q))
       checked q more false = on q more
 
-      by : (o : Option LeaseFault) → m.fault ≡ o → ((y : LeaseWorld) → Both d wf sixteen unmade (Below (n + 1)) y → Ended y.world.shown (run_from k (n + 1) ls (rest_fates fs) y))
+      by : (o : Option LeaseFault) → m.fault ≡ o → ((y : LeaseWorld) → Both d wf sixteen unmade (S (n + 1)) y → Ended y.world.shown (run_from k (n + 1) ls (rest_fates fs) y))
           → Ended x.world.shown (elim o as (λ y. LeaseRan) [
             | Some f ↦ ends m.world m.shown (ending_of n col f)
             | None ↦ elim (nat_lt max_pending (world.pending m.world.world)) as (λ y. LeaseRan) [
@@ -556,14 +597,14 @@ module _ (d : Durable) (wf : WellFormed d) (sixteen : length d.sessions ≡ 16) 
   joined-last [] p = append-nil p
   joined-last (q ∷ ps) p = ap (λ z. q ++ z) (joined-last ps p) ∙ sym (append_assoc q (joined ps) p)
 
-  restart-ended : (n : ℕ) (ss : List Shown) (r : LeaseRan) → Stands (ss ++ unheld (joined r.pieces)) r.world → Both d wf sixteen unmade (Below n) r.world → Stands (ss ++ unheld (joined (last_restart r).pieces)) (last_restart r).world
+  restart-ended : (n : ℕ) (ss : List Shown) (r : LeaseRan) → Stands (ss ++ unheld (joined r.pieces)) r.world → Both d wf sixteen unmade (S n) r.world → Stands (ss ++ unheld (joined (last_restart r).pieces)) (last_restart r).world
   restart-ended n ss r s b = by m.fault
     where
       m : LeaseMoving
       m = world_happens runs of_world.Restart r.world
 
-      c : Came (Below n) r.world.world.shown m
-      c = step-came (Below n) runs (event.World of_world.Restart) r.world b tt tt
+      c : Came (S n) (its n) r.world.world.shown m
+      c = step-came (S n) (its n) runs (event.World of_world.Restart) r.world b tt tt
 
       by : (o : Option LeaseFault) → let x = elim o as (λ y. LeaseRan) [ Some f ↦ record r { ending = ending_of 0 0 f } | None ↦ record r { world = m.world; pieces = r.pieces ++ m.shown ∷ [] } ] in Stands (ss ++ unheld (joined x.pieces)) x.world
       by (Some f) = s
@@ -572,32 +613,34 @@ module _ (d : Durable) (wf : WellFormed d) (sixteen : length d.sessions ≡ 16) 
         timely = (c.stands).timely;
         lines = (c.stands).lines ∙ ap (λ z. z ++ unheld m.shown) s.lines ∙ append_assoc ss (unheld (joined r.pieces)) (unheld m.shown)
             ∙ ap (λ z. ss ++ z) (sym (unheld-append (joined r.pieces) m.shown) ∙ ap unheld (sym (joined-last r.pieces m.shown)));
+        own = (c.stands).own;
       }
 
   close-ended : (ss : List Shown) (r : LeaseRan) → Ended ss r → Stands (ss ++ unheld (joined (close r.ending r).pieces)) (close r.ending r).world
   close-ended ss r k = by r.ending k.good
     where
-      up : (n : ℕ) → Both d wf sixteen unmade (Below n) r.world → (z : Bool) → let x = elim z as (λ y. LeaseRan) [ true ↦ last_restart r | false ↦ r ] in Stands (ss ++ unheld (joined x.pieces)) x.world
+      up : (n : ℕ) → Both d wf sixteen unmade (S n) r.world → (z : Bool) → let x = elim z as (λ y. LeaseRan) [ true ↦ last_restart r | false ↦ r ] in Stands (ss ++ unheld (joined x.pieces)) x.world
       up n b true = restart-ended n ss r k.stands b
       up n b false = k.stands
 
-      by : (e : Ending) → (IsUnspent e → (n : ℕ) × Both d wf sixteen unmade (Below n) r.world) → Stands (ss ++ unheld (joined (close e r).pieces)) (close e r).world
+      by : (e : Ending) → (IsUnspent e → (n : ℕ) × Both d wf sixteen unmade (S n) r.world) → Stands (ss ++ unheld (joined (close e r).pieces)) (close e r).world
       by (IsSpent n) g = k.stands
       by Done g = let b = g tt in up b.0 b.1 (is_stopped r)
       by (BadLine n j) g = let b = g tt in up b.0 b.1 (is_stopped r)
       by (TooMany n) g = let b = g tt in up b.0 b.1 (is_stopped r)
 
   -- All runs.
-  pub runs-leased : (w : World) → open_world d ≡ Ok w → (l e : ℕ) (ls : List LeaseRead) (fs : List Fates) → Each IsFit ls → AreLeased (images d.volume) d.max_objects (unheld (joined (lease_run l e ls fs w).pieces))
-  runs-leased w q l e ls fs fit =
-      let first : Both d wf sixteen unmade (Below 1) (opened l e w) = record { good = opens-good d wf sixteen unmade (Below 1) l e w q; leases = opening-agrees l e w } in
-      let s = close-ended w.shown (run_from (bound ls) 1 ls fs (opened l e w)) (run-ended (bound ls) 1 ls fs (opened l e w) first fit) in
-      let r = lease_run l e ls fs w in
+  pub runs-leased : (w : World) → open_world d ≡ Ok w → (l e : ℕ) (fs : List Fates) → Each IsFit script → AreLeased script (images d.volume) d.max_objects (unheld (joined (lease_run l e script fs w).pieces))
+  runs-leased w q l e fs fit =
+      let first : Both d wf sixteen unmade (S 1) (opened l e w) = record { good = opens-good d wf sixteen unmade (S 1) l e w q; leases = opening-agrees l e w } in
+      let s = close-ended w.shown (run_from (bound script) 1 script fs (opened l e w)) (run-ended [] (bound script) 1 script fs (opened l e w) refl refl first fit) in
+      let r = lease_run l e script fs w in
       let o = queued-in-order d wf sixteen unmade r.world.world s.reached in
-      told r.world.world (unheld (joined r.pieces)) (s.lines ∙ ap (λ z. z ++ unheld (joined r.pieces)) (no-lines d wf sixteen unmade w q)) s.timely o
+      told r.world.world (unheld (joined r.pieces)) (s.lines ∙ ap (λ z. z ++ unheld (joined r.pieces)) (no-lines d wf sixteen unmade w q)) s.timely s.own o
     where
-      told : (v : World) (ss : List Shown) → v.shown ≡ ss → AreTimely [] v.shown → IsInOrder (images d.volume) d.max_objects v → AreLeased (images d.volume) d.max_objects ss
-      told v ss q t o = record {
+      told : (v : World) (ss : List Shown) → v.shown ≡ ss → AreTimely [] v.shown → EachLine (IsOf (IsCallIn script)) v.shown → IsInOrder (images d.volume) d.max_objects v → AreLeased script (images d.volume) d.max_objects ss
+      told v ss q t own o = record {
+        own = subst (EachLine (IsOf (IsCallIn script))) q own;
         top = o.top;
         greatest = o.greatest;
         lawful = subst (FrontsAreLawful (placed_on (images d.volume) o.top) d.max_objects) q o.lawful;

@@ -1,10 +1,12 @@
 -- Runs over scripts with leases: their lines without `held` are lawful, and legal in the order in which they were printed.
-use Rattle.std.specs.Prelude.{◌≡◌, ◌<◌, ℕ, T, List, [], ◌∷◌, ◌++◌, length, Ok, ⊤}
+use Rattle.std.specs.Prelude.{◌≡◌, ◌<◌, ◌≤◌, ◌-◌, ℕ, Some, slice_get, T, List, [], ◌∷◌, ◌++◌, length, Ok, ⊤}
 use Rattle.ec_plain.specs.Bounds.{is_bounded}
+use Rattle.ec_plain.specs.declared.call.Call.{Call}
 use Rattle.ec_volume.specs.Volume.{Images, images}
 use Rattle.ec_volume.specs.declared.image.Image.TheVariants.{Gone}
 use Rattle.ec_history.specs.History.{Each}
 use Rattle.ec_history.specs.Legal.{IsLegal}
+use Rattle.ec_history.specs.Placing.{EachLine}
 use Rattle.ec_history.specs.declared.shown.Shown.{Shown}
 use Rattle.ec_durable.specs.WellFormed.{WellFormed}
 use Rattle.ec_durable.specs.declared.state.Durable.{Durable}
@@ -12,6 +14,7 @@ use Rattle.ec_protocol.specs.Drill.{Fates}
 use Rattle.ec_protocol.specs.World.{open_world}
 use Rattle.ec_protocol.specs.declared.script.Line.TheVariants as line
 use Rattle.ec_protocol.specs.declared.world.World.{World}
+use Rattle.ec_lawful.specs.Calls.{IsOf}
 use Rattle.ec_lawful.specs.Headline.{FrontsAreLawful, IsGreatest, placed_on}
 use Rattle.ec_lease_machine.specs.Drill.{LeaseRan, LeaseRead, bound, close, joined, reads, run_from}
 use Rattle.ec_lease_machine.specs.Leases.{opened}
@@ -31,8 +34,13 @@ abbrev pub IsFit : LeaseRead → Type 0
 IsFit (reads (lines.Drill (line.Call c cl)) column) = (c < 16) × T (is_bounded cl)
 IsFit _ = ⊤
 
--- The lines are lawful over the volume, and each front of them is legal in printed order.
-pub record AreLeased (v : Images) (most : ℕ) (ss : List Shown) : Type 0 where
+-- the line of the script with this number is this call of this clerk
+abbrev pub IsCallIn : List LeaseRead → ℕ → ℕ → Call → Type 0
+IsCallIn script l c cl = (1 ≤ l) × (column : ℕ) × (slice_get script (l - 1) ≡ Some (reads (lines.Drill (line.Call c cl)) column))
+
+-- Each line of a call is of one of the script. The lines are lawful over the volume, and each front of them is legal in printed order.
+pub record AreLeased (script : List LeaseRead) (v : Images) (most : ℕ) (ss : List Shown) : Type 0 where
+  pub own : EachLine (IsOf (IsCallIn script)) ss
   pub top : ℕ
   pub greatest : IsGreatest v top
   pub lawful : FrontsAreLawful (placed_on v top) most ss
@@ -46,4 +54,4 @@ lease_run l e ls fs w = let ran = run_from (bound ls) 1 ls fs (opened l e w) in 
 -- clocks show, to its end or to a fault.
 abbrev pub LeaseRunsAreLeased : Type 0
 LeaseRunsAreLeased = (d : Durable) → WellFormed d → length d.sessions ≡ 16 → images d.volume 0 ≡ Gone → (w : World) → open_world d ≡ Ok w → (l e : ℕ) (ls : List LeaseRead) (fs : List Fates) → Each IsFit ls
-    → AreLeased (images d.volume) d.max_objects (unheld (joined (lease_run l e ls fs w).pieces))
+    → AreLeased ls (images d.volume) d.max_objects (unheld (joined (lease_run l e ls fs w).pieces))

@@ -21,7 +21,8 @@ pub fn printed_order_is_legal_with_leases()
 {}
 
 /// Each run over a script with leases, to its end or to a fault, whatever the disk does and whatever clocks
-/// show: its lines without `held` are lawful, and each front of them is legal in printed order.
+/// show: its lines without `held` are of calls of the script and lawful, and each front of them is legal in
+/// printed order.
 pub fn lease_runs_are_legal_in_printed_order()
     ensures { LeaseRunsAreLeased }
 {}
