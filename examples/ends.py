@@ -20,7 +20,7 @@ program = os.path.realpath(sys.argv[1])
 port = int(sys.argv[2]) if len(sys.argv) > 2 else 4811
 rounds = int(sys.argv[3]) if len(sys.argv) > 3 else 2
 WAIT = 60
-NOBODY = 65534
+USERS = 100_000
 CLERKS = "ABCDEFGHIJKLMNOP"
 
 LANES = b"1 create /f\n1 fsync /f\n1 write /f 0 hi\n1 fsync /f\n1 read /f 0 9\n"
@@ -181,11 +181,11 @@ def dead_mount(at):
         return fault or wrong(later, 0, b"1 1 read /f 0 9 -> data 0\nend sync -> ok\n")
 
 
-# A user who may start no further process.
+# A user who may start no further process, and who has no other one: the number of its process tells it from those of other runs.
 def alone():
     resource.setrlimit(resource.RLIMIT_NPROC, (1, 1))
     if os.getuid() == 0:
-        os.setuid(NOBODY)
+        os.setuid(USERS + os.getpid())
 
 
 def no_thread(at):
