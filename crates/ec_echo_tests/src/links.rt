@@ -5,6 +5,7 @@ use ec_link::{Around, FailSpawner, Link, MemNet, Net, Spawner, ThreadSpawner};
 use std::alloc::Global;
 use std::io::Eprint;
 use std::thread;
+use std::time::Duration;
 
 // A net, for two threads.
 fn shared_net(alloc: Global) -> Result<(MemNet, MemNet), NoMemory> {
@@ -162,6 +163,8 @@ fn lets_go<R: Around>(rt: &R, net: &mut MemNet) -> bool {
         drop(door);
         return false;
     };
+    // Its greeting comes meanwhile: a first link over which that can't be sent ends a mount.
+    thread::sleep(rt, Duration::from_millis(500));
     link.hang_up();
     drop(link);
     drop(door);
