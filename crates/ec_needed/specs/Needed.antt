@@ -6,7 +6,7 @@ use Rattle.ec_volume.specs.Update.{operands}
 use Rattle.ec_volume.specs.declared.update.Update.{Update}
 use Rattle.ec_volume.specs.declared.update.Update.TheVariants.{Put}
 use Rattle.ec_order.specs.Order.{meet}
-use Rattle.ec_chains.specs.declared.needed.Range.{Range}
+use Rattle.ec_needed.specs.declared.needed.Range.{Range}
 
 -- the objects on which an operation is chosen that is no overwrite
 abbrev pub Others : Type 0

@@ -9,8 +9,8 @@ use Rattle.ec_volume.specs.Update.{operands, member}
 use Rattle.ec_volume.specs.declared.update.Update.{Update}
 use Rattle.ec_volume.specs.declared.update.Update.TheVariants.{Make, Drop, Move, Put, Len, Mode, Stamp, Order, Shift, Owner}
 use Rattle.ec_order.specs.Order.{is_overwrite, share, under, needs, meet}
-use Rattle.ec_chains.specs.declared.needed.Range.{Range}
-use Rattle.ec_chains.specs.Needed.{Others, Ranges, range_of, is_on, is_needed}
+use Rattle.ec_needed.specs.declared.needed.Range.{Range}
+use Rattle.ec_needed.specs.Needed.{Others, Ranges, range_of, is_on, is_needed}
 
 -- An update is an overwrite of a range or none.
 

@@ -1,7 +1,7 @@
 use Rattle.std.proofs.Common.{◌∙◌, ap, ◌++◌, ◌∷◌, []}
 use Rattle.std.proofs.lemmas.Result.{on_ok_weaker}
-use Rattle.ec_chains.proofs.Maps.{added}
-use Rattle.ec_chains.proofs.needed.add_range.Goals as goal
+use Rattle.ec_needed.proofs.Maps.{added}
+use Rattle.ec_needed.proofs.needed.add_range.Goals as goal
 
 pub returns : goal.returns
 returns c =

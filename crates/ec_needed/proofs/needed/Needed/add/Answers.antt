@@ -3,8 +3,8 @@ use Rattle.std.specs.Prelude.{is_some, ◌||◌}
 use Rattle.std.proofs.lemmas.Result.{on_ok_weaker}
 use Rattle.ec_base.specs.Tables.{at}
 use Rattle.ec_volume.specs.Update.{member}
-use Rattle.ec_chains.proofs.Needs.{others_chosen, range_chosen}
-use Rattle.ec_chains.proofs.needed.Needed.add.Goals as goal
+use Rattle.ec_needed.proofs.Needs.{others_chosen, range_chosen}
+use Rattle.ec_needed.proofs.needed.Needed.add.Goals as goal
 
 pub returns-in-Some : goal.returns-in-Some
 returns-in-Some c =

@@ -1,13 +1,13 @@
 // What chosen operations need of the earlier ones.
-ghost use Rattle.std.specs.Prelude.{◌≡◌, ◌==◌, ◌+◌, ℕ, ◌||◌, ◌++◌, ◌∷◌, [], false, if◌then◌else◌, nat_lt, Some, is_some, IfOk, OnOk};
+ghost use Rattle.std.specs.Prelude.{◌≡◌, ◌==◌, ◌+◌, ℕ, ◌||◌, ◌++◌, ◌∷◌, [], true, false, if◌then◌else◌, nat_lt, Some, is_some, IfOk, OnOk};
 ghost use Rattle.std.specs.List.{list_any};
 ghost use Rattle.ec_base.specs.Tables.{at as found, at_or};
 ghost use Rattle.ec_volume.specs.Update.{member};
 ghost use Rattle.ec_volume.specs.declared.update.Update.{Update as Of};
 ghost use Rattle.ec_order.specs.Order.{needs, meet};
-ghost use Rattle.ec_chains.specs.Needed.{range_of, is_on, is_needed};
+ghost use Rattle.ec_needed.specs.Needed.{range_of, is_on, is_needed};
 
-use ec_base::{List, NoMemory, ObjId};
+use ec_base::{List, NoMemory, ObjId, OpNo};
 use ec_objmap::ObjMap;
 use ec_volume::{Update, operands};
 use std::alloc::Global;
@@ -74,6 +74,27 @@ impl Needed {
         }
         let objs = operands(self.alloc, update)?;
         note_all(&mut self.others, &objs)
+    }
+
+    /// The operation is chosen, and added to the chosen ones, where it's asked for by itself, or a
+    /// chosen one needs it.
+    pub fn choose(
+        &mut self,
+        is_asked: bool,
+        ops: &mut Vec<OpNo>,
+        op: OpNo,
+        update: &Update,
+    ) -> Result<(), NoMemory>
+        ensures chosen { OnOk result ((is_asked || is_needed self.old.others self.old.ranges update.now) ≡ true → (ops.new.items ≡ ops.old.items ++ op ∷ [])
+            × ((x : Of) → is_needed self.new.others self.new.ranges x ≡ (needs x update.now || is_needed self.old.others self.old.ranges x))) }
+        ensures others { OnOk result ((is_asked || is_needed self.old.others self.old.ranges update.now) ≡ false → (ops.new.items ≡ ops.old.items)
+            × (self.new.others ≡ self.old.others) × (self.new.ranges ≡ self.old.ranges)) }
+    {
+        if is_asked || self.has(update)? {
+            self.add(update)?;
+            ops.push(op)?;
+        }
+        Ok(())
     }
 }
 
