@@ -1,10 +1,10 @@
 use Rattle.std.proofs.Common.{◌≡◌, ◌+◌, ◌++◌, sym, ap, subst, ◌∙◌, arith, rules, length, length-append}
 use Rattle.std.specs.Prelude.{Err}
 use Rattle.std.proofs.lemmas.Result.{err_from_is_err_and}
-use Rattle.ec_check.specs.declared.lines.ReadFault.TheVariants as fault
-use Rattle.ec_check.specs.Lines.{IsRead, HasBadLine}
-use Rattle.ec_check.proofs.Halves.{read-both, above-fault, bad-below, bad-few, if-ok, ok-of, err-of}
-use Rattle.ec_check.proofs.parts.+parts.Goals as goal
+use Rattle.ec_transcript.specs.declared.lines.ReadFault.TheVariants as fault
+use Rattle.ec_transcript.specs.Lines.{IsRead, HasBadLine}
+use Rattle.ec_transcript.proofs.Halves.{read-both, above-fault, bad-below, bad-few, if-ok, ok-of, err-of}
+use Rattle.ec_transcript.proofs.parts.+parts.Goals as goal
 
 pub returns-in-Ok-clause-read : goal.returns-in-Ok-clause-read
 returns-in-Ok-clause-read g t c =

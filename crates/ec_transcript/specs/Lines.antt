@@ -6,8 +6,8 @@ use Rattle.ec_history.specs.declared.shown.Shown.{Shown}
 use Rattle.ec_script.specs.Lines.{lines_of}
 use Rattle.ec_script.specs.declared.line.LineFault.TheVariants as unread
 use Rattle.ec_shown.specs.Lines.{IsShown, IsUnfit}
-use Rattle.ec_check.specs.declared.lines.ReadFault.{ReadFault}
-use Rattle.ec_check.specs.declared.lines.ReadFault.TheVariants as fault
+use Rattle.ec_transcript.specs.declared.lines.ReadFault.{ReadFault}
+use Rattle.ec_transcript.specs.declared.lines.ReadFault.TheVariants as fault
 
 -- each line is read so, and there are as many
 abbrev pub AreShown : List (List ℕ) → List Shown → Type 0

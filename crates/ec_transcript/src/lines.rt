@@ -2,8 +2,8 @@
 ghost use Rattle.std.specs.Prelude.{◌≡◌, ◌≤◌, ◌++◌, ◌∷◌, if◌then◌else◌, [], T, length, is_ok, IfOk, IfErr, MatchResult};
 ghost use Rattle.ec_legal.specs.Bounded.{is_bounded_line};
 ghost use Rattle.ec_shown.specs.Lines.{IsShown, IsUnfit};
-ghost use Rattle.ec_check.specs.Limits.{max_transcript_bytes};
-ghost use Rattle.ec_check.specs.Lines.{IsRead, HasBadLine};
+ghost use Rattle.ec_transcript.specs.Limits.{max_transcript_bytes};
+ghost use Rattle.ec_transcript.specs.Lines.{IsRead, HasBadLine};
 
 use ec_base::NoMemory;
 use ec_history::Shown;
@@ -15,14 +15,14 @@ pub const MAX_TRANSCRIPT_BYTES: usize = 16_777_216;
 
 /// Why lines were not read.
 #[derive(Clone, Copy, Debug, Drop, PartialEq, Eq)]
-pub(crate) enum ReadFault {
+pub enum ReadFault {
     /// This line, from 1, is outside the grammar at this column, from 1.
     BadLine(u32, u32),
     NoMemory,
 }
 
 /// Reads each line, and leaves room for so many more behind them, where there is memory for it.
-pub(crate) fn read_lines(alloc: Global, bytes: &[u8], room: usize) -> Result<Vec<Shown>, ReadFault>
+pub fn read_lines(alloc: Global, bytes: &[u8], room: usize) -> Result<Vec<Shown>, ReadFault>
     requires { length bytes.now ≤ max_transcript_bytes }
     ensures read { IfOk result (λ shown. IsRead bytes.now shown.items) }
     ensures fault { IfErr result (λ fault. HasBadLine bytes.now fault) }
@@ -52,7 +52,7 @@ pub(crate) fn read_lines(alloc: Global, bytes: &[u8], room: usize) -> Result<Vec
 const SAMPLE_BYTES: usize = 65_536;
 
 /// About how many lines there are, by those among the first bytes.
-pub(crate) fn count_about(bytes: &[u8]) -> usize {
+pub fn count_about(bytes: &[u8]) -> usize {
     let sample = &bytes[..bytes.len().min(SAMPLE_BYTES)];
     let lines = sample.iter().filter(|byte| **byte == b'\n').count();
     lines.saturating_mul(bytes.len() / SAMPLE_BYTES + 1)

@@ -1,5 +1,5 @@
 use Rattle.std.proofs.Common.{◌+◌, ◌*◌}
-use Rattle.ec_check.proofs.parts.+parts.Given as goal
+use Rattle.ec_transcript.proofs.parts.+parts.Given as goal
 
 abbrev pub decreases-read_parts : goal.decreases-read_parts
 decreases-read_parts g l = 2 * l.parts

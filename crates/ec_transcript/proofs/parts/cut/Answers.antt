@@ -1,7 +1,7 @@
 use Rattle.std.proofs.Common.{◌≡◌, ◌<◌, ◌+◌, ◌++◌, sym, ap, ◌∙◌, arith, rules, length, take, drop, get_or}
 use Rattle.ec_script.specs.Lines.{lines_of}
-use Rattle.ec_check.proofs.Halves.{cut-at}
-use Rattle.ec_check.proofs.parts.cut.Goals as goal
+use Rattle.ec_transcript.proofs.Halves.{cut-at}
+use Rattle.ec_transcript.proofs.parts.cut.Goals as goal
 
 pub returns-then-bytes-at-eq10-clause-lines : goal.returns-then-bytes-at-eq10-clause-lines
 returns-then-bytes-at-eq10-clause-lines c =

@@ -20,7 +20,7 @@ use Rattle.ec_shown.specs.Lines.{IsShown, IsUnfit}
 use Rattle.ec_shown.specs.Showable.{IsShowable, ShowableCall, ArePaths, IsPathOf}
 use Rattle.ec_shown.proofs.Ranges.{in_ranges}
 use Rattle.ec_laws.proofs.Removed.{both, left, right}
-use Rattle.ec_check.specs.Lines.{AreShown, IsRead, IsBadLine}
+use Rattle.ec_transcript.specs.Lines.{AreShown, IsRead, IsBadLine}
 
 at_most : (m n : ℕ) → m ≤ n → T (nat_le m n)
 at_most m n l = T_from_true (nat_le m n) (le-leb m n l)

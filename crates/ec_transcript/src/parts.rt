@@ -2,9 +2,9 @@
 ghost use Rattle.std.specs.Prelude.{◌≡◌, ◌≢◌, ◌≤◌, ◌<◌, ◌++◌, [], IfOk, IfErr, length};
 ghost use Rattle.std.specs.Thread.{IsSync};
 ghost use Rattle.ec_script.specs.Lines.{lines_of};
-ghost use Rattle.ec_check.specs.Limits.{max_transcript_bytes};
-ghost use Rattle.ec_check.specs.Lines.{IsRead, HasBadLine};
-ghost use Rattle.ec_check.specs.declared.lines.ReadFault.TheVariants.{NoMemory};
+ghost use Rattle.ec_transcript.specs.Limits.{max_transcript_bytes};
+ghost use Rattle.ec_transcript.specs.Lines.{IsRead, HasBadLine};
+ghost use Rattle.ec_transcript.specs.declared.lines.ReadFault.TheVariants.{NoMemory};
 
 use crate::lines::{ReadFault, count_about, read_lines};
 use ec_history::Shown;
@@ -15,7 +15,7 @@ use std::thread::{Threads, join};
 /// leaves room for so many more lines behind them, where there is memory for it: the lines of the
 /// other parts come behind those of the first one, which then stay where they are.
 #[cycle(parts)]
-pub(crate) fn read_parts<R: Threads + Sync>(
+pub fn read_parts<R: Threads + Sync>(
     rt: &R,
     alloc: Global,
     bytes: &[u8],
@@ -63,7 +63,7 @@ fn append(mut lines: Vec<Shown>, mut more: Vec<Shown>) -> Result<Vec<Shown>, Rea
 }
 
 /// The lines of about so many of the bytes, and those behind them.
-pub(crate) fn cut(bytes: &[u8], near: usize) -> (&[u8], &[u8])
+pub fn cut(bytes: &[u8], near: usize) -> (&[u8], &[u8])
     ensures lines { lines_of bytes.now ≡ lines_of result.0.now ++ lines_of result.1.now }
     ensures bytes { bytes.now ≡ result.0.now ++ result.1.now }
     ensures onward { bytes.now ≢ [] → length result.1.now < length bytes.now }

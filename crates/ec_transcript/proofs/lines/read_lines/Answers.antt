@@ -1,7 +1,7 @@
 use Rattle.std.proofs.Common.{◌≡◌, ◌+◌, ◌++◌, ◌∷◌, [], sym, ap, subst, ◌∙◌, arith, rules, length, length-append}
 use Rattle.ec_script.specs.Lines.{lines_of}
-use Rattle.ec_check.proofs.Reading.{Read, reads-on, bad-line}
-use Rattle.ec_check.proofs.lines.read_lines.Goals as goal
+use Rattle.ec_transcript.proofs.Reading.{Read, reads-on, bad-line}
+use Rattle.ec_transcript.proofs.lines.read_lines.Goals as goal
 
 pub returns-in-Err-At-clause-fault : goal.returns-in-Err-At-clause-fault
 returns-in-Err-At-clause-fault c =
