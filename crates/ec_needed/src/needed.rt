@@ -14,11 +14,23 @@ use std::alloc::Global;
 
 /// What chosen operations need of the earlier ones: for each object whether an operation on it is
 /// chosen that is no overwrite, and the ranges of the chosen overwrites.
-#[derive(Drop)]
 pub struct Needed {
     alloc: Global,
     pub others: ObjMap<()>,
     pub ranges: ObjMap<List<(u32, usize)>>,
+}
+
+// Who drops one calls this, and needn't take it apart.
+impl Drop for Needed {
+    fn drop(self) {
+        let Needed {
+            alloc: _,
+            others,
+            ranges,
+        } = self;
+        drop(others);
+        drop(ranges);
+    }
 }
 
 /// The bytes of an overwrite: the file, the place of the first one, and their number.
