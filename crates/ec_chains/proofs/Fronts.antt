@@ -17,8 +17,8 @@ use Rattle.ec_chains.specs.ClosureLaws.{walk-passing}
 use Rattle.ec_chains.specs.Front.{closure_for, IsFront, is_alone, Covers, IsBound}
 use Rattle.ec_chains.specs.Held.{is_behind}
 use Rattle.ec_chains.specs.Walk.{passes, walk}
-use Rattle.ec_chains.proofs.Maps.{at-put}
-use Rattle.ec_chains.proofs.Needs.{look, plain_needs, range_needs, ranges_need}
+use Rattle.ec_needed.proofs.Maps.{at-put}
+use Rattle.ec_needed.proofs.Needs.{look, plain_needs, range_needs, ranges_need}
 use Rattle.ec_chains.specs.declared.closure.Ask.{Ask}
 use Rattle.ec_chains.specs.declared.closure.Ask.TheVariants.{Object}
 

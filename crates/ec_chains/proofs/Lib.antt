@@ -5,8 +5,6 @@ pub mod Fronts
 pub mod Leaving
 pub mod Linked
 pub mod Live
-pub mod Maps
-pub mod Needs
 pub mod Numbers
 pub mod Onward
 pub mod Operands

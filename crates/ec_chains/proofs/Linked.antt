@@ -10,7 +10,7 @@ use Rattle.ec_order.specs.Order.{Issued, Holds}
 use Rattle.ec_chains.specs.Chains.{AreLinked, AreKept}
 use Rattle.ec_chains.specs.Held.{is_behind, settle}
 use Rattle.ec_chains.proofs.Fronts.{holds-last, holds-part}
-use Rattle.ec_chains.proofs.Maps.{at-put}
+use Rattle.ec_needed.proofs.Maps.{at-put}
 
 pub held-below : (op : ℕ) (xs : Issued) → is_behind op xs ≡ true → (n : ℕ) (u : Update) → Holds xs n u → n < op
 held-below op [] b n u h = absurd h

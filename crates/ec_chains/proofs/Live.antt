@@ -29,7 +29,7 @@ use Rattle.ec_chains.specs.declared.closure.Ask.{Ask}
 use Rattle.ec_chains.specs.declared.closure.Ask.TheVariants.{Object, Op, All}
 use Rattle.ec_chains.proofs.Fronts.{split, keys-both}
 use Rattle.ec_chains.proofs.Linked.{held-below}
-use Rattle.ec_chains.proofs.Needs.{Plain, plain_needs}
+use Rattle.ec_needed.proofs.Needs.{Plain, plain_needs}
 use Rattle.ec_chains.proofs.Places.{no-item, same-item, at-holds, numbered, found-held}
 
 -- The same places.

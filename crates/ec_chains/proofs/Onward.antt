@@ -14,12 +14,12 @@ use Rattle.ec_volume.specs.declared.update.Update.{Update}
 use Rattle.ec_volume.specs.declared.update.Update.TheVariants.{Mode}
 use Rattle.ec_order.specs.Order.{Issued, needs, meet}
 use Rattle.ec_chains.specs.Chains.{AreLinked, IsOne, touches, Places, Ahead, IsTaken, AreAwaited}
-use Rattle.ec_chains.specs.Needed.{Others, Ranges, is_on, is_needed}
+use Rattle.ec_needed.specs.Needed.{Others, Ranges, is_on, is_needed}
 use Rattle.ec_chains.specs.Walk.{passes, walk}
 use Rattle.ec_chains.specs.declared.closure.Ask.{Ask}
 use Rattle.ec_chains.specs.declared.closure.Ask.TheVariants.{Object, Op, All}
 use Rattle.ec_chains.proofs.Fronts.{sorted-front}
-use Rattle.ec_chains.proofs.Needs.{Plain, look, plain_needs}
+use Rattle.ec_needed.proofs.Needs.{Plain, look, plain_needs}
 use Rattle.ec_chains.proofs.Places.{same-item, item-at, rise, get-front, front-get, front-within, linked-front}
 use Rattle.ec_chains.proofs.Walks.{Walked, walk_begins, walk_takes, walk_passes, walk_ends}
 

@@ -8,10 +8,10 @@ use Rattle.ec_base.specs.Tables.{keys}
 use Rattle.ec_volume.specs.Update.{member}
 use Rattle.ec_volume.specs.declared.update.Update.{Update}
 use Rattle.ec_order.specs.Order.{Issued, needs}
-use Rattle.ec_chains.specs.Needed.{Others, Ranges, is_needed}
+use Rattle.ec_needed.specs.Needed.{Others, Ranges, is_needed}
 use Rattle.ec_chains.specs.Walk.{walk}
 use Rattle.ec_chains.specs.ClosureLaws.{walk-none, walk-some, there-member}
-use Rattle.ec_chains.proofs.Needs.{nothing_needed}
+use Rattle.ec_needed.proofs.Needs.{nothing_needed}
 
 module _ (p : ℕ × Update → Bool) (held : Issued) where
   -- the operations from a place on are walked over: these numbers were found, from the last on, and the maps tell what they need

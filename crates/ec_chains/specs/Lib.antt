@@ -2,7 +2,6 @@ pub mod Chains
 pub mod ClosureLaws
 pub mod Front
 pub mod Held
-pub mod Needed
 pub mod SlotLaws
 pub mod Slots
 pub mod Walk

@@ -5,17 +5,17 @@ ghost use Rattle.std.specs.FinMap.{is_sorted};
 ghost use Rattle.ec_base.specs.Tables.{keys};
 ghost use Rattle.ec_volume.specs.declared.update.Update.{Update as Of};
 ghost use Rattle.ec_order.specs.Order.{needs};
-ghost use Rattle.ec_chains.specs.Needed.{is_needed};
+ghost use Rattle.ec_needed.specs.Needed.{is_needed};
 ghost use Rattle.ec_chains.specs.Chains.{AreLinked};
 ghost use Rattle.ec_chains.specs.Slots.{live, placed, IsThere};
 ghost use Rattle.ec_chains.specs.Walk.{passes, walk};
 
 use crate::chain::Chain;
-use crate::needed::Needed;
 use crate::operand::has_operand;
 use crate::slots::Slot;
 use crate::walking::{await_operands, begin, take_last};
 use ec_base::{NoMemory, ObjId, OpNo};
+use ec_needed::Needed;
 use ec_objmap::ObjMap;
 use ec_volume::Update;
 use std::alloc::Global;
@@ -53,11 +53,7 @@ fn choose(
     ensures others { OnOk result ((passes ask.now (op, update.now) || is_needed needed.old.others needed.old.ranges update.now) ≡ false → (ops.new.items ≡ ops.old.items)
         × (needed.new.others ≡ needed.old.others) × (needed.new.ranges ≡ needed.old.ranges)) }
 {
-    if passes(ask, op, update) || needed.has(update)? {
-        needed.add(update)?;
-        ops.push(op)?;
-    }
-    Ok(())
+    needed.choose(passes(ask, op, update), ops, op, update)
 }
 
 /// The closure of what is asked for, in the order of issue. The chains of the objects that are met are

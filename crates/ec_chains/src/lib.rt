@@ -6,14 +6,12 @@ mod chains;
 mod closure;
 mod front;
 mod held;
-mod needed;
 mod operand;
 mod order;
 mod slots;
 mod walking;
 
 pub use closure::Ask;
-pub use needed::Needed;
 pub use operand::has_operand;
 pub use order::{Order, OrderFault};
 pub use slots::Slot;

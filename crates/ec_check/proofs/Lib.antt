@@ -1,4 +1,2 @@
-mod Reading
 mod Faults
-mod Halves
 mod Pieces

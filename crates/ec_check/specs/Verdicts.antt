@@ -7,7 +7,7 @@ use Rattle.ec_history.specs.declared.shown.Shown.{Shown}
 use Rattle.ec_judge.specs.Faults.{IsFirstEntry}
 use Rattle.ec_lines.specs.Faults.{IsFirstLine}
 use Rattle.ec_script.specs.Lines.{lines_of}
-use Rattle.ec_check.specs.Lines.{AreShown}
+use Rattle.ec_transcript.specs.Lines.{AreShown}
 use Rattle.ec_check.specs.declared.checking.Checked.{Checked}
 use Rattle.ec_check.specs.declared.checking.Checked.TheVariants as checked
 

@@ -3,10 +3,10 @@ ghost use Rattle.std.specs.Prelude.{◌≤◌, IfOk, IfErr};
 ghost use Rattle.ec_check.specs.Checked.{IsChecked, IsRefused};
 
 use crate::judged::judge_bytes;
-use crate::lines::{self, MAX_TRANSCRIPT_BYTES};
 use ec_base::Source;
 use ec_history::Rule;
 use ec_streams::{ReadFault, read_whole};
+use ec_transcript::{MAX_TRANSCRIPT_BYTES, ReadFault as Unread};
 use std::alloc::Global;
 use std::thread::Threads;
 use thiserror::Error;
@@ -58,7 +58,7 @@ pub fn check_transcript<R: Threads + Sync, S: Source>(
     };
     match judge_bytes(rt, alloc, &bytes, max_objects) {
         Ok(checked) => Ok(checked),
-        Err(lines::ReadFault::BadLine(line, column)) => Err(CheckFault::BadLine(line, column)),
-        Err(lines::ReadFault::NoMemory) => Err(CheckFault::NoMemory),
+        Err(Unread::BadLine(line, column)) => Err(CheckFault::BadLine(line, column)),
+        Err(Unread::NoMemory) => Err(CheckFault::NoMemory),
     }
 }

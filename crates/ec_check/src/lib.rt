@@ -2,11 +2,7 @@
 #![tactic(auto)]
 
 mod checking;
-#[cfg(test)]
-mod histories;
 mod judged;
-mod lines;
-mod parts;
 
 pub use checking::{CheckFault, Checked, check_transcript};
-pub use lines::MAX_TRANSCRIPT_BYTES;
+pub use ec_transcript::MAX_TRANSCRIPT_BYTES;

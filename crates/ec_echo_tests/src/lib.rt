@@ -1,11 +1,13 @@
-//! Tests of the program's one call over sources, sinks, disks and nets in memory, which fail too, and of servers and mounts over such a net, each in a
-//! thread of its own.
+//! Tests of the program's one call over sources, sinks, disks and nets in memory, which fail too, of servers and mounts over such a net, each in a
+//! thread of its own, and of transcripts as histories.
 #![tactic(auto)]
 
 #[cfg(test)]
 mod alone;
 #[cfg(test)]
 mod faults;
+#[cfg(test)]
+mod histories;
 #[cfg(test)]
 mod lanes;
 #[cfg(test)]

@@ -6,7 +6,7 @@ use Rattle.std.proofs.lemmas.Bool.{true≢false, and_from, and_parts, eqb-true}
 use Rattle.std.proofs.lemmas.List.{take_all, take-append-drop}
 use Rattle.std.proofs.lemmas.List.Elements.{filter-append}
 use Rattle.ec_base.specs.Tables.{Table, put}
-use Rattle.ec_chains.proofs.Maps.{noted_first}
+use Rattle.ec_needed.proofs.Maps.{noted_first}
 use Rattle.ec_volume.specs.Update.{operands, has_operand, member, distinct, is_sound, fits, effect, first_unfit}
 use Rattle.ec_volume.specs.Volume.{Images, images, image_next, image_after, after, fits_in_turn, formatted, Fits}
 use Rattle.ec_volume.specs.declared.image.Image.{Image}

@@ -11,7 +11,7 @@ use Rattle.ec_volume.specs.declared.update.Update.{Update}
 use Rattle.ec_order.specs.Order.{Issued, Holds}
 use Rattle.ec_chains.specs.Held.{is_behind}
 use Rattle.ec_chains.proofs.Fronts.{holds-last, holds-part}
-use Rattle.ec_chains.proofs.Maps.{at-put}
+use Rattle.ec_needed.proofs.Maps.{at-put}
 use Rattle.ec_pending.specs.declared.issue.Issue.{Issue}
 use Rattle.ec_pending.specs.Pending.{numbers_in, issues_of, issue_at, issues, AreEarly, AreUpTo, AreWithin}
 

@@ -1,13 +1,14 @@
 // What is asked and what it needs, by a walk over all operations from the last one on.
 ghost use Rattle.std.specs.Prelude.{◌≡◌, ◌||◌, ℕ, IfOk};
 ghost use Rattle.ec_base.specs.Tables.{at_or};
-ghost use Rattle.ec_chains.specs.Needed.{is_needed};
+ghost use Rattle.ec_needed.specs.Needed.{is_needed};
 ghost use Rattle.ec_chains.specs.Slots.{live};
 ghost use Rattle.ec_pending.specs.Pending.{is_asked, issues, numbers_in, taken};
 
 use crate::asked::{Asked, is_asked};
 use ec_base::{NoMemory, OpNo, SortedMap};
-use ec_chains::{Needed, Slot};
+use ec_chains::Slot;
+use ec_needed::Needed;
 use ec_volume::Update;
 use std::alloc::Global;
 

@@ -7,7 +7,7 @@ use Rattle.ec_base.specs.Tables.{keys}
 use Rattle.ec_volume.specs.declared.update.Update.{Update}
 use Rattle.ec_volume.specs.declared.update.Update.TheVariants.{Order}
 use Rattle.ec_chains.specs.Chains.{AreLinked}
-use Rattle.ec_chains.specs.Needed.{is_needed}
+use Rattle.ec_needed.specs.Needed.{is_needed}
 use Rattle.ec_chains.specs.Slots.{placed}
 use Rattle.ec_chains.specs.Walk.{passes}
 use Rattle.ec_chains.proofs.Live.{placed-length, placed-take, placed-there, there-apart, there-one, walk-live, none-awaits}

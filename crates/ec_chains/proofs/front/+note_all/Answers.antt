@@ -2,7 +2,7 @@ use Rattle.std.proofs.Common.{T, subst}
 use Rattle.std.proofs.lemmas.Result.{on_ok_weaker}
 use Rattle.ec_volume.specs.Update.{member}
 use Rattle.ec_chains.proofs.Fronts.{noted-old, noted-new}
-use Rattle.ec_chains.proofs.Maps.{split_first}
+use Rattle.ec_needed.proofs.Maps.{split_first}
 use Rattle.ec_chains.proofs.front.+note_all.Goals as goal
 
 pub returns-in_ok-insert-in-len1-up-clause-old : goal.returns-in_ok-insert-in-len1-up-clause-old

@@ -1,5 +1,5 @@
 use Rattle.std.proofs.lemmas.Result.{on_ok_weaker}
-use Rattle.ec_chains.proofs.Maps.{split_first}
+use Rattle.ec_needed.proofs.Maps.{split_first}
 use Rattle.ec_chains.proofs.Taken.{both-awaited}
 use Rattle.ec_chains.specs.Slots.{placed}
 use Rattle.ec_chains.proofs.walking.+await_all.Goals as goal

@@ -1,5 +1,5 @@
 use Rattle.std.proofs.lemmas.Result.{on_ok_weaker}
-use Rattle.ec_chains.proofs.Maps.{noted_first, split_first}
+use Rattle.ec_needed.proofs.Maps.{noted_first, split_first}
 use Rattle.ec_outside.proofs.outside.+note_all.Goals as goal
 
 pub returns-in_ok-insert-in-len1-up : goal.returns-in_ok-insert-in-len1-up
