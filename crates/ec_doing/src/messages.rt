@@ -167,7 +167,10 @@ impl Doing {
     {
         match self.verdict(call)? {
             Verdict::NeedIds(touched) => Ok(Some(touched)),
-            _ => Ok(None),
+            other => {
+                drop(other);
+                Ok(None)
+            }
         }
     }
 }

@@ -43,10 +43,10 @@ impl Doing {
     fn need(&self, call: &Call) -> Result<Option<(ObjId, Hold)>, NoMemory>
         ensures { IfOk result (λ need. MatchOption need (clerk.need_of (clerk.verdict call.now (clerk_of [] self.now)) ≡ []) (λ p. clerk.need_of (clerk.verdict call.now (clerk_of [] self.now)) ≡ p ∷ [])) }
     {
-        match self.verdict(call)? {
-            Verdict::Need(obj, hold) => Ok(Some((obj, hold))),
-            _ => Ok(None),
-        }
+        let verdict = self.verdict(call)?;
+        let need = need_of(&verdict);
+        drop(verdict);
+        Ok(need)
     }
 
     // What the waiting calls need.
@@ -100,6 +100,16 @@ impl Doing {
         }
         self.claim()?;
         self.send_outstanding(waiting)
+    }
+}
+
+// What a call needs that comes to this.
+fn need_of(verdict: &Verdict) -> Option<(ObjId, Hold)>
+    ensures { MatchOption result (clerk.need_of verdict.now ≡ []) (λ p. clerk.need_of verdict.now ≡ p ∷ []) }
+{
+    match verdict {
+        Verdict::Need(obj, hold) => Some((*obj, *hold)),
+        _ => None,
     }
 }
 

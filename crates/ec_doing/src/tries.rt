@@ -159,6 +159,9 @@ impl Doing {
         if let Ok(true) = has_room {
             return self.issue(no, reply, touched, update);
         }
+        drop(update);
+        drop(reply);
+        drop(touched);
         match has_room {
             Ok(_) => Ok(Tried::Waits),
             Err(fault) => Err(fault),

@@ -79,7 +79,6 @@ pub struct Firm {
 }
 
 /// What the entries so far come to.
-#[derive(Drop)]
 pub struct Judge {
     pub alloc: Global,
     pub kept: Vec<Kept>,
@@ -87,4 +86,21 @@ pub struct Judge {
     pub starts: Starts,
     /// Of each object which calls touched it.
     pub touches: ObjTable<Touches>,
+}
+
+// Who drops one calls this, and needn't take it apart.
+impl Drop for Judge {
+    fn drop(self) {
+        let Judge {
+            alloc: _,
+            kept,
+            firm,
+            starts,
+            touches,
+        } = self;
+        drop(kept);
+        drop(firm);
+        drop(starts);
+        drop(touches);
+    }
 }

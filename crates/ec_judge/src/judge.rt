@@ -86,11 +86,12 @@ impl Judge {
         let Some(fresh) = ObjId::new(issuer.place + 1) else {
             unreachable!();
         };
-        let outcome = plain(self.alloc, &self.firm.volume, call, fresh)?;
         let at = self.starts.index_of(issuer.clerk, issuer.boot)?;
+        let outcome = plain(self.alloc, &self.firm.volume, call, fresh)?;
         let start = self.starts.at(at);
         let count = start.pending.count();
         if let Some(rule) = broken_rule(most, count, &start.owed, call, &outcome, answer, op)? {
+            drop(outcome);
             return Ok(Some(rule));
         }
         let touched = outcome.touched.as_slice();

@@ -15,7 +15,6 @@ use std::alloc::Global;
 use std::marker::Model;
 
 /// Judges the entries of one history piece by piece. A clause sees the entries judged so far.
-#[derive(Drop)]
 pub struct Judging {
     judge: Judge,
     /// How many entries were judged.
@@ -23,6 +22,19 @@ pub struct Judging {
     /// An entry broke a rule, or memory ran out.
     is_over: bool,
     past: Trace<(u32, Entry)>,
+}
+
+// Who drops one calls this, and needn't take it apart.
+impl Drop for Judging {
+    fn drop(self) {
+        let Judging {
+            judge,
+            turn: _,
+            is_over: _,
+            past: _,
+        } = self;
+        drop(judge);
+    }
 }
 
 impl Model for Judging {

@@ -248,6 +248,7 @@ pub fn keep(
     ensures kept { OnOk result (kept.new.items ≡ kept.old.items ++ keeps_of issuer.now op.now update) }
 {
     let Some(number) = op else {
+        drop(update);
         return Ok(());
     };
     let Some(update) = update else {

@@ -93,9 +93,11 @@ impl Log {
         ensures spent { (c : Kind) → result ≡ Err (fault.Spent c) → (c ≡ counter.Op) × (log.is_full self.old ≡ false) × (log.ops_are_spent self.old ≡ true) }
     {
         if self.undurable.count() >= MAX_UNDURABLE {
+            drop(update);
             return Err(LogFault::Full);
         }
         if self.next > LAST_COUNTER {
+            drop(update);
             return Err(LogFault::Spent(Counter::Op));
         }
         let op = OpNo(self.next);

@@ -28,8 +28,13 @@ pub fn take_call(
         return Ok(None);
     };
     let call = own.remove(&no);
-    calls.insert(clerk, own)?;
-    Ok(call)
+    match calls.insert(clerk, own) {
+        Ok(()) => Ok(call),
+        Err(fault) => {
+            drop(call);
+            Err(fault)
+        }
+    }
 }
 
 // Takes the clerk's calls under way out.

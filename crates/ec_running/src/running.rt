@@ -72,9 +72,16 @@ pub fn start(
     ensures ok { IfOk result (λ made. Starts call id boot clerks.old clerks.new made.0 made.1.items made.2.items) }
     ensures err { IfErr result (λ fault. StartsNot fault call id boot clerks.old clerks.new) }
 {
-    let (clerk, before) = Clerk::start(alloc, id, boot)?;
-    let (no, outs) = join(clerks, id, clerk, call)?;
-    Ok((no, before, outs))
+    match Clerk::start(alloc, id, boot) {
+        Ok((clerk, before)) => {
+            let (no, outs) = join(clerks, id, clerk, call)?;
+            Ok((no, before, outs))
+        }
+        Err(fault) => {
+            drop(call);
+            Err(StepFault::from(fault))
+        }
+    }
 }
 
 // A clerk that begins a call goes among the running ones.

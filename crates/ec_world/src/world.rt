@@ -126,6 +126,7 @@ impl World {
         ensures left { IfErr result (λ fault. D.tells → (image : List ℕ) → (D.view disk.new).may_leave image → IsLeft (view_of self.old).durable (machine.happen machine.runs event (view_of self.old)) image) }
     {
         if self.is_broken {
+            drop(event);
             return Err(WorldFault::NoMemory);
         }
         self.begin_step(alloc);
