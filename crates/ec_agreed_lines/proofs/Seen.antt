@@ -23,7 +23,7 @@ use Rattle.ec_protocol.specs.declared.world.World.{World}
 use Rattle.ec_coherence.specs.Invariant.{Invariant}
 use Rattle.ec_coherence.specs.Sessions.{SessionsAgree}
 use Rattle.ec_coherence.specs.Steps.{Stands, running_clerk}
-use Rattle.ec_coherence.specs.System.{Eff, System, clerk_in, eff_from, if_in, is_session, recorded}
+use Rattle.ec_coherence.specs.System.{Eff, System, clerk_in, eff_from, if_in, recorded}
 use Rattle.ec_coherence.specs.System as system
 use Rattle.ec_coherence.specs.Tokens.{TablesAgree, WhileUp, eff, eff_of, tables_in, tables_of, view}
 use Rattle.ec_coherence.proofs.Committing.{commits, committed}
@@ -34,6 +34,7 @@ use Rattle.ec_machine_laws.specs.Holding.{AreOwn}
 use Rattle.ec_machine_laws.proofs.Rows.{same-self}
 use Rattle.ec_deliveries.specs.Coming.{IsTaken}
 use Rattle.ec_agreed_lines.specs.Worlds.{IsSeen}
+use Rattle.ec_protocol.specs.Clerk.{is_session}
 
 pub scenes-seen : (w : World) (g : System) (sc : Scene) → Stands w g → IsScene w sc → IsSeen g sc
 scenes-seen w g sc st s = record {

@@ -20,12 +20,13 @@ use Rattle.ec_quiet.specs.Phases.{Phase, Greets, Opens, Claims, Wants, Recalls, 
 use Rattle.ec_quiet.specs.Scenes.{IsScene, Mail, Scene, delivered, is_for_server}
 use Rattle.ec_quiet.specs.Works.{Work}
 use Rattle.ec_deliveries.proofs.Working.{main-front}
-use Rattle.ec_deliveries.specs.Coming.{GoesOn, IsFreshFor, IsTaken, Suits}
+use Rattle.ec_deliveries.specs.Coming.{IsFreshFor, IsTaken, Suits}
 use Rattle.ec_deliveries.proofs.Committed.{batch-new}
 use Rattle.ec_deliveries.proofs.ServerDelivered.{comes, deliveries-go-on, head-same, none-first}
 use Rattle.ec_deliveries.proofs.Staying.{old-tokens-leave}
 use Rattle.ec_agreed_lines.specs.Worlds.{HasCounters, IsSeen}
 use Rattle.ec_agreed_lines.proofs.Seen.{at-only, batch-taken, clerk-there, ids-own, scenes-seen, tables}
+use Rattle.ec_quiet.specs.Goes.{GoesOn}
 
 module _ (g : System) (sc : Scene) (inv : Invariant g) (seen : IsSeen g sc) (counters : HasCounters sc.server) (j : Work) where
   -- A holder's batch.

@@ -17,7 +17,7 @@ use Rattle.ec_coherence.specs.System.{System}
 use Rattle.ec_quiet.specs.Phases.{Phase, Grants, Gives, InPhase}
 use Rattle.ec_quiet.specs.Scenes.{IsScene, Mail, Scene, delivered, is_for_server}
 use Rattle.ec_quiet.specs.Works.{Work}
-use Rattle.ec_deliveries.specs.Coming.{GoesOn}
+use Rattle.ec_quiet.specs.Goes.{GoesOn}
 
 -- None of the server's counters is at its end: the numbers of tokens and of sessions, the ids, and how often each clerk was granted some.
 pub record HasCounters (v : Server) : Type 0 where

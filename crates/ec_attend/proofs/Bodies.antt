@@ -24,7 +24,8 @@ use Rattle.ec_servernode.specs.Callers.{nobody}
 use Rattle.ec_servernode.specs.Run.{number_of, caller_from, caller_by}
 use Rattle.ec_servernode.specs.Turns.{Adds, IsTaking, IsGiving, IsReplaced, Serves, ServeFails, IsServerPass}
 use Rattle.ec_servernode.proofs.Lists.{of-append, of_own, each-append}
-use Rattle.ec_attend.specs.Links.{is_over, WasReplaced, Tells, IsNoEnd, HasNoEnd, IsSoFar, IsRest, Carries, CarriesSo, own_steps, IsServed, WasServed}
+use Rattle.ec_attend.specs.Links.{is_over, WasReplaced, IsNoEnd, HasNoEnd, IsSoFar, IsRest, Carries, CarriesSo, own_steps, IsServed, WasServed}
+use Rattle.ec_base.specs.Lists.{Tells}
 
 tells_added : {A : Type 0} (o p : Option (List A)) (xs ys : List A) → p ≡ added o ys → Tells o xs → Tells p (xs ++ ys)
 tells_added {A} o p xs ys is t = subst (λ (q : Option (List A)). Tells q (xs ++ ys)) (sym is) (by o t)

@@ -1,5 +1,5 @@
 -- How a link ends that is served, and what it gave and got by the steps of its pass.
-use Rattle.std.specs.Prelude.{◌≡◌, ◌⊎◌, ◌+◌, ◌≤◌, ℕ, Bool, true, false, List, ◌∷◌, [], ◌++◌, Option, Some, None, Result, Ok, Err}
+use Rattle.std.specs.Prelude.{◌≡◌, ◌⊎◌, ◌+◌, ◌≤◌, ℕ, Bool, true, false, List, ◌∷◌, [], ◌++◌, Option, Result, Ok, Err}
 use mathlib.Core.List.{IsPrefix}
 use Rattle.ec_wire.specs.Codes.{said}
 use Rattle.ec_wire.specs.declared.fault.WireFault.{WireFault}
@@ -19,6 +19,7 @@ use Rattle.ec_servernode.specs.Run.{number_of, caller_by}
 use Rattle.ec_servernode.specs.Turns.{IsReplaced}
 use Rattle.ec_bells.specs.declared.telling.Gone.{Gone}
 use Rattle.ec_bells.specs.declared.telling.Gone.TheVariants as gone
+use Rattle.ec_base.specs.Lists.{Tells}
 
 -- a body that is no message, or a length above the limit
 abbrev pub IsRefused : Heard → Type 0
@@ -65,11 +66,6 @@ module _ {L : Type 0} (faults closes : L → ℕ) (given : L → Option (List He
   EndsSo false pass link = Unit {0}
 
 -- What a link gave and got, by the steps of its own pass.
-
--- where it's told, it's this
-abbrev pub Tells : {A : Type 0} → Option (List A) → List A → Type 0
-Tells None xs = Unit {0}
-Tells (Some ys) xs = ys ≡ xs
 
 -- no session was ended by these steps but by what a link said
 abbrev pub IsNoEnd : Deed → Type 0

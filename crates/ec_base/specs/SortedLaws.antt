@@ -25,7 +25,7 @@ pub both : (a b : Bool) → T a → T b → T (a && b)
 both true b p q = q
 both false b p q = p
 
-less : (r : Ordering) → T (is_lt r) → r ≡ Less
+pub less : (r : Ordering) → T (is_lt r) → r ≡ Less
 less Less p = refl
 less Equal p = absurd p
 less Greater p = absurd p
@@ -33,10 +33,10 @@ less Greater p = absurd p
 is_less : (r : Ordering) → r ≡ Less → T (is_lt r)
 is_less r e = subst (λ o. T (is_lt o)) (sym e) tt
 
-same_Some : {A : Type 0} {x y : A} → Some x ≡ Some y → x ≡ y
+pub same_Some : {A : Type 0} {x y : A} → Some x ≡ Some y → x ≡ y
 same_Some {x = x} e = ap (λ o. unwrap_or o x) e
 
-not_None : {A : Type 0} {x : A} → Some x ≡ None → ⊥
+pub not_None : {A : Type 0} {x : A} → Some x ≡ None → ⊥
 not_None e = subst T (ap is_some e) tt
 
 turned_round : {A : Type 0} (b : Bool) (found : Option A) → cond (not b) found None ≡ cond b None found

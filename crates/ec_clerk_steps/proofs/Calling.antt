@@ -8,9 +8,9 @@ use Rattle.ec_volume.specs.declared.image.Kind.TheVariants as kind
 use Rattle.ec_history.specs.History.{Each}
 use Rattle.ec_wire.specs.declared.msg.Msg.TheVariants.{Bye}
 use Rattle.ec_log.specs.declared.state.Asked.{Asked}
-use Rattle.ec_protocol.specs.Clerk.{Doing, add_call, bye, claim, doing, flush, has_session, hello, new_clerk, resend, send, send_outstanding, session as own_session, settle, taken}
+use Rattle.ec_protocol.specs.Clerk.{Doing, add_call, bye, claim, doing, flush, has_session, hello, new_clerk, resend, send, send_outstanding, session as own_session, settle, taken, is_session}
 use Rattle.ec_protocol.specs.declared.clerk.Clerk.{Clerk}
-use Rattle.ec_coherence.specs.System.{System, Ghost, if_in, is_session, with_start}
+use Rattle.ec_coherence.specs.System.{System, Ghost, if_in, with_start}
 use Rattle.ec_coherence.specs.Opening.{opening}
 use Rattle.ec_coherence.specs.Tokens.{Names, view}
 use Rattle.ec_coherence.specs.Steps.{doing_in}

@@ -7,7 +7,7 @@ use Rattle.ec_volume.specs.Update.{listed, member}
 use Rattle.ec_plain.specs.declared.call.Call.{Call}
 use Rattle.ec_history.specs.History.{Each, History, is_entry_of, same_start}
 use Rattle.ec_history.specs.Legal.{is_op_of}
-use Rattle.ec_history.specs.Placing.{answered, begun, call_entry, is_running, or_zero, owner, place, shows, watch, watch_next}
+use Rattle.ec_history.specs.Placing.{answered, begun, call_entry, is_running, owner, place, shows, watch, watch_next}
 use Rattle.ec_history.specs.declared.entry.Answer.{Answer}
 use Rattle.ec_history.specs.declared.entry.Entry.{Entry}
 use Rattle.ec_history.specs.declared.entry.Entry.TheVariants as entry
@@ -19,6 +19,7 @@ use Rattle.ec_laws.proofs.Late.{place-answer, place-ended, place-no_call}
 use Rattle.ec_laws.proofs.More.{watch-step}
 use Rattle.ec_laws.proofs.Watching.{before_session, from_front, in_session, open-counted, other_end, own_end, showing}
 use Rattle.ec_coherence.proofs.Lists.{each-back, each-front, each-more, each-turn}
+use Rattle.ec_base.specs.Options.{or_zero}
 
 -- the entry is of no start of this clerk with a greater number
 abbrev pub IsCounted : ℕ → ℕ → ℕ × Entry → Type 0

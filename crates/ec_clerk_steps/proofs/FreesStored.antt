@@ -12,10 +12,10 @@ use Rattle.ec_sessions.specs.declared.window.Window.{Window}
 use Rattle.ec_log.specs.Log.{lost}
 use Rattle.ec_wire.specs.declared.msg.Msg.{Msg}
 use Rattle.ec_wire.specs.declared.msg.Msg.TheVariants.{Claim}
-use Rattle.ec_protocol.specs.Clerk.{Doing, emit, has_session, hello, lose, same_age, send, spend, take_ended, take_opened, with_clerk}
+use Rattle.ec_protocol.specs.Clerk.{Doing, emit, has_session, hello, lose, same_age, send, spend, take_ended, take_opened, with_clerk, is_session}
 use Rattle.ec_protocol.specs.declared.clerk.Clerk.{Clerk}
 use Rattle.ec_protocol.specs.declared.clerk.Out.TheVariants as out
-use Rattle.ec_coherence.specs.System.{System, Ghost, clerk_in, clerk_of, if_in, is_session, seen_ops, with_start}
+use Rattle.ec_coherence.specs.System.{System, Ghost, clerk_in, clerk_of, if_in, seen_ops, with_start}
 use Rattle.ec_coherence.specs.Clerks.{take_session}
 use Rattle.ec_coherence.specs.Sessions.{HasNone}
 use Rattle.ec_coherence.specs.Tokens.{in_sixteen, is_hidden, is_untaken, side, side_in, view}

@@ -6,7 +6,7 @@ use Rattle.std.proofs.lemmas.Bool.{cond_both, cond-true, cond-false, and_parts, 
 use Rattle.std.proofs.lemmas.List.Folds.{list_any-append}
 use Rattle.ec_volume.specs.Image.{is_id}
 use Rattle.ec_history.specs.History.{History, Each, same_start, is_entry_of}
-use Rattle.ec_history.specs.Placing.{MayFollow, ArePlaceable, watch, watch_next, begun, ended, owner, is_running, or_zero, before_line, is_numbered, place}
+use Rattle.ec_history.specs.Placing.{MayFollow, ArePlaceable, watch, watch_next, begun, ended, owner, is_running, before_line, is_numbered, place}
 use Rattle.ec_history.specs.declared.watch.Watch.{Watch}
 use Rattle.ec_history.specs.declared.entry.Entry.{Entry}
 use Rattle.ec_history.specs.declared.entry.Entry.TheVariants as entry
@@ -18,6 +18,7 @@ use Rattle.ec_laws.proofs.Numbers.{each-append}
 use Rattle.ec_laws.proofs.Watching.{running-owner, running-told, sound}
 use Rattle.ec_clerk_steps.specs.Calls.{LosesBelow, before_last, told_to}
 use Rattle.ec_clerk_steps.specs.CallLaws.{is_quiet}
+use Rattle.ec_base.specs.Options.{or_zero}
 
 pub same : (k : ℕ) → (k == k) ≡ true
 same k = grind arith

@@ -21,11 +21,11 @@ use Rattle.ec_resolve.specs.declared.verdict.Verdict.{Verdict}
 use Rattle.ec_resolve.specs.declared.verdict.Verdict.TheVariants.{Need, Lost, NeedIds, Done}
 use Rattle.ec_wire.specs.declared.msg.Msg.{Msg}
 use Rattle.ec_wire.specs.declared.msg.Msg.TheVariants.{Claim}
-use Rattle.ec_protocol.specs.Clerk.{Doing, emit, has_session, hello, lose, same_age, send, spend, take_ended, take_opened, verdict, with_clerk}
+use Rattle.ec_protocol.specs.Clerk.{Doing, emit, has_session, hello, lose, same_age, send, spend, take_ended, take_opened, verdict, with_clerk, is_session}
 use Rattle.ec_protocol.specs.declared.clerk.Clerk.{Clerk}
 use Rattle.ec_protocol.specs.declared.clerk.Out.{Out}
 use Rattle.ec_protocol.specs.declared.clerk.Out.TheVariants as out
-use Rattle.ec_coherence.specs.System.{System, Ghost, clerk_in, clerk_of, if_in, is_session, with_start}
+use Rattle.ec_coherence.specs.System.{System, Ghost, clerk_in, clerk_of, if_in, with_start}
 use Rattle.ec_coherence.specs.Clerks.{take_session}
 use Rattle.ec_coherence.specs.Tokens.{Names, TokensAgree, side, side_in, view}
 use Rattle.ec_coherence.specs.Images.{ImagesAgree}

@@ -17,9 +17,9 @@ use Rattle.ec_resolve.specs.declared.verdict.Verdict.{Verdict}
 use Rattle.ec_resolve.specs.declared.verdict.Verdict.TheVariants.{Need, Lost, NeedIds, Done}
 use Rattle.ec_resolve.proofs.Verdicts.{done-says, need-says}
 use Rattle.ec_wire.specs.Messages.{is_held_mode}
-use Rattle.ec_protocol.specs.Clerk.{Doing, first_id, need_of, verdict}
+use Rattle.ec_protocol.specs.Clerk.{Doing, first_id, need_of, verdict, is_session}
 use Rattle.ec_protocol.specs.declared.clerk.Clerk.{Clerk}
-use Rattle.ec_coherence.specs.System.{System, Ghost, clerk_in, clerk_of, if_in, is_session, seen, seen_ops, with_start}
+use Rattle.ec_coherence.specs.System.{System, Ghost, clerk_in, clerk_of, if_in, seen, seen_ops, with_start}
 use Rattle.ec_coherence.specs.Steps.{doing_in}
 use Rattle.ec_coherence.specs.Tokens.{Names, view}
 use Rattle.ec_coherence.specs.Images.{ImagesAgree}

@@ -20,9 +20,9 @@ use Rattle.ec_history.specs.declared.entry.Answer.{Answer}
 use Rattle.ec_report.specs.Report.{Owed, clear}
 use Rattle.ec_resolve.specs.declared.verdict.Verdict.{Verdict}
 use Rattle.ec_resolve.specs.declared.verdict.Verdict.TheVariants.{Need, Lost, NeedIds, Done}
-use Rattle.ec_protocol.specs.Clerk.{verdict}
+use Rattle.ec_protocol.specs.Clerk.{verdict, is_session}
 use Rattle.ec_protocol.specs.declared.clerk.Clerk.{Clerk}
-use Rattle.ec_coherence.specs.System.{System, clerk_in, clerk_of, if_in, is_session, with_start}
+use Rattle.ec_coherence.specs.System.{System, clerk_in, clerk_of, if_in, with_start}
 use Rattle.ec_coherence.specs.Sessions.{HasNone}
 use Rattle.ec_coherence.specs.Tokens.{IsWrite, TokensAgree, side_in, view}
 use Rattle.ec_coherence.specs.Log as log

@@ -9,7 +9,7 @@ use Rattle.ec_wire.specs.Messages.{is_sound}
 use Rattle.ec_wire.specs.declared.msg.Msg.{Msg}
 use Rattle.ec_durable.specs.Durable.{slot}
 use Rattle.ec_protocol.specs.declared.clerk.Clerk.{Clerk}
-use Rattle.ec_coherence.specs.System.{System, clerk_of, if_in, is_session, with_start}
+use Rattle.ec_coherence.specs.System.{System, clerk_of, if_in, with_start}
 use Rattle.ec_coherence.specs.Sessions as sessions
 use Rattle.ec_coherence.specs.Sessions.{HasNone, SessionsAgree}
 use Rattle.ec_coherence.specs.Tokens.{Fits, side, view}
@@ -24,6 +24,7 @@ use Rattle.ec_coherence.specs.StandLaws.{AreSent, GoesOn}
 use Rattle.ec_clerk_steps.specs.Cuts.{CutsAgree}
 use Rattle.ec_clerk_steps.proofs.Kept as kept
 use Rattle.ec_clerk_steps.proofs.SameIn as still
+use Rattle.ec_protocol.specs.Clerk.{is_session}
 
 module _ (g : System) (all : AllAgree g) (c b : ℕ) (k now : Clerk) (at-start : g.clerks c b ≡ Some k) (without : k.session ≡ None) (on : GoesOn k now) (same_side : side now ≡ side k) (same_ids : now.ids ≡ k.ids) (same_log : now.log ≡ k.log) (same_asking : now.asking ≡ k.asking)
     (calls : Calls) (ms : List (ℕ × Msg)) (sent : AreSent g ms) (fits : Each (λ m. Fits (view g) m.1) ms) (logs : Each (λ m. log.Fits g m.1) ms) where

@@ -20,10 +20,10 @@ use Rattle.ec_resolve.specs.Agreement.{Shows}
 use Rattle.ec_sessions.specs.declared.slot.Slot.{Slot}
 use Rattle.ec_sessions.specs.declared.window.Window.{Window}
 use Rattle.ec_durable.specs.Durable.{slot}
-use Rattle.ec_protocol.specs.Clerk.{first_id, verdict}
+use Rattle.ec_protocol.specs.Clerk.{first_id, verdict, is_session}
 use Rattle.ec_protocol.specs.declared.clerk.Clerk.{Clerk}
 use Rattle.ec_protocol.specs.declared.clerk.Waiting.{Waiting}
-use Rattle.ec_coherence.specs.System.{System, clerk_in, clerk_of, if_in, is_of, is_open, is_session}
+use Rattle.ec_coherence.specs.System.{System, clerk_in, clerk_of, if_in, is_of, is_open}
 use Rattle.ec_coherence.specs.Events.{CutAgrees, cut_in, shown_boot, shown_op}
 use Rattle.ec_coherence.specs.Log.{HasWrites, Knows, LogAgrees, mine, numbered}
 use Rattle.ec_coherence.specs.Invariant.{Invariant}

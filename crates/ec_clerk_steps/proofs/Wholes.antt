@@ -74,7 +74,7 @@ module _ (g : System) (all : AllAgree g) (cuts : CutsAgree g) (c b : ℕ) (k : C
     owns = ((all.0).sessions.in_session c b s k at-start p).0;
     boot = ((all.0).sessions.starts c b k at-start).1;
     session = p;
-    before = λ t n. ap (if_in t) at-start ∙ ap (λ o. elim (Rattle.ec_coherence.specs.System.is_session t o) as (λ z. Option Clerk) [ true ↦ Some k | false ↦ None ]) p ∙ ap (λ z. elim z as (λ z. Option Clerk) [ true ↦ Some k | false ↦ None ]) n;
+    before = λ t n. ap (if_in t) at-start ∙ ap (λ o. elim (Rattle.ec_protocol.specs.Clerk.is_session t o) as (λ z. Option Clerk) [ true ↦ Some k | false ↦ None ]) p ∙ ap (λ z. elim z as (λ z. Option Clerk) [ true ↦ Some k | false ↦ None ]) n;
   }
 
   pub begins : IsGoing g c b k d g.ghost
@@ -115,7 +115,7 @@ module _ (g : System) (all : AllAgree g) (cuts : CutsAgree g) (c b : ℕ) (k : C
     none = (all.0).sessions.without c b k at-start without
 
     outside : (t : ℕ) → if_in t (g.clerks c b) ≡ None
-    outside t = ap (if_in t) at-start ∙ ap (λ o. elim (Rattle.ec_coherence.specs.System.is_session t o) as (λ z. Option Clerk) [ true ↦ Some k | false ↦ None ]) without
+    outside t = ap (if_in t) at-start ∙ ap (λ o. elim (Rattle.ec_protocol.specs.Clerk.is_session t o) as (λ z. Option Clerk) [ true ↦ Some k | false ↦ None ]) without
 
     pub opens : (age : Age) (s e : ℕ) → Contains g.pool (c, Opened age s e) → age ≡ k.age → IsGoing g c b k (send (Claim s e []) (with_clerk (λ k. record k { session = Some s; epoch = e }) d)) (take_session s g.ghost)
     opens age s e p own =

@@ -13,7 +13,7 @@ use Rattle.ec_lock.specs.Passes.{front, numbers, raised, answered, IsPassOf, Sam
 use Rattle.ec_lock.specs.Steps.{Member, of}
 use Rattle.ec_lock.specs.declared.types.Pass.{Pass}
 use Rattle.ec_lock.specs.declared.types.TracedLock.{TracedLock}
-use Rattle.ec_outs.specs.Outs.{Reply, each, first_of}
+use Rattle.ec_outs.specs.Outs.{Reply}
 use Rattle.ec_clerknode.specs.declared.fault.NodeFault.{NodeFault}
 use Rattle.ec_clerknode.specs.declared.fault.NodeFault.TheVariants as fault
 use Rattle.ec_clerknode.specs.declared.state.Node.{Node}
@@ -29,6 +29,8 @@ use Rattle.ec_outs.proofs.Each.{each-append}
 use Rattle.ec_clerknode.proofs.Lists.{prefix_self, prefix_trans, prefix_length, of-append, member_left, member_right, member_append, distinct_append}
 use Rattle.ec_clerknode.proofs.LaneCalls.{are_longer, are_from}
 use Rattle.ec_clerknode.proofs.Turns.{marks-right}
+use Rattle.ec_link.specs.Happenings.{each}
+use Rattle.ec_base.specs.Lists.{first_of}
 
 -- Faults, as the list goes on.
 

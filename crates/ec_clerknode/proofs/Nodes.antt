@@ -11,7 +11,7 @@ use Rattle.ec_link.specs.declared.link.Got.{Got}
 use Rattle.ec_link.specs.declared.link.Got.TheVariants as gave
 use Rattle.ec_link.specs.Links.{Heard, heard, added, failed}
 use Rattle.ec_link.specs.Nets.{IsEmpty}
-use Rattle.ec_outs.specs.Outs.{Reply, each, told, sends, encoded, old_boots, first_of, answers, kept_at, first_known}
+use Rattle.ec_outs.specs.Outs.{Reply, told, sends, encoded, old_boots, answers, kept_at, first_known}
 use Rattle.ec_clerknode.specs.declared.act.Act.{Act}
 use Rattle.ec_clerknode.specs.declared.fault.NodeFault.{NodeFault}
 use Rattle.ec_clerknode.specs.declared.step.Deed.{Deed}
@@ -29,6 +29,8 @@ use Rattle.ec_clerknode.proofs.Lists.{get_longer, get_last}
 use Rattle.ec_clerknode.proofs.Parts.{over_push, over_new, came_over, came_push, counted_push, counted_new, links_push, no_links}
 use Rattle.ec_outs.proofs.Each.{each-push}
 use Rattle.ec_outs.proofs.Told.{added-nil}
+use Rattle.ec_link.specs.Happenings.{each}
+use Rattle.ec_base.specs.Lists.{first_of}
 
 pub leads-push : (c : Clerk) (xs : List Step) (s : Step) → leads c (xs ++ s ∷ []) ≡ after (leads c xs) s.deed
 leads-push c [] s = refl

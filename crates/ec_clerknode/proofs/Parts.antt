@@ -5,7 +5,6 @@ use mathlib.Core.List.{IsPrefix}
 use Rattle.ec_lock.specs.Steps.{is_number, of}
 use Rattle.ec_link.specs.Links.{Heard, added, failed}
 use Rattle.ec_link.specs.Nets.{IsEmpty}
-use Rattle.ec_outs.specs.Outs.{each}
 use Rattle.ec_outs.proofs.Each.{each-push}
 use Rattle.ec_outs.proofs.Told.{added-added}
 use Rattle.ec_clerknode.specs.declared.step.Step.{Step}
@@ -13,6 +12,7 @@ use Rattle.ec_clerknode.specs.Run.{heard_of, heard_by, net_of, nets, Came}
 use Rattle.ec_clerknode.specs.Parts.{is_linked, has_link, part, parts, onto, IsBase, Over, CameOver, Counted, count_before, IsLinker, LinksBy}
 use Rattle.ec_clerknode.specs.Turns.{number_of}
 use Rattle.ec_clerknode.proofs.Lists.{of-append}
+use Rattle.ec_link.specs.Happenings.{each}
 
 or_false : (a b : Bool) → (a || b) ≡ false → b ≡ false
 or_false true b e = absurd (cc e)

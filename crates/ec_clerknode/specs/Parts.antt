@@ -2,11 +2,11 @@
 use Rattle.std.specs.Prelude.{◌≡◌, ℕ, ◌+◌, ◌≤◌, Bool, true, false, ◌||◌, List, [], ◌∷◌, Option, None, Some, if◌then◌else◌}
 use Rattle.ec_link.specs.Links.{Heard, added}
 use Rattle.ec_link.specs.Nets.{IsEmpty}
-use Rattle.ec_outs.specs.Outs.{each}
 use Rattle.ec_clerknode.specs.declared.step.Deed.{Deed}
 use Rattle.ec_clerknode.specs.declared.step.Deed.TheVariants.{Linked}
 use Rattle.ec_clerknode.specs.declared.step.Step.{Step}
 use Rattle.ec_clerknode.specs.Run.{heard_of, heard_by, nets, Came}
+use Rattle.ec_link.specs.Happenings.{each}
 
 abbrev pub is_linked : Deed → Bool
 is_linked Linked = true

@@ -11,13 +11,15 @@ use Rattle.ec_protocol.specs.Clerk.{Doing}
 use Rattle.ec_link.specs.declared.link.Sent.{Sent}
 use Rattle.ec_link.specs.declared.link.Sent.TheVariants as sent
 use Rattle.ec_link.specs.Links.{Heard, body, long, failed, added}
-use Rattle.ec_outs.specs.Outs.{each, sends, told, old_boots, first_of, encoded}
+use Rattle.ec_outs.specs.Outs.{sends, told, old_boots, encoded}
 use Rattle.ec_clerknode.specs.declared.step.Deed.{Deed}
 use Rattle.ec_clerknode.specs.declared.step.Deed.TheVariants.{Began, Took, Picked, Parted, Resent, Linked, Net, Peer, Long, NotBegun, NotTaken, NotPicked, Broke}
 use Rattle.ec_clerknode.specs.declared.step.Step.{Step}
 use Rattle.ec_clerknode.specs.declared.fault.NodeFault.{NodeFault}
 use Rattle.ec_clerknode.specs.declared.fault.NodeFault.TheVariants as fault
 use Rattle.ec_clerknode.specs.Folded.{begun, taken, picked, parted, resent, linked, floor_of}
+use Rattle.ec_link.specs.Happenings.{each}
+use Rattle.ec_base.specs.Lists.{first_of}
 
 -- What a step makes of the clerk.
 

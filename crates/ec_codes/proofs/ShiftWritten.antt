@@ -7,9 +7,10 @@ use Rattle.std.proofs.lemmas.Bool.Decides.{nat_tests}
 use Rattle.ec_volume.specs.Update.{Above, listed, member, distinct}
 use Rattle.ec_volume.specs.declared.image.Kind.{Kind}
 use Rattle.ec_codes.specs.Formats.{Format, number, standing, Writes}
-use Rattle.ec_codes.specs.Fields.{id, id_but, kind_field, or_zero, is_from_one, id_or_none, is_apart, victim_but, name}
+use Rattle.ec_codes.specs.Fields.{id, id_but, kind_field, is_from_one, id_or_none, is_apart, victim_but, name}
 use Rattle.ec_codes.proofs.Written.{chain}
 use Rattle.ec_codes.specs.Updates.{way_fields, shift_fields}
+use Rattle.ec_base.specs.Options.{or_zero}
 
 second : (a b c : ℕ) (v : Option ℕ) → distinct (a ∷ b ∷ c ∷ listed v) ≡ true → not (member b (a ∷ [])) ≡ true
 second a b c None h = grind (arith, nat_tests)

@@ -1,5 +1,5 @@
 -- The laws of the fields that tell a clerk and its age.
-use Rattle.std.proofs.Common.{◌≡◌, ℕ, true, Option, Some, refl, sym, ap}
+use Rattle.std.proofs.Common.{ℕ, true, Option, refl, sym, ap}
 use Rattle.std.specs.Prelude.{nat_lt}
 use Rattle.ec_base.specs.Limits.{clerk_count}
 use Rattle.ec_codes.specs.Formats.{byte, then_by}
@@ -7,9 +7,7 @@ use Rattle.ec_codes.specs.FormatLaws.{IsFormat, byte-is, such_is, then_is, stand
 use Rattle.ec_codes.specs.Fields.{word, long}
 use Rattle.ec_codes.specs.FieldLaws.{word-is, long-is}
 use Rattle.ec_codes.specs.Clerks.{clerk_field, age_parts, age_of, age_field}
-
-same_some : {A : Type 0} (x y : A) → Some x ≡ Some y → x ≡ y
-same_some x y e = cc
+use Rattle.ec_base.specs.SmallLaws.{same_some}
 
 pub clerk-is : IsFormat clerk_field
 unfolding clerk_field

@@ -4,8 +4,7 @@ use Rattle.std.specs.Prelude.{IfOk, nat_le, T, slice_get}
 use Rattle.std.specs.List.{list_all, list_any}
 use Rattle.std.specs.Int.{w16, w32, w64}
 use Rattle.std.specs.Ordering.{nat_cmp, is_lt}
-use Rattle.std.specs.declared.cmp.Ordering.{Ordering}
-use Rattle.std.specs.declared.cmp.Ordering.TheVariants.{Less, Equal, Greater}
+use Rattle.std.specs.declared.cmp.Ordering.TheVariants.{Less}
 use Rattle.std.specs.Cmp.{IsTotalOrder}
 use Rattle.std.specs.FinMap.Entries.{is_sorted, below_all}
 use Rattle.std.proofs.lemmas.Cmp.{nat_list_cmp_total}
@@ -22,6 +21,8 @@ use Rattle.ec_codes.specs.Formats.{Format, byte, number, such, rows_fit, Spells}
 use Rattle.ec_codes.specs.Fields.{id, id_but, mode_field, name}
 use Rattle.ec_codes.specs.SoundLaws.{are_fresh, fresh_is}
 use Rattle.ec_codes.specs.Images.{max_file_bytes, max_entries, content, last_entry, is_behind, is_after, ids_under, entry_after, entry_spell, entries_field, file_fields, dir_fields, old_file_fields, old_dir_fields, image_form, old_image_form, image_code, old_image_code, is_sound_image}
+use Rattle.ec_base.specs.SortedLaws.{less, second}
+use Rattle.ec_base.specs.SmallLaws.{holds}
 
 -- The last one of the entries.
 
@@ -45,22 +46,9 @@ first : (a b : Bool) → T (a && b) → T a
 first true b p = tt
 first false b p = absurd p
 
-second : (a b : Bool) → T (a && b) → T b
-second true b p = p
-second false b p = absurd p
-
-less : (r : Ordering) → T (is_lt r) → r ≡ Less
-less Less p = refl
-less Equal p = absurd p
-less Greater p = absurd p
-
 is_true : (b : Bool) → T b → b ≡ true
 is_true true p = refl
 is_true false p = absurd p
-
-holds : (b : Bool) → b ≡ true → T b
-holds true e = tt
-holds false e = absurd cc
 
 -- each name is above the ones before it
 abbrev pub are_rising : Entries → Entries → Bool

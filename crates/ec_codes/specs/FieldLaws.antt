@@ -7,7 +7,9 @@ use Rattle.ec_volume.specs.declared.image.Kind.{Kind}
 use Rattle.ec_volume.specs.declared.image.Kind.TheVariants as kind
 use Rattle.ec_codes.specs.Formats.{Format, byte, number, such, standing, text}
 use Rattle.ec_codes.specs.FormatLaws.{IsFormat, byte-is, number16-is, number32-is, number64-is, such_is, standing_is, text_is}
-use Rattle.ec_codes.specs.Fields.{word, long, id, id_but, kind_number, kind_of, kind_field, flag_number, flag_of, flag, or_zero, is_from_one, id_or_none, is_apart, victim_but, mode_field, is_name_length, is_name, name}
+use Rattle.ec_codes.specs.Fields.{word, long, id, id_but, kind_number, kind_of, kind_field, flag_number, flag_of, flag, is_from_one, id_or_none, is_apart, victim_but, mode_field, is_name_length, is_name, name}
+use Rattle.ec_base.specs.SmallLaws.{same_some}
+use Rattle.ec_base.specs.Options.{or_zero}
 
 pub word-is : IsFormat word
 unfolding word
@@ -28,10 +30,7 @@ kind_back : (k : Kind) → kind_of (kind_number k) ≡ Some k
 kind_back kind.File = refl
 kind_back kind.Dir = refl
 
-same_some : {A : Type 0} (x y : A) → Some x ≡ Some y → x ≡ y
-same_some x y e = cc
-
-two_of : {A : Type 0} (b c : Bool) (x y z : A) → cond b (Some x) (cond c (Some y) None) ≡ Some z → ((b ≡ true) × (x ≡ z)) ⊎ ((c ≡ true) × (y ≡ z))
+pub two_of : {A : Type 0} (b c : Bool) (x y z : A) → cond b (Some x) (cond c (Some y) None) ≡ Some z → ((b ≡ true) × (x ≡ z)) ⊎ ((c ≡ true) × (y ≡ z))
 two_of true c x y z e = inl (refl, same_some x z e)
 two_of false true x y z e = inr (refl, same_some y z e)
 two_of false false x y z e = absurd cc
@@ -56,7 +55,7 @@ flag-is = standing_is flag_number (λ b. true) flag_of byte byte-is (λ b h. fla
       | inr h ↦ (sym (eqb-true n 1 h.0 ∙ ap flag_number h.1), refl)
     ])
 
-victim_back : (v : Option ℕ) → is_from_one v ≡ true → id_or_none (or_zero v) ≡ Some v
+pub victim_back : (v : Option ℕ) → is_from_one v ≡ true → id_or_none (or_zero v) ≡ Some v
 victim_back None h = refl
 victim_back (Some n) h =
     elim (cases_Bool (eqb n 0)) [
@@ -64,11 +63,11 @@ victim_back (Some n) h =
       | inr not_zero ↦ rw not_zero refl
     ]
 
-zero_or : (b : Bool) (n : ℕ) (v : Option ℕ) → cond b (Some None) (Some (Some n)) ≡ Some v → ((b ≡ true) × (None ≡ v)) ⊎ ((b ≡ false) × (Some n ≡ v))
+pub zero_or : (b : Bool) (n : ℕ) (v : Option ℕ) → cond b (Some None) (Some (Some n)) ≡ Some v → ((b ≡ true) × (None ≡ v)) ⊎ ((b ≡ false) × (Some n ≡ v))
 zero_or true n v e = inl (refl, same_some None v e)
 zero_or false n v e = inr (refl, same_some (Some n) v e)
 
-victim_forth : (n : ℕ) (v : Option ℕ) → id_or_none n ≡ Some v → (or_zero v ≡ n) × (is_from_one v ≡ true)
+pub victim_forth : (n : ℕ) (v : Option ℕ) → id_or_none n ≡ Some v → (or_zero v ≡ n) × (is_from_one v ≡ true)
 victim_forth n v e =
     elim (zero_or (eqb n 0) n v e) [
       | inl h ↦ (ap or_zero (sym h.1) ∙ sym (eqb-true n 0 h.0), ap is_from_one (sym h.1))

@@ -7,6 +7,7 @@ use Rattle.ec_volume.specs.Update.{member}
 use Rattle.ec_volume.specs.declared.image.Kind.{Kind}
 use Rattle.ec_volume.specs.declared.image.Kind.TheVariants as kind
 use Rattle.ec_codes.specs.Formats.{Format, byte, number, such, standing, text}
+use Rattle.ec_base.specs.Options.{or_zero}
 
 -- any u32
 unfoldable pub word : Format ℕ
@@ -45,10 +46,6 @@ flag_of n = if n == 0 then Some false else if n == 1 then Some true else None
 -- 0 for no, 1 for yes
 unfoldable pub flag : Format Bool
 flag = standing flag_number (λ b. true) flag_of byte
-
-abbrev pub or_zero : Option ℕ → ℕ
-or_zero None = 0
-or_zero (Some o) = o
 
 abbrev pub is_from_one : Option ℕ → Bool
 is_from_one None = true

@@ -11,6 +11,7 @@ use Rattle.ec_codes.specs.FormatLaws.{IsFormat, byte-is, number32-is, number64-i
 use Rattle.ec_codes.specs.Fields.{id, id_but, mode_field, name}
 use Rattle.ec_codes.specs.FieldLaws.{id_but_is, mode_field-is, name-is}
 use Rattle.ec_codes.specs.Images.{max_file_bytes, max_entries, content, is_after, ids_under, entry_after, entry_spell, entries_field, file_fields, dir_fields, old_file_fields, old_dir_fields, image_tag, is_image_tag, gone, filed, listing, old_filed, old_listing, to_gone, to_file, to_dir, to_old_file, to_old_dir, image_form, old_image_form, image_code, old_image_code}
+use Rattle.ec_base.specs.SmallLaws.{same_some}
 
 content-is : IsFormat content
 unfolding content
@@ -45,9 +46,6 @@ unfolding old_dir_fields
 old_dir-is = then_is mode_field _ mode_field-is (λ mode. then_is (number w64) _ number64-is (λ stamp. entries-is))
 
 -- The forms.
-
-same_some : {A : Type 0} (x y : A) → Some x ≡ Some y → x ≡ y
-same_some x y e = cc
 
 abbrev IsTagged : ℕ → Format Image → Type 0
 IsTagged t F = (i : Image) → F.fits i ≡ true → image_tag i ≡ t

@@ -13,6 +13,7 @@ use Rattle.ec_codes.specs.FormatLaws.{IsFormat, byte-is, number16-is, number32-i
 use Rattle.ec_codes.specs.Fields.{id, id_but, kind_field, flag, victim_but, name}
 use Rattle.ec_codes.specs.FieldLaws.{id-is, id_but_is, kind-is, flag-is, victim_but_is, mode_field-is, name-is}
 use Rattle.ec_codes.specs.Updates.{entry_fields, move_fields, is_put_length, put_fields, len_fields, mode_fields, stamp_fields, owner_fields, is_order_count, order_fields, is_way_count, begins_well, step_fields, step_spell, way_fields, shift_fields, tag, is_tag, made, dropped, moved, put, resized, with_mode, stamped, ordered, shifted, owned, to_make, to_drop, to_move, to_put, to_len, to_mode, to_stamp, to_order, to_shift, to_owner, form, update_code}
+use Rattle.ec_base.specs.SmallLaws.{same_some}
 
 -- The fields.
 
@@ -71,9 +72,6 @@ shift-is =
     then_is (victim_but (dir ∷ into ∷ obj ∷ [])) _ (victim_but_is (dir ∷ into ∷ obj ∷ [])) (λ victim. then_is name _ name-is (λ from. then_is name _ name-is (λ to. way_is k into (into ∷ obj ∷ listed victim))))))))
 
 -- The forms.
-
-same_some : {A : Type 0} (x y : A) → Some x ≡ Some y → x ≡ y
-same_some x y e = cc
 
 abbrev IsTagged : ℕ → Format Update → Type 0
 IsTagged t F = (u : Update) → F.fits u ≡ true → tag u ≡ t

@@ -95,7 +95,7 @@ module _ (g : System) (c b s : ℕ) (d : Doing) (γ : Ghost) (own : IsIn g γ c 
 
       mine : side_in (clerk_of s (γ.owner s) (with_start c b d.clerk g.clerks)) ≡ Some (side d.clerk)
       mine = ap (λ o. side_in (clerk_of s o (with_start c b d.clerk g.clerks))) own.owner ∙ ap (λ k. side_in (if_in s k)) (at-start (g.clerks c own.age.boot))
-          ∙ ap (λ o. side_in (elim (Rattle.ec_coherence.specs.System.is_session s o) [ true ↦ Some d.clerk | false ↦ None ])) own.session ∙ ap (λ z. side_in (elim z [ true ↦ Some d.clerk | false ↦ None ])) (same s)
+          ∙ ap (λ o. side_in (elim (Rattle.ec_protocol.specs.Clerk.is_session s o) [ true ↦ Some d.clerk | false ↦ None ])) own.session ∙ ap (λ z. side_in (elim z [ true ↦ Some d.clerk | false ↦ None ])) (same s)
 
       other : (t == s) ≡ false → (o : Option (ℕ × Age)) → side_in (clerk_of t o (with_start c b d.clerk g.clerks)) ≡ side_in (clerk_of t o g.clerks)
       other e None = refl
@@ -104,7 +104,7 @@ module _ (g : System) (c b s : ℕ) (d : Doing) (γ : Ghost) (own : IsIn g γ c 
           by-start : (z : Bool) → ((o.0 == c) && (o.1.boot == b)) ≡ z → side_in (if_in t (elim z [ true ↦ Some d.clerk | false ↦ g.clerks o.0 o.1.boot ])) ≡ side_in (if_in t (g.clerks o.0 o.1.boot))
           by-start true p =
               let q = and_parts (o.0 == c) (o.1.boot == b) p in
-              ap (λ z. side_in (elim (Rattle.ec_coherence.specs.System.is_session t z) [ true ↦ Some d.clerk | false ↦ None ])) own.session ∙ ap (λ z. side_in (elim z [ true ↦ Some d.clerk | false ↦ None ])) e
+              ap (λ z. side_in (elim (Rattle.ec_protocol.specs.Clerk.is_session t z) [ true ↦ Some d.clerk | false ↦ None ])) own.session ∙ ap (λ z. side_in (elim z [ true ↦ Some d.clerk | false ↦ None ])) e
               ∙ sym (ap side_in (ap (λ z. if_in t (g.clerks z o.1.boot)) (equal o.0 c q.0) ∙ ap (λ z. if_in t (g.clerks c z)) (equal o.1.boot b q.1) ∙ own.before t e))
           by-start false p = refl
 

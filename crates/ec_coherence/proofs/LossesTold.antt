@@ -11,7 +11,7 @@ use Rattle.ec_volume.specs.Volume.{Fits}
 use Rattle.ec_order.specs.Order.{InClosure, Issued, ask, need}
 use Rattle.ec_history.specs.History.{Base, History, Op, Each, Throughout, Covers, kept, owed, numbers, updates, is_entry_of, is_one_of, of_start, same_start}
 use Rattle.ec_history.specs.Legal.{IsLegal, is_op_of}
-use Rattle.ec_history.specs.Placing.{watch, begun, ended, is_running, or_zero, owner, place, same_numbers, to_lose}
+use Rattle.ec_history.specs.Placing.{watch, begun, ended, is_running, owner, place, same_numbers, to_lose}
 use Rattle.ec_history.specs.declared.watch.Watch.{Watch}
 use Rattle.ec_history.specs.declared.entry.Entry.{Entry}
 use Rattle.ec_history.specs.declared.entry.Entry.TheVariants as entry
@@ -41,6 +41,7 @@ use Rattle.ec_coherence.proofs.Its as its
 use Rattle.ec_coherence.proofs.Lost as losses
 use Rattle.ec_coherence.proofs.Lost.{minus-same, of-part}
 use Rattle.ec_coherence.proofs.Twins.{Twin, twins}
+use Rattle.ec_base.specs.Options.{or_zero}
 
 -- nothing is covered where nothing is asked
 nothing-asked : (is : Issued) (n : ℕ) → InClosure is (λ m. member m []) n → ⊥

@@ -6,9 +6,9 @@ use Rattle.ec_wire.specs.declared.msg.Msg.{Msg}
 use Rattle.ec_wire.specs.declared.msg.Msg.TheVariants.{Hello, Claim, Opened}
 use Rattle.ec_protocol.specs.declared.clerk.Clerk.{Clerk}
 use Rattle.ec_protocol.specs.declared.clerk.Out.TheVariants as out
-use Rattle.ec_protocol.specs.Clerk.{Doing, send, hello, with_clerk}
+use Rattle.ec_protocol.specs.Clerk.{Doing, send, hello, with_clerk, is_session}
 use Rattle.ec_coherence.specs.Clerks.{take_session}
-use Rattle.ec_coherence.specs.System.{System, Ghost, is_session, at_session, with_start, clerk_of, if_in}
+use Rattle.ec_coherence.specs.System.{System, Ghost, at_session, with_start, clerk_of, if_in}
 use Rattle.ec_coherence.specs.Sessions.{HasNone, SessionsAgree}
 use Rattle.ec_coherence.specs.Steps.{sends, doing_in}
 use Rattle.ec_coherence.specs.Tokens.{View, Side, side, side_in, view, Fits, TokensAgree}

@@ -13,13 +13,14 @@ use Rattle.ec_durable.specs.declared.state.Durable.{Durable}
 use Rattle.ec_durable.specs.declared.record.Record.TheVariants as record_of
 use Rattle.ec_protocol.specs.declared.clerk.Clerk.{Clerk}
 use Rattle.ec_protocol.specs.Server.{Serving}
-use Rattle.ec_coherence.specs.System.{System, Ghost, is_open, open_in, is_session, if_in, clerk_of}
+use Rattle.ec_coherence.specs.System.{System, Ghost, is_open, open_in, if_in, clerk_of}
 use Rattle.ec_coherence.specs.Sessions as sessions
 use Rattle.ec_coherence.specs.Tokens.{side_in, tables_of, view, TokensAgree}
 use Rattle.ec_coherence.specs.Steps.{serving_in, open_session}
 use Rattle.ec_coherence.proofs.OpenNew.{OpensNot, opened-agrees}
 use Rattle.ec_coherence.proofs.SlotLaws.{open-of, new-at, new-other, opened-own, opened-other}
 use Rattle.ec_coherence.proofs.Tables.{same, equal, differs, refutes, holds, fails, each-map, none_some, same_some, by-session}
+use Rattle.ec_protocol.specs.Clerk.{is_session}
 
 -- Ages.
 

@@ -24,12 +24,13 @@ use Rattle.ec_quiet.proofs.Calling.{called}
 use Rattle.ec_quiet.proofs.Delivering.{shown-alike}
 use Rattle.ec_quiet.specs.First.{start_calling}
 use Rattle.ec_quiet.proofs.Stepping.{carried}
-use Rattle.ec_complete.specs.Rooms.{HasRoomIn, one_if}
+use Rattle.ec_complete.specs.Rooms.{HasRoomIn}
 use Rattle.ec_complete.proofs.Steps.{calls-keep, pushes-keep, starts-have}
 use Rattle.ec_complete.specs.ScriptRooms.{CallsKeepRoom, HasStock, KeepsRoom, PushesKeepRoom}
 use Rattle.ec_complete.proofs.Pushed.{pushed-on}
 use Rattle.ec_complete.proofs.Showing as showing
 use Rattle.ec_complete.proofs.Stocks.{done, done-again, more-stock}
+use Rattle.ec_base.specs.Bools.{one_if}
 
 fails-no : (f : _) (w : World) → (fails f w).fault ≡ None → ⊥
 fails-no f w e = none_some (sym e)

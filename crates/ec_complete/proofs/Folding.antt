@@ -10,10 +10,10 @@ use Rattle.ec_protocol.specs.declared.script.Line.{Line}
 use Rattle.ec_protocol.specs.declared.script.Line.TheVariants as line
 use Rattle.ec_machine_laws.specs.Answers.{Asking, Plainly, after_call, asked_from, asking_in, outcome_on}
 use Rattle.ec_complete.specs.Ids.{AreAbove, behind_calls}
-use Rattle.ec_complete.specs.Rooms.{one_if}
 use Rattle.ec_complete.specs.ScriptRooms.{sum_below}
 use Rattle.ec_complete.proofs.Sums.{once-below, sum-both, sum-less}
 use Rattle.ec_complete.specs.PlainScripts.{behind_line, makes, makes_one}
+use Rattle.ec_base.specs.Bools.{one_if}
 
 pub regroup : {A : Type 0} (xs ys zs : List A) → (xs ++ ys) ++ zs ≡ xs ++ (ys ++ zs)
 regroup [] ys zs = refl

@@ -22,9 +22,10 @@ use Rattle.ec_quiet.specs.Works.{Calls, HasTask, Pushes, Task, Work}
 use Rattle.ec_complete.proofs.Pinned.{once-each}
 use Rattle.ec_complete.proofs.Standing.{other}
 use Rattle.ec_complete.specs.Spare.{granted_below, open_grants}
-use Rattle.ec_complete.specs.Rooms.{makes_in, one_if}
+use Rattle.ec_complete.specs.Rooms.{makes_in}
 use Rattle.ec_complete.specs.ScriptRooms.{AskingsFindRoom, HasStock, sum_below}
 use Rattle.ec_complete.proofs.Sums.{less-one, members-few, once-in, sum-both, sum-less, sum-times}
+use Rattle.ec_base.specs.Bools.{one_if}
 
 -- Ids are below the next one.
 

@@ -42,8 +42,9 @@ use Rattle.ec_coherence.proofs.Settling.{Keeping, settle-keeps}
 use Rattle.ec_coherence.proofs.Try.{OnTried}
 use Rattle.ec_coherence.proofs.TriedList.{same-verdict}
 use Rattle.ec_lawful.specs.Creates.{creates}
-use Rattle.ec_complete.specs.Rooms.{ComesWell, GrantsRoom, HasRoomIn, IsStocked, makes_in, one_if}
+use Rattle.ec_complete.specs.Rooms.{ComesWell, GrantsRoom, HasRoomIn, IsStocked, makes_in}
 use Rattle.ec_complete.proofs.Making.{done-creates, ids-create}
+use Rattle.ec_base.specs.Bools.{one_if}
 
 pub makes-both : (ws vs : List Waiting) → makes_in (ws ++ vs) ≡ makes_in ws + makes_in vs
 makes-both [] vs = omega arith

@@ -4,8 +4,8 @@ use Rattle.std.specs.List.{filter}
 use Rattle.std.proofs.lemmas.Bool.{eqb-true, eq-eqb}
 use Rattle.ec_base.specs.Tables.{once}
 use Rattle.ec_volume.specs.Update.{member}
-use Rattle.ec_complete.specs.Rooms.{one_if}
 use Rattle.ec_complete.specs.ScriptRooms.{sum_below}
+use Rattle.ec_base.specs.Bools.{one_if}
 
 pub sum-less : (n : ℕ) (f g : ℕ → ℕ) → ((c : ℕ) → f c ≤ g c) → sum_below n f ≤ sum_below n g
 sum-less zero f g l = omega arith

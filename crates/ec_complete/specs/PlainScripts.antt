@@ -13,7 +13,7 @@ use Rattle.ec_lawful.specs.Drills.{AreFit, lines_in}
 use Rattle.ec_deliveries.specs.Runs.{AllRun}
 use Rattle.ec_machine_laws.specs.Answers.{Plainly, after_call, none_yet, outcome_on}
 use Rattle.ec_complete.specs.Complete.{IsComplete, IsFaultlessRead}
-use Rattle.ec_complete.specs.Rooms.{one_if}
+use Rattle.ec_base.specs.Bools.{one_if}
 
 -- Pushes.
 

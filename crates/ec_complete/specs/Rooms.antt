@@ -1,5 +1,5 @@
 -- Ids in store, and refusals for want of room, as contracts name it.
-use Rattle.std.specs.Prelude.{◌≡◌, ◌≤◌, ◌+◌, ◌*◌, ℕ, Bool, true, false, List, [], ◌∷◌, length, None, Some, ⊤}
+use Rattle.std.specs.Prelude.{◌≡◌, ◌≤◌, ◌+◌, ◌*◌, ℕ, false, List, [], ◌∷◌, length, None, Some, ⊤}
 use Rattle.ec_history.specs.History.{Each}
 use Rattle.ec_history.specs.declared.entry.Answer.TheVariants as answer
 use Rattle.ec_plain.specs.declared.call.Call.{Call}
@@ -14,12 +14,9 @@ use Rattle.ec_protocol.specs.declared.clerk.Out.TheVariants as out
 use Rattle.ec_protocol.specs.declared.clerk.Waiting.{Waiting}
 use Rattle.ec_protocol.specs.declared.server.Server.{Server}
 use Rattle.ec_lawful.specs.Creates.{creates}
+use Rattle.ec_base.specs.Bools.{one_if}
 
 -- Ids in store.
-
-abbrev pub one_if : Bool → ℕ
-one_if true = 1
-one_if false = 0
 
 -- how many of these calls make objects
 abbrev pub makes_in : List Waiting → ℕ

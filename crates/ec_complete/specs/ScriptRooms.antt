@@ -25,7 +25,8 @@ use Rattle.ec_complete.specs.Spare.{AreGiven, max_calls}
 use Rattle.ec_complete.specs.Begins.{most_sent}
 use Rattle.ec_complete.specs.Complete.{HasRoom}
 use Rattle.ec_complete.specs.Worlds.{IsKnown, new_outset}
-use Rattle.ec_complete.specs.Rooms.{GrantsRoom, IsStocked, one_if}
+use Rattle.ec_complete.specs.Rooms.{GrantsRoom, IsStocked}
+use Rattle.ec_base.specs.Bools.{one_if}
 
 -- the sum over the numbers below this one
 abbrev pub sum_below : ℕ → (ℕ → ℕ) → ℕ

@@ -20,12 +20,13 @@ use Rattle.ec_quiet.specs.Settling.{IsSettled}
 use Rattle.ec_quiet.proofs.Counting.{delivered-one}
 use Rattle.ec_quiet.proofs.Mail.{few, pending-is}
 use Rattle.ec_quiet.proofs.Showing.{both, settled-lines}
-use Rattle.ec_deliveries.specs.Coming.{GoesOn, HasNext}
+use Rattle.ec_deliveries.specs.Coming.{HasNext}
 use Rattle.ec_quiet.specs.First.{HasFirst}
 use Rattle.ec_deliveries.specs.Runs.{CanGoOn, HasEnded, HasSettled}
 use Rattle.ec_deliveries.proofs.Led.{deliveries-lead-on}
 use Rattle.ec_deliveries.proofs.Settled.{stops}
 use Rattle.ec_deliveries.proofs.Spending.{had-next, next-else-much}
+use Rattle.ec_quiet.specs.Goes.{GoesOn}
 
 none-some : {A : Type 0} (f : WorldFault) → ◌≡◌ {A = Option WorldFault} (Some f) None → A
 none-some {A} f e = absurd (no f e)

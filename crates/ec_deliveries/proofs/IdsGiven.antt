@@ -43,8 +43,9 @@ use Rattle.ec_deliveries.proofs.Idling.{idle-stays}
 use Rattle.ec_deliveries.proofs.Ordering.{ids-orderly}
 use Rattle.ec_deliveries.proofs.Wanted.{other-session}
 use Rattle.ec_deliveries.proofs.Working.{working-moves, working-stays, keeps-backs, main-joins, main-front}
-use Rattle.ec_deliveries.specs.Coming.{IsFreshFor, GoesOn}
+use Rattle.ec_deliveries.specs.Coming.{IsFreshFor}
 use Rattle.ec_deliveries.proofs.Frames.{behind, no-back}
+use Rattle.ec_quiet.specs.Goes.{GoesOn}
 
 -- The measure.
 

@@ -5,9 +5,9 @@ use Rattle.ec_deliveries.proofs.ClerkDelivered.{all-go-on}
 use Rattle.ec_quiet.specs.Phases.{Phase, InPhase}
 use Rattle.ec_quiet.specs.Scenes.{Mail, Scene, delivered, is_for_server}
 use Rattle.ec_quiet.specs.Works.{Work}
-use Rattle.ec_deliveries.specs.Coming.{GoesOn}
 use Rattle.ec_deliveries.proofs.ServerDelivered.{deliveries-go-on}
 use Rattle.ec_deliveries.specs.Leading.{CanTake}
+use Rattle.ec_quiet.specs.Goes.{GoesOn}
 
 pub deliveries-lead-on : (j : Work) (sc : Scene) (p : Phase) (m : ℕ × Msg) (rest : Mail) → InPhase j sc p → CanTake j sc p m → sc.mail ≡ m ∷ rest → GoesOn j sc p (delivered m.0 m.1 rest sc)
 deliveries-lead-on j sc p m rest ip can mail = go (is_for_server m.1) refl

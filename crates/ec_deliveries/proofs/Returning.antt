@@ -34,8 +34,8 @@ use Rattle.ec_deliveries.proofs.Ordering.{back-orderly, wants-orderly}
 use Rattle.ec_deliveries.proofs.Returned.{first-token, first-other, first-clashes, first-fits, first-leaves, others-left}
 use Rattle.ec_deliveries.proofs.Wanted.{not-in-one, granted-phase}
 use Rattle.ec_deliveries.proofs.Working.{wanting-stays, keeps-backs, main-joins, main-front}
-use Rattle.ec_deliveries.specs.Coming.{GoesOn}
 use Rattle.ec_deliveries.proofs.Frames.{behind, turned, like-but, other-clerk, idle-wider, no-back, keeps-front, noted-want, not-clear}
+use Rattle.ec_quiet.specs.Goes.{GoesOn}
 
 module _ (j : Work) (sc : Scene) (x : ℕ) (h : Hold) (b : Holder) (bs : List Holder) (rest : Mail) (ip : InPhase j sc (Recalls x h [] (b ∷ bs))) (mail : sc.mail ≡ back_of sc x h b ∷ rest) where
   abbrev noted : IsNoted j sc x h (b ∷ (bs ++ []))

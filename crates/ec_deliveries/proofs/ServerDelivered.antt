@@ -10,12 +10,13 @@ use Rattle.ec_quiet.specs.Works.{Work}
 use Rattle.ec_deliveries.proofs.Claimed.{claims-delivered}
 use Rattle.ec_deliveries.proofs.Wanted.{wants-delivered}
 use Rattle.ec_deliveries.proofs.Working.{main-front}
-use Rattle.ec_deliveries.specs.Coming.{IsNext, GoesOn, Suits}
+use Rattle.ec_deliveries.specs.Coming.{IsNext, Suits}
 use Rattle.ec_deliveries.proofs.Returning.{backs-come-back}
 use Rattle.ec_deliveries.proofs.Committed.{holders-flush, clerks-save}
 use Rattle.ec_deliveries.proofs.IdsGiven.{ids-answered}
 use Rattle.ec_deliveries.proofs.Greeted.{greetings-open}
 use Rattle.ec_deliveries.proofs.Staying.{old-tokens-leave}
+use Rattle.ec_quiet.specs.Goes.{GoesOn}
 
 pub head-same : (a b : ℕ × Msg) (more others : Mail) → a ∷ more ≡ b ∷ others → a ≡ b
 head-same a b more others e = cc

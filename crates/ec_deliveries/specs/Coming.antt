@@ -27,14 +27,11 @@ use Rattle.ec_quiet.specs.Phases.{Phase, Greets, Opens, Recalls, Flushes, Keeps,
 use Rattle.ec_quiet.specs.Scenes.{IsScene, Mail, Scene, delivered, is_for_server}
 use Rattle.ec_quiet.specs.Works.{Work}
 use Rattle.ec_machine_laws.specs.Holding.{AreOwn}
+use Rattle.ec_quiet.specs.Goes.{GoesOn}
 
 -- the work is in the phase q then, and less is left of it by a delivery
 abbrev pub IsNext : Work → Scene → Phase → Scene → Phase → Type 0
 IsNext j sc p after q = InPhase j after q × (measure j after q + 32 ≤ measure j sc p)
-
--- it's in some phase then, with less left
-abbrev pub GoesOn : Work → Scene → Phase → Scene → Type 0
-GoesOn j sc p after = (q : Phase) × InPhase j after q × (measure j after q + 32 ≤ measure j sc p)
 
 -- What a message needs of the server.
 

@@ -6,7 +6,8 @@ use Rattle.ec_deliveries.specs.Deliveries.{MayTake}
 use Rattle.ec_quiet.specs.Phases.{Phase, InPhase}
 use Rattle.ec_quiet.specs.Scenes.{Mail, Scene, delivered, is_for_server}
 use Rattle.ec_quiet.specs.Works.{Work}
-use Rattle.ec_deliveries.specs.Coming.{GoesOn, Suits}
+use Rattle.ec_deliveries.specs.Coming.{Suits}
+use Rattle.ec_quiet.specs.Goes.{GoesOn}
 
 -- The server has what it needs of a message for it, and a clerk of one for it.
 pub record CanTake (j : Work) (sc : Scene) (p : Phase) (m : ℕ × Msg) : Type 0 where

@@ -1,6 +1,6 @@
 -- The laws of the codes of records.
 use Rattle.std.proofs.Common.{◌≡◌, ℕ, ◌+◌, ◌*◌, ◌≤◌, Bool, true, false, cond, ◌&&◌, eqb, List, [], ◌∷◌, ◌++◌, length, Some, Result, Ok, Err, refl, sym, ap, subst, ◌∙◌, arith, length-append}
-use Rattle.std.specs.Prelude.{nat_lt, nat_le, IfOk, T}
+use Rattle.std.specs.Prelude.{nat_lt, nat_le, IfOk}
 use Rattle.std.specs.List.{flat_map, list_all}
 use Rattle.std.proofs.lemmas.List.{append-nil, nil_from_length}
 use Rattle.std.proofs.lemmas.Bool.{eqb-true, ltb-false, le-ltb, leb-true, and_parts, and_from}
@@ -25,11 +25,9 @@ use Rattle.ec_durable.specs.declared.record.Record.TheVariants.{Batch, Open, End
 use Rattle.ec_durable.specs.Steps.{AreSound, AreSoundOps}
 use Rattle.ec_durable.specs.Codes.{is_op_count, is_sound_record, op_fields, ops_field, batch_fields, open_fields, end_fields, ids_fields, tag, is_tag, form, record_code, max_record_code, whole, said, Answers}
 use Rattle.ec_durable.specs.Codes.{batched, to_batch, opened, to_open, ended, to_end, granted, to_ids, begun, to_epoch}
+use Rattle.ec_base.specs.SmallLaws.{same_some, holds}
 
 -- The fields.
-
-same_some : {A : Type 0} (x y : A) → Some x ≡ Some y → x ≡ y
-same_some x y e = cc
 
 op-is : IsFormat op_fields
 unfolding op_fields
@@ -207,13 +205,9 @@ fits_sound_record (End c s) h = refl
 fits_sound_record (Ids c s got first) h = refl
 fits_sound_record (Epoch n) h = refl
 
-is_T : (b : Bool) → b ≡ true → T b
-is_T true h = tt
-is_T false h = absurd cc
-
 ops_step : (ops : List (ℕ × Update)) → list_all (λ op. is_sound op.1) ops ≡ true → AreSoundOps ops
 ops_step [] h = tt
-ops_step (op ∷ ops) h = let a = and_parts (is_sound op.1) _ h in (is_T _ a.0, ops_step ops a.1)
+ops_step (op ∷ ops) h = let a = and_parts (is_sound op.1) _ h in (holds _ a.0, ops_step ops a.1)
 
 pub sound_steps : (r : Record) → is_sound_record r ≡ true → AreSound r
 sound_steps (Batch c s b ops) h = ops_step ops (and_parts (is_op_count (length ops)) _ h).1

@@ -13,7 +13,7 @@ use Rattle.ec_durable.specs.declared.record.RecordFault.TheVariants.{NoSession, 
 use Rattle.ec_durable.specs.Durable.{step, slot, operations, op_fault, carried_out, made, spent, marked, low, has_batch, grants, is_beyond, is_session, is_next_session, is_next_grant, is_full, live, reserved, with_slot}
 use Rattle.ec_durable.specs.Steps.{AllBelow, IdsAreBelow}
 
-same_Ok : {d e : Durable} → ◌≡◌ {A = Result Durable RecordFault} (Ok d) (Ok e) → d ≡ e
+pub same_Ok : {d e : Durable} → ◌≡◌ {A = Result Durable RecordFault} (Ok d) (Ok e) → d ≡ e
 same_Ok {d = d} p = ap (λ (r : Result Durable RecordFault). elim r as (λ z. Durable) [ Ok x ↦ x | Err f ↦ d ]) p
 
 not_Ok : {f : RecordFault} {e : Durable} → ◌≡◌ {A = Result Durable RecordFault} (Err f) (Ok e) → ⊥

@@ -14,10 +14,11 @@ use Rattle.ec_clerknode.specs.Parts.{parts}
 use Rattle.ec_clerknode.specs.Run.{said_by}
 use Rattle.ec_clerknode.proofs.Parts.{some_parts}
 use Rattle.ec_mount.specs.Mount.{Mounts, Outside}
-use Rattle.ec_mount.specs.Run.{NetSeen, Ran, Tells, AreTold}
+use Rattle.ec_mount.specs.Run.{NetSeen, Ran, AreTold}
 use Rattle.ec_mount.specs.declared.status.Status.{Status}
 use Rattle.ec_mount.specs.declared.status.Status.TheVariants as status
 use Rattle.ec_echo.specs.Greeting.{GotGreeting, Greets, IsFirst, greeting_of}
+use Rattle.ec_base.specs.Lists.{Tells}
 
 -- a start that spends no counter greets, and no more
 starts-so : (id boot : ℕ) → (start id boot).spent ≡ None → (start id boot).outs ≡ out.Send (Hello id (record { boot = boot; round = 0 })) ∷ []

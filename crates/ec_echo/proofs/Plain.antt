@@ -27,6 +27,7 @@ use Rattle.ec_made.specs.Made as made
 use Rattle.ec_made.proofs.Made.{made-lines-call}
 use Rattle.ec_echo.specs.Made.{made_lines}
 use Rattle.ec_echo.specs.Soak.{within}
+use Rattle.ec_base.specs.Bools.{one_if, one_if as made_one_if}
 
 abbrev IsCall : MachineLine → Type 0
 IsCall (machine.Call c cl) = Unit {0}
@@ -43,16 +44,16 @@ same-makes (call.Mkdir path) = refl
 same-makes (call.Create path) = refl
 same-makes _ = refl
 
-same-one : (b : Bool) → rooms.one_if b ≡ made.one_if b
+same-one : (b : Bool) → one_if b ≡ made_one_if b
 same-one true = refl
 same-one false = refl
 
-one-more : (m : MachineLine) (column : ℕ) (rs : List Read) (b : Bool) (n : ℕ) (c : ℕ) (cl : Call) → m ≡ machine.Call c cl → made.makes cl ≡ b → AreCalls rs n → AreCalls (reads m column ∷ rs) (made.one_if b + n)
+one-more : (m : MachineLine) (column : ℕ) (rs : List Read) (b : Bool) (n : ℕ) (c : ℕ) (cl : Call) → m ≡ machine.Call c cl → made.makes cl ≡ b → AreCalls rs n → AreCalls (reads m column ∷ rs) (made_one_if b + n)
 one-more m column rs b n c cl is so a =
-    subst (λ l. AreCalls (reads l column ∷ rs) (made.one_if b + n)) (sym is) (record {
+    subst (λ l. AreCalls (reads l column ∷ rs) (made_one_if b + n)) (sym is) (record {
       faultless = (tt, a.faultless);
       calls = (tt, a.calls);
-      room = ap (λ x. rooms.one_if x + makes (lines_in rs)) (same-makes cl ∙ so) ∙ ap (λ k. k + makes (lines_in rs)) (same-one b) ∙ ap (λ k. made.one_if b + k) a.room;
+      room = ap (λ x. one_if x + makes (lines_in rs)) (same-makes cl ∙ so) ∙ ap (λ k. k + makes (lines_in rs)) (same-one b) ∙ ap (λ k. made_one_if b + k) a.room;
     })
 
 read-so : (ts : List (List ℕ)) (n : ℕ) (rs : List Read) → made.AreCalling ts n → AreRead ts rs → AreCalls rs n

@@ -15,6 +15,7 @@ use Rattle.ec_history.specs.declared.entry.Entry.TheVariants as entry
 use Rattle.ec_history.specs.declared.shown.Shown.{Shown}
 use Rattle.ec_history.specs.declared.shown.Shown.TheVariants.{Waits, Answered, Durable, Ended, Unseen, Told, Crashed}
 use Rattle.ec_history.specs.declared.watch.Watch.{Watch}
+use Rattle.ec_base.specs.Options.{or_zero}
 
 -- Whether the answer shows that its start has a session: all do but those that need no token.
 abbrev pub shows : Call → Answer → Bool
@@ -164,10 +165,6 @@ abbrev pub ops_in : History → List ℕ
 ops_in [] = []
 ops_in ((p, entry.Call c b l begun cl a op) ∷ h) = listed op ++ ops_in h
 ops_in ((p, entry.Loss c b ns) ∷ h) = ops_in h
-
-abbrev pub or_zero : Option ℕ → ℕ
-or_zero None = 0
-or_zero (Some n) = n
 
 -- what one line gives: an answer its call, unless it stands with a loss above it; an ended line the late answers and the loss
 abbrev pub line_entries : List Shown → Shown → List Shown → History

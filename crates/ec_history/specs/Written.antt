@@ -1,14 +1,10 @@
 -- How the lists of lines are written: numbers in rising order, each once.
-use Rattle.std.specs.Prelude.{ℕ, T, Bool, true, ◌&&◌, nat_lt, List, [], ◌∷◌, ⊤}
-use Rattle.std.specs.List.{list_all}
+use Rattle.std.specs.Prelude.{T, ⊤}
 use Rattle.ec_history.specs.declared.entry.Answer.{Answer}
 use Rattle.ec_history.specs.declared.entry.Answer.TheVariants as answer
 use Rattle.ec_history.specs.declared.shown.Shown.{Shown}
 use Rattle.ec_history.specs.declared.shown.Shown.TheVariants.{Answered, Durable, Ended, Told}
-
-abbrev pub rises : List ℕ → Bool
-rises [] = true
-rises (n ∷ ns) = list_all (λ m. nat_lt n m) ns && rises ns
+use Rattle.ec_base.specs.SmallLaws.{rises}
 
 abbrev pub IsAnswerInOrder : Answer → Type 0
 IsAnswerInOrder (answer.Lost ns) = T (rises ns)

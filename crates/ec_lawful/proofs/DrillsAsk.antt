@@ -30,7 +30,7 @@ use Rattle.ec_lawful.proofs.CallsShown.{MayBe, deliver-tells, event-tells, line-
 use Rattle.ec_lawful.proofs.Drills.{drills-on}
 use Rattle.ec_lawful.proofs.Events.{deliver-holds, event-holds, restart-holds}
 use Rattle.ec_lawful.proofs.Frames.{forgotten-stands, lined-stands}
-use Rattle.ec_lawful.specs.Asked.{AsksAgree, EndsAsked, allows, asked_by, ended_by, one_if, with_event}
+use Rattle.ec_lawful.specs.Asked.{AsksAgree, EndsAsked, allows, asked_by, ended_by, with_event}
 use Rattle.ec_lawful.specs.AskedLaws.{Asks, CallsLined, IsFresh, RestsKeep, RunAsks}
 use Rattle.ec_lawful.proofs.Numbers.{IsKnown, Two, behind-lines, known-piece, one-lines, other-lines, own-known, pieces-push, two-lines}
 use Rattle.ec_lawful.proofs.Opened.{opened-agrees, opened-asks}
@@ -40,6 +40,7 @@ use Rattle.ec_lawful.proofs.Fronts.{asked-line, fronts-more, fronts-push, joined
 use Rattle.ec_lawful.proofs.Reading.{alike-asks, ended-line}
 use Rattle.ec_lawful.proofs.ServingAsks.{line-alike, restart-asks, weaken}
 use Rattle.ec_lawful.proofs.Shown.{asked-show}
+use Rattle.ec_base.specs.Bools.{one_if}
 
 -- Calls of the lines so far are calls of more lines.
 

@@ -35,13 +35,14 @@ use Rattle.ec_coherence.specs.Makes.{IsMade}
 use Rattle.ec_coherence.proofs.TakesMaking.{end-stands, takes-any}
 use Rattle.ec_lawful.specs.Steps.{Holds}
 use Rattle.ec_lawful.proofs.Frames.{settled-stands}
-use Rattle.ec_lawful.specs.Asked.{AsksAgree, EndsAsked, IsNoBye, ended_by, one_if, passed, seat, to_end, top, with_event}
+use Rattle.ec_lawful.specs.Asked.{AsksAgree, EndsAsked, IsNoBye, ended_by, passed, seat, to_end, top, with_event}
 use Rattle.ec_lawful.specs.AskedLaws.{Asks}
 use Rattle.ec_lawful.proofs.Pays.{MayOpen, asks_for}
 use Rattle.ec_lawful.proofs.LaterStarts.{may-open}
 use Rattle.ec_lawful.proofs.Reading.{Begins, alike, alike-asks, done-alike, ended-line, running-tops, starting-tops}
 use Rattle.ec_lawful.proofs.ServingAsks.{committed-asks, line-alike, quiet-serves, restart-asks, weaken}
 use Rattle.ec_lawful.proofs.Unended.{EndsNone, EndsOne, end-ends-one, take-ends-none}
+use Rattle.ec_base.specs.Bools.{one_if}
 
 no-more : (n : ℕ) → n ≤ n + 0
 no-more n = omega arith

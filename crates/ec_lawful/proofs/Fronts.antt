@@ -7,7 +7,8 @@ use Rattle.std.proofs.lemmas.List.Elements.{filter-append}
 use Rattle.ec_history.specs.declared.shown.Shown.{Shown}
 use Rattle.ec_protocol.specs.declared.script.Line.{Line}
 use Rattle.ec_lawful.specs.Headline.{AreEndsAsked, Lines, Pieces, joined, may_end}
-use Rattle.ec_lawful.specs.Asked.{asked_by, ended_by, one_if}
+use Rattle.ec_lawful.specs.Asked.{asked_by, ended_by}
+use Rattle.ec_base.specs.Bools.{one_if}
 
 -- What lines ask for.
 

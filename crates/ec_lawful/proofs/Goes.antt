@@ -41,7 +41,7 @@ module _ (g : System) (all : AllAgree g) where
       ap (λ o. clerk_of s o g.clerks) (owns c b s k i)
       ∙ ap (λ a. clerk_of s (Some (c, record (k.age) { boot = a })) g.clerks) (boot-of c b s k i)
       ∙ ap (λ o. Rattle.ec_coherence.specs.System.if_in s o) i.stands
-      ∙ ap (λ o. elim (Rattle.ec_coherence.specs.System.is_session s o) as (λ z. Option Clerk) [ true ↦ Some k | false ↦ None ]) i.session
+      ∙ ap (λ o. elim (Rattle.ec_protocol.specs.Clerk.is_session s o) as (λ z. Option Clerk) [ true ↦ Some k | false ↦ None ]) i.session
       ∙ ap (λ z. elim z as (λ z. Option Clerk) [ true ↦ Some k | false ↦ None ]) (Rattle.ec_coherence.proofs.Tables.same s)
 
   pub hidden-in : (c b s x : ℕ) (k : Clerk) → IsIn g c b s k → T (is_untaken (g.ghost.grants s) (g.ghost.first s) (Some (side k)) x) → T (is_hidden (view g) s x)

@@ -10,7 +10,7 @@ use Rattle.ec_durable.specs.Durable.{slot, step}
 use Rattle.ec_durable.specs.declared.state.Durable.{Durable}
 use Rattle.ec_durable.specs.declared.record.Record.TheVariants.{Open}
 use Rattle.ec_protocol.specs.declared.clerk.Clerk.{Clerk}
-use Rattle.ec_coherence.specs.System.{System, clerk_of, if_in, is_open, is_session}
+use Rattle.ec_coherence.specs.System.{System, clerk_of, if_in, is_open}
 use Rattle.ec_coherence.specs.Sessions as sessions
 use Rattle.ec_coherence.specs.Tokens.{side_in}
 use Rattle.ec_coherence.proofs.Needs.{each-of}
@@ -20,6 +20,7 @@ use Rattle.ec_coherence.specs.CommitLaws.{AllAgree}
 use Rattle.ec_clerk_steps.proofs.Steps.{open-steps}
 use Rattle.ec_lawful.specs.Asked.{AsksAgree}
 use Rattle.ec_lawful.proofs.Pays.{MayOpen}
+use Rattle.ec_protocol.specs.Clerk.{is_session}
 
 some-of : (o : Option Clerk) → T (is_some o) → (k : Clerk) × (o ≡ Some k)
 some-of None t = absurd t

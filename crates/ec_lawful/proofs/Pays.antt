@@ -15,8 +15,9 @@ use Rattle.ec_protocol.specs.declared.world.Noted.TheVariants as noted_of
 use Rattle.ec_coherence.proofs.Carried.{slot-same}
 use Rattle.ec_coherence.proofs.Tables.{differs, equal, holds, same}
 use Rattle.ec_clerk_steps.proofs.Steps.{epoch-own, open-is, open-others, open-steps}
-use Rattle.ec_lawful.specs.Asked.{one_if, passed, seat, to_end}
+use Rattle.ec_lawful.specs.Asked.{passed, seat, to_end}
 use Rattle.ec_lawful.proofs.Seats.{batch-seat, end-seat, ids-seat}
+use Rattle.ec_base.specs.Bools.{one_if}
 
 -- a session comes in the place of an open one of this run only by a later start that began
 abbrev pub MayOpen : (ℕ → ℕ) → (ℕ → ℕ) → Durable → Record → Type 0

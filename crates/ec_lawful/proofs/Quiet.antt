@@ -2,7 +2,7 @@
 use Rattle.std.proofs.Common.{◌≡◌, refl, sym, ap, subst, ◌∙◌, inl, inr, ◌⊎◌, arith, ◌≤◌, ◌+◌, ℕ, List, [], ◌∷◌, ◌++◌, drop, length, Option, append-nil}
 use Rattle.std.specs.Prelude.{⊤}
 use Rattle.ec_history.specs.History.{Each, History, Throughout}
-use Rattle.ec_history.specs.Placing.{or_zero, owner, place, watch}
+use Rattle.ec_history.specs.Placing.{owner, place, watch}
 use Rattle.ec_history.specs.declared.entry.Entry.{Entry}
 use Rattle.ec_history.specs.declared.entry.Entry.TheVariants as entry
 use Rattle.ec_history.specs.declared.shown.Shown.{Shown}
@@ -12,6 +12,7 @@ use Rattle.ec_laws.proofs.Late.{place-ended, place-no_call}
 use Rattle.ec_laws.proofs.Numbers.{each-append}
 use Rattle.ec_lawful.specs.Creates.{IsFresh, OnCreate}
 use Rattle.ec_lawful.specs.Creates.{AreQuiet}
+use Rattle.ec_base.specs.Options.{or_zero}
 
 -- no entry of a call
 abbrev IsLoss : ℕ × Entry → Type 0

@@ -23,7 +23,8 @@ use Rattle.ec_coherence.specs.Steps.{call_of, less_call, out_lines}
 use Rattle.ec_coherence.proofs.Tables.{at-put, equal, none_some}
 use Rattle.ec_lawful.specs.Headline.{ends}
 use Rattle.ec_lawful.proofs.Outs.{Calls, Came, came-out}
-use Rattle.ec_lawful.specs.Asked.{EndsAsked, ended_by, one_if, passed, seat, spare, to_end, top}
+use Rattle.ec_lawful.specs.Asked.{EndsAsked, ended_by, passed, seat, spare, to_end, top}
+use Rattle.ec_base.specs.Bools.{one_if}
 
 -- Lines.
 

@@ -5,7 +5,7 @@ use Rattle.ec_history.specs.History.{Each}
 use Rattle.ec_protocol.specs.Server.{new_server, serving}
 use Rattle.ec_protocol.specs.declared.clerk.Clerk.{Clerk}
 use Rattle.ec_protocol.specs.declared.server.Server.{Server}
-use Rattle.ec_coherence.specs.System.{System, Eff, clerk_of, if_in, is_session}
+use Rattle.ec_coherence.specs.System.{System, Eff, clerk_of, if_in}
 use Rattle.ec_coherence.specs.Tokens.{Fits, Side, TokensAgree, eff, eff_of, side, side_in, tables_in, view}
 use Rattle.ec_coherence.proofs.Lists.{each-turn}
 use Rattle.ec_coherence.proofs.Restart.{down, started-agrees}
@@ -15,6 +15,7 @@ use Rattle.ec_coherence.proofs.Taking.{begins}
 use Rattle.ec_lawful.specs.Founds.{bare}
 use Rattle.ec_lawful.proofs.Downs.{InEpoch, in-epoch, moved-agrees}
 use Rattle.ec_lawful.proofs.Dressed.{dressed, dressed-all}
+use Rattle.ec_protocol.specs.Clerk.{is_session}
 
 module _ (g : System) (all : AllAgree g) (stop : g.server ≡ None) where
   pub down-tokens : TokensAgree (down (view g))

@@ -1,5 +1,5 @@
 -- How many sessions of a clerk end: no more than crashes and ends allow for.
-use Rattle.std.specs.Prelude.{◌≡◌, ◌<◌, ◌≤◌, ◌==◌, ◌+◌, ◌-◌, nat_lt, ℕ, T, Bool, true, false, List, length, Option, None, Some, is_some, ⊤}
+use Rattle.std.specs.Prelude.{◌≡◌, ◌<◌, ◌≤◌, ◌==◌, ◌+◌, ◌-◌, nat_lt, ℕ, T, true, false, List, length, Option, None, Some, is_some, ⊤}
 use Rattle.std.specs.List.{filter}
 use Rattle.ec_base.specs.Tables.{at}
 use Rattle.ec_history.specs.History.{Each}
@@ -16,10 +16,7 @@ use Rattle.ec_protocol.specs.declared.world.Noted.TheVariants as noted_of
 use Rattle.ec_protocol.specs.declared.world.World.{World}
 use Rattle.ec_coherence.specs.System.{System}
 use Rattle.ec_lawful.specs.Headline.{Lines, ends, may_end}
-
-abbrev pub one_if : Bool → ℕ
-one_if true = 1
-one_if false = 0
+use Rattle.ec_base.specs.Bools.{one_if}
 
 -- how many sessions of the clerk these lines show ended, and whether the end of one is still to be shown
 abbrev pub ended_by : ℕ → List Shown → ℕ

@@ -11,7 +11,7 @@ use Rattle.ec_plain.specs.declared.call.Call.{Call}
 use Rattle.ec_history.specs.History.{Base, History, Op, Each, same_start, of_start, names, is_lost, outcome, issued, issued_by}
 use Rattle.ec_history.specs.Legal.{is_op_of}
 use Rattle.ec_history.specs.Lines.{durable, made_durable}
-use Rattle.ec_history.specs.Placing.{watch, watch_next, begun, answered, owner, or_zero, shows, gives_entry, may_show, place, same_numbers}
+use Rattle.ec_history.specs.Placing.{watch, watch_next, begun, answered, owner, shows, gives_entry, may_show, place, same_numbers}
 use Rattle.ec_history.specs.declared.entry.Answer.{Answer}
 use Rattle.ec_history.specs.declared.entry.Entry.{Entry}
 use Rattle.ec_history.specs.declared.entry.Entry.TheVariants as entry
@@ -26,6 +26,7 @@ use Rattle.ec_laws.proofs.Watching.{closed-undurable}
 use Rattle.ec_laws.specs.Accounts.{IsUndurable, IsAccounted, count_of}
 use Rattle.ec_laws.proofs.Members.{on, is_on, off-from, off, left-apart, left-or, lost-left, member-all, member-left, member-parts, member-right, self}
 use Rattle.ec_laws.proofs.Watched.{Has, begun-has, has-begun, stays, was, own}
+use Rattle.ec_base.specs.Options.{or_zero}
 
 abbrev pub Accounts : Base → List Shown → Type 0
 Accounts base ss = (c b : ℕ) → Each (λ k. of_start c b k ≡ true → IsAccounted c b k.number ss) (issued base (place ss))

@@ -6,7 +6,7 @@ use Rattle.ec_volume.specs.Update.{member}
 use Rattle.ec_history.specs.History.{Base, same_start, names, is_lost, issued}
 use Rattle.ec_history.specs.Legal.{is_op_of}
 use Rattle.ec_history.specs.Lines.{durable}
-use Rattle.ec_history.specs.Placing.{watch, watch_next, ended, is_running, owner, or_zero, place, same_numbers, to_lose}
+use Rattle.ec_history.specs.Placing.{watch, watch_next, ended, is_running, owner, place, same_numbers, to_lose}
 use Rattle.ec_history.specs.declared.entry.Entry.{Entry}
 use Rattle.ec_history.specs.declared.entry.Entry.TheVariants as entry
 use Rattle.ec_history.specs.declared.watch.Watch.{Watch}
@@ -19,6 +19,7 @@ use Rattle.ec_laws.specs.Accounts.{IsUndurable, IsAccounted}
 use Rattle.ec_laws.proofs.Members.{on, is_on, lost-left, lost-right, member-all, none_some, self}
 use Rattle.ec_laws.proofs.Watched.{Has}
 use Rattle.ec_laws.proofs.Accounting.{Accounts, Named, accounts-stay, has-now, has-of, now-has, of-has}
+use Rattle.ec_base.specs.Options.{or_zero}
 
 module _ (ss : List Shown) (d : ℕ) (ns : List ℕ) where
   abbrev s : Shown

@@ -9,13 +9,14 @@ use Rattle.ec_plain.specs.declared.call.Call.{Call}
 use Rattle.ec_history.specs.History.{History, is_entry_of}
 use Rattle.ec_history.specs.declared.entry.Answer.{Answer}
 use Rattle.ec_history.specs.declared.entry.Entry.TheVariants as entry
-use Rattle.ec_history.specs.Placing.{watch, unwatched, gives_entry, owner, or_zero, is_running, is_end_of, is_call_of, call_entry, late, ops_in, line_entries, place_from, place}
+use Rattle.ec_history.specs.Placing.{watch, unwatched, gives_entry, owner, is_running, is_end_of, is_call_of, call_entry, late, ops_in, line_entries, place_from, place}
 use Rattle.ec_history.specs.declared.watch.Watch.{Watch}
 use Rattle.ec_history.specs.declared.shown.Shown.{Shown}
 use Rattle.ec_history.specs.declared.shown.Shown.TheVariants.{Answered, Ended}
 use Rattle.ec_laws.proofs.More.{watch-step, watch-append}
 use Rattle.ec_laws.proofs.Watching.{sound, IsHeld, held-next, held-from, held-ended, held-owner, running-owner, running-told}
 use Rattle.ec_laws.proofs.Late.{same_number, regroup, late-append, late-other, ops_in-append, fronts, fronts-same, fronts-alone, place_from-append, ended_entries, still-held, told-late, since, place-no_call}
+use Rattle.ec_base.specs.Options.{or_zero}
 
 -- no entry of the start
 abbrev pub Lacks : ℕ → ℕ → History → Type 0

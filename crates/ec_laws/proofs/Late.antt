@@ -9,12 +9,13 @@ use Rattle.ec_plain.specs.declared.call.Call.{Call}
 use Rattle.ec_history.specs.History.{History}
 use Rattle.ec_history.specs.declared.entry.Answer.{Answer}
 use Rattle.ec_history.specs.declared.entry.Entry.TheVariants as entry
-use Rattle.ec_history.specs.Placing.{watch, watch_from, watch_next, begun, answered, ended, or_zero, owner, is_running, is_end_of, is_call_of, call_entry, late, ops_in, line_entries, place_from, place, shows}
+use Rattle.ec_history.specs.Placing.{watch, watch_from, watch_next, begun, answered, ended, owner, is_running, is_end_of, is_call_of, call_entry, late, ops_in, line_entries, place_from, place, shows}
 use Rattle.ec_history.specs.declared.watch.Watch.{Watch}
 use Rattle.ec_history.specs.declared.shown.Shown.{Shown}
 use Rattle.ec_history.specs.declared.shown.Shown.TheVariants.{Waits, Answered, Durable, Ended, Told, Crashed}
 use Rattle.ec_laws.proofs.More.{watch-step, watch-append}
 use Rattle.ec_laws.proofs.Watching.{from_front, showing, in_session, before_session, answered_as, own_end, other_end, IsHeld, held-from, held-ended}
+use Rattle.ec_base.specs.Options.{or_zero}
 
 pub same_number : (c : ℕ) → (c == c) ≡ true
 same_number c = grind arith

@@ -9,12 +9,13 @@ use Rattle.ec_history.specs.Lines.{durable, IsCovered, AreCovered}
 use Rattle.std.proofs.lemmas.List.{take-append-le}
 use Rattle.ec_history.specs.declared.entry.Entry.{Entry}
 use Rattle.ec_history.specs.declared.entry.Entry.TheVariants as entry
-use Rattle.ec_history.specs.Placing.{watch, owner, or_zero, place}
+use Rattle.ec_history.specs.Placing.{watch, owner, place}
 use Rattle.ec_history.specs.declared.shown.Shown.{Shown}
 use Rattle.ec_history.specs.declared.shown.Shown.TheVariants.{Answered, Ended}
 use Rattle.ec_laws.proofs.Watching.{from_front}
 use Rattle.ec_laws.proofs.Late.{place-no_call, place-ended, place-answer}
 use Rattle.ec_laws.proofs.Held.{place-late}
+use Rattle.ec_base.specs.Options.{or_zero}
 
 abbrev places : History → List ℕ
 places h = map (λ e. e.0) h

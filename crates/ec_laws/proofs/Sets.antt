@@ -4,9 +4,9 @@ use Rattle.std.proofs.lemmas.Bool.{cases_Bool, eqb-true, ltb-true}
 use Rattle.std.specs.List.{list_all}
 use Rattle.ec_volume.specs.Update.{member}
 use Rattle.ec_history.specs.Placing.{same_numbers}
-use Rattle.ec_history.specs.Written.{rises}
 use Rattle.ec_laws.proofs.Objects.{is-true}
 use Rattle.ec_laws.proofs.Removed.{both, left, right}
+use Rattle.ec_base.specs.SmallLaws.{rises}
 
 -- a number at the front, and one behind it
 at_front : (x : ℕ) (xs : List ℕ) → T (member x (x ∷ xs))

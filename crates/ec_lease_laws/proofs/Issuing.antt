@@ -11,12 +11,13 @@ use Rattle.ec_durable.specs.Durable.{slot}
 use Rattle.ec_durable.specs.declared.state.Durable.{Durable}
 use Rattle.ec_protocol.specs.declared.world.World.{World}
 use Rattle.ec_coherence.proofs.Tables.{at-put, equal, none_some, same, same_some}
-use Rattle.ec_lease_machine.specs.Leases.{greater, in_world, is_session, issue, lease, may_receive, moment_in, note, note_slot, note_slots, nth, receive, renew_each, renew_in}
+use Rattle.ec_lease_machine.specs.Leases.{greater, in_world, issue, lease, may_receive, moment_in, note, note_slot, note_slots, nth, receive, renew_each, renew_in}
 use Rattle.ec_lease_machine.specs.World.{open_session, session}
 use Rattle.ec_lease_machine.specs.declared.world.Lease.{Lease}
 use Rattle.ec_lease_machine.specs.declared.world.LeaseWorld.{LeaseWorld}
 use Rattle.ec_lease_laws.specs.Agrees.{AllPast, AreNoted, IsIssued, LeasesAgree}
 use Rattle.ec_lease_laws.specs.Slots.{Became, SlotsGo, was, opened, ended}
+use Rattle.ec_protocol.specs.Clerk.{is_session}
 
 -- the session is open on the disk
 pub record IsOpenOn (d : Durable) (c s : ℕ) : Type 0 where

@@ -24,6 +24,7 @@ use Rattle.ec_lease_machine.specs.declared.world.LeaseFault.TheVariants as fault
 use Rattle.ec_lease_machine.specs.declared.world.LeaseShown.{LeaseShown}
 use Rattle.ec_lease_machine.specs.declared.world.LeaseShown.TheVariants.{Line, Held}
 use Rattle.ec_lease_machine.specs.declared.world.LeaseWorld.{LeaseWorld}
+use Rattle.ec_protocol.specs.Clerk.{is_session}
 
 -- A step under way: the world, the lines that it has shown, and its fault, if any. What happened before a fault stands.
 pub record LeaseMoving : Type 0 where
@@ -100,10 +101,6 @@ issue c s x = note c (lease s x) (record x { issued = put c (at_or [] c x.issued
 abbrev pub is_above : Option ℕ → ℕ → Bool
 is_above None m = true
 is_above (Some n) m = nat_lt n m
-
-abbrev pub is_session : ℕ → Option ℕ → Bool
-is_session s None = false
-is_session s (Some t) = s == t
 
 -- the Lease is of the clerk's session, and its moment is above that of its own
 abbrev pub may_receive : ℕ → Lease → LeaseWorld → Bool

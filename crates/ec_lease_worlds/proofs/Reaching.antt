@@ -53,7 +53,7 @@ use Rattle.ec_coherence.specs.Steps.{call_of}
 use Rattle.ec_queues.proofs.Adds.{adds-of, event-adds, line-adds, nothing-adds, quiet-adds, resume-adds, wait-adds}
 use Rattle.ec_queues.proofs.Worlds.{queued-hold, queued-in-order}
 use Rattle.ec_lease_machine.specs.World.{is_kept_from, open_in, open_session, resume, session, wait}
-use Rattle.ec_lease_machine.specs.Leases.{held, LeaseMoving, begin_each, begin_queued, end, ends_at, event_happens, fails, grant, hand, happens, has_run_out, in_world, is_held, is_kept, is_session, is_started, issue, lease, may_receive, moment_in, moved, moving, note, note_open, note_slot, note_slots, noted_if_started, nothing, nth, opened, queue, receive, renew_each, renew_in, shows, step, with_queue, world_happens}
+use Rattle.ec_lease_machine.specs.Leases.{held, LeaseMoving, begin_each, begin_queued, end, ends_at, event_happens, fails, grant, hand, happens, has_run_out, in_world, is_held, is_kept, is_started, issue, lease, may_receive, moment_in, moved, moving, note, note_open, note_slot, note_slots, noted_if_started, nothing, nth, opened, queue, receive, renew_each, renew_in, shows, step, with_queue, world_happens}
 use Rattle.ec_lease_machine.specs.declared.world.Lease.{Lease}
 use Rattle.ec_lease_machine.specs.declared.world.LeaseEvent.{LeaseEvent}
 use Rattle.ec_lease_machine.specs.declared.world.LeaseEvent.TheVariants as event
@@ -68,6 +68,7 @@ use Rattle.ec_lease_worlds.proofs.Queues.{Apart, at-put-queue, at-without-queue,
 use Rattle.ec_lease_laws.proofs.EventSlots.{resume-stays}
 use Rattle.ec_lease_laws.proofs.Steps.{begun, each-agrees, gone_on, opening-agrees, quiet-agrees}
 use Rattle.ec_lease_laws.proofs.Unheld.{unheld-told}
+use Rattle.ec_protocol.specs.Clerk.{is_session}
 
 no-fault : {A : Type 0} {B : Type 0} {f : B} → Some f ≡ None → A
 no-fault q = absurd (none_some (sym q))

@@ -6,7 +6,7 @@ use Rattle.ec_laws.proofs.More.{watch-step}
 use Rattle.ec_laws.proofs.Watching.{held-ended}
 use Rattle.ec_history.specs.History.{History}
 use Rattle.ec_history.specs.declared.entry.Entry.TheVariants as entry
-use Rattle.ec_history.specs.Placing.{watch, watch_next, late, ops_in, or_zero, owner, is_running, line_entries, place_from}
+use Rattle.ec_history.specs.Placing.{watch, watch_next, late, ops_in, owner, is_running, line_entries, place_from}
 use Rattle.ec_history.specs.declared.shown.Shown.{Shown}
 use Rattle.ec_history.specs.declared.shown.Shown.TheVariants.{Answered, Ended}
 use Rattle.ec_history.specs.declared.watch.Watch.{Watch}
@@ -16,6 +16,7 @@ use Rattle.ec_watch.proofs.Watched.{few-at}
 use Rattle.ec_base.specs.Limits.{clerk_count}
 use Rattle.ec_legal.specs.Watches.{IsHeld}
 use Rattle.ec_watch.specs.Watches.{AreWatched}
+use Rattle.ec_base.specs.Options.{or_zero}
 
 pub front-at : (ss : List Shown) (i : ℕ) (s : Shown) → slice_get ss i ≡ Some s → take (i + 1) ss ≡ take i ss ++ s ∷ []
 front-at ss i s g = above-at ss i s s (slice_get_within ss i s g) (sym (get_or_from_slice_get ss i s s g))

@@ -8,13 +8,14 @@ use Rattle.ec_base.specs.Limits.{clerk_count}
 use Rattle.ec_laws.proofs.More.{watch-step}
 use Rattle.ec_laws.proofs.Watching as laws
 use Rattle.ec_history.specs.declared.entry.Entry.TheVariants as entry
-use Rattle.ec_history.specs.Placing.{watch, late, ops_in, or_zero, owner, is_running, is_end_of, is_call_of, call_entry, line_entries}
+use Rattle.ec_history.specs.Placing.{watch, late, ops_in, owner, is_running, is_end_of, is_call_of, call_entry, line_entries}
 use Rattle.ec_history.specs.declared.shown.Shown.{Shown}
 use Rattle.ec_history.specs.declared.shown.Shown.TheVariants.{Answered, Ended}
 use Rattle.ec_history.specs.declared.watch.Watch.{Watch}
 use Rattle.ec_legal.specs.Ahead.{IsSettled, AreTold}
 use Rattle.ec_legal.specs.Watches.{IsHeld}
 use Rattle.ec_legal.proofs.Late.{to-laws, from-laws}
+use Rattle.ec_base.specs.Options.{or_zero}
 
 untold-told : (u : Option (List ℕ)) → is_some u ≡ true → T (is_none u) → ⊥
 untold-told (Some ns) e t = t

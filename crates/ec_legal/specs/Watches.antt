@@ -1,12 +1,13 @@
 -- What lines give, behind the watches of their clerks.
 use Rattle.std.specs.Prelude.{◌≡◌, ◌+◌, ℕ, true, if◌then◌else◌, take, drop, List, [], ◌∷◌, ◌++◌, length, None, is_some}
 use Rattle.ec_history.specs.History.{History}
-use Rattle.ec_history.specs.Placing.{begun, owner, is_call_of, is_running, late, or_zero, ops_in}
+use Rattle.ec_history.specs.Placing.{begun, owner, is_call_of, is_running, late, ops_in}
 use Rattle.ec_history.specs.declared.entry.Entry.TheVariants as entry
 use Rattle.ec_history.specs.declared.shown.Shown.{Shown}
 use Rattle.ec_history.specs.declared.shown.Shown.TheVariants.{Answered}
 use Rattle.ec_history.specs.declared.watch.Watch.{Watch}
 use Rattle.ec_lines.specs.Index.{begun_in}
+use Rattle.ec_base.specs.Options.{or_zero}
 
 -- The start b was ended and isn't told yet.
 pub record IsHeld (b : ℕ) (w : Watch) : Type 0 where

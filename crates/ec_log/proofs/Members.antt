@@ -17,10 +17,11 @@ use Rattle.ec_volume.specs.Update.{member}
 use Rattle.ec_volume.specs.declared.update.Update.{Update}
 use Rattle.ec_order.specs.Order.{Issued, needs, closure}
 use Rattle.ec_sessions.specs.Limits.{max_batch_ops}
-use Rattle.ec_log.specs.Choice.{rises, all_rise, chosen, new_batch, full_from, closure_in, IsFrontOf}
+use Rattle.ec_log.specs.Choice.{all_rise, chosen, new_batch, full_from, closure_in, IsFrontOf}
 use Rattle.ec_log.specs.declared.state.Asked.{Asked}
 use Rattle.ec_log.specs.declared.state.Pick.{Pick}
 use Rattle.ec_log.specs.declared.state.Pick.TheVariants.{Batch, Settled, Behind, Window}
+use Rattle.ec_base.specs.SmallLaws.{rises}
 
 lower : (m n : ℕ) → T (is_lt (nat_cmp m n)) → m < n
 lower m n l = grind (arith, nat_tests, l)

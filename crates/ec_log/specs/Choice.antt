@@ -1,5 +1,5 @@
 -- A pick, by the numbers of the closure.
-use Rattle.std.specs.Prelude.{◌≡◌, ◌==◌, ◌||◌, ◌+◌, Bool, true, ℕ, not, ◌&&◌, nat_lt, if◌then◌else◌, List, [], ◌∷◌, filter, take as front, Option, None, Some}
+use Rattle.std.specs.Prelude.{◌≡◌, ◌==◌, ◌||◌, ◌+◌, Bool, ℕ, not, ◌&&◌, if◌then◌else◌, List, [], ◌∷◌, filter, take as front, Option, None, Some}
 use Rattle.ec_base.specs.Tables.{Table, keys, first as first_of}
 use Rattle.ec_volume.specs.Update.{member}
 use Rattle.ec_order.specs.Order.{Issued, closure}
@@ -14,6 +14,7 @@ use Rattle.ec_log.specs.declared.state.Asked.{Asked}
 use Rattle.ec_log.specs.declared.state.Asked.TheVariants as asked_of
 use Rattle.ec_log.specs.declared.state.Pick.{Pick}
 use Rattle.ec_log.specs.declared.state.Pick.TheVariants as pick_of
+use Rattle.ec_base.specs.SmallLaws.{rises}
 
 -- the closure of what is asked for, among these operations
 abbrev pub closure_in : Asked → Issued → Issued
@@ -49,11 +50,6 @@ chosen (n ∷ ns) next bs behind = unless_behind (n ∷ ns) next bs behind
 abbrev pub choice : List ℕ → ℕ → Table (List ℕ) → Pick
 choice [] next bs = pick_of.Settled
 choice (n ∷ ns) next bs = unless_behind (n ∷ ns) next bs (number_of (first_of (has_one_of (n ∷ ns)) bs))
-
--- each number is below those behind it
-abbrev pub rises : List ℕ → Bool
-rises [] = true
-rises (n ∷ ns) = list_all (λ m. nat_lt n m) ns && rises ns
 
 -- the same of the operations of each batch
 abbrev pub all_rise : Table (List ℕ) → Bool

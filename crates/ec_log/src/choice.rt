@@ -6,6 +6,7 @@ ghost use Rattle.ec_volume.specs.Update.{member};
 ghost use Rattle.ec_chains.specs.Slots.{live};
 ghost use Rattle.ec_sessions.specs.Windows.{has};
 ghost use Rattle.ec_log.specs.Choice as choice;
+ghost use Rattle.ec_base.specs.SmallLaws.{rises};
 
 use crate::asked::is_asked_for;
 use crate::limits::{MAX_BATCH_OPS, WINDOW_SIZE};
@@ -90,7 +91,7 @@ pub fn those_in(
     members: &[OpNo],
     undurable: &Order,
 ) -> Result<Vec<(OpNo, Update)>, NoMemory>
-    requires { choice.rises members.now ≡ true }
+    requires { rises members.now ≡ true }
     ensures { IfOk result (λ found. found.items ≡ filter (λ op. member op.0 members.now) undurable.now) }
 {
     let mut found = Vec::with_capacity(alloc, members.len().min(undurable.count()))?;

@@ -3,9 +3,10 @@ use Rattle.std.proofs.Common.{◌≡◌, ◌<◌, ◌≤◌, ◌+◌, ◌*◌, �
 use Rattle.std.proofs.lemmas.List.{length-append}
 use Rattle.ec_script.specs.Lines.{lines_of}
 use Rattle.ec_gen.specs.Generator.{call_text, clerk_text, drawn_for, line_of, script_of}
-use Rattle.ec_made.specs.Made.{AreCalling, IsCalling, MadeLinesCall, is_making, making, one_if}
+use Rattle.ec_made.specs.Made.{AreCalling, IsCalling, MadeLinesCall, is_making, making}
 use Rattle.ec_made.proofs.Calls.{IsMadeLine, line-so}
 use Rattle.ec_made.proofs.Words.{lines-more}
+use Rattle.ec_base.specs.Bools.{one_if}
 
 module _ (start : ℕ) where
   -- a line without its end

@@ -6,16 +6,13 @@ use Rattle.ec_script.specs.Grammar.{IsLine}
 use Rattle.ec_script.specs.Lines.{lines_of}
 use Rattle.ec_script.specs.declared.line.Line.TheVariants as line
 use Rattle.ec_gen.specs.Generator.{script_of}
+use Rattle.ec_base.specs.Bools.{one_if}
 
 -- the call makes an object, where it is carried out
 abbrev pub makes : Call → Bool
 makes (call.Mkdir path) = true
 makes (call.Create path) = true
 makes _ = false
-
-abbrev pub one_if : Bool → ℕ
-one_if true = 1
-one_if false = 0
 
 -- The line stands in the grammar, and is a call of one of four clerks, which makes an object or none.
 pub record IsCalling (bytes : List ℕ) (making : Bool) : Type 0 where

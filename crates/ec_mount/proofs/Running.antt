@@ -31,6 +31,7 @@ use Rattle.ec_mount.specs.Work.{Given, LinkSeen, RanOver, Cut, Tells, UnlessWant
 use Rattle.ec_mount.specs.Linking.{AreToldFrom, HasLinked, nets_in}
 use Rattle.ec_mount.proofs.Causes.{has_longer, net_counted}
 use Rattle.ec_mount.proofs.Linking.{whole_now, told_now, told_behind, told_all, told_from, nets_parts, nets_last, some_of, bad_of}
+use Rattle.ec_base.specs.Lists.{Tells as run_Tells}
 
 -- a link, by what is told of it
 abbrev pub seen_of : {L : Type 0} → (L → ℕ) → (L → Option (List Heard)) → (L → Option (List (List ℕ))) → L → LinkSeen
@@ -238,7 +239,7 @@ module _ (id boot : ℕ) (clerk : Clerk) (outs : List Out) (lanes : List (List C
 
 -- Where one link came back, without an exchange, that is the one.
 
-alone_of : (start : List (List ℕ)) (links : List Ended) (steps : List Step) → AreTold start links (steps ∷ []) → (given : Option (List Heard)) × (got : Option (List (List ℕ))) × (links ≡ (given, got) ∷ []) × run.Tells given (heard_by steps) × run.Tells got (start ++ said_by steps)
+alone_of : (start : List (List ℕ)) (links : List Ended) (steps : List Step) → AreTold start links (steps ∷ []) → (given : Option (List Heard)) × (got : Option (List (List ℕ))) × (links ≡ (given, got) ∷ []) × run_Tells given (heard_by steps) × run_Tells got (start ++ said_by steps)
 alone_of start [] steps a = absurd a
 alone_of start (e ∷ []) steps a = (e.0, e.1, refl, a.0, a.1)
 alone_of start (e ∷ f ∷ fs) steps a = absurd a.2

@@ -20,17 +20,13 @@ use Rattle.ec_clerknode.specs.Parts.{parts}
 use Rattle.ec_clerknode.specs.Run.{IsRun, AreSaid, Among, heard_by, said_by, told_by, marks, old_boot}
 use Rattle.ec_clerknode.specs.Turns.{number_of, calls_by, Replied, SaidBye}
 use Rattle.ec_clerknode.specs.Lanes.{AreLanes, AreFronts}
+use Rattle.ec_base.specs.Lists.{Tells}
 
 -- how often a net failed, how many of the links that came back had failed or closed, and what those that came back gave and got, in order
 pub record NetSeen : Type 0 where
   pub faults : ℕ
   pub bad : ℕ
   pub ended : List Ended
-
--- where it's told, it's this
-abbrev pub Tells : {A : Type 0} → Option (List A) → List A → Type 0
-Tells None xs = Unit {0}
-Tells (Some ys) xs = ys ≡ xs
 
 -- Each link tells what the steps of its part heard and said, the first one behind these messages.
 abbrev pub AreTold : List (List ℕ) → List Ended → List (List Step) → Type 0

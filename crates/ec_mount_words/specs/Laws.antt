@@ -1,6 +1,6 @@
 -- A path has one spelling, so words of a mount table have different paths.
-use Rattle.std.proofs.Common.{◌≡◌, ◌≢◌, ◌∙◌, ℕ, zero, suc, ◌<◌, ◌≤◌, List, [], ◌∷◌, length, get_or, ap, sym, subst, refl, arith, Bool, true, false, cond, Option, None, Some}
-use Rattle.std.specs.Prelude.{T, is_some, map, if◌then◌else◌}
+use Rattle.std.proofs.Common.{◌≡◌, ◌≢◌, ◌∙◌, ℕ, zero, suc, ◌<◌, ◌≤◌, List, [], ◌∷◌, length, get_or, ap, sym, refl, arith, Bool, true, false, cond, Option, None, Some}
+use Rattle.std.specs.Prelude.{map, if◌then◌else◌}
 use Rattle.std.specs.List.{slice_split, onto_first, join_with_byte}
 use Rattle.std.proofs.lemmas.Bool.{eqb-true}
 use Rattle.std.proofs.lemmas.List.Splits.{join_with_byte-slice_split}
@@ -10,6 +10,7 @@ use Rattle.ec_base.specs.declared.name.PathFault.TheVariants as unread
 use Rattle.ec_words.specs.Rows.{Word}
 use Rattle.ec_route.specs.Routes.{path_at, AreApart}
 use Rattle.ec_mount_words.specs.Mounts.{path_bytes, mount_path, IsMount, IsNew, AreAll}
+use Rattle.ec_base.specs.SortedLaws.{not_None}
 
 some_onto : (byte : ℕ) (parts : List (List ℕ)) → 1 ≤ length (onto_first byte parts)
 some_onto byte [] = omega arith
@@ -27,20 +28,17 @@ none_split bytes none = omega (arith, some_part bytes, ap (λ (l : List (List �
 same_parts : (one other : List ℕ) → slice_split is_slash one ≡ slice_split is_slash other → one ≡ other
 same_parts one other same = sym (join_with_byte-slice_split 47 one) ∙ ap (λ (parts : List (List ℕ)). join_with_byte 47 parts) same ∙ join_with_byte-slice_split 47 other
 
-not_none : {A : Type 0} {x : A} → Some x ≡ None → ⊥
-not_none e = subst T (ap is_some e) tt
-
 open_root : (byte : ℕ) (later : Option PathFault) (b : Bool) → is_slash byte ≡ b → (if b then later else Some unread.NotRooted) ≡ None → byte ≡ 47
 open_root byte later true is none = eqb-true byte 47 is
-open_root byte later false is none = absurd (not_none none)
+open_root byte later false is none = absurd (not_None none)
 
 -- a path begins with a slash
 rooted : (byte : ℕ) (bytes : List ℕ) → path_fault (byte ∷ bytes) ≡ None → byte ≡ 47
 rooted byte bytes none = open_root byte (names_fault 0 (path_names (byte ∷ bytes))) (is_slash byte) refl none
 
 pub spelled_once : (one other : List ℕ) → path_fault one ≡ None → path_fault other ≡ None → path_names one ≡ path_names other → one ≡ other
-spelled_once [] other p q same = absurd (not_none p)
-spelled_once (x ∷ xs) [] p q same = absurd (not_none q)
+spelled_once [] other p q same = absurd (not_None p)
+spelled_once (x ∷ xs) [] p q same = absurd (not_None q)
 spelled_once (x ∷ []) (y ∷ []) p q same = ap (λ (b : ℕ). b ∷ []) (rooted x [] p ∙ sym (rooted y [] q))
 spelled_once (x ∷ []) (y ∷ b ∷ bs) p q same = absurd (none_split (b ∷ bs) same)
 spelled_once (x ∷ a ∷ us) (y ∷ []) p q same = absurd (none_split (a ∷ us) (sym same))

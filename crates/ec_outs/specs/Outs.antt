@@ -1,5 +1,5 @@
 -- What came out of a step, and what is kept of it.
-use Rattle.std.specs.Prelude.{ℕ, List, [], ◌∷◌, ◌++◌, Option, Some, None}
+use Rattle.std.specs.Prelude.{ℕ, List, [], ◌∷◌, Option, Some, None}
 use Rattle.ec_base.specs.declared.ids.Age.{Age}
 use Rattle.ec_history.specs.declared.entry.Answer.{Answer}
 use Rattle.ec_wire.specs.declared.msg.Msg.{Msg}
@@ -7,11 +7,8 @@ use Rattle.ec_wire.specs.Codes.{msg_code}
 use Rattle.ec_protocol.specs.declared.clerk.Out.{Out}
 use Rattle.ec_protocol.specs.declared.clerk.Out.TheVariants as out
 use Rattle.ec_outs.specs.declared.kept.Kept.{Kept}
-
--- what each element gives, one after another
-abbrev pub each : {A B : Type 0} → (A → List B) → List A → List B
-each f [] = []
-each f (x ∷ xs) = f x ++ each f xs
+use Rattle.ec_link.specs.Happenings.{each}
+use Rattle.ec_base.specs.Lists.{first_of}
 
 -- an answer, with its operation's number
 abbrev pub Reply : Type 0
@@ -58,11 +55,6 @@ old_boots = each old_boot_of
 -- the bytes of a message
 abbrev pub encoded : Msg → List ℕ
 encoded msg = msg_code.spell msg
-
--- the first of all
-abbrev pub first_of : {A : Type 0} → List A → Option A
-first_of [] = None
-first_of (x ∷ xs) = Some x
 
 -- the first greater age that is known, where these come behind
 abbrev pub first_known : Option Age → List Age → Option Age

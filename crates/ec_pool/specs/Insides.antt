@@ -52,10 +52,6 @@ pub record Forgets (sent : ℕ) (ps : Table Link) (old new : Table Sent) : Type 
 abbrev pub passes : List ℕ → Bool → Link → Bool
 passes cut running l = not (member l.clerk cut) && (not l.is_for_server || running)
 
-abbrev pub key_of : {X : Type 0} → Option (ℕ × X) → Option ℕ
-key_of None = None
-key_of (Some e) = Some e.0
-
 -- The count of the kind is at this place, or there is none yet.
 pub record CountsAt (c : ℕ) (k : MsgKind) (es : List ((ℕ × MsgKind) × ℕ)) (i : ℕ) : Type 0 where
   pub within : i < length es

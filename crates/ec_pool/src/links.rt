@@ -2,7 +2,8 @@
 ghost use Rattle.std.specs.Prelude.{◌≡◌, ◌==◌, not, filter};
 ghost use Rattle.ec_base.specs.Tables.{first};
 ghost use Rattle.ec_volume.specs.Update.{member};
-ghost use Rattle.ec_pool.specs.Insides.{link_of, passes, key_of};
+ghost use Rattle.ec_pool.specs.Insides.{link_of, passes};
+ghost use Rattle.ec_wire.specs.RowLaws.{key_of};
 
 use crate::kinds::is_for_server;
 use ec_base::ClerkId;

@@ -7,7 +7,8 @@ ghost use Rattle.ec_wire.specs.Messages.{is_sound};
 ghost use Rattle.ec_protocol.specs.World as machine;
 ghost use Rattle.ec_protocol.specs.declared.world.World.{World};
 ghost use Rattle.ec_pool.specs.Pools.{with_pool, made_pending, Stands};
-ghost use Rattle.ec_pool.specs.Insides.{link_of, key_of};
+ghost use Rattle.ec_pool.specs.Insides.{link_of};
+ghost use Rattle.ec_wire.specs.RowLaws.{key_of};
 
 use crate::counts::{Count, count_of, count_one_more};
 use crate::forget::{forget_passed, forget_settled};

@@ -7,7 +7,7 @@ use Rattle.ec_volume.specs.Update.{listed}
 use Rattle.ec_plain.specs.declared.call.Call.{Call}
 use Rattle.ec_history.specs.History.{Base, Each, History, is_entry_of}
 use Rattle.ec_history.specs.Legal.{IsLegal, IsLegalNext}
-use Rattle.ec_history.specs.Placing.{begun, before_line, call_entry, is_call_of, is_end_of, is_running, last_place, late, ops_in, or_zero, owner, place, unwatched, watch}
+use Rattle.ec_history.specs.Placing.{begun, before_line, call_entry, is_call_of, is_end_of, is_running, last_place, late, ops_in, owner, place, unwatched, watch}
 use Rattle.ec_history.specs.declared.entry.Answer.{Answer}
 use Rattle.ec_history.specs.declared.entry.Entry.TheVariants as entry
 use Rattle.ec_history.specs.declared.shown.Shown.{Shown}
@@ -19,6 +19,7 @@ use Rattle.ec_laws.proofs.Watching.{untold-runs}
 use Rattle.ec_printed.specs.Printed.{AreTimely, IsBare, IsTimely, TimelyAreLegal, printed_from}
 use Rattle.ec_printed.proofs.Moved.{E, IsMoved, legal-moved, moved-next, moved-none, moved-on}
 use Rattle.ec_printed.proofs.Bare as bare
+use Rattle.ec_base.specs.Options.{or_zero}
 
 equal : (j k : ℕ) → (j == k) ≡ true → j ≡ k
 equal j k q = grind arith

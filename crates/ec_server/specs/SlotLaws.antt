@@ -15,12 +15,8 @@ use Rattle.ec_durable.specs.declared.record.Record.TheVariants.{Batch, Open, End
 use Rattle.ec_durable.specs.declared.record.RecordFault.{RecordFault}
 use Rattle.ec_durable.specs.declared.record.RecordFault.TheVariants.{NoSession, Done, Beyond, BadAge, BadNumber, NoRoom}
 use Rattle.ec_admission.specs.Clerks.{IsOpenIn}
-
-same_Ok : {d e : Durable} → ◌≡◌ {A = Result Durable RecordFault} (Ok d) (Ok e) → d ≡ e
-same_Ok {d = d} p = ap (λ (r : Result Durable RecordFault). elim r as (λ z. Durable) [ Ok x ↦ x | Err f ↦ d ]) p
-
-not_Ok : {f : RecordFault} {e : Durable} → ◌≡◌ {A = Result Durable RecordFault} (Err f) (Ok e) → ⊥
-not_Ok p = absurd cc
+use Rattle.ec_durable.specs.StepLaws.{same_Ok}
+use Rattle.ec_server.specs.KeptLaws.{not_Ok}
 
 -- One clerk's slot changes.
 

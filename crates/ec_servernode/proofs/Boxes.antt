@@ -7,8 +7,9 @@ use Rattle.ec_wire.specs.declared.msg.Msg.{Msg}
 use Rattle.ec_wire.specs.declared.msg.Msg.TheVariants as msg
 use Rattle.ec_servernode.specs.declared.state.Outbox.{Outbox}
 use Rattle.ec_servernode.specs.Callers.{hello_in, refusal_of}
-use Rattle.ec_servernode.specs.Run.{put, put_all, for_clerk, first_of, is_for}
+use Rattle.ec_servernode.specs.Run.{put, put_all, for_clerk, is_for}
 use Rattle.ec_servernode.specs.Node.{queue_at, owner_at}
+use Rattle.ec_base.specs.Lists.{first_of}
 
 -- the box at a place
 pub box_at : (bs : List Outbox) (c : ℕ) (b : Outbox) → c < length bs → b ≡ slice_index_or bs c b → (b.msgs.items ≡ queue_at bs c) × (b.owner ≡ owner_at bs c)

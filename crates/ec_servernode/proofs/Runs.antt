@@ -6,11 +6,13 @@ use Rattle.ec_protocol.specs.declared.server.Server.{Server}
 use Rattle.ec_server.specs.Keepers.{Did}
 use Rattle.ec_lock.specs.Steps.{of}
 use Rattle.ec_servernode.specs.declared.step.Step.{Step}
-use Rattle.ec_servernode.specs.Run.{each, first_of, number_of, caller_after, caller_from, caller_by, owner_after, owner_from, box_after, box_from, after, leads, record_of, halts_of, halted, IsStep, IsRun}
+use Rattle.ec_servernode.specs.Run.{number_of, caller_after, caller_from, caller_by, owner_after, owner_from, box_after, box_from, after, leads, record_of, halts_of, halted, IsStep, IsRun}
 use Rattle.ec_servernode.specs.declared.caller.Caller.{Caller}
 use Rattle.ec_servernode.specs.Callers.{nobody}
 use Rattle.ec_servernode.specs.Node.{Chain}
 use Rattle.ec_servernode.proofs.Lists.{of-append, of_own, each-push, last_or_before}
+use Rattle.ec_link.specs.Happenings.{each}
+use Rattle.ec_base.specs.Lists.{first_of}
 
 pub run_push : (s : Server) (boxes : ℕ → List Msg) (xs : List Step) (x : Step) → IsRun s boxes xs → IsStep s boxes xs x → IsRun s boxes (xs ++ x ∷ [])
 run_push s boxes xs x run is before y rest e =

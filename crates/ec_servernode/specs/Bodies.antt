@@ -5,7 +5,7 @@ use Rattle.ec_link.specs.Links.{Heard, body}
 use Rattle.ec_servernode.specs.declared.step.Deed.{Deed}
 use Rattle.ec_servernode.specs.declared.step.Deed.TheVariants.{Took, Gave, Refused, Halted, Ended, HaltedEnd}
 use Rattle.ec_servernode.specs.declared.step.Step.{Step}
-use Rattle.ec_servernode.specs.Run.{each}
+use Rattle.ec_link.specs.Happenings.{each}
 
 -- what the link gave for a step: the body of the message that was taken
 abbrev pub heard_of : Deed → List Heard

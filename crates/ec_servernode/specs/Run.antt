@@ -16,15 +16,8 @@ use Rattle.ec_servernode.specs.declared.step.Step.{Step}
 use Rattle.ec_servernode.specs.declared.caller.Caller.{Caller}
 use Rattle.ec_servernode.specs.Callers.{hello_in, accepted, refusal_in, posted, nobody, behind, answered, IsRefusal}
 use Rattle.ec_servernode.specs.Folded.{taken, ended}
-
--- what each element gives, one after another
-abbrev pub each : {A B : Type 0} → (A → List B) → List A → List B
-each f [] = []
-each f (x ∷ xs) = f x ++ each f xs
-
-abbrev pub first_of : {A : Type 0} → List A → Option A
-first_of [] = None
-first_of (x ∷ xs) = Some x
+use Rattle.ec_link.specs.Happenings.{each}
+use Rattle.ec_base.specs.Lists.{first_of}
 
 abbrev pub number_of : Step → Option ℕ
 number_of s = Some s.pass

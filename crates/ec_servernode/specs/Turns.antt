@@ -33,9 +33,10 @@ use Rattle.ec_servernode.specs.declared.passes.ServerPass.{ServerPass}
 use Rattle.ec_servernode.specs.declared.shared.Turned.{Turned}
 use Rattle.ec_servernode.specs.declared.shared.Turned.TheVariants as turned
 use Rattle.ec_servernode.specs.Callers.{posted, IsRefusal}
-use Rattle.ec_servernode.specs.Run.{IsRun, By, number_of, caller_by, is_for, first_of, owner, box_from, halted, leads, records}
+use Rattle.ec_servernode.specs.Run.{IsRun, By, number_of, caller_by, is_for, owner, box_from, halted, leads, records}
 use Rattle.ec_servernode.specs.Node.{queue_at, owner_at, state_of, Chain, ChainInDoubt, CountsUp}
 use Rattle.ec_servernode.specs.Told.{IsToldOf}
+use Rattle.ec_base.specs.Lists.{first_of}
 
 abbrev pub fault_of : Halt → ServeFault
 fault_of halt.DiskFailed = fault.DiskFailed

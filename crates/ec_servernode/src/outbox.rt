@@ -2,7 +2,8 @@
 ghost use Rattle.std.specs.Prelude.{◌≡◌, ◌==◌, ℕ, ◌<◌, ◌⊎◌, [], ◌∷◌, ◌++◌, Bool, true, false, cond, List, drop, length, IfOk, IfSome, IfNone, Some, Option};
 ghost use Rattle.ec_base.specs.Limits.{clerk_count};
 ghost use Rattle.ec_servernode.specs.Node.{queue_at, owner_at};
-ghost use Rattle.ec_servernode.specs.Run.{put, put_all, for_clerk, is_for, first_of, owner_now};
+ghost use Rattle.ec_servernode.specs.Run.{put, put_all, for_clerk, is_for, owner_now};
+ghost use Rattle.ec_base.specs.Lists.{first_of};
 ghost use Rattle.ec_servernode.specs.Told.{IsToldOf};
 
 use crate::caller::Caller;

@@ -1,16 +1,16 @@
 -- The laws of the bytes of tables.
-use Rattle.std.proofs.Common.{◌≡◌, ◌⊎◌, ℕ, suc, ◌+◌, ◌-◌, ◌≤◌, ◌<◌, Bool, true, false, cond, ltb, eqb, List, [], ◌∷◌, ◌++◌, length, take, drop, get_or, Option, Some, None, Ok, Err, refl, sym, ap, subst, ◌∙◌, arith, inl, inr, append_assoc, length-append, length-take}
+use Rattle.std.proofs.Common.{◌≡◌, ℕ, suc, ◌+◌, ◌-◌, ◌≤◌, ◌<◌, Bool, true, false, cond, ltb, eqb, List, [], ◌∷◌, ◌++◌, length, take, drop, get_or, Option, Some, None, Ok, Err, refl, sym, ap, subst, ◌∙◌, arith, append_assoc, length-append, length-take}
 use Rattle.std.specs.Prelude.{nat_lt, nat_le}
 use Rattle.std.specs.Int.{w32, to_be_bytes, from_be_bytes}
-use Rattle.std.proofs.lemmas.Bool.{cases_Bool, cases_lt, eqb-true, eqb-false, eq-eqb, le-leb, ltb-false, le-ltb, lt-ltb, leb-true, and_parts, and_from}
-use Rattle.std.proofs.lemmas.List.{append-nil, take_at, take-append-drop, drop-take, get_or-take, get_or_past}
+use Rattle.std.proofs.lemmas.Bool.{eqb-true, eq-eqb, ltb-false, le-ltb, lt-ltb, leb-true, and_parts, and_from}
+use Rattle.std.proofs.lemmas.List.{append-nil, take_at, take-append-drop, drop-take}
 use Rattle.ec_base.specs.Limits.{clerk_count}
 use Rattle.ec_base.specs.declared.ids.Age.{Age}
 use Rattle.ec_sessions.specs.declared.slot.Slot.{Slot}
 use Rattle.ec_codes.specs.Formats.{Format, missing, ◌>>=◌, byte, such, variant, nothing, empty, StandsAt, Spells}
-use Rattle.ec_codes.specs.FormatLaws.{AreBytes, IsFormat, bind_ok, guard_ok, ok_is, stands_first, stands_second, stand_both, byte-is, such_is, then_is, standing_is, list_is, variant_is, nothing_is, empty-is, choice_is, tagged_is}
-use Rattle.ec_codes.specs.Fields.{word, long, id, or_zero, is_from_one, id_or_none}
-use Rattle.ec_codes.specs.FieldLaws.{word-is, long-is, id-is}
+use Rattle.ec_codes.specs.FormatLaws.{AreBytes, IsFormat, bind_ok, guard_ok, ok_is, stands_first, stands_second, stand_both, byte-is, such_is, then_is, standing_is, list_is, variant_is, nothing_is, empty-is, choice_is, tagged_is, are_taken}
+use Rattle.ec_codes.specs.Fields.{word, long, id, is_from_one, id_or_none}
+use Rattle.ec_codes.specs.FieldLaws.{word-is, long-is, id-is, victim_back, victim_forth}
 use Rattle.ec_codes.specs.Clerks.{age_field}
 use Rattle.ec_codes.specs.ClerkLaws.{age-is}
 use Rattle.ec_codes.specs.declared.fault.CodeFault.TheVariants as fault
@@ -19,34 +19,14 @@ use Rattle.ec_table.specs.declared.table.Table.{Table}
 use Rattle.ec_table.specs.declared.table.Version.{Version}
 use Rattle.ec_table.specs.declared.table.Version.TheVariants.{One, Two}
 use Rattle.ec_table.specs.Codes.{last_first_field, last_of, is_behind, is_above, id_above, ids_field, slot_fields, slot_tag, is_slot_tag, fields_of, slot_of, never, to_never, held, slot_form, slot_code, always, slots_field, ids_in, numbers_in, is_free, place_after, place_spell, places_field, state_fields, parts_of, table_of, state_code, ends_at, in_size, sized, max_old_state, max_new_state, old_table, new_table, Versioned, spell_version, fits_version, in_version, read_version, table_code}
-
-same_some : {A : Type 0} (x y : A) → Some x ≡ Some y → x ≡ y
-same_some x y e = cc
+use Rattle.ec_base.specs.SmallLaws.{same_some}
+use Rattle.ec_base.specs.Options.{or_zero}
 
 -- A slot of a clerk.
 
-zero_or_id : (v : Option ℕ) → is_from_one v ≡ true → id_or_none (or_zero v) ≡ Some v
-zero_or_id None h = refl
-zero_or_id (Some n) h =
-    elim (cases_Bool (eqb n 0)) [
-      | inl zero_is ↦ absurd (omega (arith, eqb-true n 0 zero_is, leb-true 1 n h))
-      | inr not_zero ↦ rw not_zero refl
-    ]
-
-zero_or : (b : Bool) (n : ℕ) (v : Option ℕ) → cond b (Some None) (Some (Some n)) ≡ Some v → ((b ≡ true) × (None ≡ v)) ⊎ ((b ≡ false) × (Some n ≡ v))
-zero_or true n v e = inl (refl, same_some None v e)
-zero_or false n v e = inr (refl, same_some (Some n) v e)
-
-id_or_zero : (n : ℕ) (v : Option ℕ) → id_or_none n ≡ Some v → (or_zero v ≡ n) × (is_from_one v ≡ true)
-id_or_zero n v e =
-    elim (zero_or (eqb n 0) n v e) [
-      | inl h ↦ (ap or_zero (sym h.1) ∙ sym (eqb-true n 0 h.0), ap is_from_one (sym h.1))
-      | inr h ↦ (ap or_zero (sym h.1), ap is_from_one (sym h.1) ∙ le-leb 1 n (omega (arith, eqb-false n 0 h.0)))
-    ]
-
 last_first-is : IsFormat last_first_field
 unfolding last_first_field
-last_first-is = standing_is or_zero is_from_one id_or_none word word-is zero_or_id id_or_zero
+last_first-is = standing_is or_zero is_from_one id_or_none word word-is victim_back victim_forth
 
 id_above_is : (before : List ℕ) → IsFormat (id_above before)
 unfolding id_above
@@ -180,13 +160,6 @@ state_is most =
     (λ p t e. (ap parts_of (sym (same_some _ t e)), refl))
 
 -- A length, and a value in so many bytes.
-
-are_taken : (n : ℕ) (bytes : List ℕ) → AreBytes bytes → AreBytes (take n bytes)
-are_taken n bytes h i =
-    elim (cases_lt i n) [
-      | inl lt ↦ rw (get_or-take n bytes i 0 lt) (h i)
-      | inr le ↦ rw (get_or_past (take n bytes) i 0 (omega (arith, length-take n bytes))) (omega arith)
-    ]
 
 pub sized_is : {A : Type 0} (limit : ℕ) (F : Format A) → ((n : ℕ) → nat_le n limit ≡ true → word.fits n ≡ true) → IsFormat F → IsFormat (sized limit F)
 sized_is limit F small law = record {

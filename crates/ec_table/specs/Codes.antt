@@ -5,7 +5,7 @@ use Rattle.ec_base.specs.declared.ids.Age.{Age}
 use Rattle.ec_volume.specs.Update.{member}
 use Rattle.ec_sessions.specs.declared.slot.Slot.{Slot}
 use Rattle.ec_codes.specs.Formats.{Read, Format, ◌>>=◌, byte, such, then_by, standing, list, variant, nothing, empty, tagged}
-use Rattle.ec_codes.specs.Fields.{word, long, id, or_zero, is_from_one, id_or_none}
+use Rattle.ec_codes.specs.Fields.{word, long, id, is_from_one, id_or_none}
 use Rattle.ec_codes.specs.Clerks.{age_field}
 use Rattle.ec_codes.specs.declared.fault.CodeFault.TheVariants as fault
 use Rattle.ec_durable.specs.declared.state.Durable.{Durable}
@@ -13,6 +13,7 @@ use Rattle.ec_layout.specs.Places.{table_bytes}
 use Rattle.ec_table.specs.declared.table.Table.{Table}
 use Rattle.ec_table.specs.declared.table.Version.{Version}
 use Rattle.ec_table.specs.declared.table.Version.TheVariants.{One, Two}
+use Rattle.ec_base.specs.Options.{or_zero}
 
 -- A slot of a clerk.
 

@@ -1,6 +1,6 @@
 -- What a changed map of tokens holds, and that no two tokens conflict after a change. No public clause cites this file.
 use Rattle.std.proofs.Common.{◌≡◌, ◌≢◌, refl, sym, ap, ◌∙◌, arith, ℕ, Bool, true, false, not, cond, ◌&&◌, List, [], ◌∷◌, Option, None, Some, filter, subst, length, ◌<◌, ◌⊎◌, inl, inr, ⊎_elim, zero, suc}
-use Rattle.std.specs.Prelude.{◌==◌, T, is_none, is_some, unwrap_or, slice_index_or, Contains}
+use Rattle.std.specs.Prelude.{◌==◌, T, is_none, slice_index_or, Contains}
 use Rattle.std.specs.Ordering.{nat_cmp, is_lt, is_eq, eq_by_cmp}
 use Rattle.std.specs.Cmp.{nat_cmp_total, eq_by_cmp_equiv, unsigned_ties}
 use Rattle.std.specs.FinMap.{find, put, is_sorted}
@@ -14,7 +14,7 @@ use Rattle.std.specs.List.{list_all}
 use Rattle.ec_base.specs.declared.ids.Hold.{Hold}
 use Rattle.ec_base.specs.declared.ids.Hold.TheVariants.{Free}
 use Rattle.ec_base.specs.Sorted.{without}
-use Rattle.ec_base.specs.SortedLaws.{first as front, second as rest, both, find-without}
+use Rattle.ec_base.specs.SortedLaws.{first as front, second as rest, both, find-without, not_None, same_Some}
 use Rattle.ec_tokens.specs.declared.token.Token.{Token}
 use Rattle.ec_base.specs.Holds.{is_free, is_below, clash}
 use Rattle.ec_tokens.specs.Tokens.{Row, Tokens, is_row, with_row, Holder, held_by, is_conflict, row, row_of, token, mode, IsSound, holders, first, first_conflict, is_clear, granted, fits_back, lowered, claimed_in, claimed, clash_at, first_clash}
@@ -33,12 +33,6 @@ module _ {X : Type 0} (j k : ℕ) where
 
   found-without : (es : List (ℕ × X)) → find nat_cmp j (without nat_cmp k es) ≡ cond (j == k) None (find nat_cmp j es)
   found-without es = find-without nat_cmp nat_cmp_total j k es ∙ ap (λ b. cond b None (find nat_cmp j es)) ((eq_by_cmp_equiv nat_cmp_total).symm k j ∙ sym (unsigned_ties j k))
-
-same_Some : {A : Type 0} {x y : A} → Some x ≡ Some y → x ≡ y
-same_Some {x = x} e = ap (λ o. unwrap_or o x) e
-
-not_None : {A : Type 0} {x : A} → Some x ≡ None → ⊥
-not_None e = subst T (ap is_some e) tt
 
 positive : (n : ℕ) → T (not (suc n == 0))
 positive n = subst (λ b. T (not b)) (sym (ne_eqb (suc n) 0 (λ e. absurd (omega (arith, e))))) tt

@@ -1,5 +1,5 @@
 -- The laws of the codes of messages.
-use Rattle.std.proofs.Common.{◌≡◌, ℕ, zero, suc, ◌+◌, ◌≤◌, ◌<◌, Bool, true, false, cond, ◌&&◌, ltb, eqb, ◌⊎◌, inl, inr, List, [], ◌∷◌, ◌++◌, length, get_or, drop, Option, Some, None, Result, Ok, Err, refl, sym, ap, subst, ◌∙◌, arith}
+use Rattle.std.proofs.Common.{◌≡◌, ℕ, zero, suc, ◌+◌, ◌≤◌, ◌<◌, Bool, true, false, cond, ◌&&◌, ltb, eqb, inl, inr, List, [], ◌∷◌, ◌++◌, length, get_or, drop, Option, Some, Result, Ok, Err, refl, sym, ap, subst, ◌∙◌, arith}
 use Rattle.std.specs.Prelude.{nat_lt, nat_le, IfOk}
 use Rattle.std.proofs.lemmas.Bool.{eqb-true, ltb-true, ltb-false, lt-ltb, le-ltb, and_parts, and_from}
 use Rattle.ec_base.specs.Holds.{rank}
@@ -12,7 +12,7 @@ use Rattle.ec_volume.specs.declared.update.Update.{Update}
 use Rattle.ec_codes.specs.Formats.{Read, Format, byte, such, then_by, standing, list, variant, nothing, tagged, StandsAt, Spells}
 use Rattle.ec_codes.specs.FormatLaws.{AreBytes, IsFormat, byte-is, such_is, then_is, standing_is, list_is, variant_is, nothing_is, choice_is, tagged_is, ok_is}
 use Rattle.ec_codes.specs.Fields.{word, long, id}
-use Rattle.ec_codes.specs.FieldLaws.{word-is, long-is, id-is}
+use Rattle.ec_codes.specs.FieldLaws.{word-is, long-is, id-is, two_of}
 use Rattle.ec_codes.specs.Updates.{update_code}
 use Rattle.ec_codes.specs.UpdateLaws.{update-is}
 use Rattle.ec_codes.specs.Images.{image_code}
@@ -20,15 +20,14 @@ use Rattle.ec_codes.specs.ImageLaws.{image-is}
 use Rattle.ec_wire.specs.declared.msg.Msg.{Msg}
 use Rattle.ec_wire.specs.declared.msg.Msg.TheVariants.{Hello, Want, Back, Flush, Room, Claim, Bye, Opened, Grant, Recall, Kept, Ids, NoRoom, Ended, Restarted, OldBoot}
 use Rattle.ec_wire.specs.Messages.{is_held_mode, is_lowered_mode}
-use Rattle.ec_wire.specs.Codes.{clerk_field, age_parts, age_of, age_field, held_of, held_field, lowered_of, lowered_field, is_first, first_field, last_of, is_over, row_after, row_spell, op_after, op_spell, is_op_count, ops_field, token_after, token_spell, tokens_field, msg_byte, is_kind_byte, msg_form, msg_code}
+use Rattle.ec_wire.specs.Codes.{clerk_field, age_field, held_of, held_field, lowered_of, lowered_field, is_first, first_field, last_of, is_over, row_after, row_spell, op_after, op_spell, is_op_count, ops_field, token_after, token_spell, tokens_field, msg_byte, is_kind_byte, msg_form, msg_code}
 use Rattle.ec_wire.specs.Codes.{hello_fields, want_fields, back_fields, flush_fields, room_fields, claim_fields, bye_fields, opened_fields, grant_fields, recall_fields, kept_fields, ids_fields, no_room_fields, ended_fields, restarted_fields, old_boot_fields}
 use Rattle.ec_wire.specs.Codes.{hello_parts, want_parts, back_parts, flush_parts, room_parts, claim_parts, bye_parts, opened_parts, grant_parts, recall_parts, kept_parts, ids_parts, no_room_parts, ended_parts, restarted_parts, old_boot_parts}
 use Rattle.ec_wire.specs.Codes.{to_hello, to_want, to_back, to_flush, to_room, to_claim, to_bye, to_opened, to_grant, to_recall, to_kept, to_ids, to_no_room, to_ended, to_restarted, to_old_boot}
+use Rattle.ec_base.specs.SmallLaws.{same_some}
+use Rattle.ec_codes.specs.Clerks.{age_of, age_parts}
 
 -- The fields.
-
-same_some : {A : Type 0} (x y : A) → Some x ≡ Some y → x ≡ y
-same_some x y e = cc
 
 clerk-is : IsFormat clerk_field
 unfolding clerk_field
@@ -37,11 +36,6 @@ clerk-is = such_is (λ n. nat_lt n clerk_count) byte byte-is
 age-is : IsFormat age_field
 unfolding age_field
 age-is = standing_is age_parts (λ a. true) age_of (then_by long (λ boot. word)) (then_is long _ long-is (λ boot. word-is)) (λ a h. refl) (λ p a e. (ap age_parts (sym (same_some _ a e)), refl))
-
-two_of : {A : Type 0} (b c : Bool) (x y z : A) → cond b (Some x) (cond c (Some y) None) ≡ Some z → ((b ≡ true) × (x ≡ z)) ⊎ ((c ≡ true) × (y ≡ z))
-two_of true c x y z e = inl (refl, same_some x z e)
-two_of false true x y z e = inr (refl, same_some y z e)
-two_of false false x y z e = absurd cc
 
 held_back : (h : Hold) → is_held_mode h ≡ true → held_of (rank h) ≡ Some h
 held_back hold.Free e = absurd cc

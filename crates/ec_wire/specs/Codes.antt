@@ -18,17 +18,12 @@ use Rattle.ec_wire.specs.declared.fault.WireFault.TheVariants as fault
 use Rattle.ec_wire.specs.declared.msg.Msg.{Msg}
 use Rattle.ec_wire.specs.declared.msg.Msg.TheVariants.{Hello, Want, Back, Flush, Room, Claim, Bye, Opened, Grant, Recall, Kept, Ids, NoRoom, Ended, Restarted, OldBoot}
 use Rattle.ec_wire.specs.Messages.{kind, kind_byte, is_held_mode, is_lowered_mode}
+use Rattle.ec_codes.specs.Clerks.{age_of, age_parts}
 
 -- The fields.
 
 unfoldable pub clerk_field : Format ℕ
 clerk_field = such (λ n. nat_lt n clerk_count) byte
-
-abbrev pub age_parts : Age → ℕ × ℕ
-age_parts a = (a.boot, a.round)
-
-abbrev pub age_of : ℕ × ℕ → Option Age
-age_of p = Some (record { boot = p.0; round = p.1 })
 
 -- boot and round
 unfoldable pub age_field : Format Age

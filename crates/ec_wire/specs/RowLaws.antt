@@ -37,7 +37,7 @@ pub rises_all : (ns : List ℕ) → rises_over None ns ≡ rises ns
 rises_all [] = refl
 rises_all (n ∷ ns) = rises_behind n ns
 
-abbrev key_of : {X : Type 0} → Option (ℕ × X) → Option ℕ
+abbrev pub key_of : {X : Type 0} → Option (ℕ × X) → Option ℕ
 key_of None = None
 key_of (Some e) = Some e.0
 

@@ -1,7 +1,8 @@
 use Rattle.std.proofs.Common.{◌∙◌, sym, ap}
-use Rattle.ec_outs.specs.Outs.{old_boot_of, first_of}
+use Rattle.ec_outs.specs.Outs.{old_boot_of}
 use Rattle.ec_outs.proofs.Each.{each-first}
 use Rattle.ec_outs.proofs.kept.first_old.Goals as goal
+use Rattle.ec_base.specs.Lists.{first_of}
 
 pub returns-in-OldBoot : goal.returns-in-OldBoot
 returns-in-OldBoot c =

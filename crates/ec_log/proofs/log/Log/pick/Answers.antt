@@ -1,9 +1,10 @@
 use Rattle.std.proofs.Common.{ap, refl, sym, rules, ◌∙◌}
 use Rattle.ec_log.specs.Log.{is_new, pick}
-use Rattle.ec_log.specs.Choice.{rises, all_rise}
+use Rattle.ec_log.specs.Choice.{all_rise}
 use Rattle.ec_log.proofs.Fronts.{pick-front}
 use Rattle.ec_log.proofs.Members.{all_rise_put, batch_rises}
 use Rattle.ec_log.proofs.log.Log.pick.Goals as goal
+use Rattle.ec_base.specs.SmallLaws.{rises}
 
 pub returns-clause-pick : goal.returns-clause-pick
 returns-clause-pick c =

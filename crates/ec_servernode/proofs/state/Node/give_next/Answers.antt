@@ -1,5 +1,5 @@
 use Rattle.std.proofs.Common.{◌≡◌, ◌⊎◌, [], Some, true, false, refl, sym, ap, subst, ◌∙◌, length, inl, inr, ⊎_elim, arith, rules}
-use Rattle.ec_servernode.specs.Run.{is_for, first_of}
+use Rattle.ec_servernode.specs.Run.{is_for}
 use Rattle.ec_servernode.specs.Node.{queue_at, owner_at}
 use Rattle.ec_servernode.specs.declared.step.Deed.TheVariants.{Gave}
 use Rattle.ec_servernode.specs.declared.step.Step.{Step}
@@ -7,6 +7,7 @@ use Rattle.ec_servernode.proofs.Nodes.{gave, giving_next}
 use Rattle.ec_servernode.proofs.Served.{grows}
 use Rattle.ec_servernode.proofs.Ends.{same_caller, as_answered, no_more, boxes_are, added-nil, not_greeted}
 use Rattle.ec_servernode.proofs.state.Node.give_next.Goals as goal
+use Rattle.ec_base.specs.Lists.{first_of}
 
 pub next_for-requires : goal.next_for-requires
 next_for-requires g c = ap (λ l. length l) c.deref.ensures.value ∙ c.requires.sized
