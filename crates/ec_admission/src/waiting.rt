@@ -3,7 +3,7 @@ ghost use Rattle.std.specs.Prelude.{◌≡◌, ◌≢◌, ◌==◌, ◌≤◌, [
 ghost use Rattle.ec_recall.specs.Due as due;
 ghost use Rattle.ec_recall.specs.Rounds.{GrantsGoIn};
 ghost use Rattle.ec_recall.specs.Wants as wants;
-ghost use Rattle.ec_tokens.specs.Tokens.{IsSound};
+ghost use Rattle.ec_tokens.specs.SoundTokens.{IsSound};
 
 use ec_base::{Hold, NoMemory, ObjId, SessionNo};
 use ec_recall::{Action, Recalls};

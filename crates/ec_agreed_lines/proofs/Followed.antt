@@ -8,7 +8,7 @@ use Rattle.ec_history.specs.Placing.{place}
 use Rattle.ec_history.specs.declared.shown.Shown.{Shown}
 use Rattle.ec_history.specs.declared.shown.Shown.TheVariants as show
 use Rattle.ec_order.specs.Order.{Issued}
-use Rattle.ec_laws.specs.Placing.{IsNewId}
+use Rattle.ec_laws.specs.NewIds.{IsNewId}
 use Rattle.ec_protocol.specs.World.{Moving, deliver, runs}
 use Rattle.ec_protocol.specs.declared.clerk.Clerk.{Clerk}
 use Rattle.ec_protocol.specs.declared.script.Line.{Line}
@@ -19,9 +19,10 @@ use Rattle.ec_quiet.specs.Works.{HasTask, Work}
 use Rattle.ec_quiet.specs.SettlingScenes.{Reaches}
 use Rattle.ec_deliveries.specs.Coming.{IsBatchOf, IsLineOf}
 use Rattle.ec_deliveries.proofs.Batched.{lines-of-phases}
-use Rattle.ec_deliveries.specs.Behind.{IsBehind, saved}
-use Rattle.ec_deliveries.specs.Closures.{IsWithin}
-use Rattle.ec_deliveries.specs.Scripts.{AreWriteBehind, IsWorkOf, IsWriteBehind, volume_behind}
+use Rattle.ec_deliveries.specs.PhasesBehind.{IsBehind, saved}
+use Rattle.ec_deliveries.specs.WithinClosures.{IsWithin}
+use Rattle.ec_deliveries.specs.Scripts.{AreWriteBehind, IsWriteBehind, volume_behind}
+use Rattle.ec_deliveries.specs.ScriptWorks.{IsWorkOf}
 use Rattle.ec_deliveries.proofs.Worked.{works-behind}
 use Rattle.ec_agreed_lines.proofs.Lines.{Along, IsOther}
 use Rattle.ec_agreed_lines.proofs.Settled.{Shows, stays}

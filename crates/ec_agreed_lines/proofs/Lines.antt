@@ -29,7 +29,7 @@ use Rattle.ec_protocol.specs.declared.world.World.{World}
 use Rattle.ec_protocol.specs.declared.world.WorldFault.{WorldFault}
 use Rattle.ec_protocol.specs.declared.world.WorldFault.TheVariants as fault
 use Rattle.ec_quiet.specs.Works.{Work}
-use Rattle.ec_deliveries.specs.Closures.{AreWithin, IsWithin}
+use Rattle.ec_deliveries.specs.WithinClosures.{AreWithin, IsWithin}
 
 abbrev pub IsOther : Shown → Type 0
 IsOther (show.Durable c ns) = ⊥

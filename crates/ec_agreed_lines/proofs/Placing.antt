@@ -10,7 +10,7 @@ use Rattle.ec_history.specs.declared.shown.Shown.{Shown}
 use Rattle.ec_history.specs.declared.shown.Shown.TheVariants as show
 use Rattle.ec_laws.proofs.Cuts.{throughout-append}
 use Rattle.ec_log.specs.declared.state.Asked.{Asked}
-use Rattle.ec_laws.specs.Placing.{IsNewId, MayChange}
+use Rattle.ec_laws.specs.NewIds.{IsNewId, MayChange}
 use Rattle.ec_laws.proofs.Placed as placed
 use Rattle.ec_laws.proofs.IdleIds.{Full, Same, begin, full}
 use Rattle.ec_protocol.specs.declared.script.Line.{Line}

@@ -10,7 +10,8 @@ use Rattle.ec_protocol.specs.declared.clerk.Clerk.{Clerk}
 use Rattle.ec_protocol.specs.declared.world.World.{World}
 use Rattle.ec_coherence.proofs.Tables.{at-put, at-without}
 use Rattle.ec_quiet.specs.SettlingScenes.{Reaches}
-use Rattle.ec_machine_laws.specs.Answers.{Asking, asked_in}
+use Rattle.ec_machine_laws.specs.Answers.{Asking}
+use Rattle.ec_machine_laws.specs.PlainLines.{asked_in}
 use Rattle.ec_agreed_lines.specs.Answered.{IsAnswered, IsCalled, NoneCalls}
 use Rattle.ec_agreed_lines.proofs.Showing as showing
 use Rattle.ec_agreed_lines.proofs.Showing.{CallTable}

@@ -18,7 +18,8 @@ use Rattle.ec_log.specs.Choice.{numbers_asked}
 use Rattle.ec_log.specs.Log.{is_asked}
 use Rattle.ec_log.specs.declared.state.Asked.{Asked}
 use Rattle.ec_log.specs.declared.state.Asked.TheVariants.{Object, Op as OneOp, All}
-use Rattle.ec_laws.specs.Renaming.{AreRenamed, IsRenamed, IsRenaming, op_by, update_by}
+use Rattle.ec_laws.specs.Renaming.{IsRenaming}
+use Rattle.ec_laws.specs.Renamed.{AreRenamed, IsRenamed, op_by, update_by}
 use Rattle.ec_laws.proofs.Calls.{plain-by}
 use Rattle.ec_laws.proofs.Images.{operand-by}
 use Rattle.ec_laws.proofs.RenamedKept.{issues-at, kept-at, updates-by}

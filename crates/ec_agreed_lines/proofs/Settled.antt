@@ -30,11 +30,11 @@ use Rattle.ec_deliveries.proofs.Spending.{deliveries-have-next}
 use Rattle.ec_quiet.specs.SettlingScenes.{Reaches, here, on}
 use Rattle.ec_quiet.proofs.Delivering as delivering
 use Rattle.ec_quiet.proofs.Delivering.{due-is, none-due, scene-then}
-use Rattle.ec_deliveries.specs.Behind.{IsBehind, MaySee}
+use Rattle.ec_deliveries.specs.PhasesBehind.{IsBehind, MaySee}
 use Rattle.ec_deliveries.proofs.Picked.{each-turn}
 use Rattle.ec_deliveries.proofs.StayingBehind.{stays-behind}
 use Rattle.ec_agreed_lines.specs.Closures.{IsBaseOf, IsKnown, StaysWithin}
-use Rattle.ec_deliveries.specs.Closures.{IsWithin, kept_operations}
+use Rattle.ec_deliveries.specs.WithinClosures.{IsWithin, kept_operations}
 use Rattle.ec_agreed_lines.proofs.Lines.{Along, IsOther, along-within, both-along, delivery-step, other-within, step-along}
 use Rattle.ec_agreed_lines.proofs.Within.{lines-within}
 

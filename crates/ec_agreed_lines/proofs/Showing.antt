@@ -27,7 +27,8 @@ use Rattle.ec_protocol.specs.declared.world.Sent.{Sent}
 use Rattle.ec_protocol.specs.declared.world.World.{World}
 use Rattle.ec_protocol.specs.declared.world.WorldFault.TheVariants as fault
 use Rattle.ec_quiet.specs.SettlingScenes.{Reaches, here, on}
-use Rattle.ec_machine_laws.specs.Answers.{Asking, answered_in, asked_in}
+use Rattle.ec_machine_laws.specs.Answers.{Asking}
+use Rattle.ec_machine_laws.specs.PlainLines.{answered_in, asked_in}
 
 -- Lists.
 

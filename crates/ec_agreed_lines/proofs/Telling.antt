@@ -13,7 +13,8 @@ use Rattle.ec_coherence.specs.Invariant.{Invariant}
 use Rattle.ec_coherence.specs.Steps.{Stands}
 use Rattle.ec_coherence.specs.System.{System, base_of}
 use Rattle.ec_quiet.specs.Works.{Work}
-use Rattle.ec_deliveries.specs.Scripts.{IsWorkOf, IsWorkOn, LeaveOut, volume_behind}
+use Rattle.ec_deliveries.specs.Scripts.{volume_behind}
+use Rattle.ec_deliveries.specs.ScriptWorks.{IsWorkOf, IsWorkOn, LeaveOut}
 
 module _ (w : World) (g : System) (inv : Invariant g) (st : Stands w g) where
   kept-is : kept (base_of g) (place w.shown) ≡ map (shown_op g) g.ghost.kept

@@ -6,7 +6,7 @@ use Rattle.ec_protocol.specs.World.{Moving, call, call_of, moving}
 use Rattle.ec_protocol.specs.declared.clerk.Clerk.{Clerk}
 use Rattle.ec_protocol.specs.declared.world.World.{World}
 use Rattle.ec_quiet.specs.SettlingScenes.{Reaches}
-use Rattle.ec_machine_laws.specs.Answers.{asked_in}
+use Rattle.ec_machine_laws.specs.PlainLines.{asked_in}
 
 -- no call is under way
 abbrev pub NoneCalls : World → Type 0

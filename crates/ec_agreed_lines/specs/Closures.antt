@@ -18,9 +18,10 @@ use Rattle.ec_quiet.specs.Scenes.{IsScene, Mail, Scene}
 use Rattle.ec_quiet.specs.Works.{Work}
 use Rattle.ec_deliveries.specs.Leading.{CanTake}
 use Rattle.ec_quiet.specs.SettlingScenes.{Reaches}
-use Rattle.ec_deliveries.specs.Behind.{IsBehind, MaySee}
-use Rattle.ec_deliveries.specs.Closures.{AreWithin, IsWithin}
-use Rattle.ec_deliveries.specs.Scripts.{IsWorkOf, IsWorkOn, volume_behind}
+use Rattle.ec_deliveries.specs.PhasesBehind.{IsBehind, MaySee}
+use Rattle.ec_deliveries.specs.WithinClosures.{AreWithin, IsWithin}
+use Rattle.ec_deliveries.specs.Scripts.{volume_behind}
+use Rattle.ec_deliveries.specs.ScriptWorks.{IsWorkOf, IsWorkOn}
 
 -- Where a line of the script is carried out, each line that a delivery shows is such.
 abbrev pub DurableLinesStayWithin : Type 0

@@ -6,7 +6,7 @@ use Rattle.ec_volume.specs.Volume.{Images, WellFormed, after}
 use Rattle.ec_history.specs.History.{Base, Throughout, updates}
 use Rattle.ec_history.specs.Placing.{place}
 use Rattle.ec_history.specs.declared.shown.Shown.{Shown}
-use Rattle.ec_laws.specs.Placing.{IsNewId}
+use Rattle.ec_laws.specs.NewIds.{IsNewId}
 use Rattle.ec_wire.specs.declared.msg.Msg.{Msg}
 use Rattle.ec_protocol.specs.World.{Moving}
 use Rattle.ec_protocol.specs.declared.clerk.Clerk.{Clerk}
@@ -20,8 +20,9 @@ use Rattle.ec_quiet.specs.Works.{HasTask, Work}
 use Rattle.ec_deliveries.specs.Coming.{HasNext}
 use Rattle.ec_deliveries.specs.Leading.{CanTake}
 use Rattle.ec_quiet.specs.SettlingScenes.{Reaches}
-use Rattle.ec_deliveries.specs.Behind.{IsBehind, MaySee, saved}
-use Rattle.ec_deliveries.specs.Scripts.{AreWriteBehind, IsWorkOn, IsWriteBehind}
+use Rattle.ec_deliveries.specs.PhasesBehind.{IsBehind, MaySee, saved}
+use Rattle.ec_deliveries.specs.Scripts.{AreWriteBehind, IsWriteBehind}
+use Rattle.ec_deliveries.specs.ScriptWorks.{IsWorkOn}
 
 -- Where each id was of no object and made by no operation before, it may be exchanged for the place of its call, above all ids of the volume.
 abbrev pub WriteBehindIsPlaced : Type 0

@@ -6,7 +6,7 @@ use Rattle.ec_chains.specs.Held.{is_behind}
 use Rattle.ec_volume.specs.Image.{is_gone}
 use Rattle.ec_volume.specs.Update.{distinct, member}
 use Rattle.ec_volume.specs.Volume.{Images, WellFormed}
-use Rattle.ec_plain.specs.Bounds.{is_bounded}
+use Rattle.ec_plain.specs.BoundedCalls.{is_bounded}
 use Rattle.ec_plain.specs.Plain.{plain}
 use Rattle.ec_cache.specs.Cache.{holds}
 use Rattle.ec_log.specs.Log as log

@@ -1,6 +1,6 @@
 -- The N-th call from an arm stops, and no other.
 use Rattle.std.proofs.Common.{◌≡◌, subst, ap, ◌∙◌, arith, ◌≤◌, ◌<◌, ◌+◌, ◌-◌, ℕ, zero, suc, Option, Some, None}
-use Rattle.ec_disk.specs.Disk.{CountsDown, IsDue}
+use Rattle.ec_disk.specs.Effects.{CountsDown, IsDue}
 use Rattle.ec_arm.specs.Calls.{AreDone, Stops}
 
 -- what is left behind so many calls

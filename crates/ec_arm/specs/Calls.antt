@@ -1,6 +1,6 @@
 -- Reads, writes and syncs between an arm and its stop, by the clauses of `Disk`.
 use Rattle.std.specs.Prelude.{◌≡◌, ℕ, zero, suc, Option}
-use Rattle.ec_disk.specs.Disk.{CountsDown}
+use Rattle.ec_disk.specs.Effects.{CountsDown}
 
 -- so many reads, writes and syncs, each of which was done
 abbrev pub AreDone : ℕ → Option ℕ → Option ℕ → Type 0

@@ -1,16 +1,17 @@
 -- How a link ended.
 use Rattle.std.proofs.Common.{◌≡◌, ◌≤◌, ◌+◌, ℕ, Bool, true, false, Option, List, sym, ap, ◌∙◌, subst, inl, inr, Result, Ok, Err, arith}
 use Rattle.ec_link.specs.Links.{Heard}
-use Rattle.ec_link.specs.Nets.{is_bad}
+use Rattle.ec_link.specs.NetAnswers.{is_bad}
 use Rattle.ec_servernode.specs.declared.fault.ServeFault.{ServeFault}
 use Rattle.ec_servernode.specs.declared.fault.ServeFault.TheVariants as fault
 use Rattle.ec_lock.specs.declared.types.Pass.{Pass}
-use Rattle.ec_lock.specs.Passes.{front}
+use Rattle.ec_lock.specs.PassViews.{front}
 use Rattle.ec_servernode.specs.declared.state.Node.{Node}
 use Rattle.ec_servernode.specs.declared.step.Step.{Step}
 use Rattle.ec_bells.specs.declared.telling.Gone.{Gone}
 use Rattle.ec_bells.specs.declared.telling.Gone.TheVariants as gone
-use Rattle.ec_attend.specs.Links.{Refuses, WasReplaced, IsOverBy, is_over, EndsSo}
+use Rattle.ec_attend.specs.Links.{Refuses, WasReplaced}
+use Rattle.ec_attend.specs.OverLinks.{IsOverBy, is_over, EndsSo}
 
 bad_by : (faults closes : ℕ) → 1 ≤ faults + closes → is_bad faults closes ≡ 1
 bad_by faults closes le = grind (arith, le)

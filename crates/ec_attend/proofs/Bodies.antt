@@ -3,8 +3,8 @@ use Rattle.std.proofs.Common.{◌≡◌, ℕ, Bool, true, List, [], ◌∷◌, �
 use Rattle.ec_wire.specs.Codes.{msg_code}
 use Rattle.ec_wire.specs.declared.msg.Msg.{Msg}
 use Rattle.ec_link.specs.Links.{Heard, added, body, long}
-use Rattle.ec_link.specs.Nets.{IsEmpty}
-use Rattle.ec_lock.specs.Passes.{front, Same}
+use Rattle.ec_link.specs.NetAnswers.{IsEmpty}
+use Rattle.ec_lock.specs.PassViews.{front, Same}
 use Rattle.ec_lock.specs.Steps.{of}
 use Rattle.ec_lock.specs.declared.types.Pass.{Pass}
 use Rattle.ec_servernode.specs.declared.fault.ServeFault.{ServeFault}
@@ -22,9 +22,11 @@ use Rattle.ec_lock.specs.declared.types.TracedLock.{TracedLock}
 use Rattle.ec_servernode.specs.declared.passes.ServerPass.{ServerPass}
 use Rattle.ec_servernode.specs.Callers.{nobody}
 use Rattle.ec_servernode.specs.Run.{number_of, caller_from, caller_by}
-use Rattle.ec_servernode.specs.Turns.{Adds, IsTaking, IsGiving, IsReplaced, Serves, ServeFails, IsServerPass}
+use Rattle.ec_servernode.specs.Turns.{IsReplaced}
+use Rattle.ec_servernode.specs.TurnSteps.{Adds, IsTaking, IsGiving, Serves, ServeFails, IsServerPass}
 use Rattle.ec_servernode.proofs.Lists.{of-append, of_own, each-append}
-use Rattle.ec_attend.specs.Links.{is_over, WasReplaced, IsNoEnd, HasNoEnd, IsSoFar, IsRest, Carries, CarriesSo, own_steps, IsServed, WasServed}
+use Rattle.ec_attend.specs.Links.{WasReplaced, IsNoEnd, HasNoEnd, IsRest, Carries}
+use Rattle.ec_attend.specs.OverLinks.{is_over, IsSoFar, CarriesSo, own_steps, IsServed, WasServed}
 use Rattle.ec_base.specs.Lists.{Tells}
 
 tells_added : {A : Type 0} (o p : Option (List A)) (xs ys : List A) → p ≡ added o ys → Tells o xs → Tells p (xs ++ ys)

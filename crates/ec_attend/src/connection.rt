@@ -1,8 +1,9 @@
 // One link of a server, which is served in a thread of its own.
 ghost use Rattle.std.specs.Prelude.{◌≡◌, ◌≤◌, IfSome, IfNone};
-ghost use Rattle.ec_lock.specs.Passes.{Same, front};
-ghost use Rattle.ec_servernode.specs.Turns.{IsServerPass};
-ghost use Rattle.ec_attend.specs.Links.{IsOverBy, is_over, EndsSo, WasReplaced, IsServed, WasServed, BeginsSo, GoneSo};
+ghost use Rattle.ec_lock.specs.PassViews.{Same, front};
+ghost use Rattle.ec_servernode.specs.TurnSteps.{IsServerPass};
+ghost use Rattle.ec_attend.specs.Links.{WasReplaced};
+ghost use Rattle.ec_attend.specs.OverLinks.{IsOverBy, is_over, EndsSo, IsServed, WasServed, BeginsSo, GoneSo};
 
 use ec_base::NoMemory;
 use ec_bells::{Bells, Gone, tell_end, tell_greeting};

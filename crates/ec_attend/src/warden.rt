@@ -1,7 +1,7 @@
 // Who ends the sessions of clerks that have no link.
 ghost use Rattle.std.specs.Prelude.{◌≡◌, IfSome};
-ghost use Rattle.ec_lock.specs.Passes.{Same};
-ghost use Rattle.ec_servernode.specs.Turns.{IsServerPass};
+ghost use Rattle.ec_lock.specs.PassViews.{Same};
+ghost use Rattle.ec_servernode.specs.TurnSteps.{IsServerPass};
 
 use ec_base::{CLERK_COUNT, ClerkId};
 use ec_bells::{Bells, Watch, tell_session_end};

@@ -5,7 +5,8 @@ use Rattle.ec_base.specs.declared.outside.Took.{Took}
 use Rattle.ec_base.specs.declared.outside.Took.TheVariants as took
 use Rattle.ec_base.specs.declared.outside.Gave.{Gave}
 use Rattle.ec_base.specs.declared.outside.Gave.TheVariants as gave
-use Rattle.ec_base.specs.Outside.{one_more, count_after_take, count_after_give}
+use Rattle.ec_base.specs.Outside.{one_more}
+use Rattle.ec_base.specs.OutsideCalls.{count_after_take, count_after_give}
 
 -- the bytes left in a source or held by a sink, the numbers of the calls that fail, and the calls and faults so far
 pub record Buffer : Type 0 where

@@ -1,5 +1,5 @@
 -- Which bytes are a name, and which lists of names are a path.
-use Rattle.std.specs.Prelude.{◌≡◌, ◌≤◌, ◌+◌, ◌||◌, ◌&&◌, All, ℕ, Bool, false, List, [], ◌∷◌, Option, Some, None, length, eqb, ltb, if◌then◌else◌}
+use Rattle.std.specs.Prelude.{◌≡◌, ◌+◌, ◌||◌, ◌&&◌, ℕ, Bool, false, List, [], ◌∷◌, Option, Some, None, length, eqb, ltb, if◌then◌else◌}
 use Rattle.std.specs.List.{position, slice_split}
 use Rattle.std.specs.Str.{is_utf8}
 use Rattle.ec_base.specs.Limits.{max_name_bytes, max_path_names}
@@ -35,9 +35,6 @@ name_fault bytes = if eqb (length bytes) 0 then Some fault.Empty else (if ltb ma
 
 abbrev pub IsName : List ℕ → Type 0
 IsName bytes = name_fault bytes ≡ None
-
-abbrev pub IsPath : List (List ℕ) → Type 0
-IsPath names = (length names ≤ max_path_names) × All IsName names
 
 -- the names that the bytes after the first one hold: no name where there is none, and else the parts between the slashes
 abbrev pub path_names : List ℕ → List (List ℕ)

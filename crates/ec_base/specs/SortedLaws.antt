@@ -11,7 +11,8 @@ use Rattle.std.specs.FinMap.Entries.{find, put, is_sorted, below_all, is_sorted-
 use Rattle.std.proofs.lemmas.List.Sorted.{searchable_from_sorted}
 use Rattle.std.proofs.lemmas.Cmp.{alike_right, tied_back, tied_itself}
 use Rattle.std.proofs.lemmas.Option.{get_or_from_slice_get, slice_get_within}
-use Rattle.ec_base.specs.Sorted.{without, Stands, Goes}
+use Rattle.ec_base.specs.Sorted.{without}
+use Rattle.ec_base.specs.SortedPlaces.{Stands, Goes}
 
 pub first : (a b : Bool) → T (a && b) → T a
 first true b p = tt

@@ -3,7 +3,8 @@ ghost use Rattle.std.specs.Prelude.{◌≡◌, ◌==◌, ◌≤◌, ◌<◌, ◌
 ghost use Rattle.std.specs.Cmp.{on_per, and_per, on_equiv, and_equiv};
 ghost use Rattle.std.specs.Cmp.Lexicographic.{pointwise, lists_per, lists_equiv};
 ghost use Rattle.std.specs.FinMap.Entries.{find, put, is_sorted};
-ghost use Rattle.ec_base.specs.Sorted.{Stands, Goes, without};
+ghost use Rattle.ec_base.specs.Sorted.{without};
+ghost use Rattle.ec_base.specs.SortedPlaces.{Stands, Goes};
 
 use crate::list::{Duplicate, NoMemory, duplicate_all};
 use std::alloc::Global;

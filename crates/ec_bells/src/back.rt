@@ -1,6 +1,6 @@
 // Links whose use has ended.
 ghost use Rattle.std.specs.Prelude.{◌≡◌, ◌+◌, [], ◌∷◌, ◌++◌, true};
-ghost use Rattle.ec_link.specs.Nets.{is_bad};
+ghost use Rattle.ec_link.specs.NetAnswers.{is_bad};
 
 use ec_link::Net;
 

@@ -10,7 +10,8 @@ use Rattle.ec_base.specs.Tables.{Table, at, without, renewed}
 use Rattle.ec_base.specs.SortedLaws.{first, second, both}
 use Rattle.ec_volume.specs.Image.{is_gone, is_id, new_object}
 use Rattle.ec_volume.specs.Held.{is_held}
-use Rattle.ec_volume.specs.Update.{operands, fits, effect, first_unfit, wants_room, is_sound, member, distinct, listed}
+use Rattle.ec_volume.specs.Update.{operands, fits, effect, first_unfit, is_sound, member, distinct, listed}
+use Rattle.ec_volume.specs.RoomWanted.{wants_room}
 use Rattle.ec_volume.specs.declared.image.Kind.{Kind}
 use Rattle.ec_volume.specs.declared.image.Kind.TheVariants as kind
 use Rattle.ec_volume.specs.declared.image.Image.{Image}

@@ -9,7 +9,8 @@ use Rattle.ec_base.specs.SortedLaws.{first, second, both}
 use Rattle.ec_base.specs.declared.ids.Hold.{Hold}
 use Rattle.ec_volume.specs.Update.{member}
 use Rattle.ec_cache.specs.declared.state.Held.{Held}
-use Rattle.ec_cache.specs.Cache.{numbers, numberless}
+use Rattle.ec_cache.specs.Cache.{numberless}
+use Rattle.ec_cache.specs.Numbers.{numbers}
 use Rattle.ec_cache.specs.Marks.{with_mark, marks, joined, emptied}
 use Rattle.ec_cache.specs.Held.{IsCache, unpinned, apart_from, hold_of, holds_by, unnumbered, unnumbered_at}
 use Rattle.ec_cache.proofs.Marks.{tied, below-marks, marks-at}

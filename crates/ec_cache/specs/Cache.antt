@@ -98,10 +98,6 @@ limit x to k = record k { limits = put x (weaker to (at_or Write x k.limits)) k.
 abbrev pub evicted : List ℕ → CacheState → Table Held
 evicted pinned k = front (length k.held - k.capacity) (filter (λ e. not (member e.0 pinned)) k.held)
 
--- the numbers of tokens
-abbrev pub numbers : Table Held → Table ℕ
-numbers es = map (λ e. (e.0, (e.1).number)) es
-
 abbrev pub evict : List ℕ → CacheState → CacheState
 evict pinned k =
     let gone = keys (evicted pinned k) in

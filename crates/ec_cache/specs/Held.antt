@@ -6,7 +6,8 @@ use Rattle.std.specs.FinMap.{is_sorted}
 use Rattle.ec_base.specs.Tables.{Table, at, renewed}
 use Rattle.ec_base.specs.declared.ids.Hold.{Hold}
 use Rattle.ec_volume.specs.Image.{is_gone}
-use Rattle.ec_volume.specs.Update.{member, effect, wants_room}
+use Rattle.ec_volume.specs.Update.{member, effect}
+use Rattle.ec_volume.specs.RoomWanted.{wants_room}
 use Rattle.ec_volume.specs.Held.{is_held}
 use Rattle.ec_volume.specs.declared.image.Image.{Image}
 use Rattle.ec_volume.specs.declared.update.Update.{Update}

@@ -3,6 +3,7 @@ ghost use Rattle.std.specs.Prelude.{◌≡◌, ◌≤◌, T, true, None, is_some
 ghost use Rattle.ec_base.specs.Tables.{at, keys, put, renewed};
 ghost use Rattle.ec_volume.specs.Update.{is_sound, operands, first_unfit};
 ghost use Rattle.ec_cache.specs.Cache as cache;
+ghost use Rattle.ec_cache.specs.Numbers as numbers;
 ghost use Rattle.ec_cache.specs.Held.{apart_from, image_of, is_within};
 
 use crate::state::Held;
@@ -221,7 +222,7 @@ impl Cache {
     /// Gives tokens up until at most `capacity` stay, the least recently used ones first, but none
     /// of the pinned objects. It shows the objects with their numbers, in that order.
     pub fn evict(&mut self, pinned: &[ObjId]) -> Result<Vec<(ObjId, u64)>, NoMemory>
-        ensures gone { IfOk result (λ gone. gone.items ≡ cache.numbers (cache.evicted pinned.now self.old)) }
+        ensures gone { IfOk result (λ gone. gone.items ≡ numbers.numbers (cache.evicted pinned.now self.old)) }
         ensures ok { OnOk result (self.new ≡ cache.evict pinned.now self.old) }
         ensures err { OnErr result (self.new ≡ self.old) }
     {

@@ -3,8 +3,10 @@ ghost use Rattle.std.specs.Prelude.{◌≡◌, ◌==◌, [], ◌∷◌, ◌++◌
 ghost use Rattle.std.specs.List.{IsDistinct, list_all};
 ghost use Rattle.std.specs.Map.{keys_of, remove_entry};
 ghost use Rattle.ec_base.specs.Tables.{at, keys, renewed, without};
-ghost use Rattle.ec_volume.specs.Update.{member, is_sound, operands, wants_room};
+ghost use Rattle.ec_volume.specs.Update.{member, is_sound, operands};
+ghost use Rattle.ec_volume.specs.RoomWanted.{wants_room};
 ghost use Rattle.ec_cache.specs.Cache as cache;
+ghost use Rattle.ec_cache.specs.Numbers as numbers;
 ghost use Rattle.ec_base.specs.Holds.{weaker};
 ghost use Rattle.ec_cache.specs.Held.{used_in, is_token, unpinned, holds_by, unnumbered, unnumbered_at, imaged, changed_at, changed_in, are_spare, is_shift};
 
@@ -116,7 +118,7 @@ pub(crate) fn least_used(
     most: usize,
 ) -> Result<Vec<(ObjId, u64)>, NoMemory>
     requires { T (list_all is_token (reverse tokens.now.entries)) }
-    ensures { IfOk result (λ list. list.items ≡ take most (cache.numbers (unpinned pinned.now (reverse tokens.now.entries)))) }
+    ensures { IfOk result (λ list. list.items ≡ take most (numbers.numbers (unpinned pinned.now (reverse tokens.now.entries)))) }
 {
     let mut list = Vec::new(alloc);
     let mut rest = tokens.iter();
@@ -137,7 +139,7 @@ fn note_unpinned(
     pinned: &[ObjId],
 ) -> Result<(), NoMemory>
     requires { 1 ≤ id }
-    ensures { OnOk result (list.new.items ≡ list.old.items ++ cache.numbers (unpinned pinned.now ((id, held.now) ∷ []))) }
+    ensures { OnOk result (list.new.items ≡ list.old.items ++ numbers.numbers (unpinned pinned.now ((id, held.now) ∷ []))) }
 {
     let Some(obj) = ObjId::new(id) else {
         return Ok(());

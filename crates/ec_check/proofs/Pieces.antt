@@ -5,7 +5,8 @@ use Rattle.std.proofs.lemmas.Bool.Decides.{nat_tests}
 use Rattle.ec_history.specs.declared.shown.Shown.{Shown}
 use Rattle.ec_script.specs.Lines.{lines_of}
 use Rattle.std.specs.Prelude.{true, eqb, Result, Ok, Err, IsOk, IfOk, OnOk, IfErr, IsErrAnd}
-use Rattle.ec_transcript.specs.Lines.{AreShown, IsRead, IsReadTo, IsBadLine, HasBadLine, line_of, shifted}
+use Rattle.ec_transcript.specs.Lines.{AreShown, IsBadLine}
+use Rattle.ec_transcript.specs.LinesRead.{IsRead, IsReadTo, HasBadLine, line_of, shifted}
 use Rattle.ec_transcript.specs.declared.lines.ReadFault.{ReadFault}
 use Rattle.ec_transcript.specs.declared.lines.ReadFault.TheVariants as fault
 use Rattle.ec_transcript.proofs.Halves.{shown-append, bounded-append, bad-few, if-err}

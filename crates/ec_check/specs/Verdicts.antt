@@ -6,8 +6,6 @@ use Rattle.ec_history.specs.declared.rule.Rule.{Rule}
 use Rattle.ec_history.specs.declared.shown.Shown.{Shown}
 use Rattle.ec_judge.specs.Faults.{IsFirstEntry}
 use Rattle.ec_lines.specs.Faults.{IsFirstLine}
-use Rattle.ec_script.specs.Lines.{lines_of}
-use Rattle.ec_transcript.specs.Lines.{AreShown}
 use Rattle.ec_check.specs.declared.checking.Checked.{Checked}
 use Rattle.ec_check.specs.declared.checking.Checked.TheVariants as checked
 
@@ -23,9 +21,3 @@ IsFirstFault most ss p r = IsFirstLine ss p r ⊎ (ArePlaceable [] ss × IsFirst
 abbrev pub IsVerdict : ℕ → List Shown → Checked → Type 0
 IsVerdict most ss checked.Legal = IsLegalTranscript most ss
 IsVerdict most ss (checked.Illegal p r) = ¬ (IsLegalTranscript most ss) × IsFirstFault most ss p r
-
--- The lines of the bytes are read so, and this is what they are.
-pub record IsJudged (most : ℕ) (bytes : List ℕ) (checked : Checked) : Type 0 where
-  pub shown : List Shown
-  pub lines : AreShown (lines_of bytes) shown
-  pub verdict : IsVerdict most shown checked

@@ -5,8 +5,9 @@ ghost use Rattle.std.specs.Thread.{IsSync};
 ghost use Rattle.ec_legal.specs.Bounded.{is_bounded_line};
 ghost use Rattle.ec_legal.specs.Tried.{IsTried, Stops};
 ghost use Rattle.ec_transcript.specs.Limits.{max_transcript_bytes};
-ghost use Rattle.ec_transcript.specs.Lines.{IsRead, IsReadTo, HasBadLine, line_of, shifted};
-ghost use Rattle.ec_check.specs.Verdicts.{IsVerdict, IsJudged};
+ghost use Rattle.ec_transcript.specs.LinesRead.{IsRead, IsReadTo, HasBadLine, line_of, shifted};
+ghost use Rattle.ec_check.specs.Verdicts.{IsVerdict};
+ghost use Rattle.ec_check.specs.Judged.{IsJudged};
 ghost use Rattle.ec_transcript.specs.declared.lines.ReadFault.TheVariants as unread;
 
 use crate::checking::Checked;

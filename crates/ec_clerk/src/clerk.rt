@@ -6,6 +6,7 @@ ghost use Rattle.ec_wire.specs.Messages.{is_sound};
 ghost use Rattle.ec_plain.specs.declared.call.Call.{Call as Asking};
 ghost use Rattle.ec_protocol.specs.declared.clerk.ClerkFault.TheVariants as fault;
 ghost use Rattle.ec_protocol.specs.Clerk as clerk;
+ghost use Rattle.ec_protocol.specs.Flushes as flushes;
 ghost use Rattle.ec_doing.specs.Seen.{clerk_of, doing_of, Ends};
 
 use ec_base::{Age, ClerkId, Counter, LAST_COUNTER, NoMemory, OpNo, next};
@@ -195,7 +196,7 @@ impl Clerk {
 
     /// One pick, which isn't asked again. `Spent(Batch)` where no number of a batch is left.
     pub fn flush(&mut self, asked: Asked) -> Result<(Flushed, Vec<Out>), ClerkFault>
-        ensures answer { IfOk result (λ made. made.0 ≡ clerk.flush_answer asked self.old) }
+        ensures answer { IfOk result (λ made. made.0 ≡ flushes.flush_answer asked self.old) }
         ensures ok { IfOk result (λ made. Ends (clerk.flush asked self.old) self.new made.1.items) }
         ensures spent { (c : Kind) → result ≡ Err (fault.Spent c) → (clerk.flush asked self.old).spent ≡ Some c }
         ensures kept { (c : Kind) → result ≡ Err (fault.Spent c) → self.new ≡ self.old }
@@ -272,7 +273,7 @@ fn new_doing(alloc: Global, id: ClerkId, boot: u64) -> Result<Doing, NoMemory>
 }
 
 fn flushed_by(pick: &Pick) -> Flushed
-    ensures { result ≡ clerk.flushed_by pick.now }
+    ensures { result ≡ flushes.flushed_by pick.now }
 {
     match pick {
         Pick::Batch(batch, _) => Flushed::Sent(*batch),

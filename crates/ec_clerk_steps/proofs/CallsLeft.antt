@@ -12,7 +12,7 @@ use Rattle.ec_history.specs.Placing.{Agrees, EachLine, Unanswered, before_line, 
 use Rattle.ec_history.specs.declared.shown.Shown.{Shown}
 use Rattle.ec_history.specs.declared.shown.Shown.TheVariants as show
 use Rattle.ec_laws.proofs.Numbers.{each-map}
-use Rattle.ec_log.specs.Log.{is_from}
+use Rattle.ec_log.specs.LogOrder.{is_from}
 use Rattle.ec_wire.specs.declared.msg.Msg.{Msg}
 use Rattle.ec_protocol.specs.declared.clerk.Clerk.{Clerk}
 use Rattle.ec_protocol.specs.declared.clerk.Waiting.{Waiting}

@@ -6,7 +6,7 @@ use Rattle.ec_volume.specs.Update.{distinct, is_make, is_sound, member, operands
 use Rattle.ec_volume.specs.declared.update.Update.{Update}
 use Rattle.ec_plain.specs.declared.call.Outcome.{Outcome}
 use Rattle.ec_cache.specs.Cache as cache
-use Rattle.ec_log.specs.Log.{is_from}
+use Rattle.ec_log.specs.LogOrder.{is_from}
 use Rattle.ec_resolve.specs.declared.verdict.Verdict.{Verdict}
 use Rattle.ec_resolve.specs.declared.verdict.Verdict.TheVariants.{Need, Lost, NeedIds, Done}
 use Rattle.ec_protocol.specs.Clerk.{less_id, suits}

@@ -22,7 +22,8 @@ use Rattle.ec_history.specs.declared.entry.Answer.{Answer}
 use Rattle.ec_history.specs.declared.entry.Answer.TheVariants as answer
 use Rattle.ec_history.specs.declared.entry.Entry.{Entry}
 use Rattle.ec_history.specs.declared.entry.Entry.TheVariants as entry
-use Rattle.ec_log.specs.Log.{first, is_from}
+use Rattle.ec_log.specs.Log.{first}
+use Rattle.ec_log.specs.LogOrder.{is_from}
 use Rattle.ec_log.specs.declared.state.Asked.{Asked}
 use Rattle.ec_log.specs.declared.state.Asked.TheVariants.{All, Object}
 use Rattle.ec_machine_laws.specs.Covers.{AreIssuedBy, IsFirstAfter}

@@ -5,7 +5,7 @@ use Rattle.ec_plain.specs.declared.call.Call.{Call}
 use Rattle.ec_history.specs.History.{Each}
 use Rattle.ec_history.specs.Placing.{watch}
 use Rattle.ec_laws.proofs.Numbers.{each-map}
-use Rattle.ec_log.specs.Log.{is_from}
+use Rattle.ec_log.specs.LogOrder.{is_from}
 use Rattle.ec_protocol.specs.Clerk.{Doing, doing}
 use Rattle.ec_protocol.specs.declared.clerk.Clerk.{Clerk}
 use Rattle.ec_coherence.specs.System.{System, Ghost, with_start}

@@ -11,7 +11,8 @@ use Rattle.ec_volume.specs.Update.{member}
 use Rattle.ec_cache.specs.Cache as cache
 use Rattle.ec_cache.specs.Cache.{last}
 use Rattle.ec_cache.specs.declared.state.Held.{Held}
-use Rattle.ec_log.specs.Log.{is_from, kept, ops_in}
+use Rattle.ec_log.specs.Log.{kept, ops_in}
+use Rattle.ec_log.specs.LogOrder.{is_from}
 use Rattle.ec_log.specs.declared.state.Asked.TheVariants.{Object}
 use Rattle.ec_log.proofs.Logs.{from_part}
 use Rattle.ec_sessions.specs.Limits.{last_grants}

@@ -13,7 +13,7 @@ use Rattle.ec_history.specs.Legal.{IsLegal}
 use Rattle.ec_history.specs.declared.entry.Entry.{Entry}
 use Rattle.ec_history.specs.declared.entry.Entry.TheVariants as entry
 use Rattle.ec_laws.proofs.Least.{needed-by_number, needed-from_numbers}
-use Rattle.ec_log.specs.Log.{is_from}
+use Rattle.ec_log.specs.LogOrder.{is_from}
 use Rattle.ec_log.specs.declared.state.LogState.{LogState}
 use Rattle.ec_machine_laws.specs.Picks.{IsRest}
 use Rattle.ec_machine_laws.proofs.Holding.{holds-kept}

@@ -8,7 +8,7 @@ use Rattle.ec_volume.specs.declared.image.Image.TheVariants.{Gone}
 use Rattle.ec_volume.specs.declared.update.Update.TheVariants as update
 use Rattle.ec_plain.specs.Walk.{Path, Walk, At, Not, walk, parent_of}
 use Rattle.ec_plain.specs.Plain.{plain, refuses, answers, on_reached, write_in, len_in, read_in, list_in, stat_of, issues, is_sync, once_more, plain_forder}
-use Rattle.ec_plain.specs.Bounds.{is_bounded}
+use Rattle.ec_plain.specs.BoundedCalls.{is_bounded}
 use Rattle.ec_plain.specs.declared.call.Call.{Call}
 use Rattle.ec_plain.specs.declared.call.Call.TheVariants as call
 use Rattle.ec_plain.specs.declared.call.Reply.TheVariants as reply

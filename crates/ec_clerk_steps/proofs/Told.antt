@@ -13,7 +13,7 @@ use Rattle.ec_history.specs.declared.shown.Shown.TheVariants as show
 use Rattle.ec_laws.proofs.Late.{place-no_call}
 use Rattle.ec_laws.proofs.More.{watch-step}
 use Rattle.ec_laws.proofs.Numbers.{each-map}
-use Rattle.ec_log.specs.Log.{is_from}
+use Rattle.ec_log.specs.LogOrder.{is_from}
 use Rattle.ec_wire.specs.declared.msg.Msg.{Msg}
 use Rattle.ec_protocol.specs.Clerk.{is_ready}
 use Rattle.ec_protocol.specs.declared.clerk.Clerk.{Clerk}

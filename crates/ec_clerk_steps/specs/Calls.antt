@@ -1,13 +1,13 @@
 -- The calls under way: which lines stand for them, and what was issued before they began.
 use Rattle.std.specs.Prelude.{◌≡◌, ◌≤◌, ◌<◌, ◌==◌, ◌+◌, ℕ, T, Bool, true, false, not, ◌&&◌, List, [], ◌∷◌, Option, None, Some, ⊤}
 use Rattle.std.specs.List.{list_any}
-use Rattle.ec_plain.specs.Bounds.{is_bounded}
+use Rattle.ec_plain.specs.BoundedCalls.{is_bounded}
 use Rattle.ec_plain.specs.declared.call.Call.{Call}
 use Rattle.ec_history.specs.History.{History, Each, same_start, is_entry_of}
 use Rattle.ec_history.specs.Placing.{Agrees, EachLine, Unanswered, is_numbered, watch}
 use Rattle.ec_history.specs.declared.entry.Entry.{Entry}
 use Rattle.ec_history.specs.declared.entry.Entry.TheVariants as entry
-use Rattle.ec_log.specs.Log.{is_from}
+use Rattle.ec_log.specs.LogOrder.{is_from}
 use Rattle.ec_protocol.specs.declared.clerk.Clerk.{Clerk}
 use Rattle.ec_protocol.specs.declared.clerk.Waiting.{Waiting}
 use Rattle.ec_coherence.specs.System.{System}

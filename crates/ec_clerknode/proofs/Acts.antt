@@ -11,7 +11,8 @@ use Rattle.ec_clerknode.specs.declared.fault.NodeFault.{NodeFault}
 use Rattle.ec_clerknode.specs.declared.fault.NodeFault.TheVariants as fault
 use Rattle.ec_clerknode.specs.declared.step.Deed.{Deed}
 use Rattle.ec_clerknode.specs.declared.step.Deed.TheVariants.{Began, Picked, Parted, Resent, NotBegun, NotPicked}
-use Rattle.ec_clerknode.specs.Folded.{begun, picked, parted, resent, Comes}
+use Rattle.ec_clerknode.specs.Folded.{begun, picked, parted, resent}
+use Rattle.ec_clerknode.specs.FoldedAnswers.{Comes}
 use Rattle.ec_clerknode.specs.Run.{after, outs_of, IsDeed, mark_of_deed}
 use Rattle.ec_clerknode.specs.Parts.{is_linked}
 use Rattle.ec_clerknode.specs.Closed.{Acts, IsOwn}

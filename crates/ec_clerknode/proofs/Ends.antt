@@ -4,7 +4,8 @@ use Rattle.ec_base.specs.declared.ids.Age.{Age}
 use Rattle.ec_protocol.specs.declared.clerk.Out.{Out}
 use Rattle.ec_link.specs.declared.link.Sent.{Sent}
 use Rattle.ec_link.specs.declared.link.Sent.TheVariants as ended
-use Rattle.ec_link.specs.Links.{added, failed}
+use Rattle.ec_link.specs.Links.{added}
+use Rattle.ec_link.specs.LinkAnswers.{failed}
 use Rattle.ec_outs.specs.Outs.{encoded, sends}
 use Rattle.ec_clerknode.specs.Run.{IsSaid}
 use Rattle.ec_clerknode.specs.declared.fault.NodeFault.{NodeFault}

@@ -2,7 +2,7 @@
 use Rattle.std.proofs.Common.{◌≡◌, ℕ, zero, suc, ◌+◌, ◌<◌, ◌≤◌, List, [], ◌∷◌, ◌++◌, length, Some, Ok, Err, slice_get, sym, refl, ap, ◌∙◌, subst, ⊎_elim, arith, append_assoc, append-nil}
 use mathlib.Core.List.{IsPrefix}
 use Rattle.ec_plain.specs.declared.call.Call.{Call}
-use Rattle.ec_lock.specs.Passes.{front, IsPassOf}
+use Rattle.ec_lock.specs.PassViews.{front, IsPassOf}
 use Rattle.ec_lock.specs.Steps.{of}
 use Rattle.ec_lock.specs.declared.types.Pass.{Pass}
 use Rattle.ec_lock.specs.declared.types.TracedLock.{TracedLock}
@@ -14,8 +14,10 @@ use Rattle.ec_clerknode.specs.declared.step.Step.{Step}
 use Rattle.ec_clerknode.specs.Closed.{Caused}
 use Rattle.ec_clerknode.specs.Node.{AnsweredAt}
 use Rattle.ec_clerknode.specs.Run.{old_boot}
-use Rattle.ec_clerknode.specs.Turns.{number_of, calls_by, BeganAt, Failed, Called, Stays, Turned}
-use Rattle.ec_clerknode.specs.Lanes.{AreReplied, IsFront, LaneDone, LaneRan}
+use Rattle.ec_clerknode.specs.Turns.{number_of, calls_by, BeganAt}
+use Rattle.ec_clerknode.specs.PassTurns.{Failed, Called, Stays, Turned}
+use Rattle.ec_clerknode.specs.Lanes.{AreReplied, IsFront}
+use Rattle.ec_clerknode.specs.LaneRuns.{LaneDone, LaneRan}
 use Rattle.ec_clerknode.proofs.Lists.{prefix_self, prefix_get, prefix_trans, prefix_length, of-append}
 use Rattle.ec_clerknode.proofs.Turns.{caused-right}
 

@@ -9,7 +9,8 @@ use Rattle.ec_base.specs.declared.ids.Age.{Age}
 use Rattle.ec_base.specs.declared.counter.Counter.TheVariants as counter
 use Rattle.ec_history.specs.declared.entry.Answer.{Answer}
 use Rattle.ec_plain.specs.declared.call.Call.{Call}
-use Rattle.ec_lock.specs.Passes.{front, numbers, raised, answered, IsPassOf, Same}
+use Rattle.ec_lock.specs.Passes.{answered}
+use Rattle.ec_lock.specs.PassViews.{front, numbers, raised, IsPassOf, Same}
 use Rattle.ec_lock.specs.Steps.{Member, of}
 use Rattle.ec_lock.specs.declared.types.Pass.{Pass}
 use Rattle.ec_lock.specs.declared.types.TracedLock.{TracedLock}
@@ -20,10 +21,12 @@ use Rattle.ec_clerknode.specs.declared.state.Node.{Node}
 use Rattle.ec_clerknode.specs.declared.step.Step.{Step}
 use Rattle.ec_clerknode.specs.Closed.{Caused}
 use Rattle.ec_clerknode.specs.Run.{calls, marks, mark_of_deed, mark_of_end, Among, old_boot, old_boots_in}
-use Rattle.ec_clerknode.specs.Turns.{number_of, calls_by, Turned}
+use Rattle.ec_clerknode.specs.Turns.{number_of, calls_by}
+use Rattle.ec_clerknode.specs.PassTurns.{Turned}
 use Rattle.ec_clerknode.specs.declared.jobs.AllReplied.{AllReplied}
 use Rattle.ec_clerknode.specs.declared.lane.Replied.{Replied}
-use Rattle.ec_clerknode.specs.Lanes.{AreReplied, IsFront, LaneDone, LaneRan, AreLanes, AreFronts, IfTold, IsMarked, LaneFault, LanesMade, LanesRan, LanesCame, LanesRanPlain, TellsOldBoot, Looked, all_items, lists_of}
+use Rattle.ec_clerknode.specs.Lanes.{AreReplied, IsFront, AreLanes, AreFronts}
+use Rattle.ec_clerknode.specs.LaneRuns.{LaneDone, LaneRan, IfTold, IsMarked, LaneFault, LanesMade, LanesRan, LanesCame, LanesRanPlain, TellsOldBoot, Looked, all_items, lists_of}
 use Rattle.ec_clerknode.specs.Jobs.{Drew, IsNewPass, OneDone, IsBack, AreBack, Puts, first_end}
 use Rattle.ec_outs.proofs.Each.{each-append}
 use Rattle.ec_clerknode.proofs.Lists.{prefix_self, prefix_trans, prefix_length, of-append, member_left, member_right, member_append, distinct_append}

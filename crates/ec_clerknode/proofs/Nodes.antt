@@ -9,9 +9,11 @@ use Rattle.ec_protocol.specs.declared.clerk.Out.{Out}
 use Rattle.ec_link.specs.declared.link.Sent.TheVariants as sent
 use Rattle.ec_link.specs.declared.link.Got.{Got}
 use Rattle.ec_link.specs.declared.link.Got.TheVariants as gave
-use Rattle.ec_link.specs.Links.{Heard, heard, added, failed}
-use Rattle.ec_link.specs.Nets.{IsEmpty}
-use Rattle.ec_outs.specs.Outs.{Reply, told, sends, encoded, old_boots, answers, kept_at, first_known}
+use Rattle.ec_link.specs.Links.{Heard, added}
+use Rattle.ec_link.specs.LinkAnswers.{heard, failed}
+use Rattle.ec_link.specs.NetAnswers.{IsEmpty}
+use Rattle.ec_outs.specs.Outs.{Reply, told, sends, encoded, old_boots, answers}
+use Rattle.ec_outs.specs.KeptAnswers.{kept_at, first_known}
 use Rattle.ec_clerknode.specs.declared.act.Act.{Act}
 use Rattle.ec_clerknode.specs.declared.fault.NodeFault.{NodeFault}
 use Rattle.ec_clerknode.specs.declared.step.Deed.{Deed}
@@ -20,10 +22,14 @@ use Rattle.ec_clerknode.specs.declared.step.Step.{Step}
 use Rattle.ec_outs.specs.declared.kept.Kept.{Kept}
 use Rattle.ec_clerknode.specs.declared.state.Node.{Node}
 use Rattle.ec_clerknode.specs.declared.waiting.Waiting.{Waiting}
-use Rattle.ec_clerknode.specs.Folded.{floor_of, linked, Comes}
-use Rattle.ec_clerknode.specs.Run.{highest, after, outs_of, IsDeed, IsStep, leads, IsRun, heard_of, IsSaid, AreSaid, Wanted, Came, said_in, told_in, told_by, net_of, old_boots_in, old_boot, Among}
-use Rattle.ec_clerknode.specs.Parts.{is_linked, Over, CameOver, Counted, IsLinker, LinksBy}
-use Rattle.ec_clerknode.specs.Node.{AnsweredAt, AnsweredFrom, Since, Keeps}
+use Rattle.ec_clerknode.specs.Folded.{floor_of, linked}
+use Rattle.ec_clerknode.specs.FoldedAnswers.{Comes}
+use Rattle.ec_clerknode.specs.Run.{after, outs_of, IsDeed, IsStep, IsRun, heard_of, IsSaid, AreSaid, said_in, told_in, told_by, old_boots_in, old_boot, Among}
+use Rattle.ec_clerknode.specs.RunEnds.{highest, leads, Wanted, Came, net_of}
+use Rattle.ec_clerknode.specs.Parts.{is_linked}
+use Rattle.ec_clerknode.specs.PresentLink.{Over, CameOver, Counted, IsLinker, LinksBy}
+use Rattle.ec_clerknode.specs.Node.{AnsweredAt}
+use Rattle.ec_clerknode.specs.NodeSteps.{AnsweredFrom, Since, Keeps}
 use Rattle.ec_clerknode.specs.Closed.{Acts, IsOwn, Closed, Moved, Fell, Begun, Works, Waited}
 use Rattle.ec_clerknode.proofs.Lists.{get_longer, get_last}
 use Rattle.ec_clerknode.proofs.Parts.{over_push, over_new, came_over, came_push, counted_push, counted_new, links_push, no_links}

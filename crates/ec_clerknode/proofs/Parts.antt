@@ -3,13 +3,16 @@ use Rattle.std.proofs.Common.{◌≡◌, ℕ, ◌+◌, ◌≤◌, Bool, true, fa
 use Rattle.std.specs.Prelude.{if◌then◌else◌, ◌||◌}
 use mathlib.Core.List.{IsPrefix}
 use Rattle.ec_lock.specs.Steps.{is_number, of}
-use Rattle.ec_link.specs.Links.{Heard, added, failed}
-use Rattle.ec_link.specs.Nets.{IsEmpty}
+use Rattle.ec_link.specs.Links.{Heard, added}
+use Rattle.ec_link.specs.LinkAnswers.{failed}
+use Rattle.ec_link.specs.NetAnswers.{IsEmpty}
 use Rattle.ec_outs.proofs.Each.{each-push}
 use Rattle.ec_outs.proofs.Told.{added-added}
 use Rattle.ec_clerknode.specs.declared.step.Step.{Step}
-use Rattle.ec_clerknode.specs.Run.{heard_of, heard_by, net_of, nets, Came}
-use Rattle.ec_clerknode.specs.Parts.{is_linked, has_link, part, parts, onto, IsBase, Over, CameOver, Counted, count_before, IsLinker, LinksBy}
+use Rattle.ec_clerknode.specs.Run.{heard_of, heard_by}
+use Rattle.ec_clerknode.specs.RunEnds.{net_of, nets, Came}
+use Rattle.ec_clerknode.specs.Parts.{is_linked, parts, onto}
+use Rattle.ec_clerknode.specs.PresentLink.{has_link, part, IsBase, Over, CameOver, Counted, count_before, IsLinker, LinksBy}
 use Rattle.ec_clerknode.specs.Turns.{number_of}
 use Rattle.ec_clerknode.proofs.Lists.{of-append}
 use Rattle.ec_link.specs.Happenings.{each}

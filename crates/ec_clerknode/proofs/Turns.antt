@@ -11,7 +11,7 @@ use Rattle.ec_plain.specs.declared.call.Call.{Call}
 use Rattle.ec_protocol.specs.declared.clerk.Flushed.{Flushed}
 use Rattle.ec_link.specs.Links.{Heard}
 use Rattle.ec_link.specs.declared.link.Sent.TheVariants as sent
-use Rattle.ec_lock.specs.Passes.{first, front, numbers, raised, IsPassOf, Same, Marked}
+use Rattle.ec_lock.specs.PassViews.{first, front, numbers, raised, IsPassOf, Same, Marked}
 use Rattle.ec_lock.specs.Steps.{Member, of}
 use Rattle.ec_lock.specs.declared.types.Pass.{Pass}
 use Rattle.ec_lock.specs.declared.types.TracedLock.{TracedLock}
@@ -23,12 +23,15 @@ use Rattle.ec_clerknode.specs.declared.step.Deed.TheVariants.{Parted, Resent}
 use Rattle.ec_clerknode.specs.declared.step.Step.{Step}
 use Rattle.ec_clerknode.specs.declared.state.Node.{Node}
 use Rattle.ec_clerknode.specs.Floors.{highest_grows}
-use Rattle.ec_clerknode.specs.Folded.{answer_to}
-use Rattle.ec_clerknode.specs.Parts.{has_link, Over, CameOver, Counted, LinksBy}
-use Rattle.ec_clerknode.specs.Run.{told_by, heard_of, heard_by, said_in, says_bye, AreSaid, Wanted, Came, call_of, calls, marks, mark_of_deed, mark_of_end, Among, IsRun, leads, highest, old_boot}
-use Rattle.ec_clerknode.specs.Node.{Since, By, AnsweredAt, AnsweredFrom}
+use Rattle.ec_clerknode.specs.FoldedAnswers.{answer_to}
+use Rattle.ec_clerknode.specs.PresentLink.{has_link, Over, CameOver, Counted, LinksBy}
+use Rattle.ec_clerknode.specs.Run.{told_by, heard_of, heard_by, said_in, says_bye, AreSaid, call_of, calls, marks, mark_of_deed, mark_of_end, Among, IsRun, old_boot}
+use Rattle.ec_clerknode.specs.RunEnds.{Wanted, Came, leads, highest}
+use Rattle.ec_clerknode.specs.Node.{AnsweredAt}
+use Rattle.ec_clerknode.specs.NodeSteps.{Since, By, AnsweredFrom}
 use Rattle.ec_clerknode.specs.Closed.{More, Caused, Closed, GoesOn, EndsAs, Stops, Fails, Fell, Begun, Works, Flushes, PartsIf, PartsBehind, Resends, ReadsFlushes, Links, Started, Waited}
-use Rattle.ec_clerknode.specs.Turns.{number_of, calls_by, Replied, Failed, Called, Worked, Partings, SaidBye, Stays, Turned, Pending, Starts, Waits, PickedLast, Asks, FlushTurned, Finished, FinishedAlone, HandsBack, Relinked}
+use Rattle.ec_clerknode.specs.Turns.{number_of, calls_by, Replied, SaidBye}
+use Rattle.ec_clerknode.specs.PassTurns.{Failed, Called, Worked, Partings, Stays, Turned, Pending, Starts, Waits, PickedLast, Asks, FlushTurned, Finished, FinishedAlone, HandsBack, Relinked}
 use Rattle.ec_clerknode.proofs.Lists.{prefix_trans, prefix_length, prefix_get, get_last, of-append}
 use Rattle.ec_outs.proofs.Each.{each-append}
 use Rattle.ec_clerknode.proofs.Parts.{came_over, none_linked}

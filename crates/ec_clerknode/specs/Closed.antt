@@ -11,8 +11,10 @@ use Rattle.ec_link.specs.declared.link.Sent.{Sent}
 use Rattle.ec_link.specs.declared.link.Sent.TheVariants as sent
 use Rattle.ec_link.specs.declared.link.Got.{Got}
 use Rattle.ec_link.specs.declared.link.Got.TheVariants as gave
-use Rattle.ec_link.specs.Links.{Heard, heard, added, failed, fault_of, close_of}
-use Rattle.ec_outs.specs.Outs.{first_known, Reply, told, answers, sends, old_boots, kept_at}
+use Rattle.ec_link.specs.Links.{Heard, added}
+use Rattle.ec_link.specs.LinkAnswers.{heard, failed, fault_of, close_of}
+use Rattle.ec_outs.specs.Outs.{Reply, told, answers, sends, old_boots}
+use Rattle.ec_outs.specs.KeptAnswers.{first_known, kept_at}
 use Rattle.ec_clerknode.specs.declared.act.Act.{Act}
 use Rattle.ec_clerknode.specs.declared.fault.NodeFault.{NodeFault}
 use Rattle.ec_clerknode.specs.declared.fault.NodeFault.TheVariants as fault
@@ -20,10 +22,12 @@ use Rattle.ec_clerknode.specs.declared.step.Deed.{Deed}
 use Rattle.ec_clerknode.specs.declared.step.Deed.TheVariants.{Began, Picked, Resent, Linked}
 use Rattle.ec_clerknode.specs.declared.step.Step.{Step}
 use Rattle.ec_clerknode.specs.declared.state.Node.{Node}
-use Rattle.ec_clerknode.specs.Folded.{floor_of, answer_to}
-use Rattle.ec_clerknode.specs.Run.{after, outs_of, IsDeed, heard_of, net_of, call_of, mark_of_deed, calls, marks, Among, said_in, IsSaid, IsBroken, IsGoodbye}
+use Rattle.ec_clerknode.specs.Folded.{floor_of}
+use Rattle.ec_clerknode.specs.FoldedAnswers.{answer_to}
+use Rattle.ec_clerknode.specs.Run.{after, outs_of, IsDeed, heard_of, call_of, mark_of_deed, calls, marks, Among, said_in, IsSaid, IsBroken, IsGoodbye}
+use Rattle.ec_clerknode.specs.RunEnds.{net_of}
 use Rattle.ec_clerknode.specs.Parts.{is_linked}
-use Rattle.ec_clerknode.specs.Node.{AnsweredFrom, Since, By}
+use Rattle.ec_clerknode.specs.NodeSteps.{AnsweredFrom, Since, By}
 
 abbrev pub is_wanting : Sent → Bool
 is_wanting sent.Done = false

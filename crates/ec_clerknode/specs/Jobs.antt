@@ -2,7 +2,7 @@
 use Rattle.std.specs.Prelude.{◌≡◌, ◌⊎◌, ℕ, List, [], ◌∷◌, ◌++◌, length, Result, Ok, Err}
 use mathlib.Core.List.{IsPrefix}
 use Rattle.ec_plain.specs.declared.call.Call.{Call}
-use Rattle.ec_lock.specs.Passes.{front, numbers, IsPassOf, Same}
+use Rattle.ec_lock.specs.PassViews.{front, numbers, IsPassOf, Same}
 use Rattle.ec_lock.specs.Steps.{Member, of}
 use Rattle.ec_lock.specs.declared.types.Pass.{Pass}
 use Rattle.ec_lock.specs.declared.types.TracedLock.{TracedLock}
@@ -13,7 +13,8 @@ use Rattle.ec_clerknode.specs.declared.step.Step.{Step}
 use Rattle.ec_clerknode.specs.declared.fault.NodeFault.TheVariants as fault
 use Rattle.ec_clerknode.specs.declared.jobs.AllReplied.{AllReplied}
 use Rattle.ec_clerknode.specs.declared.lane.Replied.{Replied}
-use Rattle.ec_clerknode.specs.Lanes.{AreReplied, IsFront, LaneFault, lists_of}
+use Rattle.ec_clerknode.specs.Lanes.{AreReplied, IsFront}
+use Rattle.ec_clerknode.specs.LaneRuns.{LaneFault, lists_of}
 use Rattle.ec_clerknode.specs.Turns.{number_of, calls_by}
 
 -- passes were drawn beside this one, whose own steps are as before

@@ -1,9 +1,15 @@
 pub mod Folded
+pub mod FoldedAnswers
 pub mod Run
+pub mod RunEnds
 pub mod Parts
+pub mod PresentLink
 pub mod Node
+pub mod NodeSteps
 pub mod Closed
 pub mod Floors
 pub mod Turns
+pub mod PassTurns
 pub mod Lanes
+pub mod LaneRuns
 pub mod Jobs

@@ -1,5 +1,5 @@
 -- A clerk run: a list of steps from a clerk, each with what came out.
-use Rattle.std.specs.Prelude.{◌≡◌, ℕ, ◌+◌, ◌≤◌, List, [], ◌∷◌, ◌++◌, length, map, take, max, Option, Some, None, Ok, Err, ◌⊎◌, Bool, true, false, ◌||◌}
+use Rattle.std.specs.Prelude.{◌≡◌, ℕ, ◌+◌, List, [], ◌∷◌, ◌++◌, length, map, take, Option, Some, None, Ok, Err, ◌⊎◌, Bool, true, false, ◌||◌}
 use Rattle.ec_base.specs.declared.ids.Age.{Age}
 use Rattle.ec_plain.specs.declared.call.Call.{Call}
 use Rattle.ec_wire.specs.declared.msg.Msg.{Msg}
@@ -10,7 +10,7 @@ use Rattle.ec_protocol.specs.declared.clerk.Out.{Out}
 use Rattle.ec_protocol.specs.Clerk.{Doing}
 use Rattle.ec_link.specs.declared.link.Sent.{Sent}
 use Rattle.ec_link.specs.declared.link.Sent.TheVariants as sent
-use Rattle.ec_link.specs.Links.{Heard, body, long, failed, added}
+use Rattle.ec_link.specs.Links.{Heard, body, long}
 use Rattle.ec_outs.specs.Outs.{sends, told, old_boots, encoded}
 use Rattle.ec_clerknode.specs.declared.step.Deed.{Deed}
 use Rattle.ec_clerknode.specs.declared.step.Deed.TheVariants.{Began, Took, Picked, Parted, Resent, Linked, Net, Peer, Long, NotBegun, NotTaken, NotPicked, Broke}
@@ -75,19 +75,9 @@ IsBroken s = (s.deed ≡ Broke) × (s.outs.value.items ≡ []) × (s.sent ≡ 0)
 abbrev pub IsStep : Clerk → Step → Type 0
 IsStep c s = IsBroken s ⊎ IsDone c s
 
--- the clerk to which the steps lead
-abbrev pub leads : Clerk → List Step → Clerk
-leads c [] = c
-leads c (s ∷ ss) = leads (after c s.deed) ss
-
 abbrev pub IsRun : Clerk → List Step → Type 0
 IsRun c [] = Unit {0}
 IsRun c (s ∷ ss) = IsStep c s × IsRun (after c s.deed) ss
-
--- the highest floor that a step left: it never falls as the list grows
-abbrev pub highest : List Step → ℕ
-highest [] = 0
-highest (s ∷ ss) = max s.floor (highest ss)
 
 -- What a list of steps holds.
 
@@ -129,10 +119,6 @@ heard_of Broke = []
 abbrev pub heard_by : List Step → List Heard
 heard_by = each (λ s. heard_of s.deed)
 
--- what the link gave is what the steps heard, and at most one more, for which memory was wanting
-abbrev pub Came : Option (List Heard) → List Heard → Option (List Heard) → Type 0
-Came before heard now = (lost : List Heard) × (length lost ≤ 1) × (now ≡ added before (heard ++ lost))
-
 -- the bodies that were sent: of each step's messages as many as it says
 abbrev pub said_in : Step → List (List ℕ)
 said_in s = map encoded (take s.sent (sends s.outs.value.items))
@@ -154,11 +140,6 @@ abbrev pub AreSaid : List Step → Type 0
 AreSaid [] = Unit {0}
 AreSaid (s ∷ ss) = IsSaid s.end × AreSaid ss
 
--- memory was wanting in one of these steps: for a message, for an answer or for the step
-abbrev pub Wanted : List Step → Type 0
-Wanted [] = ⊥
-Wanted (s ∷ ss) = (s.end ≡ sent.NoMemory) ⊎ Wanted ss
-
 -- a message that says goodbye
 abbrev pub is_bye : Msg → Bool
 is_bye (message.Bye session epoch) = true
@@ -175,26 +156,6 @@ IsGoodbye s = (s.deed ≡ Parted) × (says_bye (sends s.outs.value.items) ≡ tr
 -- the lists that were told lost
 abbrev pub told_by : List Step → List (List ℕ)
 told_by = each told_in
-
-abbrev pub net_of : Deed → ℕ
-net_of (Began call number) = 0
-net_of (Took bytes msg) = 0
-net_of (Picked asked) = 0
-net_of Parted = 0
-net_of Resent = 0
-net_of Linked = 0
-net_of Net = 1
-net_of (Peer bytes fault) = 0
-net_of (Long n) = 0
-net_of (NotBegun call counter) = 0
-net_of (NotTaken bytes msg counter) = 0
-net_of (NotPicked asked counter) = 0
-net_of Broke = 0
-
--- how many marks of a failed or closed link there are
-abbrev pub nets : List Step → ℕ
-nets [] = 0
-nets (s ∷ ss) = (net_of s.deed + failed s.end) + nets ss
 
 -- the faults of which a step is the cause
 abbrev pub mark_of_deed : Deed → List NodeFault

@@ -2,7 +2,8 @@
 ghost use Rattle.std.specs.Prelude.{◌≡◌, ◌+◌, [], true, IfOk, IfErr, IfSome, IfNone, OnErr};
 ghost use Rattle.ec_protocol.specs.declared.clerk.ClerkFault.TheVariants as fault;
 ghost use Rattle.ec_wire.specs.Messages.{is_sound};
-ghost use Rattle.ec_clerknode.specs.Folded.{begun, taken, picked, parted, resent, linked, answer_to, floor_of, refused_by, Comes, Refuses};
+ghost use Rattle.ec_clerknode.specs.Folded.{begun, taken, picked, parted, resent, linked, floor_of};
+ghost use Rattle.ec_clerknode.specs.FoldedAnswers.{answer_to, refused_by, Comes, Refuses};
 ghost use Rattle.ec_clerknode.specs.Run.{says_bye};
 ghost use Rattle.ec_outs.specs.Outs.{sends};
 
@@ -56,7 +57,7 @@ pub fn take(clerk: &mut Clerk, msg: Msg) -> Result<Vec<Out>, Refused>
 }
 
 /// Asks for a batch.
-#[tactic(auto, unfolding(crate::specs::Folded::picked, crate::specs::Folded::answer_to))]
+#[tactic(auto, unfolding(crate::specs::Folded::picked, crate::specs::FoldedAnswers::answer_to))]
 pub fn flush(clerk: &mut Clerk, asked: Asked) -> Result<(Flushed, Vec<Out>), Refused>
     ensures answer { IfOk result (λ r. r.0 ≡ answer_to asked clerk.old) }
     ensures ok { IfOk result (λ r. Comes (picked asked clerk.old) clerk.new r.1.items) }

@@ -4,10 +4,10 @@ ghost use Rattle.std.specs.List.{All};
 ghost use Rattle.std.specs.Thread.{IsSync};
 ghost use Rattle.ec_base.specs.declared.counter.Counter.TheVariants as counter;
 ghost use Rattle.ec_plain.specs.declared.call.Call.{Call as Asking};
-ghost use Rattle.ec_lock.specs.Passes.{front, IsPassOf};
+ghost use Rattle.ec_lock.specs.PassViews.{front, IsPassOf};
 ghost use Rattle.ec_clerknode.specs.declared.fault.NodeFault.TheVariants as fault;
 ghost use Rattle.ec_clerknode.specs.declared.step.Step.{Step as Deeds};
-ghost use Rattle.ec_clerknode.specs.Lanes.{LaneRan, LanesCame, lists_of};
+ghost use Rattle.ec_clerknode.specs.LaneRuns.{LaneRan, LanesCame, lists_of};
 ghost use Rattle.ec_clerknode.specs.Jobs.{Drew, IsNewPass, AreBack, Puts};
 
 use crate::fault::NodeFault;

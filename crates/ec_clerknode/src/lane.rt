@@ -1,7 +1,7 @@
 // One lane of calls.
 ghost use Rattle.std.specs.Prelude.{◌≡◌, []};
-ghost use Rattle.ec_lock.specs.Passes.{IsPassOf};
-ghost use Rattle.ec_clerknode.specs.Lanes.{LaneRan};
+ghost use Rattle.ec_lock.specs.PassViews.{IsPassOf};
+ghost use Rattle.ec_clerknode.specs.LaneRuns.{LaneRan};
 
 use crate::fault::NodeFault;
 use crate::shared::SharedClerk;

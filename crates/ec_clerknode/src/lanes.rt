@@ -1,7 +1,7 @@
 // Lanes of calls, which run at the same time.
 ghost use Rattle.std.specs.Prelude.{◌≡◌, map, IfOk};
-ghost use Rattle.ec_lock.specs.Passes.{front, IsPassOf};
-ghost use Rattle.ec_clerknode.specs.Lanes.{LanesCame, LanesRan, LanesRanPlain, Looked, TellsOldBoot, all_items, lists_of};
+ghost use Rattle.ec_lock.specs.PassViews.{front, IsPassOf};
+ghost use Rattle.ec_clerknode.specs.LaneRuns.{LanesCame, LanesRan, LanesRanPlain, Looked, TellsOldBoot, all_items, lists_of};
 ghost use Rattle.ec_clerknode.specs.Run.{old_boot};
 
 use crate::fault::NodeFault;

@@ -4,7 +4,7 @@ ghost use Rattle.ec_base.specs.Limits.{last_counter};
 ghost use Rattle.ec_base.specs.declared.ids.Age.{Age as Years};
 ghost use Rattle.ec_link.specs.declared.link.Sent.TheVariants as sent;
 ghost use Rattle.ec_clerknode.specs.Closed.{Acts, Closed, EndsAs, Fell, IsMark, Begun, Works, Flushes, Parts, PartsBehind, ReadsFlushes, Resends, Started, Waited, is_wanting};
-ghost use Rattle.ec_clerknode.specs.Node.{AnsweredFrom, Since, Keeps};
+ghost use Rattle.ec_clerknode.specs.NodeSteps.{AnsweredFrom, Since, Keeps};
 ghost use Rattle.ec_clerknode.specs.Run.{told_by};
 ghost use Rattle.ec_clerknode.specs.declared.fault.NodeFault.TheVariants as fault;
 ghost use Rattle.ec_clerknode.specs.declared.state.State.{State};

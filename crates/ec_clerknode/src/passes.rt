@@ -2,10 +2,12 @@
 ghost use Rattle.std.specs.Prelude.{◌≡◌, ℕ, ◌+◌, ◌<◌, ◌≤◌, ◌⊎◌, max, [], ◌∷◌, ◌++◌, IfSome, IfNone};
 ghost use mathlib.Core.List.{IsPrefix};
 ghost use Rattle.ec_base.specs.Limits.{last_counter};
-ghost use Rattle.ec_lock.specs.Passes.{first, front, numbers, next_number, raised, answered, note_view, IsPassOf, IsNoteOf, Same, Marked};
+ghost use Rattle.ec_lock.specs.Passes.{answered};
+ghost use Rattle.ec_lock.specs.PassViews.{first, front, numbers, next_number, raised, note_view, IsPassOf, IsNoteOf, Same, Marked};
 ghost use Rattle.ec_lock.specs.Steps.{Member, of};
-ghost use Rattle.ec_clerknode.specs.Run.{highest};
-ghost use Rattle.ec_clerknode.specs.Turns.{number_of, Goes};
+ghost use Rattle.ec_clerknode.specs.RunEnds.{highest};
+ghost use Rattle.ec_clerknode.specs.Turns.{number_of};
+ghost use Rattle.ec_clerknode.specs.PassTurns.{Goes};
 
 use crate::shared::SharedClerk;
 use crate::state::Node;

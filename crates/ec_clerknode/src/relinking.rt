@@ -1,13 +1,14 @@
 // Links that are exchanged.
 ghost use Rattle.std.specs.Prelude.{◌≡◌, ℕ, ◌+◌, ◌<◌, true, false, Some, IfOk, IfErr};
 ghost use Rattle.ec_base.specs.Limits.{last_counter};
-ghost use Rattle.ec_link.specs.Nets.{IsEmpty};
-ghost use Rattle.ec_lock.specs.Passes.{first, front, IsPassOf};
+ghost use Rattle.ec_link.specs.NetAnswers.{IsEmpty};
+ghost use Rattle.ec_lock.specs.PassViews.{first, front, IsPassOf};
 ghost use Rattle.ec_lock.specs.Steps.{of};
 ghost use Rattle.ec_clerknode.specs.declared.fault.NodeFault.TheVariants as fault;
 ghost use Rattle.ec_clerknode.specs.Closed.{Links};
-ghost use Rattle.ec_clerknode.specs.Node.{Keeps};
-ghost use Rattle.ec_clerknode.specs.Turns.{number_of, Turned, Relinked};
+ghost use Rattle.ec_clerknode.specs.NodeSteps.{Keeps};
+ghost use Rattle.ec_clerknode.specs.Turns.{number_of};
+ghost use Rattle.ec_clerknode.specs.PassTurns.{Turned, Relinked};
 
 use crate::clerk;
 use crate::fault::NodeFault;

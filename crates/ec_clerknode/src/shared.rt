@@ -2,15 +2,18 @@
 ghost use Rattle.std.specs.Prelude.{◌≡◌, ℕ, ◌+◌, ◌<◌, ◌≤◌, ◌⊎◌, max, List, [], ◌∷◌, ◌++◌, length, Some, None, Err, if◌then◌else◌, IfOk, IfErr, OnOk, IfSome, IfNone, Option};
 ghost use mathlib.Core.List.{IsPrefix};
 ghost use Rattle.ec_base.specs.Limits.{last_counter};
-ghost use Rattle.ec_lock.specs.Passes.{first, front, numbers, next_number, raised, answered, note_view, HasTurn, IsPassOf, IsNoteOf, Same};
+ghost use Rattle.ec_lock.specs.Passes.{answered};
+ghost use Rattle.ec_lock.specs.PassViews.{first, front, numbers, next_number, raised, note_view, HasTurn, IsPassOf, IsNoteOf, Same};
 ghost use Rattle.ec_lock.specs.Steps.{Member, of};
 ghost use Rattle.ec_clerknode.specs.declared.fault.NodeFault.TheVariants as fault;
 ghost use Rattle.ec_clerknode.specs.Closed.{Started, Waited, Works};
 ghost use Rattle.ec_clerknode.specs.Floors.{highest_grows};
-ghost use Rattle.ec_clerknode.specs.Node.{Since};
-ghost use Rattle.ec_clerknode.specs.Run.{highest, old_boot, told_by, heard_by, AreSaid, Wanted, Came};
-ghost use Rattle.ec_clerknode.specs.Turns.{number_of, Stays, Turned, Starts, Waits, Called, CalledPlain, Worked, Partings, SaidBye, Asks, FlushTurned, Finished, FinishedAlone};
-ghost use Rattle.ec_clerknode.specs.Parts.{CameOver, LinksBy};
+ghost use Rattle.ec_clerknode.specs.NodeSteps.{Since};
+ghost use Rattle.ec_clerknode.specs.Run.{old_boot, told_by, heard_by, AreSaid};
+ghost use Rattle.ec_clerknode.specs.RunEnds.{highest, Wanted, Came};
+ghost use Rattle.ec_clerknode.specs.Turns.{number_of, SaidBye};
+ghost use Rattle.ec_clerknode.specs.PassTurns.{Stays, Turned, Starts, Waits, Called, CalledPlain, Worked, Partings, Asks, FlushTurned, Finished, FinishedAlone};
+ghost use Rattle.ec_clerknode.specs.PresentLink.{CameOver, LinksBy};
 
 use crate::fault::NodeFault;
 use crate::state::{Closing, Node, State};

@@ -2,7 +2,8 @@
 use Rattle.std.proofs.Common.{◌≡◌, ℕ, suc, ◌-◌, ◌+◌, ◌≤◌, ◌<◌, List, [], ◌∷◌, ◌++◌, Result, Ok, Err, refl, sym, ap, subst, ◌∙◌, arith}
 use Rattle.ec_codes.specs.declared.fault.CodeFault.{CodeFault}
 use Rattle.ec_codes.specs.declared.fault.CodeFault.TheVariants.{Short, Field, NoMemory}
-use Rattle.ec_codes.specs.Formats.{Read, ◌>>=◌, Format, rows_read, Fails}
+use Rattle.ec_codes.specs.Formats.{Read, ◌>>=◌, Format, rows_read}
+use Rattle.ec_codes.specs.Spelling.{Fails}
 
 pub goes_on : {A : Type 0} (F : List A → Format A) (count i : ℕ) (before : List A) (bytes : List ℕ) (at : ℕ) (x : A) (next : ℕ) (all : Read (List A)) → i < count
     → (F before).read bytes at ≡ Ok (x, next) → rows_read F (count - i) before bytes at ≡ all → rows_read F (count - (i + 1)) (before ++ x ∷ []) bytes next ≡ all

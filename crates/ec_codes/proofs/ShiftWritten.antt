@@ -6,7 +6,8 @@ use Rattle.std.specs.Int.{w32}
 use Rattle.std.proofs.lemmas.Bool.Decides.{nat_tests}
 use Rattle.ec_volume.specs.Update.{Above, listed, member, distinct}
 use Rattle.ec_volume.specs.declared.image.Kind.{Kind}
-use Rattle.ec_codes.specs.Formats.{Format, number, standing, Writes}
+use Rattle.ec_codes.specs.Formats.{Format, number, standing}
+use Rattle.ec_codes.specs.Spelling.{Writes}
 use Rattle.ec_codes.specs.Fields.{id, id_but, kind_field, is_from_one, id_or_none, is_apart, victim_but, name}
 use Rattle.ec_codes.proofs.Written.{chain}
 use Rattle.ec_codes.specs.Updates.{way_fields, shift_fields}

@@ -6,7 +6,8 @@ use Rattle.std.specs.List.{flat_map, list_all}
 use Rattle.std.specs.Int.{w16, w32, w64, to_be_bytes}
 use Rattle.std.proofs.lemmas.Bool.{and_from, and_parts}
 use Rattle.ec_volume.specs.Entries.{Entries}
-use Rattle.ec_codes.specs.Formats.{Format, number, Keeps, Writes, Puts}
+use Rattle.ec_codes.specs.Formats.{Format, number}
+use Rattle.ec_codes.specs.Spelling.{Keeps, Writes, Puts}
 use Rattle.ec_codes.specs.Fields.{mode_field, id, flag, flag_number}
 use Rattle.ec_codes.specs.Updates.{is_put_length, put_fields}
 use Rattle.ec_codes.specs.Images.{content, entries_field, file_fields, dir_fields}

@@ -17,10 +17,12 @@ use Rattle.ec_volume.specs.Update.{member, distinct}
 use Rattle.ec_volume.specs.declared.image.Image.{Image}
 use Rattle.ec_volume.specs.declared.image.Image.TheVariants.{Gone, File, Dir}
 use Rattle.ec_codes.specs.declared.fault.CodeFault.{CodeFault}
-use Rattle.ec_codes.specs.Formats.{Format, byte, number, such, rows_fit, Spells}
+use Rattle.ec_codes.specs.Formats.{Format, byte, number, such, rows_fit}
+use Rattle.ec_codes.specs.Spelling.{Spells}
 use Rattle.ec_codes.specs.Fields.{id, id_but, mode_field, name}
 use Rattle.ec_codes.specs.SoundLaws.{are_fresh, fresh_is}
-use Rattle.ec_codes.specs.Images.{max_file_bytes, max_entries, content, last_entry, is_behind, is_after, ids_under, entry_after, entry_spell, entries_field, file_fields, dir_fields, old_file_fields, old_dir_fields, image_form, old_image_form, image_code, old_image_code, is_sound_image}
+use Rattle.ec_codes.specs.Images.{max_file_bytes, max_entries, content, last_entry, is_behind, is_after, ids_under, entry_after, entry_spell, entries_field, file_fields, dir_fields, old_file_fields, old_dir_fields, image_form, old_image_form, image_code, old_image_code}
+use Rattle.ec_codes.specs.SoundImages.{is_sound_image}
 use Rattle.ec_base.specs.SortedLaws.{less, second}
 use Rattle.ec_base.specs.SmallLaws.{holds}
 

@@ -8,7 +8,8 @@ use Rattle.std.proofs.lemmas.List.{append-nil, take_at, drop_at, take-append-dro
 use Rattle.std.proofs.lemmas.Nat.{be_bytes_2, be_bytes_4, be_bytes_8, from_be_bytes-to_be_bytes_2, from_be_bytes-to_be_bytes_4, from_be_bytes-to_be_bytes_8}
 use Rattle.ec_codes.specs.declared.fault.CodeFault.{CodeFault}
 use Rattle.ec_codes.specs.declared.fault.CodeFault.TheVariants.{Short, Field}
-use Rattle.ec_codes.specs.Formats.{Read, ◌>>=◌, Format, missing, byte, number, such, then_by, given, is_given, standing, text, rows_read, rows_fit, list, variant, nothing, empty, tagged, StandsAt, Spells, Gives}
+use Rattle.ec_codes.specs.Formats.{Read, ◌>>=◌, Format, missing, byte, number, such, then_by, given, is_given, standing, text, rows_read, rows_fit, list, variant, nothing, empty, tagged}
+use Rattle.ec_codes.specs.Spelling.{StandsAt, Spells, Gives}
 
 abbrev pub AreBytes : List ℕ → Type 0
 AreBytes bytes = (i : ℕ) → get_or bytes i 0 < 256

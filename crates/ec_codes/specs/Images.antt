@@ -1,9 +1,8 @@
 -- The codes of images: a byte for the kind, and then the fields in order; and those of an earlier version, without owners.
-use Rattle.std.specs.Prelude.{◌==◌, ℕ, zero, suc, Bool, true, false, ◌&&◌, if◌then◌else◌, nat_le, List, [], ◌∷◌, ◌++◌, length, map, Option, None, Some, Ok}
-use Rattle.std.specs.Int.{w16, w32, w64}
+use Rattle.std.specs.Prelude.{◌==◌, ℕ, zero, Bool, true, if◌then◌else◌, nat_le, List, [], ◌∷◌, ◌++◌, map, Option, None, Some}
+use Rattle.std.specs.Int.{w32, w64}
 use Rattle.std.specs.Ordering.{is_lt}
 use Rattle.ec_volume.specs.Entries.{Entries, by_bytes}
-use Rattle.ec_volume.specs.Update.{distinct}
 use Rattle.ec_volume.specs.declared.image.Image.{Image}
 use Rattle.ec_volume.specs.declared.image.Image.TheVariants.{Gone, File, Dir}
 use Rattle.ec_codes.specs.Formats.{Format, byte, number, such, then_by, text, list, variant, nothing, empty, tagged}
@@ -130,9 +129,3 @@ image_code = tagged is_image_tag image_tag image_form
 -- version 1
 unfoldable pub old_image_code : Format Image
 old_image_code = tagged is_image_tag image_tag old_image_form
-
--- modes, lengths and counts are within their limits, and no id stands twice
-abbrev pub is_sound_image : Image → Bool
-is_sound_image Gone = true
-is_sound_image (File m s w bs) = nat_le m 4095 && nat_le (length bs) max_file_bytes
-is_sound_image (Dir m s w es) = nat_le m 4095 && nat_le (length es) max_entries && distinct (ids_under es)

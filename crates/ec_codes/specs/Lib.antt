@@ -1,4 +1,5 @@
 pub mod Formats
+pub mod Spelling
 pub mod FormatLaws
 pub mod Fields
 pub mod FieldLaws
@@ -6,6 +7,7 @@ pub mod Updates
 pub mod UpdateLaws
 pub mod SoundLaws
 pub mod Images
+pub mod SoundImages
 pub mod ImageLaws
 pub mod EntryLaws
 pub mod Readers

@@ -14,7 +14,8 @@ use Rattle.ec_volume.specs.declared.image.Kind.TheVariants as kind
 use Rattle.ec_volume.specs.declared.update.Update.{Update}
 use Rattle.ec_volume.specs.declared.update.Update.TheVariants.{Make, Drop, Move, Put, Len, Mode, Stamp, Order, Shift, Owner}
 use Rattle.ec_codes.specs.declared.fault.CodeFault.{CodeFault}
-use Rattle.ec_codes.specs.Formats.{Format, byte, number, such, rows_fit, Spells}
+use Rattle.ec_codes.specs.Formats.{Format, byte, number, such, rows_fit}
+use Rattle.ec_codes.specs.Spelling.{Spells}
 use Rattle.ec_codes.specs.Fields.{id, id_but, flag, mode_field, is_apart, victim_but, name}
 use Rattle.ec_codes.specs.Updates.{entry_fields, move_fields, put_fields, is_put_length, len_fields, mode_fields, stamp_fields, owner_fields, is_order_count, order_fields, is_way_count, begins_well, step_fields, way_fields, shift_fields, tag, is_tag, form, update_code}
 

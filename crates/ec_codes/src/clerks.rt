@@ -1,6 +1,6 @@
 // The fields that tell a clerk and its age are written and read.
 ghost use Rattle.std.specs.Prelude.{◌≡◌};
-ghost use Rattle.ec_codes.specs.Formats.{Puts};
+ghost use Rattle.ec_codes.specs.Spelling.{Puts};
 ghost use Rattle.ec_codes.specs.Readers.{Reads};
 ghost use Rattle.ec_codes.specs.Clerks.{clerk_field, age_field};
 

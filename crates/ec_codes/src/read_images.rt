@@ -4,9 +4,11 @@ ghost use Rattle.std.specs.FinMap.{is_sorted};
 ghost use Rattle.ec_volume.specs.Entries.{by_bytes};
 ghost use Rattle.ec_volume.specs.Update.{member};
 ghost use Rattle.ec_volume.specs.declared.image.Image.{Image};
-ghost use Rattle.ec_codes.specs.Formats.{Gives, Spells, such, rows_read, variant, empty};
+ghost use Rattle.ec_codes.specs.Formats.{such, rows_read, variant, empty};
+ghost use Rattle.ec_codes.specs.Spelling.{Gives, Spells};
 ghost use Rattle.ec_codes.specs.Fields.{id_but, name};
-ghost use Rattle.ec_codes.specs.Images.{content, is_after, ids_under, entry_after, entries_field, file_fields, dir_fields, old_file_fields, old_dir_fields, gone, filed, listing, old_filed, old_listing, to_gone, to_file, to_dir, to_old_file, to_old_dir, image_form, old_image_form, image_code, old_image_code, is_sound_image};
+ghost use Rattle.ec_codes.specs.Images.{content, is_after, ids_under, entry_after, entries_field, file_fields, dir_fields, old_file_fields, old_dir_fields, gone, filed, listing, old_filed, old_listing, to_gone, to_file, to_dir, to_old_file, to_old_dir, image_form, old_image_form, image_code, old_image_code};
+ghost use Rattle.ec_codes.specs.SoundImages.{is_sound_image};
 ghost use Rattle.ec_codes.specs.Readers.{Reads};
 
 use crate::fault::CodeFault;

@@ -2,7 +2,8 @@
 ghost use Rattle.std.specs.Prelude.{◌≡◌, ◌∷◌, ◌++◌, [], ℕ, true, IfOk, List, Ok};
 ghost use Rattle.ec_volume.specs.Update.{listed, member, ids_of, is_sound};
 ghost use Rattle.ec_volume.specs.declared.update.Update.{Update};
-ghost use Rattle.ec_codes.specs.Formats.{Gives, Spells, byte, such, text, number, rows_read, variant};
+ghost use Rattle.ec_codes.specs.Formats.{byte, such, text, number, rows_read, variant};
+ghost use Rattle.ec_codes.specs.Spelling.{Gives, Spells};
 ghost use Rattle.ec_codes.specs.Fields.{id_but};
 ghost use Rattle.ec_codes.specs.Readers.{Reads};
 ghost use Rattle.ec_codes.specs.Updates.{entry_fields, move_fields, is_put_length, put_fields, len_fields, mode_fields, stamp_fields, owner_fields, is_order_count, order_fields, is_way_count, begins_well, step_fields, way_fields, shift_fields, is_tag, made, dropped, moved, put, resized, with_mode, stamped, ordered, shifted, owned, to_make, to_drop, to_move, to_put, to_len, to_mode, to_stamp, to_order, to_shift, to_owner, form, update_code};

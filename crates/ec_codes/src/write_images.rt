@@ -4,9 +4,10 @@ ghost use Rattle.std.specs.List.{flat_map, list_all};
 ghost use Rattle.std.specs.FinMap.{is_sorted};
 ghost use Rattle.ec_volume.specs.Entries.{by_bytes};
 ghost use Rattle.ec_volume.specs.Update.{distinct};
-ghost use Rattle.ec_codes.specs.Formats.{Keeps, Puts};
+ghost use Rattle.ec_codes.specs.Spelling.{Keeps, Puts};
 ghost use Rattle.ec_codes.specs.EntryLaws.{is_entry};
-ghost use Rattle.ec_codes.specs.Images.{max_file_bytes, max_entries, ids_under, content, entry_spell, entries_field, file_fields, dir_fields, image_code, is_sound_image};
+ghost use Rattle.ec_codes.specs.Images.{max_file_bytes, max_entries, ids_under, content, entry_spell, entries_field, file_fields, dir_fields, image_code};
+ghost use Rattle.ec_codes.specs.SoundImages.{is_sound_image};
 
 use crate::writer::{put_byte, put_id, put_mode_field, put_name, put_u32, put_u64};
 use ec_base::{Name, NoMemory, ObjId};

@@ -1,7 +1,8 @@
 // Fields are written one behind the other. What was there stays in front, after want of memory too.
 ghost use Rattle.std.specs.Prelude.{◌≡◌, ◌++◌, ◌≤◌, ◌<◌, ◌^◌, nat_le, List, ℕ, length, true, false};
 ghost use Rattle.std.specs.Int.{w16, w32, w64};
-ghost use Rattle.ec_codes.specs.Formats.{Puts, byte, number, such, standing, text};
+ghost use Rattle.ec_codes.specs.Formats.{byte, number, such, standing, text};
+ghost use Rattle.ec_codes.specs.Spelling.{Puts};
 ghost use Rattle.ec_codes.specs.Fields.{word, long, id, kind_field, flag, is_from_one, id_or_none, mode_field, name};
 ghost use Rattle.ec_base.specs.Options.{or_zero};
 

@@ -8,6 +8,7 @@ use Rattle.ec_volume.specs.Update.{member}
 use Rattle.ec_history.specs.History.{Each}
 use Rattle.ec_base.specs.Holds.{rank}
 use Rattle.ec_tokens.specs.Tokens as tokens
+use Rattle.ec_tokens.specs.SoundTokens as sound_tokens
 use Rattle.ec_tokens.specs.declared.token.Token.{Token}
 use Rattle.ec_recall.specs.declared.want.Want as want
 use Rattle.ec_wire.specs.Messages.{is_held_mode}
@@ -36,7 +37,7 @@ pub record Own (w : View) (v : Tables) (ts : tokens.Tokens) (qs : List want.Want
   pub epoch : InSession w s (λ k. k.epoch ≡ w.epoch)
   -- only its tokens change, and they may stand beside the others
   pub only : (t x : ℕ) → (t == s) ≡ false → tokens.token ts t x ≡ tokens.token v.tokens t x
-  pub sound : tokens.IsSound ts
+  pub sound : sound_tokens.IsSound ts
   pub apart : (t x : ℕ) → (t == s) ≡ false → T (w.is_open t) → Apart (recorded (tokens.token ts s x) w.epoch) (eff (over v w) t x)
   pub known : (x : ℕ) (t : Token) → tokens.token ts s x ≡ Some t → (x < w.next_token) × T (w.taken s) × (t.number ≤ n)
   pub below : (x : ℕ) → InSession w s (λ k. Below k.epoch (last x k.cache) (at x k.cache.held) (recorded (tokens.token ts s x) w.epoch))

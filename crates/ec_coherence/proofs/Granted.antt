@@ -9,6 +9,7 @@ use Rattle.ec_history.specs.History.{Each}
 use Rattle.ec_base.specs.Holds.{clash, is_write}
 use Rattle.ec_tokens.specs.Laws.{sound_granted}
 use Rattle.ec_tokens.specs.Tokens as tokens
+use Rattle.ec_tokens.specs.SoundTokens as sound_tokens
 use Rattle.ec_tokens.specs.declared.token.Token.{Token}
 use Rattle.ec_recall.specs.Wants.{is_of}
 use Rattle.ec_recall.specs.declared.want.Want as want
@@ -37,7 +38,7 @@ module _ (w : View) (v : Tables) (s x : ℕ) (h : Hold) (agree : TokensAgree (ov
   abbrev v' : Tables
   v' = changed ts v.recalls v.claimed n v.recorded
 
-  sound : tokens.IsSound ts
+  sound : sound_tokens.IsSound ts
   sound = sound_granted v.tokens s agree.tables.sound x h n (not-free h wanted.2) clear
 
   fits : (k : Side) → w.clerk s ≡ Some k → NotedFits h (tokens.token v.tokens s x) (at x k.cache.held) (last x k.cache)

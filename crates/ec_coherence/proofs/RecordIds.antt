@@ -11,6 +11,7 @@ use Rattle.ec_sessions.specs.Slots.{run}
 use Rattle.ec_base.specs.Holds.{clash}
 use Rattle.ec_tokens.specs.Laws.{sound_granted, holder_has}
 use Rattle.ec_tokens.specs.Tokens as tokens
+use Rattle.ec_tokens.specs.SoundTokens as sound_tokens
 use Rattle.ec_tokens.specs.declared.token.Token.{Token}
 use Rattle.ec_recall.specs.declared.want.Want as want
 use Rattle.ec_cache.specs.Cache.{last}
@@ -31,7 +32,7 @@ none-pass p (g ∷ gs) f = go (p g) (f g (0, omega arith, refl)) (none-pass p gs
     go true e r = absurd (cc)
     go false e r = r
 
-pub clear-if : (ts : tokens.Tokens) (s x : ℕ) (h : Hold) → tokens.IsSound ts → ((t : ℕ) → (t == s) ≡ false → tokens.token ts t x ≡ None) → tokens.is_clear ts s x h ≡ true
+pub clear-if : (ts : tokens.Tokens) (s x : ℕ) (h : Hold) → sound_tokens.IsSound ts → ((t : ℕ) → (t == s) ≡ false → tokens.token ts t x ≡ None) → tokens.is_clear ts s x h ≡ true
 clear-if ts s x h sound none = none-pass (tokens.is_conflict s h) (tokens.holders ts x) (λ g c. go g c (g.0 == s) refl)
   where
     go : (g : tokens.Holder) → Contains (tokens.holders ts x) g → (b : Bool) → (g.0 == s) ≡ b → (not b && clash g.1 h) ≡ false
@@ -52,14 +53,14 @@ module _ (s n : ℕ) where
   abbrev write : Token
   write = record { hold = Write; number = n }
 
-  pub with-ids : (xs : List ℕ) (ts : tokens.Tokens) → tokens.IsSound ts → ((t x : ℕ) → (t == s) ≡ false → T (member x xs) → tokens.token ts t x ≡ None)
-      → tokens.IsSound (with_ids s n xs ts) × ((t y : ℕ) → tokens.token (with_ids s n xs ts) t y ≡ cond ((t == s) && member y xs) (Some write) (tokens.token ts t y))
+  pub with-ids : (xs : List ℕ) (ts : tokens.Tokens) → sound_tokens.IsSound ts → ((t x : ℕ) → (t == s) ≡ false → T (member x xs) → tokens.token ts t x ≡ None)
+      → sound_tokens.IsSound (with_ids s n xs ts) × ((t y : ℕ) → tokens.token (with_ids s n xs ts) t y ≡ cond ((t == s) && member y xs) (Some write) (tokens.token ts t y))
   with-ids [] ts sound none = (sound, λ t y. pull (tokens.token ts t y) (t == s))
     where
       pull : (o : Option Token) (b : Bool) → o ≡ cond (b && false) (Some write) o
       pull o true = refl
       pull o false = refl
-  with-ids (x ∷ xs) ts sound none = subst (λ b. tokens.IsSound (with_ids s n xs (elim b as (λ z. tokens.Tokens) [ true ↦ tokens.granted s x Write n ts | false ↦ ts ])) × ((t y : ℕ) → tokens.token (with_ids s n xs (elim b as (λ z. tokens.Tokens) [ true ↦ tokens.granted s x Write n ts | false ↦ ts ])) t y ≡ cond ((t == s) && ((y == x) || member y xs)) (Some write) (tokens.token ts t y))) (sym clear)
+  with-ids (x ∷ xs) ts sound none = subst (λ b. sound_tokens.IsSound (with_ids s n xs (elim b as (λ z. tokens.Tokens) [ true ↦ tokens.granted s x Write n ts | false ↦ ts ])) × ((t y : ℕ) → tokens.token (with_ids s n xs (elim b as (λ z. tokens.Tokens) [ true ↦ tokens.granted s x Write n ts | false ↦ ts ])) t y ≡ cond ((t == s) && ((y == x) || member y xs)) (Some write) (tokens.token ts t y))) (sym clear)
       (let rest = with-ids xs (tokens.granted s x Write n ts) (sound_granted ts s sound x Write n refl clear) after in (rest.0, λ t y. rest.1 t y ∙ ap (λ o. cond ((t == s) && member y xs) (Some write) o) (token-granted ts s x Write n t y) ∙ join (tokens.token ts t y) (t == s) (y == x) (member y xs)))
     where
       clear : tokens.is_clear ts s x Write ≡ true
@@ -117,7 +118,7 @@ module _ (w : View) (v : Tables) (s first : ℕ) (agree : TokensAgree (over v w)
   is-in : (x : ℕ) → member x (run first 16) ≡ in_sixteen first x
   is-in x = member-run x first 16
 
-  made : tokens.IsSound ts × ((t y : ℕ) → tokens.token ts t y ≡ cond ((t == s) && member y (run first 16)) (Some (write s n)) (tokens.token v.tokens t y))
+  made : sound_tokens.IsSound ts × ((t y : ℕ) → tokens.token ts t y ≡ cond ((t == s) && member y (run first 16)) (Some (write s n)) (tokens.token v.tokens t y))
   made = with-ids s n (run first 16) v.tokens agree.tables.sound (λ t x d m. nobody t x d (subst T (is-in x) m))
 
   token-is : (t y : ℕ) → tokens.token ts t y ≡ cond ((t == s) && in_sixteen first y) (Some (write s n)) (tokens.token v.tokens t y)

@@ -14,6 +14,7 @@ use Rattle.ec_history.specs.History.{Each}
 use Rattle.ec_base.specs.Holds.{clash, rank, is_free, is_write}
 use Rattle.ec_tokens.specs.Laws.{holder_has, clear_of}
 use Rattle.ec_tokens.specs.Tokens as tokens
+use Rattle.ec_tokens.specs.SoundTokens as sound_tokens
 use Rattle.ec_tokens.specs.declared.token.Token.{Token}
 use Rattle.ec_recall.specs.Due.{is_due, given_to, recall_to, news, recall_of, told_of, actions_from, wants_from}
 use Rattle.ec_recall.specs.Wants.{is_of}
@@ -99,7 +100,7 @@ none-passing p (g ∷ gs) f = go (p g) f.0 (none-passing p gs f.1)
 abbrev pub conflicts_of : tokens.Tokens → want.Want → List tokens.Holder
 conflicts_of ts q = tokens.conflicts ts q.session q.obj q.hold
 
-clear-now : (first given now : tokens.Tokens) (s x : ℕ) (h : Hold) → tokens.IsSound now → Turned first given now → tokens.is_clear first s x h ≡ true → tokens.is_clear given s x h ≡ true → tokens.is_clear now s x h ≡ true
+clear-now : (first given now : tokens.Tokens) (s x : ℕ) (h : Hold) → sound_tokens.IsSound now → Turned first given now → tokens.is_clear first s x h ≡ true → tokens.is_clear given s x h ≡ true → tokens.is_clear now s x h ≡ true
 clear-now first given now s x h sound turned a b = none-passing (tokens.is_conflict s h) (tokens.holders now x) (each-from (λ g. tokens.is_conflict s h g ≡ false) (tokens.holders now x) (λ g c. go g c (g.0 == s) refl))
   where
     quiet : (t : ℕ) → (t == s) ≡ false → clash (tokens.mode (tokens.token now t x)) h ≡ false

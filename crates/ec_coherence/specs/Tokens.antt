@@ -9,6 +9,7 @@ use Rattle.ec_volume.specs.declared.image.Image.TheVariants.{Gone}
 use Rattle.ec_history.specs.History.{Each}
 use Rattle.ec_base.specs.Holds.{rank, clash, is_write}
 use Rattle.ec_tokens.specs.Tokens as tokens
+use Rattle.ec_tokens.specs.SoundTokens as sound_tokens
 use Rattle.ec_tokens.specs.declared.token.Token.{Token}
 use Rattle.ec_recall.specs.Wants.{is_of}
 use Rattle.ec_recall.specs.declared.want.Want as want
@@ -242,7 +243,7 @@ AreApart (q ∷ qs) = Each (λ r. T (not (is_of q.session q.obj r))) qs × AreAp
 
 pub record TablesAgree (w : View) (v : Tables) : Type 0 where
   -- no two recorded tokens conflict, and none is Free
-  pub sound : tokens.IsSound v.tokens
+  pub sound : sound_tokens.IsSound v.tokens
   -- a session that has claimed is open, and its clerk is in this epoch; another one has nothing recorded
   pub are_open : (s : ℕ) → T (member s v.claimed) → T (w.is_open s)
   pub epochs : (s : ℕ) → T (member s v.claimed) → InSession w s (λ k. k.epoch ≡ w.epoch)

@@ -7,7 +7,8 @@ use Rattle.ec_plain.specs.declared.call.Call.{Call}
 use Rattle.ec_plain.specs.declared.call.Outcome.{Outcome}
 use Rattle.ec_history.specs.declared.entry.Answer.TheVariants as answer
 use Rattle.ec_history.specs.declared.shown.Shown.TheVariants as show
-use Rattle.ec_laws.specs.Renaming.{IsRenamed, IsRenaming, issued_update_by, outcome_by, update_by}
+use Rattle.ec_laws.specs.Renaming.{IsRenaming}
+use Rattle.ec_laws.specs.Renamed.{IsRenamed, issued_update_by, outcome_by, update_by}
 use Rattle.ec_laws.proofs.Calls.{plain-by}
 use Rattle.ec_laws.proofs.Shapes.{after-by}
 use Rattle.ec_machine_laws.specs.Answers.{Asking, Plainly, after_call, answers_to, first_of, none_yet, number_of, outcome_on}

@@ -19,7 +19,7 @@ use Rattle.ec_protocol.specs.declared.world.WorldFault.{WorldFault}
 use Rattle.ec_coherence.specs.System.{System}
 use Rattle.ec_coherence.proofs.Tables.{none_some, same_some}
 use Rattle.ec_lawful.specs.Calls.{AreOf}
-use Rattle.ec_lawful.specs.Drills.{IsFit}
+use Rattle.ec_lawful.specs.DrillRuns.{IsFit}
 use Rattle.ec_lawful.specs.Steps as steps
 use Rattle.ec_lawful.proofs.Frames.{forgotten-stands}
 use Rattle.ec_lawful.specs.Runs.{OfRun}

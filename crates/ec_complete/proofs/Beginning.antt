@@ -16,7 +16,8 @@ use Rattle.ec_quiet.specs.Scenes.{IsScene, Scene}
 use Rattle.ec_quiet.proofs.Bounded.{measure-most}
 use Rattle.ec_quiet.proofs.Delivering as delivering
 use Rattle.ec_quiet.specs.SettlingScenes.{here}
-use Rattle.ec_quiet.specs.Settling.{Counts, IsSettled}
+use Rattle.ec_quiet.specs.Settling.{IsSettled}
+use Rattle.ec_quiet.specs.SettlingCounts.{Counts}
 use Rattle.ec_quiet.proofs.Counting.{calls, pushes}
 use Rattle.ec_quiet.proofs.Mail.{few, pending-is}
 use Rattle.ec_quiet.proofs.Showing.{settled-lines}
@@ -24,7 +25,8 @@ use Rattle.ec_quiet.proofs.Ending.{ends}
 use Rattle.ec_deliveries.specs.Runs.{HasSettled}
 use Rattle.ec_deliveries.proofs.Lines.{line-settles}
 use Rattle.ec_deliveries.proofs.Settled.{stops}
-use Rattle.ec_complete.specs.Complete.{EachSettles, IsFaultless, IsFaultlessRead}
+use Rattle.ec_complete.specs.Complete.{IsFaultless, IsFaultlessRead}
+use Rattle.ec_complete.specs.SettledRuns.{EachSettles}
 use Rattle.ec_complete.specs.Begins.{Begins, EachBegins, IsBegun, RunsSettle, bound_for, most_sent}
 
 -- The first step of a line.

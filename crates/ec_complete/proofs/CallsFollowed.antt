@@ -28,7 +28,7 @@ use Rattle.ec_complete.specs.LineCalls.{IsCalled, LeavesVolume}
 use Rattle.ec_complete.proofs.May as may
 use Rattle.ec_complete.proofs.On.{calls-leave-kept}
 use Rattle.ec_complete.specs.Worlds.{IsCounted, Outset}
-use Rattle.ec_deliveries.specs.Behind.{IsBehind, Sees}
+use Rattle.ec_deliveries.specs.PhasesBehind.{IsBehind, Sees}
 use Rattle.ec_deliveries.proofs.Begun.{calls-begin}
 use Rattle.ec_deliveries.proofs.Seen.{shown-seen}
 use Rattle.ec_complete.specs.Following.{BeginsBehind, IsCountedIn, IsWorked}

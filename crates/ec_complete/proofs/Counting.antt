@@ -12,7 +12,8 @@ use Rattle.ec_history.specs.declared.entry.Entry.{Entry}
 use Rattle.ec_history.specs.declared.entry.Entry.TheVariants as entry
 use Rattle.ec_history.specs.declared.shown.Shown.{Shown}
 use Rattle.ec_history.specs.declared.shown.Shown.TheVariants as show
-use Rattle.ec_machine_laws.specs.Answers.{IsPlain, answers_in}
+use Rattle.ec_machine_laws.specs.Answers.{answers_in}
+use Rattle.ec_machine_laws.specs.PlainLines.{IsPlain}
 use Rattle.ec_machine_laws.proofs.Watching.{IsOne, stays-one, watch-push}
 use Rattle.ec_complete.specs.Ids.{operations_in}
 

@@ -21,7 +21,7 @@ use Rattle.ec_quiet.specs.Frames.{IsAsked}
 use Rattle.ec_machine_laws.specs.Counts as server
 use Rattle.ec_agreed_lines.specs.Counting as clerks
 use Rattle.ec_agreed_lines.specs.Counting.{sent_in}
-use Rattle.ec_quiet.specs.Settling as settling
+use Rattle.ec_quiet.specs.SettlingCounts as settling
 use Rattle.ec_quiet.proofs.Mail.{pending-is}
 use Rattle.ec_machine_laws.specs.Unspent as unspent
 use Rattle.ec_complete.specs.Worlds.{IsCounted, Outset}

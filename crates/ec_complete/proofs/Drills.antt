@@ -16,7 +16,8 @@ use Rattle.ec_protocol.specs.declared.world.World.{World}
 use Rattle.ec_coherence.proofs.Ids.{in-back}
 use Rattle.ec_coherence.proofs.Tables.{same}
 use Rattle.ec_lawful.specs.Headline.{placed_on}
-use Rattle.ec_lawful.specs.Drills.{AreFit, lines_in}
+use Rattle.ec_lawful.specs.Drills.{lines_in}
+use Rattle.ec_lawful.specs.DrillRuns.{AreFit}
 use Rattle.ec_deliveries.specs.Runs.{AllRun}
 use Rattle.ec_complete.specs.Complete.{IsFaultlessRead}
 use Rattle.ec_complete.specs.Goes.{LinesGoOn}
@@ -24,7 +25,7 @@ use Rattle.ec_complete.specs.Ready.{IsReady, OpeningsAreReady}
 use Rattle.ec_complete.specs.Worlds.{outset_of}
 use Rattle.ec_complete.proofs.Going.{lines-go-on}
 use Rattle.ec_complete.proofs.Opening.{openings-ready}
-use Rattle.ec_complete.specs.Pieces.{DrillsWriteBehind, WritesBehind}
+use Rattle.ec_complete.specs.RunsBehind.{DrillsWriteBehind, WritesBehind}
 use Rattle.ec_complete.proofs.RunsBehind.{runs-behind}
 
 -- each of a list is a member of it

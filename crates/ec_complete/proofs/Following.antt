@@ -7,7 +7,7 @@ use Rattle.ec_volume.specs.Volume.{Images, WellFormed}
 use Rattle.ec_history.specs.History.{Throughout}
 use Rattle.ec_history.specs.Placing.{place}
 use Rattle.ec_wire.specs.declared.msg.Msg.{Msg}
-use Rattle.ec_laws.specs.Placing.{IsNewId}
+use Rattle.ec_laws.specs.NewIds.{IsNewId}
 use Rattle.ec_lawful.proofs.News.{ids-new}
 use Rattle.ec_protocol.specs.Drill.{onward}
 use Rattle.ec_protocol.specs.World.{Moving, deliver, due, runs}
@@ -38,7 +38,7 @@ use Rattle.ec_deliveries.proofs.Led.{deliveries-lead-on}
 use Rattle.ec_deliveries.proofs.Spending.{deliveries-have-next}
 use Rattle.ec_complete.specs.Begins.{most_sent}
 use Rattle.ec_complete.specs.Worlds.{IsCounted, IsKnown, Outset}
-use Rattle.ec_deliveries.specs.Behind.{IsBehind, MaySee}
+use Rattle.ec_deliveries.specs.PhasesBehind.{IsBehind, MaySee}
 use Rattle.ec_agreed_lines.specs.Placed.{IsFollowed, WorksOn, WritesBehind}
 use Rattle.ec_agreed_lines.proofs.Followed.{writes-behind}
 use Rattle.ec_complete.specs.Following.{IsKnownOf}

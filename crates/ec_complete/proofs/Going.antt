@@ -6,7 +6,7 @@ use Rattle.ec_base.specs.Tables.{at}
 use Rattle.ec_volume.specs.Update.{member}
 use Rattle.ec_volume.specs.Volume.{Images}
 use Rattle.ec_history.specs.History.{Each}
-use Rattle.ec_plain.specs.Bounds.{is_bounded}
+use Rattle.ec_plain.specs.BoundedCalls.{is_bounded}
 use Rattle.ec_plain.specs.declared.call.Call.{Call}
 use Rattle.ec_protocol.specs.Drill.{clerk_in, line_happens, reads}
 use Rattle.ec_protocol.specs.World as world
@@ -15,7 +15,7 @@ use Rattle.ec_protocol.specs.declared.clerk.Clerk.{Clerk}
 use Rattle.ec_protocol.specs.declared.script.Line.{Line}
 use Rattle.ec_protocol.specs.declared.script.Line.TheVariants as line
 use Rattle.ec_protocol.specs.declared.world.World.{World}
-use Rattle.ec_lawful.specs.Drills.{IsFit}
+use Rattle.ec_lawful.specs.DrillRuns.{IsFit}
 use Rattle.ec_quiet.specs.Measure.{sum}
 use Rattle.ec_complete.specs.Complete.{IsFaultless}
 use Rattle.ec_complete.specs.Goes.{LinesGoOn, LinesGoThrough, PushGoes, PushesGo}

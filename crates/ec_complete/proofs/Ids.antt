@@ -4,7 +4,7 @@ use Rattle.ec_history.specs.declared.shown.Shown.{Shown}
 use Rattle.ec_history.specs.declared.shown.Shown.TheVariants as show
 use Rattle.ec_volume.specs.Volume.{Images}
 use Rattle.ec_lawful.specs.Headline.{placed_on}
-use Rattle.ec_machine_laws.specs.Answers.{asked_in, ids_from}
+use Rattle.ec_machine_laws.specs.PlainLines.{asked_in, ids_from}
 use Rattle.ec_complete.specs.Complete.{AreRising}
 
 module _ (v : Images) (top : ℕ) where

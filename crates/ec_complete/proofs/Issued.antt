@@ -24,9 +24,11 @@ use Rattle.ec_lawful.proofs.PlacesServe.{fronts-there}
 use Rattle.ec_lawful.specs.Steps.{Holds}
 use Rattle.ec_lawful.specs.Runs.{OfRun}
 use Rattle.ec_quiet.specs.Settling.{IsSettled}
-use Rattle.ec_machine_laws.specs.Answers.{IsPlain, answers_in, answers_to, asked_from, asked_in, ids_from, none_yet}
+use Rattle.ec_machine_laws.specs.Answers.{answers_in, answers_to, asked_from, none_yet}
+use Rattle.ec_machine_laws.specs.PlainLines.{IsPlain, asked_in, ids_from}
 use Rattle.ec_machine_laws.proofs.Answering.{answers}
-use Rattle.ec_complete.specs.Complete.{AreRising, HasRoom}
+use Rattle.ec_complete.specs.Complete.{AreRising}
+use Rattle.ec_complete.specs.SettledRuns.{HasRoom}
 use Rattle.ec_complete.proofs.Ids.{as-many, ids-rise}
 use Rattle.ec_complete.proofs.Plainness.{NoEnd, are-plain}
 use Rattle.ec_complete.specs.Ids.{AreAbove, operations_in}

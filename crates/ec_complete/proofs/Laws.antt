@@ -36,7 +36,7 @@ use Rattle.ec_quiet.specs.Bounds.{IsFirst, other_rows}
 use Rattle.ec_quiet.specs.SettlingScenes.{DeliveriesKeepScenes, EndsAreIdle, NothingIsDue}
 use Rattle.ec_machine_laws.specs.Counts as server
 use Rattle.ec_agreed_lines.specs.Counting as clerks
-use Rattle.ec_quiet.specs.Settling as settling
+use Rattle.ec_quiet.specs.SettlingCounts as settling
 use Rattle.ec_agreed_lines.specs.Lines.{CallsBegin}
 use Rattle.ec_quiet.specs.First.{PushesBegin, StartsGreet}
 use Rattle.ec_complete.specs.LineCalls.{CallsComeOn, CallsMayBegin, StartsComeOn}
@@ -44,7 +44,7 @@ use Rattle.ec_quiet.specs.Lines.{CallsAreCarriedOut, EndsKeepScenes}
 use Rattle.ec_deliveries.specs.Runs.{LinesSettle, LinesSettleOrEnd}
 use Rattle.ec_complete.specs.Quiet.{IdleWorldsAreQuiet}
 use Rattle.ec_machine_laws.specs.Unspent.{CallsSpendNothing}
-use Rattle.ec_complete.specs.Complete.{RunsThatSettleArePlain}
+use Rattle.ec_complete.specs.SettledRuns.{RunsThatSettleArePlain}
 use Rattle.ec_complete.specs.Worlds.{LinesCanGoOn, LinesCanSettle, LinesStayKnown}
 use Rattle.ec_machine_laws.proofs.Needing.{needed-touched}
 use Rattle.ec_lawful.proofs.Clerks.{clerks-keep-all}

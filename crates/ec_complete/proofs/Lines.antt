@@ -20,7 +20,7 @@ use Rattle.ec_protocol.specs.declared.world.World.{World}
 use Rattle.ec_coherence.proofs.Tables.{none_some}
 use Rattle.ec_coherence.specs.System.{System}
 use Rattle.ec_lawful.specs.Calls.{AreOf, IsOf}
-use Rattle.ec_lawful.specs.Drills.{IsFit}
+use Rattle.ec_lawful.specs.DrillRuns.{IsFit}
 use Rattle.ec_protocol.specs.Drill.{reads}
 use Rattle.ec_lawful.specs.Steps.{Holds, IsNewIn, StepsKeep}
 use Rattle.ec_lawful.proofs.CallsShown.{deliver-tells, event-tells}
@@ -30,7 +30,8 @@ use Rattle.ec_quiet.specs.SettlingScenes.{Reaches, here, on}
 use Rattle.ec_quiet.specs.Quiet.{IsIdle}
 use Rattle.ec_quiet.specs.Scenes.{IsScene, Scene}
 use Rattle.ec_complete.proofs.Quieting.{quiets}
-use Rattle.ec_machine_laws.specs.Answers.{asked_in, asking_in}
+use Rattle.ec_machine_laws.specs.Answers.{asking_in}
+use Rattle.ec_machine_laws.specs.PlainLines.{asked_in}
 use Rattle.ec_agreed_lines.specs.Answered.{IsAnswered, IsCalled, NoneCalls}
 use Rattle.ec_agreed_lines.proofs.Reaching.{calls-once, others-none}
 use Rattle.ec_deliveries.specs.Runs.{HasSettled}

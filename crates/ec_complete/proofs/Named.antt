@@ -10,7 +10,8 @@ use Rattle.ec_machine_laws.proofs.Once.{AreOnce, fewer}
 use Rattle.ec_protocol.specs.Drill.{Read, clerk_in, named_in, reads, unfit}
 use Rattle.ec_protocol.specs.declared.script.Line.{Line}
 use Rattle.ec_protocol.specs.declared.script.Line.TheVariants as line
-use Rattle.ec_lawful.specs.Drills.{AreFit, IsFit, lines_in}
+use Rattle.ec_lawful.specs.Drills.{lines_in}
+use Rattle.ec_lawful.specs.DrillRuns.{AreFit, IsFit}
 use Rattle.ec_machine_laws.specs.Answers.{none_yet}
 use Rattle.ec_complete.specs.Complete.{IsFaultless, IsFaultlessRead}
 use Rattle.ec_complete.proofs.Full.{below-in, numbers, numbers-long}

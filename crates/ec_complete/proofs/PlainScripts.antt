@@ -22,7 +22,8 @@ use Rattle.ec_protocol.specs.declared.server.Server.{Server}
 use Rattle.ec_protocol.specs.declared.world.Event.TheVariants as event
 use Rattle.ec_protocol.specs.declared.world.World.{World}
 use Rattle.ec_lawful.specs.Headline.{joined}
-use Rattle.ec_lawful.specs.Drills.{AreFit, IsFit, lines_in}
+use Rattle.ec_lawful.specs.Drills.{lines_in}
+use Rattle.ec_lawful.specs.DrillRuns.{AreFit, IsFit}
 use Rattle.ec_lawful.specs.Steps.{Holds, IsNewIn}
 use Rattle.ec_lawful.proofs.Events.{event-holds}
 use Rattle.ec_lawful.specs.Runs.{OfRun}
@@ -38,9 +39,11 @@ use Rattle.ec_quiet.proofs.Showing as settling
 use Rattle.ec_quiet.proofs.Ending.{ends}
 use Rattle.ec_deliveries.specs.Runs.{AllRun, HasSettled}
 use Rattle.ec_deliveries.proofs.Settled.{stops}
-use Rattle.ec_machine_laws.specs.Answers.{Asking, asked_from, asked_in, asking_in, none_yet}
+use Rattle.ec_machine_laws.specs.Answers.{Asking, asked_from, asking_in, none_yet}
+use Rattle.ec_machine_laws.specs.PlainLines.{asked_in}
 use Rattle.ec_complete.specs.Begins.{most_sent}
-use Rattle.ec_complete.specs.Complete.{EachSettles, HasRoom, IsComplete, IsFaultless, IsFaultlessRead}
+use Rattle.ec_complete.specs.Complete.{IsComplete, IsFaultless, IsFaultlessRead}
+use Rattle.ec_complete.specs.SettledRuns.{EachSettles, HasRoom}
 use Rattle.ec_complete.proofs.Lines as lines
 use Rattle.ec_complete.proofs.Plainness.{NoEnd}
 use Rattle.ec_complete.proofs.Runs.{completes}
@@ -54,7 +57,8 @@ use Rattle.ec_complete.proofs.Firsts.{calls-keep-room, pushes-keep-room}
 use Rattle.ec_complete.proofs.LinesHaveRoom.{lines-keep-room, same-scene}
 use Rattle.ec_complete.proofs.Showing as showing
 use Rattle.ec_complete.proofs.Stocks.{more-stock}
-use Rattle.ec_complete.specs.PlainScripts.{ArePushed, IsPlainScript, IsPushed, PlainScriptsAreComplete, behind_line, makes}
+use Rattle.ec_complete.specs.PlainScripts.{ArePushed, IsPlainScript, IsPushed, behind_line, makes}
+use Rattle.ec_complete.specs.PlainRuns.{PlainScriptsAreComplete}
 use Rattle.ec_complete.proofs.Folding.{asked-more, behind_lines, callers, callers-more, fold-more, in-back, in-front, issuers-call, makes-both, makes-more, makes-sum, makes_by, no-more, own-make, regroup}
 use Rattle.ec_complete.proofs.Fronts.{ahead, each-rest, front-no-end, joined-both, line-more}
 use Rattle.ec_complete.proofs.Issued.{has-issued, v}
@@ -63,7 +67,7 @@ use Rattle.ec_complete.proofs.NobodyRuns.{none-run, opens}
 
 asked-both : (ss ts : List Shown) → asked_in (ss ++ ts) ≡ asked_in ss ++ asked_in ts
 asked-both [] ts = refl
-asked-both (s ∷ ss) ts = ap (λ l. Rattle.ec_machine_laws.specs.Answers.answered_in s ++ l) (asked-both ss ts) ∙ sym (regroup (Rattle.ec_machine_laws.specs.Answers.answered_in s) (asked_in ss) (asked_in ts))
+asked-both (s ∷ ss) ts = ap (λ l. Rattle.ec_machine_laws.specs.PlainLines.answered_in s ++ l) (asked-both ss ts) ∙ sym (regroup (Rattle.ec_machine_laws.specs.PlainLines.answered_in s) (asked_in ss) (asked_in ts))
 
 -- each number of a list is in it
 all-members : (cs names : List ℕ) → ((c : ℕ) → T (member c cs) → T (member c names)) → Each (λ c. T (member c names)) cs

@@ -37,7 +37,7 @@ use Rattle.ec_agreed_lines.specs.Counting.{sent_in}
 use Rattle.ec_complete.specs.Lines.{IsOnLine}
 use Rattle.ec_quiet.specs.First.{HasFirst, IsPush}
 use Rattle.ec_quiet.proofs.Stepping.{nothing-fails}
-use Rattle.ec_quiet.specs.Settling.{Counts}
+use Rattle.ec_quiet.specs.SettlingCounts.{Counts}
 use Rattle.ec_complete.specs.Worlds.{IsCounted, IsKnown, Outset}
 use Rattle.ec_complete.specs.Goes.{IsStarted}
 use Rattle.ec_complete.specs.Ready.{IsReady, calls_of}

@@ -16,7 +16,8 @@ use Rattle.ec_protocol.specs.declared.server.Server.{Server}
 use Rattle.ec_protocol.specs.declared.world.World.{World}
 use Rattle.ec_lawful.proofs.Volumes.{volumes-have-greatest}
 use Rattle.ec_lawful.proofs.Frames.{forgotten-stands}
-use Rattle.ec_lawful.specs.Drills.{AreFit, IsFit, lines_in}
+use Rattle.ec_lawful.specs.Drills.{lines_in}
+use Rattle.ec_lawful.specs.DrillRuns.{AreFit, IsFit}
 use Rattle.ec_lawful.proofs.Drills.{drills-on}
 use Rattle.ec_lawful.specs.Headline.{AreLawful, IsGreatest, joined, placed_on}
 use Rattle.ec_lawful.specs.Runs.{RunShows}
@@ -29,9 +30,11 @@ use Rattle.ec_quiet.specs.Quiet.{IsIdle}
 use Rattle.ec_quiet.specs.Scenes.{IsScene, Scene}
 use Rattle.ec_quiet.specs.Settling.{IsSettled}
 use Rattle.ec_quiet.proofs.Showing.{both}
-use Rattle.ec_machine_laws.specs.Answers.{Asking, answers_in, asked_from, asked_in, asking_in, ids_from, none_yet}
+use Rattle.ec_machine_laws.specs.Answers.{Asking, answers_in, asked_from, asking_in, none_yet}
+use Rattle.ec_machine_laws.specs.PlainLines.{asked_in, ids_from}
 use Rattle.ec_machine_laws.proofs.Answering.{answers}
-use Rattle.ec_complete.specs.Complete.{EachSettles, HasRoom, IsComplete, IsFaultless, IsFaultlessRead}
+use Rattle.ec_complete.specs.Complete.{IsComplete, IsFaultless, IsFaultlessRead}
+use Rattle.ec_complete.specs.SettledRuns.{EachSettles, HasRoom}
 use Rattle.ec_complete.proofs.Ends.{no-ends}
 use Rattle.ec_complete.proofs.Ids.{as-many, ids-rise}
 use Rattle.ec_complete.proofs.Lines as lines
@@ -48,7 +51,7 @@ regroup (x ∷ xs) ys zs = ap (λ l. x ∷ l) (regroup xs ys zs)
 
 asked-both : (ss ts : List Shown) → asked_in (ss ++ ts) ≡ asked_in ss ++ asked_in ts
 asked-both [] ts = refl
-asked-both (s ∷ ss) ts = ap (λ l. Rattle.ec_machine_laws.specs.Answers.answered_in s ++ l) (asked-both ss ts) ∙ sym (regroup (Rattle.ec_machine_laws.specs.Answers.answered_in s) (asked_in ss) (asked_in ts))
+asked-both (s ∷ ss) ts = ap (λ l. Rattle.ec_machine_laws.specs.PlainLines.answered_in s ++ l) (asked-both ss ts) ∙ sym (regroup (Rattle.ec_machine_laws.specs.PlainLines.answered_in s) (asked_in ss) (asked_in ts))
 
 same-joined : (ps : List (List Shown)) → drills.joined ps ≡ joined ps
 same-joined [] = refl
@@ -156,7 +159,7 @@ module _ (d : Durable) (formed : WellFormed d) (sixteen : length d.sessions ≡ 
   drill-is = ap (drill_in ls fs) opened ∙ ap (λ (r : Ran). (drills.joined r.pieces ++ last_line r.ending, status r.ending)) closes ∙ ap (λ e. (drills.joined ran.pieces ++ last_line e, status e)) ran-well.0
       ∙ ap (λ l. (l, 0)) (no-more (drills.joined ran.pieces) ∙ same-joined ran.pieces)
 
-  closed : Rattle.ec_lawful.specs.Drills.Closed (lines.G d formed sixteen gone) [] [] ls (close ran.ending ran)
+  closed : Rattle.ec_lawful.specs.DrillRuns.Closed (lines.G d formed sixteen gone) [] [] ls (close ran.ending ran)
   closed = drills-on (lines.G d formed sixteen gone) (kept-by d formed sixteen gone) ls fs w (opened-holds d formed sixteen gone w opened) (no-calls d formed sixteen gone w opened) (no-lines d formed sixteen gone w opened) fit
 
   world-shown : ran.world.shown ≡ ss
@@ -185,7 +188,7 @@ module _ (d : Durable) (formed : WellFormed d) (sixteen : length d.sessions ≡ 
   all-asked = ap asked_in (sym world-shown) ∙ sym (no-more (asked_in ran.world.shown)) ∙ ran-well.1.asked
 
   module _ (room : EachLine HasRoom (drill ls fs d).0) where
-    plain : EachLine Rattle.ec_machine_laws.specs.Answers.IsPlain ss
+    plain : EachLine Rattle.ec_machine_laws.specs.PlainLines.IsPlain ss
     plain = are-plain base d.max_objects ss lawful.placed lawful.history all-settled (subst (λ (r : List Shown × ℕ). EachLine HasRoom r.0) drill-is room)
         (no-ends shows.lines ran.pieces (subst (Each IsFaultless) (sym shows.front) (each-front (length shows.lines) (lines_in ls) (faultless-lines ls faultless))) shows.ends)
 

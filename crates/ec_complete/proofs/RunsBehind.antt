@@ -13,7 +13,8 @@ use Rattle.ec_protocol.specs.declared.script.Line.{Line}
 use Rattle.ec_protocol.specs.declared.world.World.{World}
 use Rattle.ec_protocol.specs.declared.world.WorldFault.{WorldFault}
 use Rattle.ec_lawful.specs.Headline.{placed_on}
-use Rattle.ec_lawful.specs.Drills.{AreFit, lines_in}
+use Rattle.ec_lawful.specs.Drills.{lines_in}
+use Rattle.ec_lawful.specs.DrillRuns.{AreFit}
 use Rattle.ec_quiet.proofs.Ending as ending
 use Rattle.ec_deliveries.specs.Runs.{AllRun, HasEnded, HasSettled}
 use Rattle.ec_deliveries.proofs.Running.{settles-alike}
@@ -23,7 +24,8 @@ use Rattle.ec_complete.specs.Goes.{GoesOn, LinesGoOn}
 use Rattle.ec_complete.specs.Worlds.{Outset}
 use Rattle.ec_complete.specs.Ready.{IsReady}
 use Rattle.ec_complete.specs.Scripts.{AreNamed}
-use Rattle.ec_complete.specs.Pieces.{ArePiecesBehind, WritesBehind}
+use Rattle.ec_complete.specs.Pieces.{ArePiecesBehind}
+use Rattle.ec_complete.specs.RunsBehind.{WritesBehind}
 use Rattle.ec_complete.proofs.Begins.{goes-behind}
 use Rattle.ec_complete.proofs.Line.{IsAtWorkOrIdle, IsBehindIn, line-behind, line-ended}
 

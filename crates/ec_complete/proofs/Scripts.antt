@@ -8,9 +8,10 @@ use Rattle.ec_durable.specs.Durable.{formatted}
 use Rattle.ec_protocol.specs.Drill.{Read, clerk_in, line_happens, named_in, reads, settle, unfit}
 use Rattle.ec_protocol.specs.World.{forget, runs}
 use Rattle.ec_protocol.specs.declared.world.World.{World}
-use Rattle.ec_lawful.specs.Drills.{AreFit}
+use Rattle.ec_lawful.specs.DrillRuns.{AreFit}
 use Rattle.ec_complete.specs.Begins.{EachBegins, bound_for}
-use Rattle.ec_complete.specs.Complete.{EachSettles, IsFaultlessRead}
+use Rattle.ec_complete.specs.Complete.{IsFaultlessRead}
+use Rattle.ec_complete.specs.SettledRuns.{EachSettles}
 use Rattle.ec_complete.specs.Goes.{GoesThrough}
 use Rattle.ec_complete.specs.Ready.{IsReady}
 use Rattle.ec_complete.specs.Worlds.{new_outset}

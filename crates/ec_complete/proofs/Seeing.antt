@@ -39,7 +39,7 @@ use Rattle.ec_agreed_lines.proofs.Seen.{scenes-seen}
 use Rattle.ec_complete.specs.WaitingCalls.{IsAgreed, kept_volume}
 use Rattle.ec_complete.specs.Lines.{IsOnLine}
 use Rattle.ec_complete.proofs.Taking.{agreed-midst, runs-in}
-use Rattle.ec_deliveries.specs.Behind.{MaySee, Sees}
+use Rattle.ec_deliveries.specs.PhasesBehind.{MaySee, Sees}
 use Rattle.ec_deliveries.proofs.Seen.{shown-seen}
 use Rattle.ec_complete.specs.Following.{IsWorked}
 use Rattle.ec_complete.proofs.Sent.{messages-sent}

@@ -23,7 +23,8 @@ use Rattle.ec_quiet.specs.Scenes.{IsScene, Scene}
 use Rattle.ec_quiet.specs.Works.{Work}
 use Rattle.ec_quiet.specs.Bounds.{IsFirst}
 use Rattle.ec_quiet.specs.SettlingScenes.{here}
-use Rattle.ec_quiet.specs.Settling.{Counts, IsSettled}
+use Rattle.ec_quiet.specs.Settling.{IsSettled}
+use Rattle.ec_quiet.specs.SettlingCounts.{Counts}
 use Rattle.ec_quiet.proofs.Mail.{few, pending-is}
 use Rattle.ec_deliveries.specs.Runs.{HasEnded, HasSettled}
 use Rattle.ec_complete.specs.Begins.{IsBegun, bound_for, most_sent}

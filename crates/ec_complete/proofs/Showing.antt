@@ -28,7 +28,7 @@ use Rattle.ec_protocol.specs.declared.world.Sent.{Sent}
 use Rattle.ec_protocol.specs.declared.world.World.{World}
 use Rattle.ec_protocol.specs.declared.world.WorldFault.TheVariants as fault
 use Rattle.ec_coherence.proofs.Lists.{each-more}
-use Rattle.ec_complete.specs.Complete.{HasRoom}
+use Rattle.ec_complete.specs.SettledRuns.{HasRoom}
 use Rattle.ec_complete.specs.Rooms.{HasRoomIn}
 
 abbrev Room : List Shown → Type 0

@@ -7,7 +7,7 @@ use Rattle.ec_volume.specs.Volume.{after}
 use Rattle.ec_volume.specs.declared.image.Image.{Image}
 use Rattle.ec_volume.specs.declared.image.Image.TheVariants.{Gone}
 use Rattle.ec_history.specs.History.{Each, updates}
-use Rattle.ec_plain.specs.Bounds.{is_bounded}
+use Rattle.ec_plain.specs.BoundedCalls.{is_bounded}
 use Rattle.ec_resolve.specs.Agreement.{Shows}
 use Rattle.ec_protocol.specs.Clerk.{first_id}
 use Rattle.ec_protocol.specs.declared.clerk.Clerk.{Clerk}

@@ -27,7 +27,7 @@ use Rattle.ec_agreed_lines.proofs.Seen.{clerk-there, scenes-seen}
 use Rattle.ec_complete.specs.Lines.{IsOnLine, next_given, next_object}
 use Rattle.ec_complete.proofs.Taking.{runs-in}
 use Rattle.ec_complete.proofs.Standing.{own}
-use Rattle.ec_deliveries.specs.Scripts.{LeaveOut}
+use Rattle.ec_deliveries.specs.ScriptWorks.{LeaveOut}
 
 -- an id above all of a list is none of it
 above-all : (n x : ℕ) (P : ℕ → Type 0) (ys : List ℕ) → n ≤ x → Each (λ y. (y < n) × P y) ys → T (not (member x ys))

@@ -11,7 +11,8 @@ use Rattle.ec_quiet.specs.Works.{Work}
 use Rattle.ec_quiet.specs.Bounds.{other_rows}
 use Rattle.ec_quiet.specs.First.{HasFirst}
 use Rattle.ec_deliveries.specs.Runs.{CanSettle}
-use Rattle.ec_complete.specs.Complete.{EachSettles, IsFaultlessRead}
+use Rattle.ec_complete.specs.Complete.{IsFaultlessRead}
+use Rattle.ec_complete.specs.SettledRuns.{EachSettles}
 
 -- so many messages are far below the limits of counters
 abbrev pub most_sent : ℕ

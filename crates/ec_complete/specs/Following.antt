@@ -32,8 +32,8 @@ use Rattle.ec_complete.specs.Spare.{max_calls}
 use Rattle.ec_complete.specs.Begins.{most_sent}
 use Rattle.ec_complete.specs.Worlds.{IsCounted, IsKnown, Outset}
 use Rattle.ec_lawful.specs.Headline.{placed_on}
-use Rattle.ec_deliveries.specs.Behind.{IsBehind, MaySee, saved}
-use Rattle.ec_deliveries.specs.Scripts.{IsWorkOn}
+use Rattle.ec_deliveries.specs.PhasesBehind.{IsBehind, MaySee, saved}
+use Rattle.ec_deliveries.specs.ScriptWorks.{IsWorkOn}
 use Rattle.ec_agreed_lines.specs.Placed.{IsFollowed, WritesBehind}
 
 -- the clerk's task isn't done yet: its call waits, or an operation is pushed

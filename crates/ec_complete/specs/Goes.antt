@@ -14,7 +14,7 @@ use Rattle.ec_protocol.specs.declared.script.Line.TheVariants as line
 use Rattle.ec_protocol.specs.declared.world.World.{World}
 use Rattle.ec_protocol.specs.declared.world.WorldFault.{WorldFault}
 use Rattle.ec_coherence.specs.System.{System}
-use Rattle.ec_lawful.specs.Drills.{IsFit}
+use Rattle.ec_lawful.specs.DrillRuns.{IsFit}
 use Rattle.ec_lawful.specs.Steps.{IsNewIn}
 use Rattle.ec_quiet.specs.Scenes.{IsScene, Scene}
 use Rattle.ec_quiet.specs.Works.{Work}

@@ -6,6 +6,7 @@ pub mod Spare
 pub mod FirstSteps
 pub mod LineCalls
 pub mod Complete
+pub mod SettledRuns
 pub mod Begins
 pub mod Worlds
 pub mod Ids
@@ -16,4 +17,6 @@ pub mod Ready
 pub mod Goes
 pub mod Scripts
 pub mod Pieces
+pub mod RunsBehind
 pub mod PlainScripts
+pub mod PlainRuns

@@ -4,15 +4,13 @@ use Rattle.ec_base.specs.Tables.{once}
 use Rattle.ec_history.specs.History.{Each}
 use Rattle.ec_volume.specs.Volume.{Images, images}
 use Rattle.ec_durable.specs.Durable.{formatted}
-use Rattle.ec_durable.specs.WellFormed.{WellFormed}
-use Rattle.ec_protocol.specs.Drill.{Fates, Read, drill, named_in}
+use Rattle.ec_protocol.specs.Drill.{Read, named_in}
 use Rattle.ec_protocol.specs.declared.script.Line.{Line}
 use Rattle.ec_protocol.specs.declared.script.Line.TheVariants as line
 use Rattle.ec_lawful.specs.Creates.{creates}
-use Rattle.ec_lawful.specs.Drills.{AreFit, lines_in}
-use Rattle.ec_deliveries.specs.Runs.{AllRun}
+use Rattle.ec_lawful.specs.Drills.{lines_in}
 use Rattle.ec_machine_laws.specs.Answers.{Plainly, after_call, none_yet, outcome_on}
-use Rattle.ec_complete.specs.Complete.{IsComplete, IsFaultlessRead}
+use Rattle.ec_complete.specs.Complete.{IsFaultlessRead}
 use Rattle.ec_base.specs.Bools.{one_if}
 
 -- Pushes.
@@ -50,8 +48,3 @@ pub record IsPlainScript (most : ℕ) (ls : List Read) : Type 0 where
   pub faultless : Each IsFaultlessRead ls
   pub pushes : ArePushed (images (formatted most).volume) 1 1 none_yet (lines_in ls)
   pub room : makes (lines_in ls) + 16 * length (once (named_in ls)) + 1 ≤ most
-
--- On a new disk, which runs in each step, such a script of at most 65,536 lines comes to its end, settles, and has the plain answers.
-abbrev pub PlainScriptsAreComplete : Type 0
-PlainScriptsAreComplete = (most : ℕ) (ls : List Read) (fs : List Fates) → WellFormed (formatted most) → length ls ≤ 65536 → AreFit ls → Each AllRun fs → IsPlainScript most ls
-    → IsComplete (images (formatted most).volume) (lines_in ls) (drill ls fs (formatted most)).0 (drill ls fs (formatted most)).1

@@ -23,7 +23,7 @@ use Rattle.ec_quiet.specs.Works.{Work}
 use Rattle.ec_quiet.specs.SettlingScenes.{Reaches}
 use Rattle.ec_complete.specs.Spare.{AreGiven, max_calls}
 use Rattle.ec_complete.specs.Begins.{most_sent}
-use Rattle.ec_complete.specs.Complete.{HasRoom}
+use Rattle.ec_complete.specs.SettledRuns.{HasRoom}
 use Rattle.ec_complete.specs.Worlds.{IsKnown, new_outset}
 use Rattle.ec_complete.specs.Rooms.{GrantsRoom, IsStocked}
 use Rattle.ec_base.specs.Bools.{one_if}

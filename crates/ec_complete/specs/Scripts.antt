@@ -10,10 +10,12 @@ use Rattle.ec_durable.specs.WellFormed.{WellFormed}
 use Rattle.ec_protocol.specs.Drill.{Fates, Read, bound, drill, line_happens, named_in, reads, settle, unfit}
 use Rattle.ec_protocol.specs.World.{forget, open_world, runs}
 use Rattle.ec_protocol.specs.declared.world.World.{World}
-use Rattle.ec_lawful.specs.Drills.{AreFit, lines_in}
+use Rattle.ec_lawful.specs.Drills.{lines_in}
+use Rattle.ec_lawful.specs.DrillRuns.{AreFit}
 use Rattle.ec_deliveries.specs.Runs.{AllRun}
 use Rattle.ec_complete.specs.Begins.{EachBegins, bound_for}
-use Rattle.ec_complete.specs.Complete.{EachSettles, HasRoom, IsComplete, IsFaultlessRead}
+use Rattle.ec_complete.specs.Complete.{IsComplete, IsFaultlessRead}
+use Rattle.ec_complete.specs.SettledRuns.{EachSettles, HasRoom}
 use Rattle.ec_complete.specs.Goes.{GoesThrough, PushGoes}
 use Rattle.ec_complete.specs.Ready.{IsReady}
 use Rattle.ec_complete.specs.Worlds.{new_outset}

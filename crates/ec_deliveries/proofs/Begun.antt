@@ -13,7 +13,7 @@ use Rattle.ec_quiet.specs.Quiet.{IsIdle}
 use Rattle.ec_quiet.specs.Scenes.{Mail, Scene, done_by}
 use Rattle.ec_quiet.specs.Works.{Pushes, Work}
 use Rattle.ec_quiet.specs.Goes.{MayGo}
-use Rattle.ec_deliveries.specs.Behind.{BatchesAreAsked, IsBehind, Sees, saved}
+use Rattle.ec_deliveries.specs.PhasesBehind.{BatchesAreAsked, IsBehind, Sees, saved}
 use Rattle.ec_deliveries.proofs.Moved.{may-step, stepped}
 use Rattle.ec_deliveries.proofs.Picked.{none-fine}
 use Rattle.ec_deliveries.proofs.Stepped.{call-picks, nothing-steps, push-steps}

@@ -11,7 +11,7 @@ use Rattle.ec_quiet.specs.Works.{Work}
 use Rattle.ec_quiet.specs.Goes.{MayGo}
 use Rattle.ec_quiet.specs.Takings.{taking}
 use Rattle.ec_quiet.proofs.Begun as begun
-use Rattle.ec_deliveries.specs.Behind.{IsBehind, Sees}
+use Rattle.ec_deliveries.specs.PhasesBehind.{IsBehind, Sees}
 use Rattle.ec_deliveries.proofs.Moved.{by-taken, may-step, to-clerk}
 
 module _ (v : Images) (j : Work) (sc : Scene) (fine : IsBehind v j sc) where

@@ -16,7 +16,8 @@ use Rattle.ec_base.specs.Tables.{Table}
 use Rattle.ec_base.specs.declared.ids.Hold.{Hold}
 use Rattle.ec_history.specs.History.{Each}
 use Rattle.ec_sessions.specs.declared.slot.Slot.{Slot}
-use Rattle.ec_tokens.specs.Tokens.{Holder, Row, Tokens, IsSound, conflicts, holders, is_conflict, token}
+use Rattle.ec_tokens.specs.Tokens.{Holder, Row, Tokens, conflicts, holders, is_conflict, token}
+use Rattle.ec_tokens.specs.SoundTokens.{IsSound}
 use Rattle.ec_tokens.specs.declared.token.Token.{Token}
 use Rattle.ec_durable.specs.Durable.{slot}
 use Rattle.ec_protocol.specs.declared.clerk.Clerk.{Clerk}

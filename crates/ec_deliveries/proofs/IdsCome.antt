@@ -12,7 +12,7 @@ use Rattle.ec_quiet.specs.Scenes.{Mail, Scene, delivered}
 use Rattle.ec_quiet.specs.Works.{Work}
 use Rattle.ec_quiet.specs.Goes.{MayGo}
 use Rattle.ec_quiet.proofs.Begun as begun
-use Rattle.ec_deliveries.specs.Behind.{IsBehind}
+use Rattle.ec_deliveries.specs.PhasesBehind.{IsBehind}
 use Rattle.ec_deliveries.proofs.Moved.{by-taken, may-step, to-clerk, unsaving}
 
 module _ (v : Images) (j : Work) (sc : Scene) (fine : IsBehind v j sc) where

@@ -11,7 +11,8 @@ use Rattle.ec_sessions.specs.Slots.{run}
 use Rattle.ec_sessions.specs.Slots as slots
 use Rattle.ec_sessions.specs.declared.slot.Slot.{Slot}
 use Rattle.ec_tokens.specs.Laws.{sound_granted, token-granted}
-use Rattle.ec_tokens.specs.Tokens.{Tokens, IsSound, token, is_clear, granted}
+use Rattle.ec_tokens.specs.Tokens.{Tokens, token, is_clear, granted}
+use Rattle.ec_tokens.specs.SoundTokens.{IsSound}
 use Rattle.ec_tokens.specs.declared.token.Token.{Token}
 use Rattle.ec_wire.specs.declared.msg.Msg.{Msg}
 use Rattle.ec_wire.specs.declared.msg.Msg.TheVariants as msg

@@ -15,7 +15,7 @@ use Rattle.ec_quiet.specs.Scenes.{Mail, Scene, delivered}
 use Rattle.ec_quiet.specs.Works.{Work}
 use Rattle.ec_deliveries.proofs.Recalling as recalling
 use Rattle.ec_deliveries.proofs.Saving.{none-left}
-use Rattle.ec_deliveries.specs.Behind.{BatchesAreAsked, IsBehind}
+use Rattle.ec_deliveries.specs.PhasesBehind.{BatchesAreAsked, IsBehind}
 use Rattle.ec_deliveries.proofs.Picked.{none-fine}
 use Rattle.ec_deliveries.proofs.Stepped.{recall-steps}
 use Rattle.ec_deliveries.proofs.Moved.{to-clerk}

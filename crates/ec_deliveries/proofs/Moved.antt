@@ -12,7 +12,7 @@ use Rattle.ec_quiet.specs.Works.{Work, asked, is_saving}
 use Rattle.ec_quiet.specs.Goes.{MayGo}
 use Rattle.ec_quiet.proofs.Beside.{other-at, own-at}
 use Rattle.ec_quiet.proofs.Going.{asked-saves}
-use Rattle.ec_deliveries.specs.Behind.{BatchesAreAsked, IsBehind, Sees}
+use Rattle.ec_deliveries.specs.PhasesBehind.{BatchesAreAsked, IsBehind, Sees}
 use Rattle.ec_deliveries.proofs.Stepped.{call-steps}
 
 -- A call that may go, and sees what it saves.

@@ -16,7 +16,7 @@ use Rattle.ec_protocol.specs.declared.clerk.Waiting.{Waiting}
 use Rattle.ec_quiet.specs.Phases.{Opens, InPhase, IsStarting, Lacking}
 use Rattle.ec_quiet.specs.Scenes.{Mail, Scene, delivered}
 use Rattle.ec_quiet.specs.Works.{HasTask, IsDone, Calls, Work, asked_in}
-use Rattle.ec_deliveries.specs.Behind.{BatchesAreAsked, IsBehind}
+use Rattle.ec_deliveries.specs.PhasesBehind.{BatchesAreAsked, IsBehind}
 use Rattle.ec_deliveries.proofs.Picked.{none-fine}
 use Rattle.ec_deliveries.proofs.Stepped.{call-steps, nothing-steps}
 use Rattle.ec_deliveries.proofs.Moved.{to-clerk}

@@ -16,7 +16,8 @@ use Rattle.ec_sessions.specs.Slots as slots
 use Rattle.ec_sessions.specs.Windows.{after_mark}
 use Rattle.ec_sessions.specs.declared.slot.Slot.{Slot}
 use Rattle.ec_tokens.specs.Laws.{sound_granted, sound_lowered, token-granted}
-use Rattle.ec_tokens.specs.Tokens.{Tokens, token, is_clear, fits_back, granted, IsSound}
+use Rattle.ec_tokens.specs.Tokens.{Tokens, token, is_clear, fits_back, granted}
+use Rattle.ec_tokens.specs.SoundTokens.{IsSound}
 use Rattle.ec_tokens.specs.declared.token.Token.{Token}
 use Rattle.ec_recall.specs.declared.want.Want.{Want}
 use Rattle.ec_durable.specs.Durable.{step, slot}

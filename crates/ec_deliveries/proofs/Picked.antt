@@ -20,7 +20,7 @@ use Rattle.ec_log.specs.declared.state.Pick.TheVariants.{Batch, Behind, Window}
 use Rattle.ec_protocol.specs.Clerk.{Doing, ask_for, send_picked, spend}
 use Rattle.ec_quiet.specs.Works.{Work}
 use Rattle.ec_quiet.specs.Tries.{batch_sent}
-use Rattle.ec_deliveries.specs.Behind.{AreAsked, AsksOf, BatchesAreAsked}
+use Rattle.ec_deliveries.specs.PhasesBehind.{AreAsked, AsksOf, BatchesAreAsked}
 
 pub each-turn : {A : Type 0} (P Q : A → Type 0) → ((x : A) → P x → Q x) → (xs : List A) → Each P xs → Each Q xs
 each-turn P Q f [] e = tt

@@ -14,7 +14,7 @@ use Rattle.ec_quiet.specs.Phases.{Recalls, InPhase, IsNoted, recall_of}
 use Rattle.ec_quiet.specs.Scenes.{Mail, Scene, delivered}
 use Rattle.ec_quiet.specs.Works.{Work}
 use Rattle.ec_deliveries.proofs.Recalling as recalling
-use Rattle.ec_deliveries.specs.Behind.{BatchesAreAsked, IsBehind}
+use Rattle.ec_deliveries.specs.PhasesBehind.{BatchesAreAsked, IsBehind}
 use Rattle.ec_deliveries.proofs.Stepped.{nothing-steps, recall-steps}
 use Rattle.ec_deliveries.proofs.Moved.{to-clerk}
 use Rattle.ec_sessions.specs.declared.slot.Slot.{Slot}

@@ -9,7 +9,8 @@ use Rattle.ec_base.specs.declared.ids.Hold.{Hold}
 use Rattle.ec_base.specs.declared.ids.Hold.TheVariants.{Free, Read, Write}
 use Rattle.ec_history.specs.History.{Each}
 use Rattle.ec_sessions.specs.declared.slot.Slot.{Slot}
-use Rattle.ec_tokens.specs.Tokens.{Holder, IsSound, conflicts, token}
+use Rattle.ec_tokens.specs.Tokens.{Holder, conflicts, token}
+use Rattle.ec_tokens.specs.SoundTokens.{IsSound}
 use Rattle.ec_recall.specs.Due.{recall_to}
 use Rattle.ec_wire.specs.declared.msg.Msg.{Msg}
 use Rattle.ec_wire.specs.declared.msg.Msg.TheVariants.{Back, Flush, Recall}

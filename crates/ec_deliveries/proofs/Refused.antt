@@ -12,7 +12,7 @@ use Rattle.ec_quiet.specs.Scenes.{Mail, Scene, delivered}
 use Rattle.ec_quiet.specs.Works.{Work, asked}
 use Rattle.ec_quiet.specs.Goes.{MayGo}
 use Rattle.ec_deliveries.specs.Deliveries.{unasking}
-use Rattle.ec_deliveries.specs.Behind.{BatchesAreAsked, IsBehind}
+use Rattle.ec_deliveries.specs.PhasesBehind.{BatchesAreAsked, IsBehind}
 use Rattle.ec_deliveries.proofs.Stepped.{call-steps, nothing-steps}
 use Rattle.ec_deliveries.proofs.Moved.{by-taken, to-clerk, unsaving}
 

@@ -11,7 +11,8 @@ use Rattle.ec_base.specs.SortedLaws.{first as one, second}
 use Rattle.ec_base.specs.declared.ids.Hold.{Hold}
 use Rattle.ec_base.specs.declared.ids.Hold.TheVariants.{Free, Read, Write}
 use Rattle.ec_tokens.specs.Laws.{holder_has}
-use Rattle.ec_tokens.specs.Tokens.{Tokens, Holder, IsSound, token, holders, held_by, is_conflict, conflicts, fits_back, lowered}
+use Rattle.ec_tokens.specs.Tokens.{Tokens, Holder, token, holders, held_by, is_conflict, conflicts, fits_back, lowered}
+use Rattle.ec_tokens.specs.SoundTokens.{IsSound}
 use Rattle.ec_tokens.specs.declared.token.Token.{Token}
 use Rattle.ec_recall.specs.Due.{recall_to}
 use Rattle.ec_machine_laws.proofs.Rows.{conflicts-lowered}

@@ -12,7 +12,7 @@ use Rattle.ec_quiet.specs.Works.{HasTask, Task, Calls, Pushes, Work}
 use Rattle.ec_quiet.proofs.Begun as begun
 use Rattle.ec_deliveries.specs.Deliveries.{MaySave, having_kept}
 use Rattle.ec_deliveries.proofs.Saving.{none-left}
-use Rattle.ec_deliveries.specs.Behind.{BatchesAreAsked, IsBehind, Sees, saved}
+use Rattle.ec_deliveries.specs.PhasesBehind.{BatchesAreAsked, IsBehind, Sees, saved}
 use Rattle.ec_deliveries.proofs.Picked.{none-fine}
 use Rattle.ec_deliveries.proofs.Stepped.{push-steps}
 use Rattle.ec_deliveries.proofs.Moved.{by-taken, may-step, to-clerk}

@@ -25,7 +25,8 @@ use Rattle.ec_resolve.proofs.Settled.{done-comes}
 use Rattle.ec_protocol.specs.Clerk.{awaited, first_id, last_of, on_object, verdict}
 use Rattle.ec_protocol.specs.declared.clerk.Clerk.{Clerk}
 use Rattle.ec_quiet.specs.Works.{Task, Calls, Pushes, Work, asked, asked_in}
-use Rattle.ec_deliveries.specs.Behind.{Sees, saved, saved_by}
+use Rattle.ec_deliveries.specs.Behind.{saved_by}
+use Rattle.ec_deliveries.specs.PhasesBehind.{Sees, saved}
 
 none-some : {A B : Type 0} (x : A) → ◌≡◌ {A = Option A} None (Some x) → B
 none-some {A} x e = absurd (apart e)

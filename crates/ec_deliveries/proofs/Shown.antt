@@ -24,7 +24,7 @@ use Rattle.ec_quiet.specs.Works.{Work}
 use Rattle.ec_machine_laws.proofs.Holding.{held-by, holds-passed}
 use Rattle.ec_deliveries.specs.Coming.{IsBatchOf, IsLineOf}
 use Rattle.ec_deliveries.proofs.Batched.{lines-of-phases}
-use Rattle.ec_deliveries.specs.Behind.{AreAsked, BatchesAreAsked, IsBehind, IsLineBehind}
+use Rattle.ec_deliveries.specs.PhasesBehind.{AreAsked, BatchesAreAsked, IsBehind, IsLineBehind}
 use Rattle.ec_deliveries.proofs.Picked.{each-turn}
 
 -- The operations of the one batch that is under way are those of its numbers.

@@ -11,7 +11,7 @@ use Rattle.ec_quiet.proofs.Beside.{main-more}
 use Rattle.ec_deliveries.specs.Deliveries.{MayTake}
 use Rattle.ec_deliveries.proofs.Recalling as recalling
 use Rattle.ec_deliveries.specs.Leading.{CanTake}
-use Rattle.ec_deliveries.specs.Behind.{IsBehind, MaySee}
+use Rattle.ec_deliveries.specs.PhasesBehind.{IsBehind, MaySee}
 use Rattle.ec_deliveries.proofs.IdsCome.{gives}
 use Rattle.ec_deliveries.proofs.Granted.{grants}
 use Rattle.ec_deliveries.proofs.Kept.{keeps}

@@ -15,7 +15,7 @@ use Rattle.ec_protocol.specs.declared.clerk.Waiting.{Waiting}
 use Rattle.ec_quiet.specs.Works.{Calls, Work, asked}
 use Rattle.ec_quiet.specs.Tries.{left_by, push_tried, recall_tried, without_pushes, without_recalls}
 use Rattle.ec_quiet.proofs.Steps.{prepared, push-alone, recall-alone, tries-none, tries-one}
-use Rattle.ec_deliveries.specs.Behind.{AsksOf, BatchesAreAsked}
+use Rattle.ec_deliveries.specs.PhasesBehind.{AsksOf, BatchesAreAsked}
 use Rattle.ec_deliveries.proofs.Picked.{asked-fine, none-fine}
 use Rattle.ec_deliveries.proofs.Tried.{Picks, Stays, evict-log, tried}
 

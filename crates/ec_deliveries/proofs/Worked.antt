@@ -22,12 +22,15 @@ use Rattle.ec_machine_laws.proofs.Holding.{held-by, holds-front, holds-passed}
 use Rattle.ec_protocol.specs.declared.script.Line.{Line}
 use Rattle.ec_protocol.specs.declared.script.Line.TheVariants as line
 use Rattle.ec_quiet.specs.Works.{Calls, Work, saves}
-use Rattle.ec_deliveries.specs.Behind.{AsksOf, saved, saved_by}
-use Rattle.ec_deliveries.specs.Closures.{IsInClosureOf, IsWithin, kept_operations, operations}
+use Rattle.ec_deliveries.specs.Behind.{saved_by}
+use Rattle.ec_deliveries.specs.PhasesBehind.{AsksOf, saved}
+use Rattle.ec_deliveries.specs.Closures.{IsInClosureOf, operations}
+use Rattle.ec_deliveries.specs.WithinClosures.{IsWithin, kept_operations}
 use Rattle.ec_deliveries.proofs.Parts.{closure-grows, kept-issued}
 use Rattle.ec_resolve.proofs.Making.{either-plain}
 use Rattle.ec_resolve.proofs.Members.{member-left}
-use Rattle.ec_deliveries.specs.Scripts.{IsWorkOf, IsWorkOn, IsWriteBehind, LeaveOut, LineAsks, volume_behind}
+use Rattle.ec_deliveries.specs.Scripts.{IsWriteBehind, LineAsks, volume_behind}
+use Rattle.ec_deliveries.specs.ScriptWorks.{IsWorkOf, IsWorkOn, LeaveOut}
 
 -- a closure has an operation that is asked for
 asked-some : (is : Issued) (asked : ℕ → Bool) (n : ℕ) → InClosure is asked n → (m : ℕ) × T (asked m)

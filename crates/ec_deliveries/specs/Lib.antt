@@ -4,5 +4,8 @@ pub mod Deliveries
 pub mod Leading
 pub mod Runs
 pub mod Behind
+pub mod PhasesBehind
 pub mod Closures
+pub mod WithinClosures
 pub mod Scripts
+pub mod ScriptWorks

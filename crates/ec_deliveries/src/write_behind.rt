@@ -1,6 +1,6 @@
 // Laws on write-behind in scripts without faults: while a line settles, nothing is made durable but what the line asks for.
-ghost use Rattle.ec_deliveries.specs.Behind.{CallsBeginBehind, DeliveriesStayBehind, IdleIsBehind, LinesAreBehind, PushesBeginBehind, ShownIsSeen, StartsBeginBehind};
-ghost use Rattle.ec_deliveries.specs.Scripts.{OwnOperationsWait, TouchesAreWorks, WorksWriteBehind};
+ghost use Rattle.ec_deliveries.specs.PhasesBehind.{CallsBeginBehind, DeliveriesStayBehind, IdleIsBehind, LinesAreBehind, PushesBeginBehind, ShownIsSeen, StartsBeginBehind};
+ghost use Rattle.ec_deliveries.specs.ScriptWorks.{OwnOperationsWait, TouchesAreWorks, WorksWriteBehind};
 
 /// A clerk whose cache shows a volume waits for what a line is to make durable over that volume.
 pub fn shown_volumes_are_seen()

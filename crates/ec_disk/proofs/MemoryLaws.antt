@@ -1,6 +1,7 @@
 -- What a disk in memory keeps, after one step more.
 use Rattle.std.proofs.Common.{◌≡◌, ℕ, ◌+◌, ◌<◌, List, [], ◌∷◌, ◌++◌, length, refl, sym, ◌∙◌, ap, subst, arith}
-use Rattle.ec_disk.specs.Disk.{byte, written}
+use Rattle.ec_disk.specs.Disk.{byte}
+use Rattle.ec_disk.specs.Effects.{written}
 use Rattle.ec_disk.specs.Past.{Shot, clean, apply, shot_of}
 use Rattle.ec_disk.specs.PastLaws.{shot-push}
 use Rattle.ec_disk.specs.Undo.{Restores}

@@ -2,7 +2,8 @@
 use Rattle.std.proofs.Common.{◌≡◌, ℕ, ◌≤◌, ◌-◌, refl, ap, ◌∙◌, arith, Option, Some, None, Bool, true, false}
 use Rattle.std.proofs.lemmas.Bool.Decides.{nat_tests}
 use Rattle.std.specs.Prelude.{IsSome}
-use Rattle.ec_disk.specs.Disk.{Counts, Counted, IsOver, after_calls}
+use Rattle.ec_disk.specs.Disk.{Counts, after_calls}
+use Rattle.ec_disk.specs.Effects.{Counted, IsOver}
 use Rattle.ec_disk.specs.Turns.{turn_of, is_due, has_stopped, faults_after, stops_after}
 use Rattle.ec_disk.specs.declared.turns.Turns.{Turns}
 use Rattle.ec_disk.specs.declared.turns.Turn.{Turn}

@@ -1,6 +1,7 @@
 -- Old bytes written back restore an image.
 use Rattle.std.proofs.Common.{◌≡◌, inl, inr, ℕ, ◌+◌, ◌-◌, ◌<◌, ◌≤◌, List, [], ◌∷◌, ◌++◌, length, refl, sym, ◌∙◌, ap, arith}
-use Rattle.ec_disk.specs.Disk.{byte, written, InRange}
+use Rattle.ec_disk.specs.Disk.{byte}
+use Rattle.ec_disk.specs.Effects.{written, InRange}
 use Rattle.ec_disk.specs.Images.{in_range_or_not, length-written, byte-written_in, byte-written_out}
 use Rattle.ec_disk.specs.Undo.{undone, Restores}
 use Rattle.ec_disk.specs.declared.undo.Undo.{Undo}

@@ -3,7 +3,8 @@ use Rattle.std.specs.Prelude.{◌≡◌, ◌⊎◌, ◌+◌, ◌-◌, ◌≤◌,
 use Rattle.std.proofs.Common.{⊎_elim, arith, ◌∙◌, ap, refl, subst}
 use Rattle.std.proofs.lemmas.Bool.Decides.{nat_tests}
 use Rattle.ec_base.specs.Outside.{Rose, one_more}
-use Rattle.ec_disk.specs.Disk.{Counts, Counted, Called, CountsDown, IsDue, Turned, NoneDue, IsDueIn, after_calls, calls_later}
+use Rattle.ec_disk.specs.Disk.{Counts, NoneDue, after_calls}
+use Rattle.ec_disk.specs.Effects.{Counted, Called, CountsDown, IsDue, Turned, IsDueIn, calls_later}
 
 one_more-rises : (a b : ℕ) → a ≤ b → one_more a ≤ one_more b
 one_more-rises a b le = grind (arith, nat_tests, le)

@@ -4,7 +4,8 @@ use Rattle.std.proofs.Common.{inl, inr, arith, ◌∙◌, ap, sym, refl, append_
 use Rattle.std.proofs.Math.Seq.{take-add}
 use Rattle.std.proofs.lemmas.Bool.{cases_lt}
 use Rattle.std.proofs.lemmas.List.{length-take, length-drop, length-replicate, get_or-take, get_or-drop, get_or-replicate, get_or_past, get_or_append_left, get_or-append_right, ext_get_or, drop-drop, take_at, drop_at, drop_more}
-use Rattle.ec_disk.specs.Disk.{byte, part, written, Loose, InRange}
+use Rattle.ec_disk.specs.Disk.{byte, part}
+use Rattle.ec_disk.specs.Effects.{written, Loose, InRange}
 
 pub length-part : (image : List ℕ) (at n : ℕ) → at + n ≤ length image → length (part image at n) ≡ n
 length-part image at n le = omega (arith, length-take n (drop at image), length-drop at image, le)

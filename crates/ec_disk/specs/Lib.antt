@@ -2,6 +2,7 @@ pub mod Calls
 pub mod Choices
 pub mod Counting
 pub mod Disk
+pub mod Effects
 pub mod Images
 pub mod Memory
 pub mod Past

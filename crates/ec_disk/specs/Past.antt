@@ -1,7 +1,8 @@
 -- A disk in memory by the list of its writes, syncs and power cuts.
 use Rattle.std.specs.Prelude.{◌<◌, ◌≡◌, ◌⊎◌, ℕ, ◌≤◌, Bool, true, false, List, [], ◌∷◌, length, take}
 use Rattle.ec_disk.specs.Choices.{cut}
-use Rattle.ec_disk.specs.Disk.{View, byte, written, InRange}
+use Rattle.ec_disk.specs.Disk.{View, byte}
+use Rattle.ec_disk.specs.Effects.{written, InRange}
 use Rattle.ec_disk.specs.declared.memory.Step.{Step}
 use Rattle.ec_disk.specs.declared.memory.Step.TheVariants as step
 

@@ -7,7 +7,8 @@ use Rattle.std.proofs.lemmas.Bool.Decides.{nat_tests}
 use Rattle.std.proofs.lemmas.List.{ext_get_or, take_all, take-append-le}
 use Rattle.std.proofs.lemmas.List.FromFn.{length-map-range_with_len, get_or-map-range_with_len}
 use Rattle.ec_disk.specs.Choices.{cut}
-use Rattle.ec_disk.specs.Disk.{byte, written, InRange, Loose, Elapses, Wrote, Rests, Cut, IsSynced}
+use Rattle.ec_disk.specs.Disk.{byte}
+use Rattle.ec_disk.specs.Effects.{written, InRange, Loose, Elapses, Wrote, Rests, Cut, IsSynced}
 use Rattle.ec_disk.specs.Images.{in_range_or_not, length-written, byte-written_out}
 use Rattle.ec_disk.specs.Undo.{torn, torn_byte}
 use Rattle.ec_disk.specs.declared.memory.Step.{Step}

@@ -1,7 +1,8 @@
 -- Old bytes of written ranges, and what they give when they are written back.
 use Rattle.std.specs.Prelude.{◌≡◌, ℕ, ◌+◌, ◌%◌, ◌≤◌, ◌==◌, if◌then◌else◌, List, [], ◌∷◌, length, map}
 use Rattle.std.specs.List.{range_with_len}
-use Rattle.ec_disk.specs.Disk.{byte, written}
+use Rattle.ec_disk.specs.Disk.{byte}
+use Rattle.ec_disk.specs.Effects.{written}
 use Rattle.ec_disk.specs.declared.undo.Undo.{Undo}
 
 -- the new byte at an even place, the old one at an odd one

@@ -5,7 +5,8 @@ ghost use Rattle.ec_disk.specs.declared.disk.DiskLen.TheVariants as len;
 ghost use Rattle.ec_base.specs.Outside.{one_more};
 ghost use Rattle.ec_disk.specs.Calls as call;
 ghost use Rattle.ec_disk.specs.Choices.{cut, Saves};
-ghost use Rattle.ec_disk.specs.Disk.{View, Counts, part, written, IsSynced, Rests, InRange, Wrote, Cut, Counted, CountsDown, IsDue};
+ghost use Rattle.ec_disk.specs.Disk.{View, Counts, part};
+ghost use Rattle.ec_disk.specs.Effects.{written, IsSynced, Rests, InRange, Wrote, Cut, Counted, CountsDown, IsDue};
 
 /// What a disk answers.
 #[derive(Clone, Copy, Debug, Drop, PartialEq, Eq)]

@@ -66,7 +66,8 @@ impl<T: Drop> From<AllocFailed<T>> for FileFault {
 
 impl<F: FileExt + OpenFile + Drop> FileDisk<F> {
     ghost use Rattle.std.specs.Prelude.{◌≡◌, ◌≤◌, length, None, Some, IfOk, OnErr};
-    ghost use Rattle.ec_disk.specs.Disk.{Counted, Counts};
+    ghost use Rattle.ec_disk.specs.Disk.{Counts};
+    ghost use Rattle.ec_disk.specs.Effects.{Counted};
     ghost use Rattle.ec_disk.specs.Turns.{counts_of};
     ghost use Rattle.ec_disk.specs.declared.disk.DiskAnswer.TheVariants as answer;
 

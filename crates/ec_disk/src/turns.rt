@@ -31,7 +31,8 @@ fn is_listed(numbers: &[u64], number: u64) -> bool
 
 impl Turns {
     ghost use Rattle.std.specs.Prelude.{◌≡◌, ◌≤◌, None, Some, ⊤};
-    ghost use Rattle.ec_disk.specs.Disk.{Counted, CountsDown, after_calls};
+    ghost use Rattle.ec_disk.specs.Disk.{after_calls};
+    ghost use Rattle.ec_disk.specs.Effects.{Counted, CountsDown};
     ghost use Rattle.ec_disk.specs.Turns.{counts_of, next_turn, next_len_turn, turn_of, next_call, is_due, has_stopped, faults_after, stops_after};
     ghost use Rattle.ec_disk.specs.declared.turns.Turn.TheVariants as turn;
 

@@ -1,6 +1,7 @@
 // Writes over an image, and the old bytes that take them back.
 ghost use Rattle.std.specs.Prelude.{◌≡◌, ◌+◌, ◌<◌, ◌≤◌, ℕ, length, OnOk, OnErr, IfOk};
-ghost use Rattle.ec_disk.specs.Disk.{byte, written};
+ghost use Rattle.ec_disk.specs.Disk.{byte};
+ghost use Rattle.ec_disk.specs.Effects.{written};
 ghost use Rattle.ec_disk.specs.Undo.{torn, torn_byte, undone};
 
 use ec_base::List;

@@ -13,6 +13,7 @@ use Rattle.ec_volume.specs.Update.{fits, first_unfit, distinct}
 use Rattle.ec_volume.specs.Volume.{Images}
 use Rattle.ec_volume.specs.declared.update.Update.{Update}
 use Rattle.ec_cache.specs.Cache as cached
+use Rattle.ec_cache.specs.Numbers as numbers
 use Rattle.ec_cache.specs.declared.state.CacheState.{CacheState}
 use Rattle.ec_sessions.specs.Slots.{run}
 use Rattle.ec_log.specs.Log as logs
@@ -206,11 +207,11 @@ room_asked ws d a new is below h =
     let chosen : Bool → clerk.Doing = λ b. elim b [ true ↦ clerk.spend counter.Ask (doing_of ws d) | false ↦ sent (d.asks + 1) ] in
     ap chosen below ∙ ap sent (sym is) ∙ h
 
-pub backs_numbers : (es : List (ℕ × Held)) (d : clerk.Doing) → clerk.send_backs es d ≡ send_numbers (cached.numbers es) d
+pub backs_numbers : (es : List (ℕ × Held)) (d : clerk.Doing) → clerk.send_backs es d ≡ send_numbers (numbers.numbers es) d
 backs_numbers [] d = refl
 backs_numbers (e ∷ es) d = backs_numbers es (send_back e.0 (e.1).number Free d)
 
-pub evicted_back : (ws : List Waiting) (d : Doing) (k : CacheState) (pinned : List ℕ) (gone : List (ℕ × ℕ)) (new : clerk.Doing) → nat_le (length d.cache.held) d.cache.capacity ≡ false → pinned ≡ clerk.on_objects d.ledger.log.undurable → gone ≡ cached.numbers (cached.evicted pinned d.cache) → k ≡ cached.evict pinned d.cache → send_numbers gone (doing_of ws (record d { cache = k })) ≡ new → clerk.evict (doing_of ws d) ≡ new
+pub evicted_back : (ws : List Waiting) (d : Doing) (k : CacheState) (pinned : List ℕ) (gone : List (ℕ × ℕ)) (new : clerk.Doing) → nat_le (length d.cache.held) d.cache.capacity ≡ false → pinned ≡ clerk.on_objects d.ledger.log.undurable → gone ≡ numbers.numbers (cached.evicted pinned d.cache) → k ≡ cached.evict pinned d.cache → send_numbers gone (doing_of ws (record d { cache = k })) ≡ new → clerk.evict (doing_of ws d) ≡ new
 evicted_back ws d k pinned gone new over at_pinned at_gone at_k h =
     let chosen : Bool → clerk.Doing = λ b. elim b [ true ↦ doing_of ws d | false ↦ clerk.evict_unpinned (clerk.on_objects d.ledger.log.undurable) (doing_of ws d) ] in
     let left = λ (c : CacheState). doing_of ws (record d { cache = c }) in

@@ -13,7 +13,7 @@ use Rattle.ec_protocol.specs.declared.world.Event.{Event}
 use Rattle.ec_protocol.specs.declared.world.WorldFault.{WorldFault}
 use Rattle.ec_protocol.specs.declared.world.WorldFault.TheVariants as fault
 use Rattle.ec_stands.specs.Stands.{StandsFor}
-use Rattle.ec_world.specs.Steps.{IsTold, IsLeft, as_before, as_behind, armed_by}
+use Rattle.ec_world.specs.StepEnds.{IsTold, IsLeft, as_before, as_behind, armed_by}
 use Rattle.ec_drill.specs.Arms.{ArmBy, SettleArms, LineArms, armed_at}
 use Rattle.ec_drill.specs.Left.{EachLeft}
 use Rattle.ec_drill.specs.Fates.{AllRun, IsKnown}

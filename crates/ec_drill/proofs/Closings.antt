@@ -16,8 +16,9 @@ use Rattle.ec_text.specs.Lines.{shown_text, text_of}
 use Rattle.ec_base.specs.Outside.{Rose}
 use Rattle.ec_disk.specs.Disk.{View, Counts}
 use Rattle.ec_stands.specs.Stands.{StandsFor}
-use Rattle.ec_world.specs.Steps.{FateOf, IsTold, IsShown, Refuses, IsLeft, as_before, as_behind}
-use Rattle.ec_drill.specs.Drill.{code}
+use Rattle.ec_world.specs.Steps.{IsShown}
+use Rattle.ec_world.specs.StepEnds.{FateOf, IsTold, Refuses, IsLeft, as_before, as_behind}
+use Rattle.ec_drill.specs.ExitCodes.{code}
 use Rattle.ec_drill.specs.Left.{EachLeft}
 use Rattle.ec_drill.specs.Steps.{going, IsCause, CutText, CutLines}
 use Rattle.ec_drill.specs.Steps.{ending_of as machine_ending}

@@ -16,15 +16,18 @@ use Rattle.ec_protocol.specs.declared.world.WorldFault.TheVariants as fault
 use Rattle.ec_text.specs.Lines.{shown_text}
 use Rattle.ec_world.specs.declared.world.World.{World as Opened}
 use Rattle.ec_world.specs.Laws.{in_step_stands}
-use Rattle.ec_world.specs.Steps.{Opens, Unopened}
+use Rattle.ec_world.specs.Steps.{Opens}
+use Rattle.ec_world.specs.StepEnds.{Unopened}
 use Rattle.ec_world.specs.Worlds.{view_of, IsInStep}
 use Rattle.ec_drill.specs.Cuts.{IsFront}
-use Rattle.ec_drill.specs.Arms.{RunArms, any_arm, heard}
+use Rattle.ec_drill.specs.Arms.{RunArms, any_arm}
+use Rattle.ec_drill.specs.ArmedSteps.{heard}
 use Rattle.ec_drill.specs.Fates.{IsKnown}
 use Rattle.ec_drill.specs.Left.{behind_lines, at_end, IsOfMoment, LeavesOf}
 use Rattle.ec_drill.specs.Steps.{IsLater, Ended, IsCause, CutOff}
 use Rattle.ec_drill.specs.Closing.{closed, lines_in, IsOwn, IsClosing, before_end, behind_end, Closed, ClosedInPart}
-use Rattle.ec_drill.specs.Drill.{Outside, code, HoldsState, end_of, IsGiven, RanWhole, RanInPart, Unbegun, over, bad, RefusedInPart, IsOver, IsDiskUntouched, IsToldAll, Drilled}
+use Rattle.ec_drill.specs.Drill.{Outside, HoldsState, end_of, IsGiven, RanWhole, RanInPart, Unbegun, over, bad, RefusedInPart, IsOver, IsDiskUntouched, IsToldAll, Drilled}
+use Rattle.ec_drill.specs.ExitCodes.{code}
 use Rattle.ec_drill.specs.Starts.{status_of, RefusedWith, TellsUnopened, WholeOn, PartOn, DrilledOn}
 use Rattle.ec_drill.specs.declared.status.Status.{Status}
 use Rattle.ec_drill.specs.declared.status.Status.TheVariants as status

@@ -8,7 +8,8 @@ use Rattle.ec_protocol.specs.Drill.{Fates, Read, reads, onward, carry_out, max_p
 use Rattle.ec_protocol.specs.declared.script.Line.{Line}
 use Rattle.ec_protocol.specs.declared.world.World.{World}
 use Rattle.ec_protocol.specs.declared.world.WorldFault.{WorldFault}
-use Rattle.ec_world.specs.Steps.{FateOf, IsTold, IsShown}
+use Rattle.ec_world.specs.Steps.{IsShown}
+use Rattle.ec_world.specs.StepEnds.{FateOf, IsTold}
 use Rattle.ec_drill.specs.Arms.{ArmBy, SettleArms, LineArms, RunArms}
 use Rattle.ec_drill.specs.Steps.{PendingEnd, LineFollows, going}
 use Rattle.ec_drill.specs.declared.running.Ending.{Ending}

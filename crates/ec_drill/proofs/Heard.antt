@@ -5,8 +5,9 @@ use Rattle.ec_base.specs.Outside.{Rose}
 use Rattle.ec_disk.specs.Disk.{Counts}
 use Rattle.ec_protocol.specs.World.{Fate, runs, stops_without, stops_with}
 use Rattle.ec_protocol.specs.Drill.{Fates}
-use Rattle.ec_drill.specs.Arms.{IsCalm, heard}
-use Rattle.ec_drill.specs.Fates.{AreOf, EachRuns, IsKnown}
+use Rattle.ec_drill.specs.ArmedSteps.{IsCalm, heard}
+use Rattle.ec_drill.specs.Fates.{EachRuns, IsKnown}
+use Rattle.ec_drill.specs.RunFates.{AreOf}
 use Rattle.ec_drill.specs.Steps.{Fares, IsLater}
 use Rattle.ec_drill.proofs.Known.{none_is_some}
 use Rattle.ec_drill.proofs.Texts.{rose_later}

@@ -9,8 +9,9 @@ use Rattle.ec_protocol.specs.World.{Fate, runs, stops_without, stops_with}
 use Rattle.ec_protocol.specs.Drill.{Fates}
 use Rattle.ec_protocol.specs.declared.world.Event.{Event}
 use Rattle.ec_protocol.specs.declared.world.Event.TheVariants as event
-use Rattle.ec_world.specs.Steps.{HasStopped, FateOf, IsTold, CountsOf, behind_arm}
-use Rattle.ec_drill.specs.Fates.{AllRun, EachRuns, AreOf, IsKnown}
+use Rattle.ec_world.specs.StepEnds.{HasStopped, FateOf, IsTold, CountsOf, behind_arm}
+use Rattle.ec_drill.specs.Fates.{AllRun, EachRuns, IsKnown}
+use Rattle.ec_drill.specs.RunFates.{AreOf}
 use Rattle.ec_drill.specs.Steps.{Fares, AreOfLine}
 use Rattle.ec_drill.proofs.Texts.{rose_later, rose_then}
 

@@ -6,7 +6,7 @@ use Rattle.ec_protocol.specs.Drill.{onward}
 use Rattle.ec_protocol.specs.declared.world.World.{World}
 use Rattle.ec_protocol.specs.declared.world.WorldFault.{WorldFault}
 use Rattle.ec_protocol.specs.declared.world.WorldFault.TheVariants as fault
-use Rattle.ec_world.specs.Steps.{Refuses}
+use Rattle.ec_world.specs.StepEnds.{Refuses}
 use Rattle.ec_drill.specs.Steps.{IsSeen, going}
 
 pub refused_stays : (g : WorldFault) (m : Moving) (w v : World) (P : Type 0) → Refuses g m w v P → IsSeen g → P

@@ -1,15 +1,13 @@
 -- Lines that arm the disk, and the steps that it stops. Where no line arms it, none is stopped.
-use Rattle.std.specs.Prelude.{◌≡◌, ◌||◌, ◌+◌, ◌≤◌, if◌then◌else◌, ℕ, zero, suc, Bool, true, false, List, [], ◌∷◌, Option, None, Some, IsSome, MatchOption}
-use Rattle.ec_disk.specs.Disk.{Counts, NoneDue, after_calls}
+use Rattle.std.specs.Prelude.{◌≡◌, ◌||◌, ◌+◌, ◌≤◌, ℕ, zero, suc, Bool, true, false, List, [], ◌∷◌, Option, None, Some, IsSome, MatchOption}
+use Rattle.ec_disk.specs.Disk.{NoneDue, after_calls}
 use Rattle.ec_protocol.specs.World.{Fate, runs, stops_without, stops_with, Moving, moving, deliver, due, forget, pending}
 use Rattle.ec_protocol.specs.Drill.{Fates, Read, reads, unfit, this_fate, later_fates, first_fates, rest_fates, onward, line_happens, carry_out, max_pending}
 use Rattle.ec_protocol.specs.declared.world.World.{World}
 use Rattle.ec_marking.specs.Runs.{Takes}
-use Rattle.ec_world.specs.Steps.{IsShown, armed_by}
+use Rattle.ec_world.specs.Steps.{IsShown}
 use Rattle.ec_protocol.specs.declared.script.Line.{Line}
 use Rattle.ec_protocol.specs.declared.script.Line.TheVariants as line
-use Rattle.ec_protocol.specs.declared.world.Event.{Event}
-use Rattle.ec_protocol.specs.declared.world.Event.TheVariants as event
 
 abbrev pub is_arm : Line → Bool
 is_arm (line.Arm n choice) = true
@@ -59,26 +57,3 @@ RunArms k number (reads l col ∷ ls) fs w old =
     MatchOption m.fault
     ((new : Option ℕ) × LineArms k (first_fates fs) number l w old new × (pending m.world ≤ max_pending → RunArms k (number + 1) ls (rest_fates fs) (forget m.world) new))
     (λ f. Unit {0})
-
--- Of the private steps of a run.
-
--- how the disk is armed where the step of an event begins
-abbrev pub armed_for : Option Event → Option ℕ → Option ℕ
-armed_for None armed = armed
-armed_for (Some e) armed = armed_by e armed
-
-abbrev pub is_arming : Event → Bool
-is_arming (event.Arm n choice) = true
-is_arming _ = false
-
-abbrev pub arms : Option Event → Bool
-arms None = false
-arms (Some e) = is_arming e
-
--- a disk that may not stop isn't armed, and the lines ahead don't arm it
-abbrev pub IsCalm : Bool → Bool → Counts → Type 0
-IsCalm may_stop arming c = may_stop ≡ false → (arming ≡ false) × (c.armed ≡ None)
-
--- its counts, in which there is no stop then
-abbrev pub heard : Bool → Counts → Counts
-heard may_stop c = record c { stops = if may_stop then c.stops else 0 }

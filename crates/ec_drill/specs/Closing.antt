@@ -12,7 +12,7 @@ use Rattle.ec_protocol.specs.declared.world.WorldFault.TheVariants as fault
 use Rattle.ec_text.specs.Lines.{text_of}
 use Rattle.ec_drill.specs.Cuts.{IsPartOf}
 use Rattle.ec_drill.specs.Left.{EachLeft}
-use Rattle.ec_drill.specs.Drill.{code}
+use Rattle.ec_drill.specs.ExitCodes.{code}
 use Rattle.ec_drill.specs.Steps.{IsCause}
 use Rattle.ec_drill.specs.declared.status.Status.{Status}
 use Rattle.ec_drill.specs.declared.running.Ending.{Ending as OwnEnding}

@@ -24,19 +24,6 @@ use Rattle.ec_drill.specs.Left.{LeavesOf}
 use Rattle.ec_drill.specs.declared.status.Status.{Status}
 use Rattle.ec_drill.specs.declared.status.Status.TheVariants as status
 
--- the number that the process answers
-abbrev pub code : Status → ℕ
-code status.Done = 0
-code status.Usage = 2
-code status.BadLine = 3
-code status.SourceFault = 4
-code status.SinkFault = 5
-code status.DiskFault = 6
-code status.BadDisk = 7
-code status.NoMemory = 9
-code status.Limit = 11
-code status.Spent = 15
-
 -- A source, a sink and a disk, before and after: the bytes left and held, where told, what the disk holds, and the counts.
 pub record Outside : Type 1 where
   pub left : Option (List ℕ)

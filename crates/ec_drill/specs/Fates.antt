@@ -12,10 +12,6 @@ abbrev pub EachRuns : List Fates → Type 0
 EachRuns [] = Unit {0}
 EachRuns (fs ∷ more) = AllRun fs × EachRuns more
 
--- Of a part of a run: a step is stopped only where the disk's stops rose.
-abbrev pub AreOf : List Fates → ℕ → ℕ → Type 0
-AreOf fates before now = EachRuns fates ⊎ Rose before now
-
 -- What a stop leaves is read back from the disk. So what a run did is known on a disk that tells its content, and on one that didn't stop.
 abbrev pub IsKnown : Type 0 → ℕ → ℕ → Type 0
 IsKnown tells before now = tells ⊎ (Rose before now → ⊥)

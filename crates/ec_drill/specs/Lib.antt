@@ -2,10 +2,13 @@ pub mod Limits
 pub mod Script
 pub mod Lines
 pub mod Arms
+pub mod ArmedSteps
 pub mod Fates
+pub mod RunFates
 pub mod Cuts
 pub mod Left
 pub mod Steps
 pub mod Drill
+pub mod ExitCodes
 pub mod Closing
 pub mod Starts

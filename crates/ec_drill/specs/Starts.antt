@@ -14,7 +14,8 @@ use Rattle.ec_protocol.specs.declared.world.WorldFault.TheVariants as fault
 use Rattle.ec_drill.specs.Limits.{most_bytes, most_lines}
 use Rattle.ec_drill.specs.Script.{AreRead}
 use Rattle.ec_drill.specs.Arms.{RunArms}
-use Rattle.ec_drill.specs.Fates.{AreOf, IsKnown}
+use Rattle.ec_drill.specs.Fates.{IsKnown}
+use Rattle.ec_drill.specs.RunFates.{AreOf}
 use Rattle.ec_drill.specs.Steps.{CutText, InPart, run_leaves}
 use Rattle.ec_drill.specs.Drill.{Outside, IsGiven, Drilled, HoldsState, end_of}
 use Rattle.ec_drill.specs.declared.start.Withheld.{Withheld}

@@ -13,9 +13,10 @@ use Rattle.ec_protocol.specs.declared.world.World.{World}
 use Rattle.ec_protocol.specs.declared.world.WorldFault.{WorldFault}
 use Rattle.ec_protocol.specs.declared.world.WorldFault.TheVariants as fault
 use Rattle.ec_text.specs.Lines.{shown_text, text_of}
-use Rattle.ec_world.specs.Steps.{HasStopped}
+use Rattle.ec_world.specs.StepEnds.{HasStopped}
 use Rattle.ec_drill.specs.Arms.{RunArms}
-use Rattle.ec_drill.specs.Fates.{AllRun, AreOf, IsKnown}
+use Rattle.ec_drill.specs.Fates.{AllRun, IsKnown}
+use Rattle.ec_drill.specs.RunFates.{AreOf}
 use Rattle.ec_drill.specs.Cuts.{IsFront, IsPartOf}
 use Rattle.ec_drill.specs.Left.{EachLeft, IsOfMoment}
 use Rattle.ec_drill.specs.declared.writing.Cut.{Cut}

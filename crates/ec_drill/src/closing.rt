@@ -5,7 +5,7 @@ ghost use Rattle.ec_history.specs.declared.shown.Shown.{Shown};
 ghost use Rattle.ec_text.specs.Lines.{shown_text};
 ghost use Rattle.ec_protocol.specs.Drill.{last_line};
 ghost use Rattle.ec_world.specs.Worlds.{view_of, IsInStep};
-ghost use Rattle.ec_drill.specs.Drill.{code};
+ghost use Rattle.ec_drill.specs.ExitCodes.{code};
 ghost use Rattle.ec_drill.specs.Steps.{IsLater, CutText, CutLines, ending_of};
 ghost use Rattle.ec_drill.specs.Closing.{Closed, ClosedInPart, Restarted, RestartedInPart, LastTold, is_spent, restart_end};
 

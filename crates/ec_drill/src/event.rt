@@ -6,7 +6,8 @@ ghost use Rattle.ec_protocol.specs.declared.world.WorldFault.TheVariants as faul
 ghost use Rattle.ec_world.specs.Worlds.{view_of};
 ghost use Rattle.ec_drill.specs.Script.{machine_line};
 ghost use Rattle.ec_drill.specs.Lines.{happens, IsNothing};
-ghost use Rattle.ec_drill.specs.Arms.{armed_at, armed_for, arms, is_arm};
+ghost use Rattle.ec_drill.specs.Arms.{armed_at, is_arm};
+ghost use Rattle.ec_drill.specs.ArmedSteps.{armed_for, arms};
 
 use ec_protocol::{Event, WorldFault};
 use ec_script::Line;

@@ -2,7 +2,8 @@
 ghost use Rattle.std.specs.Prelude.{◌≡◌, ◌≤◌, ℕ, Bool, false, [], map, length, IsSome, MatchResult, OnOk};
 ghost use Rattle.ec_protocol.specs.Drill.{reads};
 ghost use Rattle.ec_world.specs.Worlds.{view_of, IsInStep, Keeps};
-ghost use Rattle.ec_drill.specs.Arms.{IsCalm, any_arm, heard, is_arm, is_arm_read};
+ghost use Rattle.ec_drill.specs.Arms.{any_arm, is_arm, is_arm_read};
+ghost use Rattle.ec_drill.specs.ArmedSteps.{IsCalm, heard};
 ghost use Rattle.ec_drill.specs.Limits.{most_lines};
 ghost use Rattle.ec_drill.specs.Lines.{read_of};
 ghost use Rattle.ec_drill.specs.Steps.{Ended, CutOff, LineDone, LineCut, IsLater, PendingEnd, ending_of, line_end};

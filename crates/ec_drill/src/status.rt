@@ -1,6 +1,6 @@
 // How a program ends.
 ghost use Rattle.std.specs.Prelude.{◌≡◌};
-ghost use Rattle.ec_drill.specs.Drill.{code};
+ghost use Rattle.ec_drill.specs.ExitCodes.{code};
 
 /// How the program ends.
 #[derive(Clone, Copy, Debug, Drop, PartialEq, Eq)]

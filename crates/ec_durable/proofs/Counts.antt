@@ -4,7 +4,7 @@ use Rattle.std.specs.List.{list_all}
 use Rattle.std.proofs.lemmas.Bool.{cases_eq, cases_lt, eq-eqb, ne_eqb}
 use Rattle.ec_base.specs.SortedLaws.{first, second, both}
 use Rattle.ec_volume.specs.Update.{member, distinct}
-use Rattle.ec_sessions.specs.Windows.{times}
+use Rattle.ec_sessions.specs.WindowMarks.{times}
 use Rattle.ec_sessions.specs.Slots.{without}
 
 abbrev pub as_one : Bool → ℕ

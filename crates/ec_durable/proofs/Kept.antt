@@ -4,7 +4,7 @@ use Rattle.std.specs.Prelude.{nat_lt, nat_le}
 use Rattle.std.proofs.lemmas.Bool.{cases_eq, cases_lt, eqb-true, leb-true, le-leb, ltb-true, lt-ltb, ltb-false, and_parts}
 use Rattle.ec_base.specs.SortedLaws.{first, second, both}
 use Rattle.ec_base.specs.declared.ids.Age.{Age}
-use Rattle.ec_sessions.specs.Windows.{times}
+use Rattle.ec_sessions.specs.WindowMarks.{times}
 use Rattle.ec_sessions.specs.IdLaws.{times-with_ids, times-run, times-run_below, times-run_above}
 use Rattle.ec_sessions.specs.Slots as slots
 use Rattle.ec_sessions.specs.declared.slot.Slot.{Slot}

@@ -13,7 +13,7 @@ use Rattle.ec_volume.specs.Volume.{images}
 use Rattle.ec_volume.specs.Held.{IsVolume, is_held}
 use Rattle.ec_volume.specs.declared.image.Image.{Image}
 use Rattle.ec_volume.proofs.Held.{held_live}
-use Rattle.ec_sessions.specs.Windows.{times}
+use Rattle.ec_sessions.specs.WindowMarks.{times}
 use Rattle.ec_durable.proofs.Counts.{as_one, is_true, here, there}
 
 opposite : (b : Bool) → b ≡ true → b ≡ false → ⊥

@@ -4,7 +4,7 @@ use Rattle.std.specs.Prelude.{nat_lt, nat_le}
 use Rattle.std.specs.List.{list_all}
 use Rattle.std.proofs.lemmas.Bool.{eqb-true, leb-true, le-leb, lt-ltb}
 use Rattle.ec_base.specs.SortedLaws.{first, second, both}
-use Rattle.ec_sessions.specs.Windows.{times}
+use Rattle.ec_sessions.specs.WindowMarks.{times}
 use Rattle.ec_sessions.specs.IdLaws.{times-append}
 use Rattle.ec_sessions.specs.Slots as slots
 use Rattle.ec_sessions.specs.declared.slot.Slot.{Slot}

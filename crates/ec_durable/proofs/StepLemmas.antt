@@ -4,7 +4,7 @@ use Rattle.std.specs.Prelude.{OnOk, OnErr}
 use Rattle.ec_volume.specs.Update.{is_sound}
 use Rattle.ec_volume.specs.declared.update.Update.{Update}
 use Rattle.ec_sessions.specs.Slots as slots
-use Rattle.ec_sessions.specs.Windows.{times}
+use Rattle.ec_sessions.specs.WindowMarks.{times}
 use Rattle.std.proofs.lemmas.Bool.{ne_eqb}
 use Rattle.ec_durable.specs.declared.state.Durable.{Durable}
 use Rattle.ec_durable.specs.declared.record.RecordFault.{RecordFault}

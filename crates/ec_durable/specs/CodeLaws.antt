@@ -23,7 +23,8 @@ use Rattle.ec_codes.specs.declared.fault.CodeFault.TheVariants as fault
 use Rattle.ec_durable.specs.declared.record.Record.{Record}
 use Rattle.ec_durable.specs.declared.record.Record.TheVariants.{Batch, Open, End, Ids, Epoch}
 use Rattle.ec_durable.specs.Steps.{AreSound, AreSoundOps}
-use Rattle.ec_durable.specs.Codes.{is_op_count, is_sound_record, op_fields, ops_field, batch_fields, open_fields, end_fields, ids_fields, tag, is_tag, form, record_code, max_record_code, whole, said, Answers}
+use Rattle.ec_durable.specs.Codes.{is_op_count, op_fields, ops_field, batch_fields, open_fields, end_fields, ids_fields, tag, is_tag, form, record_code, whole, said}
+use Rattle.ec_durable.specs.SoundRecords.{is_sound_record, max_record_code, Answers}
 use Rattle.ec_durable.specs.Codes.{batched, to_batch, opened, to_open, ended, to_end, granted, to_ids, begun, to_epoch}
 use Rattle.ec_base.specs.SmallLaws.{same_some, holds}
 

@@ -1,15 +1,12 @@
 -- The codes of records: a byte for the form, and then its fields in order.
-use Rattle.std.specs.Prelude.{◌≡◌, ◌==◌, ◌+◌, ◌*◌, ℕ, Bool, true, ◌&&◌, if◌then◌else◌, nat_lt, nat_le, List, length, Option, None, Some, Result, Ok, Err}
-use Rattle.std.specs.List.{list_all}
+use Rattle.std.specs.Prelude.{◌==◌, ℕ, Bool, ◌&&◌, if◌then◌else◌, nat_lt, nat_le, List, length, Option, None, Some, Result, Ok, Err}
 use Rattle.ec_base.specs.declared.ids.Age.{Age}
-use Rattle.ec_volume.specs.Update.{is_sound}
 use Rattle.ec_volume.specs.declared.update.Update.{Update}
 use Rattle.ec_sessions.specs.Limits.{max_batch_ops}
 use Rattle.ec_codes.specs.Formats.{Read, Format, byte, such, then_by, list, variant, nothing, tagged}
 use Rattle.ec_codes.specs.Fields.{word, long, id}
 use Rattle.ec_codes.specs.Clerks.{clerk_field, age_field}
 use Rattle.ec_codes.specs.Updates.{update_code}
-use Rattle.ec_codes.specs.Lengths.{max_update_code}
 use Rattle.ec_codes.specs.declared.fault.CodeFault.{CodeFault}
 use Rattle.ec_codes.specs.declared.fault.CodeFault.TheVariants as fault
 use Rattle.ec_durable.specs.declared.record.Record.{Record}
@@ -17,11 +14,6 @@ use Rattle.ec_durable.specs.declared.record.Record.TheVariants.{Batch, Open, End
 
 abbrev pub is_op_count : ℕ → Bool
 is_op_count n = nat_le 1 n && nat_le n max_batch_ops
-
--- a batch has from 1 to 64 operations, each with a sound update
-abbrev pub is_sound_record : Record → Bool
-is_sound_record (Batch c s b ops) = is_op_count (length ops) && list_all (λ op. is_sound op.1) ops
-is_sound_record _ = true
 
 -- The fields of the forms.
 
@@ -108,10 +100,6 @@ form t =
 unfoldable pub record_code : Format Record
 record_code = tagged is_tag tag form
 
--- of a batch: form, clerk, session, batch and count before the operations, each with its number and its update
-abbrev pub max_record_code : ℕ
-max_record_code = 19 + max_batch_ops * (8 + max_update_code)
-
 -- What bytes say.
 
 -- nothing may stand behind the fields
@@ -122,10 +110,3 @@ whole len (Ok x) = if nat_lt x.1 len then Err (fault.Field x.1) else Ok x.0
 -- the record of these bytes, or the first fault from the left
 unfoldable pub said : List ℕ → Result Record CodeFault
 said bytes = whole (length bytes) (record_code.read bytes 0)
-
--- what a function answered is this, unless memory ran out
-abbrev pub Answers : Result Record CodeFault → Result Record CodeFault → Type 0
-Answers (Err fault.NoMemory) r = Unit {0}
-Answers (Err (fault.Short p)) r = r ≡ Err (fault.Short p)
-Answers (Err (fault.Field p)) r = r ≡ Err (fault.Field p)
-Answers (Ok m) r = r ≡ Ok m

@@ -3,7 +3,8 @@ ghost use Rattle.std.specs.Prelude.{◌≡◌, true, [], IfOk, Ok};
 ghost use Rattle.ec_codes.specs.Formats.{variant, rows_read};
 ghost use Rattle.ec_codes.specs.Readers.{Reads};
 ghost use Rattle.ec_durable.specs.Steps.{AreSound};
-ghost use Rattle.ec_durable.specs.Codes.{is_sound_record, op_fields, ops_field, batch_fields, open_fields, end_fields, ids_fields, form, record_code, said, Answers};
+ghost use Rattle.ec_durable.specs.Codes.{op_fields, ops_field, batch_fields, open_fields, end_fields, ids_fields, form, record_code, said};
+ghost use Rattle.ec_durable.specs.SoundRecords.{is_sound_record, Answers};
 ghost use Rattle.ec_durable.specs.Codes.{batched, to_batch, opened, to_open, ended, to_end, granted, to_ids};
 ghost use Rattle.ec_durable.specs.declared.record.Record.{Record};
 

@@ -2,8 +2,10 @@
 ghost use Rattle.std.specs.Prelude.{◌≡◌, ◌≤◌, ◌++◌, ◌&&◌, true, [], length, IfOk, OnOk};
 ghost use Rattle.std.specs.List.{flat_map, list_all};
 ghost use Rattle.ec_volume.specs.Update.{is_sound};
-ghost use Rattle.ec_codes.specs.Formats.{Writes, rows_fit};
-ghost use Rattle.ec_durable.specs.Codes.{is_op_count, is_sound_record, op_fields, ops_field, batch_fields, open_fields, end_fields, ids_fields, record_code, max_record_code};
+ghost use Rattle.ec_codes.specs.Formats.{rows_fit};
+ghost use Rattle.ec_codes.specs.Spelling.{Writes};
+ghost use Rattle.ec_durable.specs.Codes.{is_op_count, op_fields, ops_field, batch_fields, open_fields, end_fields, ids_fields, record_code};
+ghost use Rattle.ec_durable.specs.SoundRecords.{is_sound_record, max_record_code};
 
 use crate::record::Record;
 use ec_base::{Age, ClerkId, NoMemory, ObjId, OpNo, SessionNo};

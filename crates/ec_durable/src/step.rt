@@ -1,6 +1,7 @@
 // What a record makes of the durable state.
 ghost use Rattle.std.specs.Prelude.{◌≡◌, ◌==◌, ◌&&◌, ◌^◌, Ok, None, true, T, nat_lt, OnOk, OnErr, IfErr};
-ghost use Rattle.ec_sessions.specs.Slots.{CanMark, is_greater};
+ghost use Rattle.ec_sessions.specs.Slots.{is_greater};
+ghost use Rattle.ec_sessions.specs.SlotChecks.{CanMark};
 ghost use Rattle.ec_volume.specs.Update.{is_sound};
 ghost use Rattle.ec_durable.specs.Durable as durable;
 ghost use Rattle.ec_durable.specs.Steps.{Refuses, RefusesOp, AreSound, AreSoundOps, IdsAreBelow, fault_of};

@@ -26,7 +26,7 @@ use Rattle.ec_promise.proofs.Named.{few-named}
 use Rattle.ec_made.specs.Made as made
 use Rattle.ec_made.proofs.Made.{made-lines-call}
 use Rattle.ec_echo.specs.Made.{made_lines}
-use Rattle.ec_echo.specs.Soak.{within}
+use Rattle.ec_echo.specs.SoakDrills.{within}
 use Rattle.ec_base.specs.Bools.{one_if, one_if as made_one_if}
 
 abbrev IsCall : MachineLine → Type 0

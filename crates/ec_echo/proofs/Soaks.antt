@@ -12,7 +12,8 @@ use Rattle.ec_promise.proofs.Lawful.{drills-lawful}
 use Rattle.ec_promise.proofs.Rooms.{drills-told}
 use Rattle.ec_promise.proofs.Spent.{drills-spent}
 use Rattle.ec_echo.proofs.Plain.{made-plain}
-use Rattle.ec_echo.specs.Soak.{AreSorts, IsSort, Soaked, Told, TellsCounts, TellsLast, summary_text, last_text, within}
+use Rattle.ec_echo.specs.Soak.{AreSorts, IsSort, Told, TellsCounts, TellsLast, summary_text, last_text}
+use Rattle.ec_echo.specs.SoakDrills.{Soaked, within}
 use Rattle.ec_echo.specs.Written.{WroteWith, WroteNothing}
 use Rattle.ec_echo.specs.declared.soaking.Sort.{Sort}
 use Rattle.ec_echo.specs.declared.status.Status.{Status}

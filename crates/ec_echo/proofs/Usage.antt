@@ -10,8 +10,10 @@ use Rattle.ec_serve.specs.declared.ending.Ending.{Ending}
 use Rattle.ec_serve.specs.declared.ending.Ending.TheVariants as ending
 use Rattle.ec_mount.specs.declared.status.Status as mounted
 use Rattle.ec_mount.specs.declared.status.Status.TheVariants as mount
-use Rattle.ec_echo.specs.Echo.{Links, Does, Echoes}
-use Rattle.ec_echo.specs.Soak.{Soaked, Told, TellsCounts, TellsLast, summary_text, last_text}
+use Rattle.ec_echo.specs.Echo.{Links}
+use Rattle.ec_echo.specs.Forms.{Does, Echoes}
+use Rattle.ec_echo.specs.Soak.{Told, TellsCounts, TellsLast, summary_text, last_text}
+use Rattle.ec_echo.specs.SoakDrills.{Soaked}
 use Rattle.ec_echo.specs.Serving.{TellsText, TellsEnding}
 use Rattle.ec_echo.specs.Statuses.{code, of_drill, of_mount}
 use Rattle.ec_echo.specs.Written.{WroteWith}

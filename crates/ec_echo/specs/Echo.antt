@@ -3,26 +3,12 @@ use Rattle.std.specs.Prelude.{◌≡◌, ◌⊎◌, ℕ, List, Option}
 use Rattle.std.specs.Io.KnownBytes.{Appends}
 use Rattle.ec_base.specs.Outside.{Rose}
 use Rattle.ec_gen.specs.Generator.{script_of}
-use Rattle.ec_drill.specs.Drill.{Outside, Drilled, IsDiskUntouched}
-use Rattle.ec_drill.specs.declared.status.Status as drilled
-use Rattle.ec_promise.specs.Promise.{IsLawful}
-use Rattle.ec_promise.specs.Completes.{Completes}
-use Rattle.ec_promise.specs.Rooms.{TellsRoom}
-use Rattle.ec_promise.specs.Spent.{TellsSpent}
-use Rattle.ec_node_laws.specs.Claims.{ClaimsComeFirst}
+use Rattle.ec_drill.specs.Drill.{Outside, IsDiskUntouched}
 use Rattle.ec_serve.specs.Serve.{Outer, Outside as Serving}
-use Rattle.ec_mount.specs.Mount.{Mounts, StartsAs, Outside as Mounting}
-use Rattle.ec_mount.specs.declared.status.Status as mounted
-use Rattle.ec_echo.specs.Check.{Streams, Judged}
-use Rattle.ec_echo.specs.Greeting.{Greets}
+use Rattle.ec_mount.specs.Mount.{Outside as Mounting}
+use Rattle.ec_echo.specs.Check.{Streams}
 use Rattle.ec_echo.specs.Made.{made_lines}
-use Rattle.ec_echo.specs.Soak.{Soaked}
-use Rattle.ec_echo.specs.Serving.{Served}
-use Rattle.ec_echo.specs.Statuses.{of_drill, of_mount}
-use Rattle.ec_echo.specs.Words.{Spells}
 use Rattle.ec_echo.specs.Written.{WroteInPart}
-use Rattle.ec_echo.specs.declared.command.Command.{Command}
-use Rattle.ec_echo.specs.declared.command.Command.TheVariants.{Drill, Check, Make, Soak, Serve, Mount}
 use Rattle.ec_echo.specs.declared.status.Status.{Status}
 use Rattle.ec_echo.specs.declared.status.Status.TheVariants as status
 
@@ -88,29 +74,3 @@ streams w = record {
   writes = w.writes;
   writes_after = w.writes_after;
 }
-
--- What each form of words does. The lines that a drill wrote are lawful besides, also those of the drill of `soak`: they stand in one legal history of one uncached
--- volume. Over a plain script on a new disk a drill ends well, unless something outside of it fails. A refusal for
--- want of room tells counts within the number of objects, a counter that is spent is one that the disk keeps, and its servers serve no noted want before each open session has claimed or was ended.
-abbrev pub DoesAlone : Command → Status → Outside → Type 0
-DoesAlone (Drill most) st w = (end : drilled.Status) × (st ≡ of_drill end) × (did : Drilled most end w) × IsLawful most end w did × Completes most end w did × TellsRoom most end w did × TellsSpent most end w did × ClaimsComeFirst
-DoesAlone (Check most) st w = Judged most st (streams w) × IsDiskUntouched w
-DoesAlone (Make n) st w = Made n st w.held w.held_after w.writes w.writes_after × IsSourceUntouched w × IsDiskUntouched w
-DoesAlone (Soak n) st w = Soaked n st w × IsSourceUntouched w
-DoesAlone (Serve count) st w = ⊥
-DoesAlone (Mount c) st w = ⊥
-
--- A server and a mount use the net, and the other forms don't. The boot is the number of this start of the process: a mounted clerk greets with it.
-abbrev pub Does : ℕ → Command → Status → Outside → Links → Type 0
-Does boot (Drill most) st w n = DoesAlone (Drill most) st w × (n.later ≡ n.before)
-Does boot (Check most) st w n = DoesAlone (Check most) st w × (n.later ≡ n.before)
-Does boot (Make number) st w n = DoesAlone (Make number) st w × (n.later ≡ n.before)
-Does boot (Soak number) st w n = DoesAlone (Soak number) st w × (n.later ≡ n.before)
-Does boot (Serve count) st w n = Served count st w.held w.held_after w.writes w.writes_after (serving w n) × IsSourceUntouched w
-Does boot (Mount c) st w n = (end : mounted.Status) × (st ≡ of_mount end) × Mounts c boot end (mounting w n) × Greets c boot end (mounting w n).net (mounting w n).net_after × IsDiskUntouched w × StartsAs end n.before.starts n.later.starts
-
--- Words of no form touch nothing; any others do what they spell, with its causes and what was written.
-abbrev pub Echoes : ℕ → List (List ℕ) → Status → Outside → Links → Type 0
-Echoes boot words st w n =
-    ((st ≡ status.Usage) × ((c : Command) → Spells words c → ⊥) × IsUntouched w × (n.later ≡ n.before))
-    ⊎ ((c : Command) × Spells words c × Does boot c st w n)

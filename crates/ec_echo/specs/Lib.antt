@@ -1,9 +1,12 @@
 pub mod Statuses
 pub mod Words
+pub mod DiskUse
 pub mod Written
 pub mod Check
 pub mod Made
 pub mod Soak
+pub mod SoakDrills
 pub mod Serving
 pub mod Greeting
 pub mod Echo
+pub mod Forms

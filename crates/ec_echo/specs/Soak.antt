@@ -1,18 +1,12 @@
 -- What the program does with a script that it makes and drills itself.
-use Rattle.std.specs.Prelude.{◌≡◌, ◌⊎◌, ◌+◌, ◌-◌, ℕ, List, [], ◌∷◌, ◌++◌, codes, Option, Some}
+use Rattle.std.specs.Prelude.{◌≡◌, ◌⊎◌, ◌+◌, ◌-◌, ℕ, List, [], ◌∷◌, ◌++◌, codes, Option}
 use Rattle.std.specs.Fmt.{decimal}
 use Rattle.ec_history.specs.declared.shown.Shown.{Shown}
 use Rattle.ec_history.specs.declared.shown.Shown.TheVariants as shown
-use Rattle.ec_gen.specs.Generator.{script_of}
 use Rattle.ec_script.specs.Lines.{lines_of}
 use Rattle.ec_script.specs.declared.line.LineFault.TheVariants as fault
 use Rattle.ec_shown.specs.Lines.{IsShown, IsUnfit}
-use Rattle.ec_drill.specs.Drill.{Outside, Drilled, IsDiskUntouched}
-use Rattle.ec_promise.specs.Promise.{HasNewDisk, IsLawful}
-use Rattle.ec_promise.specs.Completes.{EndsPlainly}
-use Rattle.ec_promise.specs.Rooms.{TellsRoom}
-use Rattle.ec_promise.specs.Spent.{TellsSpent}
-use Rattle.ec_drill.specs.Limits.{most_objects}
+use Rattle.ec_drill.specs.Drill.{Outside, IsDiskUntouched}
 use Rattle.ec_drill.specs.declared.status.Status as drilled
 use Rattle.ec_drill.specs.declared.status.Status.TheVariants as drill
 use Rattle.ec_echo.specs.Made.{made_lines}
@@ -102,37 +96,8 @@ Told number drill.SinkFault transcript result held now before later = TellsNothi
 Told number drill.DiskFault transcript result held now before later = TellsNothing status.DiskFault result held now
 Told number drill.NoMemory transcript result held now before later = TellsNothing status.NoMemory result held now
 
--- a drill of the script of this number, from memory to memory, which don't fail
-abbrev pub within : ℕ → Option (List ℕ) → List ℕ → Outside → Outside
-within number left_after transcript w = record w {
-  left = Some (script_of number made_lines);
-  left_after = left_after;
-  reads = 0;
-  reads_after = 0;
-  held = Some [];
-  held_after = Some transcript;
-  writes = 0;
-  writes_after = 0;
-}
-
--- The script of this number was drilled over the disk, and what its transcript tells was written. The transcript's lines are lawful, and on a new disk the drill is
--- complete: each made script is plain.
-pub record Drills (number : ℕ) (result : Status) (w : Outside) : Type 0 where
-  pub left_after : Option (List ℕ)
-  pub transcript : List ℕ
-  pub end : drilled.Status
-  pub drilled_so : Drilled most_objects end (within number left_after transcript w)
-  pub lawful : IsLawful most_objects end (within number left_after transcript w) drilled_so
-  pub complete : HasNewDisk w → EndsPlainly most_objects end (within number left_after transcript w) drilled_so
-  pub room : TellsRoom most_objects end (within number left_after transcript w) drilled_so
-  pub spent : TellsSpent most_objects end (within number left_after transcript w) drilled_so
-  pub told : Told number end transcript result w.held w.held_after w.writes w.writes_after
-
 -- there was no memory for the script
 pub record IsUnmade (result : Status) (w : Outside) : Type 0 where
   pub result_is : result ≡ status.NoMemory
   pub held : w.held_after ≡ w.held
   pub disk : IsDiskUntouched w
-
-abbrev pub Soaked : ℕ → Status → Outside → Type 0
-Soaked number result w = Drills number result w ⊎ IsUnmade result w

@@ -1,5 +1,5 @@
 -- The words of the program.
-use Rattle.std.specs.Prelude.{◌≡◌, ◌⊎◌, ◌-◌, ◌^◌, ℕ, Bool, true, false, List, [], ◌∷◌, codes}
+use Rattle.std.specs.Prelude.{◌≡◌, ◌⊎◌, ◌-◌, ◌^◌, ℕ, List, [], ◌∷◌, codes}
 use Rattle.ec_words.specs.Spelling.{IsNumberIn, IsClerk}
 use Rattle.ec_durable.specs.WellFormed.{least_max_objects, most_max_objects}
 use Rattle.ec_drill.specs.Limits.{most_objects}
@@ -35,11 +35,3 @@ Spells words (Make n) = IsNumbered (codes "make") 0 (2 ^ 32 - 1) words n
 Spells words (Soak n) = IsNumbered (codes "soak") 0 (2 ^ 32 - 1) words n
 Spells words (Serve n) = IsAddressed (codes "serve") 1 1000000 words n
 Spells words (Mount c) = IsOfClerk (codes "mount") words c
-
-abbrev pub uses_disk : Command → Bool
-uses_disk (Drill most) = true
-uses_disk (Check most) = false
-uses_disk (Make n) = false
-uses_disk (Soak n) = true
-uses_disk (Serve n) = true
-uses_disk (Mount c) = false

@@ -1,7 +1,8 @@
 // What the words of the program ask for.
 ghost use Rattle.std.specs.Prelude.{◌≡◌, ℕ, List, [], ◌∷◌, map, MatchOption, MatchBool};
 ghost use Rattle.std.specs.String.{string_bytes};
-ghost use Rattle.ec_echo.specs.Words.{Spells, IsAddress, uses_disk};
+ghost use Rattle.ec_echo.specs.Words.{Spells, IsAddress};
+ghost use Rattle.ec_echo.specs.DiskUse.{uses_disk};
 ghost use Rattle.ec_echo.specs.declared.command.Command.{Command};
 
 use ec_base::ClerkId;

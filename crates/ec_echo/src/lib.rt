@@ -4,7 +4,7 @@
 ghost use Rattle.std.specs.Prelude.{◌≡◌, ◌↔◌, ◌≤◌, None, map};
 ghost use Rattle.std.specs.String.{string_bytes};
 ghost use Rattle.ec_link.specs.Spawns.{faults_of};
-ghost use Rattle.ec_echo.specs.Echo.{Echoes};
+ghost use Rattle.ec_echo.specs.Forms.{Echoes};
 ghost use Rattle.ec_echo.specs.Statuses.{code};
 ghost use Rattle.ec_echo.specs.Words.{Spells};
 ghost use Rattle.ec_echo.specs.declared.command.Command.{Command};

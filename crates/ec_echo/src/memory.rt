@@ -1,6 +1,6 @@
 // A script and a transcript in memory, which never fail.
 ghost use Rattle.std.specs.Prelude.{◌≡◌, ◌≤◌, [], Some, length};
-ghost use Rattle.ec_base.specs.Outside.{TookRight, GaveRight, TellsAlike};
+ghost use Rattle.ec_base.specs.OutsideCalls.{TookRight, GaveRight, TellsAlike};
 
 use ec_base::{Gave, Sink, Source, Took};
 use std::alloc::Global;

@@ -1,5 +1,5 @@
 // Two lanes, of which the first one waits for the second.
-ghost use Rattle.ec_lock.specs.Passes.{IsPassOf};
+ghost use Rattle.ec_lock.specs.PassViews.{IsPassOf};
 
 use ec_base::{List, Path};
 use ec_clerknode::{Gate, Node, SharedClerk, run_lanes};

@@ -1,8 +1,8 @@
 // A shared clerk and a shared server, each in a thread of its own.
 ghost use Rattle.std.specs.Prelude.{IfSome};
 ghost use Rattle.std.specs.Thread.{IsSync};
-ghost use Rattle.ec_lock.specs.Passes.{IsPassOf};
-ghost use Rattle.ec_servernode.specs.Turns.{IsServerPass};
+ghost use Rattle.ec_lock.specs.PassViews.{IsPassOf};
+ghost use Rattle.ec_servernode.specs.TurnSteps.{IsServerPass};
 
 use crate::lanes::run_both;
 use crate::runs::NetTypes;

@@ -1,6 +1,6 @@
 // The server's side.
 ghost use Rattle.std.specs.Prelude.{IfSome};
-ghost use Rattle.ec_servernode.specs.Turns.{IsServerPass};
+ghost use Rattle.ec_servernode.specs.TurnSteps.{IsServerPass};
 
 use ec_durable::{Durable, formatted_states_are_in_order};
 use ec_link::{Around, Bell, Link, MemBell, MemLink};

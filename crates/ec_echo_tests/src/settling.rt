@@ -1,5 +1,5 @@
 // A create is flushed until it's settled.
-ghost use Rattle.ec_lock.specs.Passes.{IsPassOf};
+ghost use Rattle.ec_lock.specs.PassViews.{IsPassOf};
 
 use ec_base::Path;
 use ec_clerknode::{Node, NodeFault, SharedClerk};

@@ -5,7 +5,8 @@ use Rattle.std.proofs.lemmas.List.{ext_get_or}
 use Rattle.ec_half.specs.Contents.{Content, Rested, Stays, stays-then, stays-rested}
 use Rattle.ec_half.specs.declared.copying.Joined.{Joined}
 use Rattle.ec_half.specs.declared.copying.Joined.TheVariants as joined
-use Rattle.ec_disk.specs.Disk.{byte, part, written, InRange}
+use Rattle.ec_disk.specs.Disk.{byte, part}
+use Rattle.ec_disk.specs.Effects.{written, InRange}
 use Rattle.ec_disk.specs.Images.{in_range_or_not, length-written, byte-written_in, byte-written_out, byte-part}
 
 pub record IsCopied (at : ℕ) (from to : List ℕ) : Type 0 where

@@ -3,7 +3,7 @@ use Rattle.std.proofs.Common.{◌≡◌, ◌+◌, ◌-◌, ◌≤◌, ℕ, List,
 use Rattle.std.specs.Prelude.{max}
 use Rattle.std.proofs.Math.ListN.{drop_of_length-le}
 use Rattle.std.proofs.lemmas.List.{take_all, length-replicate, replicate-append-replicate, append-nil}
-use Rattle.ec_disk.specs.Disk.{written}
+use Rattle.ec_disk.specs.Effects.{written}
 use Rattle.ec_slots.specs.Contents.{filled, filled-same}
 
 pub length-filled : (bytes : List ℕ) (len : ℕ) → length (filled bytes len) ≡ max (length bytes) len

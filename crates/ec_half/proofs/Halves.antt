@@ -8,7 +8,8 @@ use Rattle.std.proofs.Math.ListN.{drop_of_length-le}
 use Rattle.std.proofs.lemmas.List.{ext_get_or}
 use Rattle.std.proofs.lemmas.List.FromFn.{length-map-range_with_len, get_or-map-range_with_len}
 use Rattle.ec_disk.specs.Choices.{cut, Saves}
-use Rattle.ec_disk.specs.Disk.{View, byte, part, InRange, IsSynced, Cut, Rests, Wrote, written}
+use Rattle.ec_disk.specs.Disk.{View, byte, part}
+use Rattle.ec_disk.specs.Effects.{InRange, IsSynced, Cut, Rests, Wrote, written}
 use Rattle.ec_disk.specs.Images.{length-written}
 use Rattle.ec_disk.specs.Undo.{torn, torn_byte}
 use Rattle.ec_disk.specs.declared.disk.DiskAnswer.{DiskAnswer}

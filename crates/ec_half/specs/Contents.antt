@@ -1,7 +1,8 @@
 -- What stands behind the header of a mirror's disk.
 use Rattle.std.specs.Prelude.{◌≡◌, ◌+◌, ◌≤◌, ℕ, List, length}
 use Rattle.std.proofs.Common.{arith, ◌∙◌, ap, refl, sym, subst}
-use Rattle.ec_disk.specs.Disk.{View, Loose, InRange, After, IsSynced, Rests, Wrote}
+use Rattle.ec_disk.specs.Disk.{View}
+use Rattle.ec_disk.specs.Effects.{Loose, InRange, After, IsSynced, Rests, Wrote}
 use Rattle.ec_disk.specs.Runs.{loose-same}
 use Rattle.ec_slots.specs.Contents.{content, byte-content, length-content}
 use Rattle.ec_slots.specs.Slots.{header_bytes}

@@ -4,7 +4,8 @@ ghost use Rattle.ec_base.specs.Outside.{Rose};
 ghost use Rattle.ec_disk.specs.declared.disk.DiskAnswer.TheVariants as said;
 ghost use Rattle.ec_disk.specs.declared.disk.DiskLen.TheVariants as len;
 ghost use Rattle.ec_disk.specs.Choices.{cut};
-ghost use Rattle.ec_disk.specs.Disk.{InRange, part, written};
+ghost use Rattle.ec_disk.specs.Disk.{part};
+ghost use Rattle.ec_disk.specs.Effects.{InRange, written};
 ghost use Rattle.ec_half.specs.Contents.{IsHalf, HasHeader, HasLength, behind, Rested, Stays, Fewer, Loosened, AllSynced};
 ghost use Rattle.ec_slots.specs.Slots.{header_bytes};
 

@@ -1,7 +1,8 @@
 // What stands in front of a disk's content.
 ghost use Rattle.std.specs.Prelude.{◌≡◌, ◌<◌, ◌≤◌, ◌+◌, ℕ, Ok, Err, None, Some, IsOk, IfOk, IsErrOf, length};
 ghost use Rattle.std.specs.Int.{w64, from_be_bytes};
-ghost use Rattle.ec_disk.specs.Disk.{part, Counted, IsSynced, Rests};
+ghost use Rattle.ec_disk.specs.Disk.{part};
+ghost use Rattle.ec_disk.specs.Effects.{Counted, IsSynced, Rests};
 ghost use Rattle.ec_disk.specs.declared.disk.DiskAnswer.TheVariants as said;
 ghost use Rattle.ec_half.specs.Contents.{IsHalf, HasHeader, HasLength};
 ghost use Rattle.ec_half.specs.Headers.{Shows, IsNewest, IsFound, IsBad, IsNoHalf, IsOf, MayBeHalf};

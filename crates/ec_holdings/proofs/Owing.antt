@@ -14,11 +14,13 @@ use Rattle.ec_order.specs.Order.{Issued, Holds}
 use Rattle.ec_chains.specs.Held.{is_behind}
 use Rattle.ec_chains.specs.ClosureLaws.{passes-member}
 use Rattle.ec_log.specs.Log as logs
+use Rattle.ec_log.specs.LogOrder as log_order
 use Rattle.ec_log.specs.declared.state.LogState.{LogState}
 use Rattle.ec_log.specs.declared.state.Pick.{Pick}
 use Rattle.ec_log.specs.declared.state.Pick.TheVariants as pick_of
 use Rattle.ec_sessions.specs.declared.window.Window.{Window}
-use Rattle.ec_report.specs.Report.{Owed, owe, pairs_of, come_behind}
+use Rattle.ec_report.specs.Report.{Owed, owe, pairs_of}
+use Rattle.ec_report.specs.OwedOrder.{come_behind}
 use Rattle.ec_protocol.specs.Clerk.{with_operands}
 use Rattle.ec_holdings.specs.Owing.{lost_of, owed_before}
 
@@ -59,17 +61,17 @@ first_stays (pick_of.Window b) l = refl
 lower : (m n : ℕ) → T (is_lt (nat_cmp m n)) → m < n
 lower m n l = grind (arith, nat_tests, l)
 
-from_above : (m : ℕ) (xs : Issued) → T (below_all nat_cmp m xs) → logs.is_from (m + 1) xs ≡ true
+from_above : (m : ℕ) (xs : Issued) → T (below_all nat_cmp m xs) → log_order.is_from (m + 1) xs ≡ true
 from_above m [] b = refl
 from_above m (x ∷ xs) b =
     let l : m < x.0 = lower m x.0 (first _ _ b) in
-    and_from (nat_le (m + 1) x.0) (logs.is_from (m + 1) xs) (le-leb (m + 1) x.0 (omega (arith, l))) (from_above m xs (second _ _ b))
+    and_from (nat_le (m + 1) x.0) (log_order.is_from (m + 1) xs) (le-leb (m + 1) x.0 (omega (arith, l))) (from_above m xs (second _ _ b))
 
 module _ (q : ℕ × Update → Bool) where
-  pub lost_behind : (n : ℕ) (xs : Issued) (owed : Owed) → logs.is_from n xs ≡ true → T (is_sorted nat_cmp xs) → owed_before n owed ≡ true → come_behind (with_operands (filter q xs)) owed ≡ true
+  pub lost_behind : (n : ℕ) (xs : Issued) (owed : Owed) → log_order.is_from n xs ≡ true → T (is_sorted nat_cmp xs) → owed_before n owed ≡ true → come_behind (with_operands (filter q xs)) owed ≡ true
   lost_behind n [] owed f s b = refl
   lost_behind n (x ∷ xs) owed f s b =
-      let p = and_parts (nat_le n x.0) (logs.is_from n xs) f in
+      let p = and_parts (nat_le n x.0) (log_order.is_from n xs) f in
       let l : n ≤ x.0 = leb-true n x.0 p.0 in
       let more = owe ((x.0, operands x.1) ∷ []) owed in
       let named : owed_before (x.0 + 1) (pairs_of ((x.0, operands x.1) ∷ [])) ≡ true =
@@ -107,7 +109,7 @@ lost_of-keys : (p : ℕ × Update → Bool) (xs : Issued) → T (is_sorted nat_c
 lost_of-keys p xs s = same_filter (λ op. member op.0 (keys (filter p xs))) p xs (λ n u h. sym (passes-member p xs s n u h))
 
 -- so their numbers are these
-pub lost_are_some : (w : Window) (l : LogState) → logs.AreOwn l → (ns : List ℕ) (ops : Issued) → ns ≡ keys (logs.lost w l) → ops ≡ l.undurable → keys (lost_of ns ops) ≡ ns
+pub lost_are_some : (w : Window) (l : LogState) → log_order.AreOwn l → (ns : List ℕ) (ops : Issued) → ns ≡ keys (logs.lost w l) → ops ≡ l.undurable → keys (lost_of ns ops) ≡ ns
 lost_are_some w l own ns ops at_ns at_ops =
     ap (λ ms. keys (lost_of ms ops)) at_ns
     ∙ ap (λ us. keys (lost_of (keys (logs.lost w l)) us)) at_ops
@@ -159,7 +161,7 @@ module _ (ns : List ℕ) (ops after : Issued) (x : ℕ × Update) (next : ops �
   left_same h = by_test false (is_other h)
 
 -- what the code finds of them
-module _ (w : Window) (l : LogState) (own : logs.AreOwn l) (ns : List ℕ) (ops : Issued) (lost : List (ℕ × List ℕ)) (at_ns : ns ≡ keys (logs.lost w l)) (at_ops : ops ≡ l.undurable) (at_lost : lost ≡ with_operands (lost_of ns ops)) where
+module _ (w : Window) (l : LogState) (own : log_order.AreOwn l) (ns : List ℕ) (ops : Issued) (lost : List (ℕ × List ℕ)) (at_ns : ns ≡ keys (logs.lost w l)) (at_ops : ops ≡ l.undurable) (at_lost : lost ≡ with_operands (lost_of ns ops)) where
   abbrev is_lost : ℕ × Update → Bool
   is_lost op = not (logs.is_kept_by w l op.0)
 

@@ -4,13 +4,15 @@ use Rattle.std.specs.Int.{w32, to_be_bytes}
 use Rattle.std.proofs.lemmas.Bool.{cases_eq}
 use Rattle.std.proofs.lemmas.List.{get_or_at, take-take, take_at}
 use Rattle.std.proofs.lemmas.List.Elements.{All-push}
-use Rattle.ec_disk.specs.Disk.{View, byte, part, written, Loose, InRange, After, IsSynced, LeavesOnly}
+use Rattle.ec_disk.specs.Disk.{View, byte, part}
+use Rattle.ec_disk.specs.Effects.{written, Loose, InRange, After, IsSynced, LeavesOnly}
 use Rattle.ec_disk.specs.Images.{byte-part, part-add, part-one, part-loose, part-written, byte-written}
 use Rattle.ec_disk.specs.Runs.{Ran, leaves_only, leaves_then, ran_within, ran_then}
 use Rattle.ec_disk.specs.Calls.{Call}
 use Rattle.ec_journal.specs.Ends.{EndsBy, answer_of}
 use Rattle.ec_journal.specs.declared.fault.JournalFault.{JournalFault}
-use Rattle.ec_journal.specs.Records.{open_gate, IsShort, records, HasBodies, staged}
+use Rattle.ec_journal.specs.Records.{open_gate, IsShort, records, HasBodies}
+use Rattle.ec_journal.specs.RecordBytes.{staged}
 use Rattle.ec_journal.proofs.Reading.{records-push}
 
 -- a journal whose records and closed gate aren't written

@@ -3,7 +3,7 @@ use Rattle.std.specs.Prelude.{◌≡◌, ◌⊎◌, ◌<◌, ◌≤◌, ◌+◌,
 use Rattle.std.proofs.Common.{refl, sym, subst, arith, length-append}
 use Rattle.ec_disk.specs.Calls.{Call, Read, Write, Sync, Len}
 use Rattle.ec_disk.specs.Counting.{turned_once, turned_both, turned_for}
-use Rattle.ec_disk.specs.Disk.{Turned, CountsDown}
+use Rattle.ec_disk.specs.Effects.{Turned, CountsDown}
 use Rattle.ec_disk.specs.declared.disk.DiskAnswer.{DiskAnswer}
 use Rattle.ec_disk.specs.declared.disk.DiskAnswer.TheVariants.{Done, Failed, Stopped, NoMemory}
 use Rattle.ec_journal.specs.declared.fault.JournalFault.{JournalFault}

@@ -1,6 +1,7 @@
 -- What a journal on a disk stands for.
 use Rattle.std.specs.Prelude.{◌≡◌, ◌⊎◌, ◌<◌, ◌≤◌, ◌+◌, ◌-◌, ℕ, true, false, List, [], ◌∷◌, ◌++◌, length}
-use Rattle.ec_disk.specs.Disk.{View, LeavesOnly}
+use Rattle.ec_disk.specs.Disk.{View}
+use Rattle.ec_disk.specs.Effects.{LeavesOnly}
 use Rattle.ec_journal.specs.Records.{around_bytes, records, HasBodies, RunsPast}
 use Rattle.ec_journal.specs.declared.journal.Journal.{Journal}
 use Rattle.ec_journal.specs.declared.read.Found.{Found}

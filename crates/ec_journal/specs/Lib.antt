@@ -2,3 +2,4 @@ pub mod Ends
 pub mod Journal
 pub mod Laws
 pub mod Records
+pub mod RecordBytes

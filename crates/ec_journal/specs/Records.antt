@@ -1,5 +1,5 @@
 -- A journal's bytes: a row of records, each a gate, a length and a body, up to the first closed gate.
-use Rattle.std.specs.Prelude.{◌≡◌, ◌≢◌, ◌⊎◌, ◌<◌, ◌≤◌, ◌+◌, ◌^◌, ℕ, ◌-◌, List, [], ◌∷◌, ◌++◌, length, take, drop}
+use Rattle.std.specs.Prelude.{◌≡◌, ◌≢◌, ◌⊎◌, ◌<◌, ◌≤◌, ◌+◌, ◌^◌, ℕ, List, [], ◌∷◌, ◌++◌, length}
 use Rattle.std.specs.List.{All}
 use Rattle.std.specs.Int.{w32, to_be_bytes, from_be_bytes}
 use Rattle.ec_disk.specs.Disk.{byte, part}
@@ -8,24 +8,12 @@ use Rattle.ec_disk.specs.Disk.{byte, part}
 abbrev pub open_gate : ℕ
 open_gate = 79
 
--- what an append writes behind a body
-abbrev pub closed_gate : ℕ
-closed_gate = 0
-
 abbrev pub length_bytes : ℕ
 length_bytes = 4
-
--- in front of a body: a gate and a length
-abbrev pub head_bytes : ℕ
-head_bytes = 5
 
 -- what a record needs beside its body: a gate, a length and the next gate
 abbrev pub around_bytes : ℕ
 around_bytes = 6
-
--- an append takes a body of at most so many bytes
-abbrev pub max_record_bytes : ℕ
-max_record_bytes = 524288
 
 abbrev pub IsShort : List ℕ → Type 0
 IsShort body = length body < 2 ^ 32
@@ -54,11 +42,3 @@ pub record RunsPast (image : List ℕ) (at size : ℕ) (bodies : List (List ℕ)
   pub gate_inside : length (records bodies) < size
   pub is_open : byte image (at + length (records bodies)) ≡ open_gate
   pub past : (size < length (records bodies) + around_bytes) ⊎ (size < length (records bodies) + around_bytes + from_be_bytes w32 (part image (at + length (records bodies) + 1) length_bytes))
-
--- what an append writes behind its gate: a length, a body and the closed next gate
-abbrev pub staged : List ℕ → List ℕ
-staged body = to_be_bytes w32 (length body) ++ body ++ closed_gate ∷ []
-
--- the body in such bytes
-abbrev pub body_in : List ℕ → List ℕ
-body_in piece = take (length piece - 5) (drop 4 piece)

@@ -1,7 +1,8 @@
 // Calls on a disk that a journal, and the store above it, are made of.
 ghost use Rattle.std.specs.Prelude.{◌≡◌, ◌+◌, ◌≤◌, ℕ, length, IfOk, OnOk, OnErr, IfErr, IsOk, IsErrOf};
 ghost use Rattle.ec_disk.specs.declared.disk.DiskAnswer.TheVariants as said;
-ghost use Rattle.ec_disk.specs.Disk.{View, InRange, part, written, IsSynced, Rests, Counted, Called};
+ghost use Rattle.ec_disk.specs.Disk.{View, part};
+ghost use Rattle.ec_disk.specs.Effects.{InRange, written, IsSynced, Rests, Counted, Called};
 ghost use Rattle.ec_disk.specs.Runs.{Ran};
 ghost use Rattle.ec_journal.specs.Ends.{DidAll, EndsBy, TurnedUpTo, answer_of};
 ghost use Rattle.ec_journal.specs.declared.fault.JournalFault.TheVariants as fault;

@@ -1,9 +1,9 @@
 // A journal: it reads its records back, and adds one behind them.
 ghost use Rattle.std.specs.Prelude.{◌≡◌, ◌+◌, ◌^◌, ◌<◌, ℕ, length, OnOk, OnErr, IfErr, IsOk, IsErrOf};
-ghost use Rattle.ec_disk.specs.Disk.{InRange, written, IsSynced, Counted, Called};
+ghost use Rattle.ec_disk.specs.Effects.{InRange, written, IsSynced, Counted, Called};
 ghost use Rattle.ec_disk.specs.Runs.{Ran};
 ghost use Rattle.ec_journal.specs.Ends.{DidAll, EndsBy, TurnedUpTo, answer_of};
-ghost use Rattle.ec_journal.specs.Records.{staged};
+ghost use Rattle.ec_journal.specs.RecordBytes.{staged};
 ghost use Rattle.ec_journal.specs.declared.fault.JournalFault.TheVariants as fault;
 
 use crate::device::write_synced;
@@ -31,11 +31,12 @@ pub struct Journal {
 
 impl Journal {
     ghost use Rattle.std.specs.Prelude.{◌≡◌, ◌+◌, ◌^◌, ◌<◌, ◌≤◌, ℕ, length, IfOk, OnOk, OnErr, IsOk, IsErrOf, MatchBool, MatchResult};
-    ghost use Rattle.ec_disk.specs.Disk.{IsSynced, Counted, Called, Rests};
+    ghost use Rattle.ec_disk.specs.Effects.{IsSynced, Counted, Called, Rests};
     ghost use Rattle.ec_disk.specs.Runs.{Ran};
     ghost use Rattle.ec_disk.specs.declared.disk.DiskAnswer.TheVariants as said;
     ghost use Rattle.ec_journal.specs.Ends.{DidAll, EndsBy, Lacks, TurnedUpTo};
-    ghost use Rattle.ec_journal.specs.Records.{around_bytes, head_bytes, max_record_bytes, records, HasBodies};
+    ghost use Rattle.ec_journal.specs.Records.{around_bytes, records, HasBodies};
+    ghost use Rattle.ec_journal.specs.RecordBytes.{head_bytes, max_record_bytes};
     ghost use Rattle.ec_journal.specs.Journal.{place_of, size_of, end_of, free_of, need_of, FromGate, Adds, LeavesEither, LeavesOld, IsBad};
     ghost use Rattle.ec_journal.specs.declared.fault.JournalFault.TheVariants as fault;
 

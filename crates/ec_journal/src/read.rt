@@ -1,7 +1,8 @@
 // Reading the records of a journal.
 ghost use Rattle.std.specs.Prelude.{◌≡◌, ◌≢◌, ◌⊎◌, ◌+◌, ◌^◌, ◌<◌, ◌≤◌, ℕ, Bool, true, false, List, [], length, IfOk, OnOk, IfSome, IfNone, IsErrOf};
 ghost use Rattle.std.specs.Int.{w32, from_be_bytes};
-ghost use Rattle.ec_disk.specs.Disk.{byte, part, Rests, Counted, Called};
+ghost use Rattle.ec_disk.specs.Disk.{byte, part};
+ghost use Rattle.ec_disk.specs.Effects.{Rests, Counted, Called};
 ghost use Rattle.ec_journal.specs.Records.{open_gate, around_bytes, length_bytes, HasBodies, RunsPast};
 ghost use Rattle.ec_journal.specs.Journal.{IsFound};
 ghost use Rattle.ec_journal.specs.declared.fault.JournalFault.TheVariants as fault;

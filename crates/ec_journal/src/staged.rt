@@ -1,6 +1,6 @@
 // Records that are ready for a journal.
 ghost use Rattle.std.specs.Prelude.{◌≡◌, ◌≤◌, List, ℕ, length, IfOk};
-ghost use Rattle.ec_journal.specs.Records.{max_record_bytes, body_in, staged};
+ghost use Rattle.ec_journal.specs.RecordBytes.{max_record_bytes, body_in, staged};
 
 use crate::read::{HEAD_BYTES, LENGTH_BYTES};
 use ec_base::NoMemory;

@@ -13,7 +13,7 @@ use Rattle.ec_volume.specs.Volume.{Images, images, after, Fits, WellFormed, form
 use Rattle.ec_volume.specs.declared.update.Update.{Update}
 use Rattle.ec_overlay.specs.Shown.{shown}
 use Rattle.ec_plain.specs.Plain.{plain}
-use Rattle.ec_plain.specs.Bounds.{is_bounded}
+use Rattle.ec_plain.specs.BoundedCalls.{is_bounded}
 use Rattle.ec_plain.specs.declared.call.Call.{Call}
 use Rattle.ec_plain.specs.declared.call.Outcome.{Outcome}
 use Rattle.ec_order.specs.Order.{Issued, InClosure, ask, need, closure}

@@ -1,7 +1,8 @@
 -- A disk that is asked for its length, and then opened.
 use Rattle.std.proofs.Common.{◌≡◌, ℕ, List, Result, Ok, Err, subst, arith, inl, inr, ⊎_elim}
 use Rattle.std.specs.Prelude.{IfOk}
-use Rattle.ec_disk.specs.Disk.{View, Rests, LeavesOnly}
+use Rattle.ec_disk.specs.Disk.{View}
+use Rattle.ec_disk.specs.Effects.{Rests, LeavesOnly}
 use Rattle.ec_stands.specs.Stands.{StandsFor}
 use Rattle.ec_store.specs.Opening.{WasLeftOrStands}
 use Rattle.ec_store.specs.Store.{view_of}

@@ -2,7 +2,7 @@
 use Rattle.std.proofs.Common.{◌≡◌, ◌⊎◌, ◌<◌, ◌≤◌, ℕ, Option, ⊎_elim, Result, Ok, Err, refl, sym, subst, arith}
 use Rattle.std.specs.Prelude.{IsOk, IsErrOf}
 use Rattle.ec_disk.specs.Counting.{turned_for}
-use Rattle.ec_disk.specs.Disk.{Turned}
+use Rattle.ec_disk.specs.Effects.{Turned}
 use Rattle.ec_durable.specs.Durable.{step}
 use Rattle.ec_durable.specs.declared.record.Record.{Record}
 use Rattle.ec_durable.specs.declared.record.RecordFault.{RecordFault}

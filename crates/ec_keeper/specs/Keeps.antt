@@ -1,5 +1,6 @@
 -- What a commit makes of a store and of its disk.
-use Rattle.ec_disk.specs.Disk.{View, IsSynced, LeavesOnly}
+use Rattle.ec_disk.specs.Disk.{View}
+use Rattle.ec_disk.specs.Effects.{IsSynced, LeavesOnly}
 use Rattle.ec_durable.specs.declared.record.Record.{Record}
 use Rattle.ec_store.specs.Store.{IsHeld, StandsForEither, view_of}
 use Rattle.ec_store.specs.declared.store.Store.{Store}

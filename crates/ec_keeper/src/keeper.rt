@@ -1,6 +1,6 @@
 // A store and its disk, as a server's keeper.
 ghost use Rattle.std.specs.Prelude.{◌≡◌, ◌<◌, ◌≤◌, ℕ, Ok};
-ghost use Rattle.ec_disk.specs.Disk.{Called, Turned};
+ghost use Rattle.ec_disk.specs.Effects.{Called, Turned};
 ghost use Rattle.ec_durable.specs.Codes.{record_code};
 ghost use Rattle.ec_durable.specs.Durable.{step};
 ghost use Rattle.ec_journal.specs.Journal.{need_of};

@@ -1,6 +1,6 @@
 // Opening a disk, whatever stands there.
 ghost use Rattle.std.specs.Prelude.{◌≡◌, ◌≤◌, ℕ, length, IfOk, OnOk, IsErrOf};
-ghost use Rattle.ec_disk.specs.Disk.{IsSynced, LeavesOnly, Counted};
+ghost use Rattle.ec_disk.specs.Effects.{IsSynced, LeavesOnly, Counted};
 ghost use Rattle.ec_durable.specs.Durable.{formatted};
 ghost use Rattle.ec_durable.specs.WellFormed.{least_max_objects, most_max_objects};
 ghost use Rattle.ec_durable.specs.declared.record.RecordFault.{RecordFault};

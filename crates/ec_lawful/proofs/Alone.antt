@@ -1,7 +1,7 @@
 -- What a new start makes of its first call alone: it waits, or it's answered without a session.
 use Rattle.std.proofs.Common.{◌≡◌, refl, sym, ap, subst, ◌∙◌, ℕ, zero, suc, T, true, false, List, [], ◌∷◌, Option, Some, None}
 use Rattle.std.specs.List.{list_any}
-use Rattle.ec_plain.specs.Bounds.{is_bounded}
+use Rattle.ec_plain.specs.BoundedCalls.{is_bounded}
 use Rattle.ec_plain.specs.declared.call.Call.{Call}
 use Rattle.ec_plain.specs.declared.call.Outcome.{Outcome}
 use Rattle.ec_history.specs.Placing.{shows}

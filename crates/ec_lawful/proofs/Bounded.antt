@@ -2,7 +2,7 @@
 use Rattle.std.proofs.Common.{ℕ, T, Bool, true, false, cond, List, [], ◌∷◌, ◌++◌}
 use Rattle.std.specs.Prelude.{is_some}
 use Rattle.std.specs.List.{list_all}
-use Rattle.ec_plain.specs.Bounds.{is_bounded}
+use Rattle.ec_plain.specs.BoundedCalls.{is_bounded}
 use Rattle.ec_plain.specs.declared.call.Call.{Call}
 use Rattle.ec_history.specs.History.{History}
 use Rattle.ec_history.specs.Placing.{EachLine, call_entry, is_call_of, is_end_of, is_running, late, line_entries, owner, place, place_from, watch}

@@ -1,7 +1,7 @@
 -- A call of a running clerk has begun.
 use Rattle.std.proofs.Common.{◌≡◌, refl, sym, ap, subst, ◌∙◌, inl, inr, ◌⊎◌, arith, ◌<◌, ◌+◌, ◌-◌, ℕ, T, Bool, true, false, ◌==◌, [], Option, Some, None, append-nil}
 use Rattle.ec_base.specs.Tables.{at_or, put}
-use Rattle.ec_plain.specs.Bounds.{is_bounded}
+use Rattle.ec_plain.specs.BoundedCalls.{is_bounded}
 use Rattle.ec_plain.specs.declared.call.Call.{Call}
 use Rattle.ec_history.specs.History.{Each}
 use Rattle.ec_history.specs.declared.shown.Shown.TheVariants as show

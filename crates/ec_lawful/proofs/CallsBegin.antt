@@ -5,7 +5,7 @@ use Rattle.std.specs.List.{list_any}
 use Rattle.std.proofs.lemmas.List.Folds.{list_any-append}
 use Rattle.ec_base.specs.Limits.{last_counter}
 use Rattle.ec_base.specs.declared.counter.Counter.TheVariants as counter
-use Rattle.ec_plain.specs.Bounds.{is_bounded}
+use Rattle.ec_plain.specs.BoundedCalls.{is_bounded}
 use Rattle.ec_plain.specs.declared.call.Call.{Call}
 use Rattle.ec_history.specs.History.{Each}
 use Rattle.ec_history.specs.Placing.{is_numbered, watch, watch_next}
@@ -36,7 +36,7 @@ use Rattle.ec_clerk_steps.specs.Orderly.{IsOrderly}
 use Rattle.ec_clerk_steps.proofs.NamesChanging.{clerks-keep}
 use Rattle.ec_clerk_steps.proofs.FreesStored.{stills-keep}
 use Rattle.ec_lawful.proofs.FreshSteps.{start-fresh}
-use Rattle.ec_lawful.specs.Creates.{AreQuiet}
+use Rattle.ec_lawful.specs.FreshIds.{AreQuiet}
 use Rattle.ec_lawful.specs.Fresh.{FreshAgrees}
 use Rattle.ec_lawful.proofs.LinesTell.{line-tells}
 use Rattle.ec_clerk_steps.specs.Frees.{FullsAgree}

@@ -31,7 +31,8 @@ use Rattle.ec_lawful.proofs.Pool.{sends-all}
 use Rattle.ec_coherence.specs.StandLaws.{lined}
 use Rattle.ec_lawful.specs.Headline.{Lines, Pieces, joined}
 use Rattle.ec_lawful.specs.Calls.{AreOf, EachCall, IsOf, Tells}
-use Rattle.ec_lawful.specs.Drills.{AreFit, Closed, Comes, IsCallIn, IsFit, IsUnspent, Sofar, lines_in}
+use Rattle.ec_lawful.specs.Drills.{lines_in}
+use Rattle.ec_lawful.specs.DrillRuns.{AreFit, Closed, Comes, IsCallIn, IsFit, IsUnspent, Sofar}
 use Rattle.ec_lawful.specs.Steps.{Holds, IsNewIn, MayHappen, StepsKeep}
 use Rattle.ec_lawful.proofs.CallsShown.{MayBe, deliver-tells, event-tells, line-tells, quiet-tells, restart-tells}
 use Rattle.ec_lawful.proofs.Events.{deliver-holds, event-holds, restart-holds}

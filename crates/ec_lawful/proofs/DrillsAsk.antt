@@ -24,7 +24,8 @@ use Rattle.ec_coherence.proofs.Tables.{none_some}
 use Rattle.ec_coherence.specs.StandLaws.{lined}
 use Rattle.ec_lawful.specs.Headline.{AreEndsAsked, ArePieces, IsPiece, Lines, Pieces, joined, may_end}
 use Rattle.ec_lawful.specs.Calls.{AreOf, IsOf, Tells}
-use Rattle.ec_lawful.specs.Drills.{AreFit, IsCallIn, IsFit, Sofar, lines_in}
+use Rattle.ec_lawful.specs.Drills.{lines_in}
+use Rattle.ec_lawful.specs.DrillRuns.{AreFit, IsCallIn, IsFit, Sofar}
 use Rattle.ec_lawful.specs.Steps.{Holds, IsNewIn, MayHappen, StepsKeep}
 use Rattle.ec_lawful.proofs.CallsShown.{MayBe, deliver-tells, event-tells, line-tells, quiet-tells, restart-tells}
 use Rattle.ec_lawful.proofs.Drills.{drills-on}

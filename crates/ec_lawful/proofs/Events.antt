@@ -5,7 +5,7 @@ use Rattle.std.specs.List.{filter, list_any}
 use Rattle.ec_base.specs.Tables.{at, at_or, or_else, put}
 use Rattle.ec_base.specs.declared.counter.Counter.{Counter}
 use Rattle.ec_volume.specs.Update.{member}
-use Rattle.ec_plain.specs.Bounds.{is_bounded}
+use Rattle.ec_plain.specs.BoundedCalls.{is_bounded}
 use Rattle.ec_plain.specs.declared.call.Call.{Call}
 use Rattle.ec_history.specs.Placing.{is_numbered}
 use Rattle.ec_history.specs.declared.shown.Shown.TheVariants as show

@@ -1,6 +1,6 @@
 -- The first call of a clerk's next start has begun, and its line shows that it waits.
 use Rattle.std.proofs.Common.{◌≡◌, refl, sym, ap, subst, ◌∙◌, inl, ◌<◌, ◌+◌, ◌-◌, ℕ, T, true, false, List, [], ◌∷◌, ◌++◌, Option, Some, None, append-nil}
-use Rattle.ec_plain.specs.Bounds.{is_bounded}
+use Rattle.ec_plain.specs.BoundedCalls.{is_bounded}
 use Rattle.ec_plain.specs.declared.call.Call.{Call}
 use Rattle.std.specs.Prelude.{length}
 use Rattle.std.specs.List.{filter}

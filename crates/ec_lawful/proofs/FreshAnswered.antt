@@ -22,7 +22,8 @@ use Rattle.ec_coherence.proofs.Tables.{at-put, equal, is-true, same}
 use Rattle.ec_coherence.specs.CommitLaws.{AllAgree}
 use Rattle.ec_clerk_steps.specs.Names.{NamesAgree}
 use Rattle.ec_clerk_steps.specs.Zeros.{ZerosAgree}
-use Rattle.ec_lawful.specs.Creates.{IsFresh, IsGiven, MadeNone, OnCreate, creates}
+use Rattle.ec_lawful.specs.Creates.{creates}
+use Rattle.ec_lawful.specs.FreshIds.{IsFresh, IsGiven, MadeNone, OnCreate}
 use Rattle.ec_lawful.specs.Fresh.{AreFresh, FreshAgrees, IsOfStart, Stored, Taken}
 use Rattle.ec_lawful.specs.FreshLaws.{GoesAnswered}
 use Rattle.ec_lawful.proofs.Grows.{agree-within, answer-each, answer-fresh, each-agree, fresh-as, st}

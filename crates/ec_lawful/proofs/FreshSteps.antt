@@ -14,7 +14,7 @@ use Rattle.ec_coherence.proofs.Tables.{equal, none_some, same_some}
 use Rattle.ec_coherence.specs.CommitLaws.{AllAgree}
 use Rattle.ec_clerk_steps.specs.Names.{NamesAgree}
 use Rattle.ec_clerk_steps.specs.Moves.{IsStill}
-use Rattle.ec_lawful.specs.Creates.{AreQuiet}
+use Rattle.ec_lawful.specs.FreshIds.{AreQuiet}
 use Rattle.ec_lawful.specs.Fresh.{FreshAgrees, Hidden, IsIn, Taken}
 use Rattle.ec_lawful.specs.FreshLaws.{HasOld, SameLines}
 use Rattle.ec_lawful.proofs.Goes.{goes-fresh}

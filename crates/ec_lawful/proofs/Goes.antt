@@ -15,7 +15,7 @@ use Rattle.ec_coherence.proofs.Lists.{and_first, and_next, each-at, no_both}
 use Rattle.ec_coherence.proofs.Tables.{same_some}
 use Rattle.ec_coherence.specs.CommitLaws.{AllAgree}
 use Rattle.ec_clerk_steps.specs.Names.{NamesAgree}
-use Rattle.ec_lawful.specs.Creates.{IsGiven, OnCreate}
+use Rattle.ec_lawful.specs.FreshIds.{IsGiven, OnCreate}
 use Rattle.ec_lawful.specs.Fresh.{AreFresh, FreshAgrees, Hidden, IsIn, IsOfStart, Stored, Taken}
 use Rattle.ec_lawful.specs.FreshLaws.{GoesQuiet}
 use Rattle.ec_lawful.proofs.Quiet.{cut-front, quiet-each, quiet-few, quiet-fresh}

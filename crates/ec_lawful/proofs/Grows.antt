@@ -18,7 +18,8 @@ use Rattle.ec_laws.proofs.Late.{place-answer}
 use Rattle.ec_laws.proofs.Numbers.{each-append, each-back, each-front}
 use Rattle.ec_laws.proofs.Places.{places-within}
 use Rattle.ec_laws.proofs.Watching.{untold-runs}
-use Rattle.ec_lawful.specs.Creates.{IsFresh, MadeNone, OnCreate, creates}
+use Rattle.ec_lawful.specs.Creates.{creates}
+use Rattle.ec_lawful.specs.FreshIds.{IsFresh, MadeNone, OnCreate}
 
 -- Where the ids at all places are the same, so is what is fresh.
 module _ (f q : ℕ → ℕ) where

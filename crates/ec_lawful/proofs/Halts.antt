@@ -53,7 +53,7 @@ use Rattle.ec_clerk_steps.proofs.ZerosBehind.{records-keep, same-keeps}
 use Rattle.ec_lawful.specs.Doubts.{ComesFrom, ComesFromAny, DoubtAgrees, doubted}
 use Rattle.ec_lawful.specs.HeadlineLaws.{GoesBy}
 use Rattle.ec_lawful.proofs.LinesTell.{line-tells}
-use Rattle.ec_lawful.specs.Creates.{IsQuiet}
+use Rattle.ec_lawful.specs.FreshIds.{IsQuiet}
 use Rattle.ec_lawful.specs.Fresh.{FreshAgrees}
 use Rattle.ec_lawful.proofs.FreshSteps.{record-fresh}
 use Rattle.ec_lawful.specs.Whole.{Whole}

@@ -15,12 +15,14 @@ use Rattle.ec_history.specs.declared.entry.Entry.{Entry}
 use Rattle.ec_history.specs.declared.entry.Entry.TheVariants as entry
 use Rattle.ec_laws.proofs.Numbers.{each-append}
 use Rattle.ec_laws.proofs.Fresh.{plain-makes}
-use Rattle.ec_laws.specs.Placing.{IsNewId, made_ids}
+use Rattle.ec_laws.specs.Placing.{made_ids}
+use Rattle.ec_laws.specs.NewIds.{IsNewId}
 use Rattle.ec_coherence.specs.System.{System, base_of}
 use Rattle.ec_history.specs.Placing.{place}
 use Rattle.ec_history.specs.declared.shown.Shown.{Shown}
 use Rattle.ec_lawful.specs.Fresh.{FreshAgrees}
-use Rattle.ec_lawful.specs.Creates.{IsFresh, IsGiven, MadeNone, OnCreate, creates}
+use Rattle.ec_lawful.specs.Creates.{creates}
+use Rattle.ec_lawful.specs.FreshIds.{IsFresh, IsGiven, MadeNone, OnCreate}
 
 -- Calls that make an object make the one with the fresh id, and others make none.
 

@@ -10,8 +10,8 @@ use Rattle.ec_history.specs.declared.shown.Shown.TheVariants as show
 use Rattle.ec_laws.proofs.Cuts.{throughout-append}
 use Rattle.ec_laws.proofs.Late.{place-ended, place-no_call}
 use Rattle.ec_laws.proofs.Numbers.{each-append}
-use Rattle.ec_lawful.specs.Creates.{IsFresh, OnCreate}
-use Rattle.ec_lawful.specs.Creates.{AreQuiet}
+use Rattle.ec_lawful.specs.FreshIds.{IsFresh, OnCreate}
+use Rattle.ec_lawful.specs.FreshIds.{AreQuiet}
 use Rattle.ec_base.specs.Options.{or_zero}
 
 -- no entry of a call

@@ -2,7 +2,7 @@
 use Rattle.std.proofs.Common.{◌≡◌, refl, sym, ap, subst, ◌∙◌, inl, inr, ◌<◌, ◌≤◌, ◌+◌, ℕ, not, T, Bool, true, false, List, [], ◌∷◌, Some, None}
 use Rattle.std.specs.Prelude.{is_some, Contains}
 use Rattle.std.specs.List.{list_any}
-use Rattle.ec_plain.specs.Bounds.{is_bounded}
+use Rattle.ec_plain.specs.BoundedCalls.{is_bounded}
 use Rattle.ec_plain.specs.declared.call.Call.{Call}
 use Rattle.ec_volume.specs.Image.{is_gone}
 use Rattle.ec_volume.specs.Volume.{Fits, Images, WellFormed, images}
@@ -29,11 +29,12 @@ use Rattle.ec_coherence.specs.StandLaws.{crashed, lined, stopped}
 use Rattle.ec_coherence.specs.CommitLaws.{AllAgree}
 use Rattle.ec_lawful.specs.Doubts.{DoubtAgrees, doubted}
 use Rattle.ec_lawful.proofs.Keeps.{doubts-hold, restarts-hold}
-use Rattle.ec_lawful.specs.Headline.{InScript, ShowLawfully, joined, placed_on}
+use Rattle.ec_lawful.specs.Headline.{InScript, joined, placed_on}
+use Rattle.ec_lawful.specs.LawfulRuns.{ShowLawfully}
 use Rattle.ec_lawful.proofs.Stored.{show-lawfully}
 use Rattle.ec_lawful.proofs.PlacesServe.{disk-there, fronts-there, kept-there}
 use Rattle.ec_lawful.specs.Calls.{IsOf}
-use Rattle.ec_lawful.specs.Drills.{AreFit, Closed, IsCallIn, IsUnspent}
+use Rattle.ec_lawful.specs.DrillRuns.{AreFit, Closed, IsCallIn, IsUnspent}
 use Rattle.ec_lawful.specs.Steps.{Holds, IsDone, IsNew, IsServed, StepsKeep, begun, calling, in_call}
 use Rattle.ec_lawful.specs.Ties.{called, waiting}
 use Rattle.ec_lawful.specs.AskedLaws.{IsFresh, RestsKeep, RunAsks}

@@ -3,7 +3,7 @@ use Rattle.std.proofs.Common.{◌≡◌, sym, ap, subst, ◌∙◌, ◌-◌, ℕ
 use Rattle.std.specs.Prelude.{length, slice_get, take, Ok, ⊤}
 use Rattle.ec_volume.specs.Volume.{images}
 use Rattle.ec_volume.specs.declared.image.Image.TheVariants.{Gone}
-use Rattle.ec_plain.specs.Bounds.{is_bounded}
+use Rattle.ec_plain.specs.BoundedCalls.{is_bounded}
 use Rattle.ec_plain.specs.declared.call.Call.{Call}
 use Rattle.ec_history.specs.History.{Each}
 use Rattle.ec_history.specs.Placing.{EachLine}
@@ -20,7 +20,8 @@ use Rattle.ec_coherence.proofs.Tables.{none_some, same_some}
 use Rattle.ec_coherence.specs.Steps.{call_of}
 use Rattle.ec_lawful.specs.Headline.{Lines}
 use Rattle.ec_lawful.specs.Calls.{IsOf}
-use Rattle.ec_lawful.specs.Drills.{AreFit, Comes, IsCallIn, IsFit, lines_in}
+use Rattle.ec_lawful.specs.Drills.{lines_in}
+use Rattle.ec_lawful.specs.DrillRuns.{AreFit, Comes, IsCallIn, IsFit}
 use Rattle.ec_lawful.proofs.Drills.{runs-on}
 use Rattle.ec_lawful.specs.Reached.{IsInOrder}
 use Rattle.ec_lawful.proofs.Bounded.{IsBounded}

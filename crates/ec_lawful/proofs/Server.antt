@@ -32,7 +32,7 @@ use Rattle.ec_clerk_steps.proofs.Served.{end-right, take-right}
 use Rattle.ec_coherence.proofs.Lists.{each-more}
 use Rattle.ec_lawful.specs.Doubts.{ComesFromAny}
 use Rattle.ec_lawful.specs.HeadlineLaws.{GoesBy, TellsAll}
-use Rattle.ec_lawful.specs.Creates.{AreQuiet}
+use Rattle.ec_lawful.specs.FreshIds.{AreQuiet}
 use Rattle.ec_lawful.proofs.FreshSteps.{record-fresh}
 use Rattle.ec_lawful.proofs.LinesTell.{line-tells, quiet-tells}
 use Rattle.ec_lawful.specs.Steps.{IsServed}

@@ -12,7 +12,7 @@ use Rattle.ec_lawful.specs.Olds.{opened_in}
 use Rattle.ec_lawful.proofs.Opens.{world-stands}
 use Rattle.ec_lawful.proofs.OpensWhole.{opened-whole}
 use Rattle.ec_lawful.specs.Headline.{IsGreatest}
-use Rattle.ec_lawful.specs.Drills.{AreFit}
+use Rattle.ec_lawful.specs.DrillRuns.{AreFit}
 use Rattle.ec_lawful.specs.Runs.{OfRun, RunShows}
 use Rattle.ec_lawful.proofs.Runs.{run-shows}
 use Rattle.ec_lawful.proofs.Clerks.{clerks-keep-all}

@@ -25,7 +25,7 @@ use Rattle.ec_coherence.specs.Watches.{WatchAgrees, still_in}
 use Rattle.ec_laws.specs.Accounts.{IsUndurable, LinesTell}
 use Rattle.ec_laws.proofs.Members.{off}
 use Rattle.ec_laws.proofs.Telling.{kept-told}
-use Rattle.ec_lawful.specs.Headline.{ShowLawfully}
+use Rattle.ec_lawful.specs.LawfulRuns.{ShowLawfully}
 use Rattle.ec_lawful.specs.HeadlineLaws.{TellsAll}
 use Rattle.ec_lawful.proofs.LinesTell.{Still, still-of}
 

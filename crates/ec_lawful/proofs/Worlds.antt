@@ -8,7 +8,7 @@ use Rattle.ec_history.specs.History.{Throughout}
 use Rattle.ec_history.specs.Placing.{EachLine, place}
 use Rattle.ec_history.specs.declared.shown.Shown.TheVariants.{Unsettled}
 use Rattle.ec_laws.specs.Renaming.{image_by}
-use Rattle.ec_laws.specs.Placing.{IsNewId}
+use Rattle.ec_laws.specs.NewIds.{IsNewId}
 use Rattle.ec_laws.proofs.Reading.{read-by-places}
 use Rattle.ec_durable.specs.WellFormed.{WellFormed}
 use Rattle.ec_durable.specs.declared.state.Durable.{Durable}
@@ -38,7 +38,8 @@ use Rattle.ec_lawful.proofs.Clerks.{clerks-keep-all}
 use Rattle.ec_lawful.proofs.News.{ids-new}
 use Rattle.ec_lawful.proofs.PlacesServe.{fronts-there}
 use Rattle.ec_lawful.specs.Coherent.{AreFitting}
-use Rattle.ec_lawful.specs.Reached.{IsInOrder, Reached, opens, happens, forgets, unsettles}
+use Rattle.ec_lawful.specs.Reached.{IsInOrder}
+use Rattle.ec_lawful.specs.ReachedWorlds.{Reached, opens, happens, forgets, unsettles}
 use Rattle.ec_lawful.proofs.Bounded.{IsBounded, place-bounded}
 use Rattle.ec_lawful.proofs.Entries.{are-fitting}
 use Rattle.ec_lawful.proofs.Licences.{held-image, no-conflict}

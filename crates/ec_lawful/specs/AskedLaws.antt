@@ -23,7 +23,7 @@ use Rattle.ec_lawful.specs.Doubts.{ComesFrom, DoubtAgrees, doubted}
 use Rattle.ec_lawful.specs.Founds.{Makes, bare, found_ghost, started_in, with_found}
 use Rattle.ec_lawful.specs.Olds.{opened_in}
 use Rattle.ec_lawful.specs.Headline.{AreEndsAsked, ArePieces}
-use Rattle.ec_lawful.specs.Drills.{Closed}
+use Rattle.ec_lawful.specs.DrillRuns.{Closed}
 use Rattle.ec_lawful.specs.Steps.{Holds, begun, calling, in_call}
 use Rattle.ec_lawful.specs.Asked.{AsksAgree, EndsAsked, ended_by, with_event}
 

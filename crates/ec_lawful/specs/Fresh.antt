@@ -10,7 +10,7 @@ use Rattle.ec_protocol.specs.declared.clerk.Clerk.{Clerk}
 use Rattle.ec_coherence.specs.System.{System, base_of}
 use Rattle.ec_coherence.specs.Tokens.{is_untaken, side}
 use Rattle.ec_coherence.specs.Events.{shown_boot}
-use Rattle.ec_lawful.specs.Creates.{IsFresh, IsGiven, OnCreate}
+use Rattle.ec_lawful.specs.FreshIds.{IsFresh, IsGiven, OnCreate}
 
 -- What starts have in store.
 

@@ -22,7 +22,8 @@ use Rattle.ec_coherence.specs.Answers.{Gives}
 use Rattle.ec_clerk_steps.specs.Answering.{Suits, answered_clerk}
 use Rattle.ec_clerk_steps.specs.Trying.{Answers, IsTrying}
 use Rattle.ec_clerk_steps.specs.Zeros.{ZerosAgree}
-use Rattle.ec_lawful.specs.Creates.{AreQuiet, creates}
+use Rattle.ec_lawful.specs.Creates.{creates}
+use Rattle.ec_lawful.specs.FreshIds.{AreQuiet}
 use Rattle.ec_lawful.specs.Fresh.{FreshAgrees, Hidden, Stored, Taken}
 
 -- nobody is there, and nothing was shown

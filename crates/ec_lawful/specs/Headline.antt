@@ -3,11 +3,11 @@ use Rattle.std.specs.Prelude.{◌≡◌, ◌==◌, ◌+◌, ◌-◌, ◌≤◌, 
 use Rattle.std.specs.Bool.{OnFalse}
 use Rattle.std.specs.List.{filter, list_any}
 use Rattle.ec_volume.specs.Image.{is_gone}
-use Rattle.ec_volume.specs.Volume.{Images, WellFormed}
+use Rattle.ec_volume.specs.Volume.{Images}
 use Rattle.ec_history.specs.History.{Base}
 use Rattle.ec_history.specs.Legal.{IsLegal}
-use Rattle.ec_history.specs.Lines.{AreCovered, IsStored}
-use Rattle.ec_history.specs.Placing.{place, ArePlaceable, EachLine, is_numbered}
+use Rattle.ec_history.specs.Lines.{AreCovered}
+use Rattle.ec_history.specs.Placing.{place, ArePlaceable, is_numbered}
 use Rattle.ec_history.specs.declared.shown.Shown.{Shown}
 use Rattle.ec_history.specs.declared.shown.Shown.TheVariants.{Waits, Answered, Ended, Unseen}
 use Rattle.ec_protocol.specs.declared.script.Line.{Line}
@@ -36,13 +36,6 @@ pub record AreLawful (base : Base) (most : ℕ) (ss : List Shown) : Type 0 where
 -- and so is each front of them, as a run that is cut off shows it
 abbrev pub FrontsAreLawful : Base → ℕ → List Shown → Type 0
 FrontsAreLawful base most ss = (front rest : List Shown) → front ++ rest ≡ ss → AreLawful base most front
-
--- The lines show a lawful run, and the disk has this volume then.
-pub record ShowLawfully (base : Base) (most : ℕ) (ss : List Shown) (disk : Images) : Type 0 where
-  pub fronts : FrontsAreLawful base most ss
-  -- the disk's volume is well formed, and has the shape that the operations leave which durable lines name, in the history's order
-  pub formed : WellFormed disk
-  pub stored : IsStored base ss disk
 
 -- The script.
 
@@ -92,13 +85,3 @@ may_end c _ = false
 -- In each front of the lines no more sessions of a clerk end than lines that may end one were carried out.
 abbrev pub AreEndsAsked : Lines → Pieces → Type 0
 AreEndsAsked lines pieces = (c k : ℕ) → k ≤ length pieces → length (filter (ends c) (joined (take k pieces))) ≤ length (filter (may_end c) (take k lines))
-
--- The headline of a run over these lines of a script, which gave these pieces, one for each line and perhaps one for the restart at the end.
-pub record IsLawfulRun (base : Base) (most : ℕ) (lines : Lines) (pieces : Pieces) (disk : Images) : Type 0 where
-  pub shows : ShowLawfully base most (joined pieces) disk
-  -- each answer is that of a line of the script, with its clerk and its call
-  pub own_calls : EachLine (InScript lines) (joined pieces)
-  pub counted : length pieces ≤ length lines + 1
-  pub numbered : ArePieces 1 [] pieces
-  -- no session ends but by a crash or an end
-  pub losses : AreEndsAsked lines pieces

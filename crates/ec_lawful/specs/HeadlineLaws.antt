@@ -6,7 +6,8 @@ use Rattle.ec_history.specs.declared.shown.Shown.{Shown}
 use Rattle.ec_coherence.specs.System.{System, base_of}
 use Rattle.ec_coherence.specs.CommitLaws.{AllAgree}
 use Rattle.ec_laws.specs.Accounts.{LinesTell}
-use Rattle.ec_lawful.specs.Headline.{FrontsAreLawful, ShowLawfully}
+use Rattle.ec_lawful.specs.Headline.{FrontsAreLawful}
+use Rattle.ec_lawful.specs.LawfulRuns.{ShowLawfully}
 
 -- The lines tell what became of each operation, and each front of them is lawful.
 pub record TellsAll (g : System) : Type 0 where

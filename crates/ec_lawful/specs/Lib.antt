@@ -1,9 +1,11 @@
 pub mod Headline
+pub mod LawfulRuns
 pub mod HeadlineLaws
 pub mod Ties
 pub mod Steps
 pub mod Calls
 pub mod Drills
+pub mod DrillRuns
 pub mod Olds
 pub mod Doubts
 pub mod Founds
@@ -12,6 +14,7 @@ pub mod Asked
 pub mod AskedLaws
 pub mod BeginLaws
 pub mod Creates
+pub mod FreshIds
 pub mod Fresh
 pub mod FreshLaws
 pub mod PlaceLaws
@@ -27,4 +30,5 @@ pub mod Taking
 pub mod Tries
 pub mod Coherent
 pub mod Reached
+pub mod ReachedWorlds
 pub mod ReachedLaws

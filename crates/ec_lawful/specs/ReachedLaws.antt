@@ -13,9 +13,10 @@ use Rattle.ec_durable.specs.declared.state.Durable.{Durable}
 use Rattle.ec_protocol.specs.Drill.{Fates, Read, bound, run_from}
 use Rattle.ec_protocol.specs.World.{open_world}
 use Rattle.ec_protocol.specs.declared.world.World.{World}
-use Rattle.ec_lawful.specs.Drills.{AreFit}
+use Rattle.ec_lawful.specs.DrillRuns.{AreFit}
 use Rattle.ec_lawful.specs.Coherent.{AreFitting}
-use Rattle.ec_lawful.specs.Reached.{IsInOrder, Reached}
+use Rattle.ec_lawful.specs.Reached.{IsInOrder}
+use Rattle.ec_lawful.specs.ReachedWorlds.{Reached}
 
 -- over a well-formed state with a slot for each clerk, and without an object of the id 0
 abbrev pub ReachedAreInOrder : Type 0

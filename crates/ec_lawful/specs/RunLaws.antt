@@ -8,7 +8,7 @@ use Rattle.ec_protocol.specs.Drill.{Fates, Read, bound, close, run_from}
 use Rattle.ec_protocol.specs.World.{open_world}
 use Rattle.ec_protocol.specs.declared.world.World.{World}
 use Rattle.ec_lawful.specs.Headline.{IsGreatest}
-use Rattle.ec_lawful.specs.Drills.{AreFit}
+use Rattle.ec_lawful.specs.DrillRuns.{AreFit}
 use Rattle.ec_lawful.specs.Runs.{RunShows}
 
 -- Each run of a script, over any well-formed state with a slot for each clerk and no object of the id 0, whatever the disk does: where the calls are within

@@ -7,7 +7,8 @@ use Rattle.ec_history.specs.Placing.{EachLine, place}
 use Rattle.ec_protocol.specs.Drill.{Ran, Read}
 use Rattle.ec_coherence.specs.System.{System}
 use Rattle.ec_lawful.specs.Headline.{AreEndsAsked, ArePieces, FrontsAreLawful, InScript, Lines, joined, placed_on}
-use Rattle.ec_lawful.specs.Drills.{IsUnspent, lines_in}
+use Rattle.ec_lawful.specs.Drills.{lines_in}
+use Rattle.ec_lawful.specs.DrillRuns.{IsUnspent}
 use Rattle.ec_lawful.specs.Whole.{Whole}
 
 -- all facts of a system in a run over this volume, with at most so many objects

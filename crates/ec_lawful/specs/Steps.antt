@@ -1,7 +1,7 @@
 -- What all facts of a system, taken together, keep at each step of a node: then they hold behind each event of a world that stands in a system of which they hold.
 use Rattle.std.specs.Prelude.{◌≡◌, ◌≤◌, ◌<◌, ◌⊎◌, ◌+◌, ℕ, T, true, false, List, [], ◌∷◌, ◌++◌, Contains, Option, None, Some, is_some, ⊤}
 use Rattle.std.specs.List.{list_any}
-use Rattle.ec_plain.specs.Bounds.{is_bounded}
+use Rattle.ec_plain.specs.BoundedCalls.{is_bounded}
 use Rattle.ec_plain.specs.declared.call.Call.{Call}
 use Rattle.ec_history.specs.Placing.{EachLine, is_numbered}
 use Rattle.ec_history.specs.declared.shown.Shown.{Shown}

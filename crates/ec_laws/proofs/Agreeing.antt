@@ -14,7 +14,8 @@ use Rattle.ec_history.specs.Lines.{durable, durable_ops}
 use Rattle.ec_history.specs.Placing.{place}
 use Rattle.ec_history.specs.declared.entry.Entry.{Entry}
 use Rattle.ec_history.specs.declared.shown.Shown.{Shown}
-use Rattle.ec_laws.specs.Renaming.{IsRenaming, AreRenamed, update_by, issued_update_by, outcome_by, op_by}
+use Rattle.ec_laws.specs.Renaming.{IsRenaming}
+use Rattle.ec_laws.specs.Renamed.{AreRenamed, update_by, issued_update_by, outcome_by, op_by}
 use Rattle.ec_laws.proofs.Images.{operands-by}
 use Rattle.ec_laws.proofs.Shapes.{after-by, Fits-by, Fits-back, shape-by}
 use Rattle.ec_laws.proofs.Needs.{share-lists, before-at}

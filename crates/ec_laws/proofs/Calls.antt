@@ -16,7 +16,8 @@ use Rattle.ec_plain.specs.declared.call.Call.{Call}
 use Rattle.ec_plain.specs.declared.call.Call.TheVariants as call
 use Rattle.ec_plain.specs.declared.call.Reply.TheVariants as reply
 use Rattle.ec_plain.specs.declared.call.Refusal.TheVariants as no
-use Rattle.ec_laws.specs.Renaming.{IsRenaming, entries_by, image_by, outcome_by, IsRenamed}
+use Rattle.ec_laws.specs.Renaming.{IsRenaming, entries_by, image_by}
+use Rattle.ec_laws.specs.Renamed.{outcome_by, IsRenamed}
 use Rattle.ec_laws.proofs.Images.{entry-by, length-by, some-by, member-by, map-both}
 use Rattle.ec_laws.proofs.Shapes.{dir-at, entries-at, bytes-at}
 use Rattle.ec_laws.proofs.Walks.{reached_by, map-snoc, cond-out, path-by, on-path, on-parent, on-entry}

@@ -13,11 +13,13 @@ use Rattle.ec_history.specs.History.{Base, Each, History, Op, issued, issued_by,
 use Rattle.ec_history.specs.declared.entry.Entry.{Entry}
 use Rattle.ec_history.specs.declared.entry.Entry.TheVariants as entry
 use Rattle.ec_laws.proofs.Numbers.{each-append, each-back, each-front}
-use Rattle.ec_laws.specs.Renaming.{IsRenamed, IsRenaming, outcome_by, update_by}
+use Rattle.ec_laws.specs.Renaming.{IsRenaming}
+use Rattle.ec_laws.specs.Renamed.{IsRenamed, outcome_by, update_by}
 use Rattle.ec_laws.proofs.Calls.{plain-by}
 use Rattle.ec_laws.proofs.Images.{operands-by}
 use Rattle.ec_laws.proofs.Shapes.{after-by, kept-by}
-use Rattle.ec_laws.specs.Placing.{Clear, made_ids}
+use Rattle.ec_laws.specs.Placing.{made_ids}
+use Rattle.ec_laws.specs.NewIds.{Clear}
 use Rattle.ec_laws.proofs.CallsAlike.{plain-like}
 use Rattle.ec_laws.proofs.OwedOperands.{next-clear, parts, turn}
 use Rattle.ec_laws.proofs.Swap.{moved-none, stay-all, swap, swap-first, swap-other, swap-renames, unlike, update-stays}
@@ -94,7 +96,7 @@ module _ (v : Images) (f : ℕ → ℕ) (formed : WellFormed v) (x y : ℕ) (dif
         some-same s t q = ap (λ z. elim z as (λ k. Update) [ None ↦ s | Some k ↦ k ]) q
 
         alike : u ≡ update_by r u
-        alike = some-same u (update_by r u) (sym e ∙ ap (λ z. z.update) g ∙ ap (Rattle.ec_laws.specs.Renaming.issued_update_by r) e)
+        alike = some-same u (update_by r u) (sym e ∙ ap (λ z. z.update) g ∙ ap (Rattle.ec_laws.specs.Renamed.issued_update_by r) e)
 
         stays : operands u ≡ map r (operands u)
         stays = ap operands alike ∙ operands-by r ren u

@@ -13,7 +13,8 @@ use Rattle.ec_history.specs.History.{Base, History, Op, updates, numbers, of_sta
 use Rattle.ec_history.specs.declared.entry.Answer.TheVariants as answer
 use Rattle.ec_history.specs.declared.entry.Entry.{Entry}
 use Rattle.ec_history.specs.declared.entry.Entry.TheVariants as entry
-use Rattle.ec_laws.specs.Renaming.{IsRenaming, AreRenamed, update_by, op_by}
+use Rattle.ec_laws.specs.Renaming.{IsRenaming}
+use Rattle.ec_laws.specs.Renamed.{AreRenamed, update_by, op_by}
 use Rattle.ec_laws.proofs.Images.{operand-by}
 use Rattle.ec_laws.proofs.Shapes.{after-by}
 use Rattle.ec_laws.proofs.Walks.{reached_by, path-by}

@@ -12,7 +12,8 @@ use Rattle.ec_history.specs.declared.entry.Entry.TheVariants as entry
 use Rattle.ec_history.specs.declared.shown.Shown.{Shown}
 use Rattle.ec_laws.proofs.Cuts.{throughout-append}
 use Rattle.ec_laws.proofs.Places.{places-within}
-use Rattle.ec_laws.specs.Placing.{IsNewId, MayChange, WouldMake, made_ids}
+use Rattle.ec_laws.specs.Placing.{made_ids}
+use Rattle.ec_laws.specs.NewIds.{IsNewId, MayChange, WouldMake}
 use Rattle.ec_laws.proofs.IdleIds.{Full, Same, along, begin, full}
 
 module _ (v : Images) (f q : ℕ → ℕ) where

@@ -24,7 +24,7 @@ use Rattle.ec_history.specs.declared.shown.Shown.{Shown}
 use Rattle.ec_laws.proofs.Cuts.{throughout-append}
 use Rattle.ec_laws.proofs.More.{issued-step, kept-step, owed-step}
 use Rattle.ec_laws.proofs.Numbers.{each-filter, each-map, kept-each}
-use Rattle.ec_laws.specs.Placing.{Clear, MayChange}
+use Rattle.ec_laws.specs.NewIds.{Clear, MayChange}
 use Rattle.ec_laws.proofs.CallsAlike.{Like, meets-like, plain-like, touched-like}
 use Rattle.ec_laws.proofs.OwedOperands.{IsOff, owed-off, parts, turn}
 

@@ -14,7 +14,8 @@ use Rattle.ec_volume.specs.declared.image.Image.{Image}
 use Rattle.ec_volume.specs.declared.image.Image.TheVariants.{Gone, File, Dir}
 use Rattle.ec_volume.specs.declared.update.Update.{Update}
 use Rattle.ec_volume.specs.declared.update.Update.TheVariants.{Make, Drop, Move, Put, Len, Mode, Stamp, Order, Shift, Owner}
-use Rattle.ec_laws.specs.Renaming.{IsRenaming, entries_by, image_by, option_by, above_by, update_by}
+use Rattle.ec_laws.specs.Renaming.{IsRenaming, entries_by, image_by}
+use Rattle.ec_laws.specs.Renamed.{option_by, above_by, update_by}
 
 module _ (r : ℕ → ℕ) (ren : IsRenaming r) where
   -- Entries.

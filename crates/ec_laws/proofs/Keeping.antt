@@ -7,7 +7,7 @@ use Rattle.ec_volume.specs.Volume.{Images, after, image_after, image_next, Fits,
 use Rattle.ec_volume.specs.declared.image.Image.{Image}
 use Rattle.ec_volume.specs.declared.update.Update.{Update}
 use Rattle.ec_plain.specs.Plain.{plain}
-use Rattle.ec_plain.specs.Bounds.{is_bounded}
+use Rattle.ec_plain.specs.BoundedCalls.{is_bounded}
 use Rattle.ec_plain.specs.declared.call.Call.{Call}
 use Rattle.ec_history.specs.History.{Base, History, Op, Throughout, Each, updates, of_start, is_one_of, is_entry_of, kept, kept_next, issued_by, outcome, without, touched}
 use Rattle.ec_history.specs.Legal.{IsLegal, IsLegalNext, is_closed}

@@ -10,7 +10,7 @@ use Rattle.std.specs.declared.cmp.Ordering.{Ordering}
 use Rattle.std.specs.declared.cmp.Ordering.TheVariants.{Less, Equal, Greater}
 use Rattle.ec_volume.specs.Entries.{by_bytes, same_name}
 use Rattle.ec_plain.specs.Walk.{Path, parent_of, last_of, same_path}
-use Rattle.ec_plain.specs.Bounds.{is_short}
+use Rattle.ec_plain.specs.BoundedCalls.{is_short}
 use Rattle.ec_laws.proofs.Objects.{is-true}
 
 equal : (r : Ordering) → T (is_eq r) → r ≡ Equal

@@ -10,7 +10,8 @@ use Rattle.ec_history.specs.declared.entry.Entry.TheVariants as entry
 use Rattle.ec_laws.proofs.Cuts.{throughout-append, throughout-back, throughout-front}
 use Rattle.ec_laws.proofs.More.{issued-step, kept-step}
 use Rattle.ec_laws.proofs.Numbers.{each-append, each-back, each-front}
-use Rattle.ec_laws.specs.Placing.{IsNewId, WouldMake, made_ids}
+use Rattle.ec_laws.specs.Placing.{made_ids}
+use Rattle.ec_laws.specs.NewIds.{IsNewId, WouldMake}
 use Rattle.ec_laws.proofs.Clearing.{Unmade}
 
 module _ (v : Images) (f : ℕ → ℕ) (news : List Op) where

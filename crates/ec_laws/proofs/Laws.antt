@@ -6,7 +6,7 @@ use Rattle.ec_volume.specs.Update.{is_sound}
 use Rattle.ec_volume.specs.Volume.{Images, after, Fits, WellFormed, AllReached}
 use Rattle.ec_volume.specs.declared.update.Update.{Update}
 use Rattle.ec_plain.specs.Plain.{plain}
-use Rattle.ec_plain.specs.Bounds.{is_bounded}
+use Rattle.ec_plain.specs.BoundedCalls.{is_bounded}
 use Rattle.ec_plain.specs.declared.call.Call.{Call}
 use Rattle.ec_laws.proofs.Changed.{changed}
 use Rattle.ec_laws.proofs.Reached.{reached_all}

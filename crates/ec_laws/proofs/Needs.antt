@@ -5,7 +5,8 @@ use Rattle.ec_volume.specs.Update.{operands, member}
 use Rattle.ec_volume.specs.declared.update.Update.{Update}
 use Rattle.ec_volume.specs.declared.update.Update.TheVariants.{Make, Drop, Move, Put, Len, Mode, Stamp, Order, Shift, Owner}
 use Rattle.ec_order.specs.Order.{is_overwrite, share, before, meet, under, needs}
-use Rattle.ec_laws.specs.Renaming.{IsRenaming, update_by}
+use Rattle.ec_laws.specs.Renaming.{IsRenaming}
+use Rattle.ec_laws.specs.Renamed.{update_by}
 use Rattle.ec_laws.proofs.Images.{member-by, operands-by}
 
 pub overwrite-at : (r : ℕ → ℕ) (u : Update) → is_overwrite (update_by r u) ≡ is_overwrite u

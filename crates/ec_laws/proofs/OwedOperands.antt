@@ -7,7 +7,7 @@ use Rattle.ec_history.specs.History.{Base, Each, History, Op, Owed, is_one_of, i
 use Rattle.ec_history.specs.declared.entry.Entry.{Entry}
 use Rattle.ec_history.specs.declared.entry.Entry.TheVariants as entry
 use Rattle.ec_laws.proofs.Numbers.{each-append, each-back, each-filter, each-front}
-use Rattle.ec_laws.specs.Placing.{Clear}
+use Rattle.ec_laws.specs.NewIds.{Clear}
 
 -- the id is in none of the pairs
 abbrev pub IsOff : ℕ → ℕ × ℕ → Type 0

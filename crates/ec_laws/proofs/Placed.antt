@@ -18,11 +18,13 @@ use Rattle.ec_laws.proofs.Fresh.{plain-makes}
 use Rattle.ec_laws.proofs.More.{issued-step, kept-step}
 use Rattle.ec_laws.proofs.Numbers.{each-append, each-front, each-back, each-map}
 use Rattle.ec_laws.proofs.Places.{places-distinct, places-within}
-use Rattle.ec_laws.specs.Renaming.{AreRenamed, IsRenaming}
+use Rattle.ec_laws.specs.Renaming.{IsRenaming}
+use Rattle.ec_laws.specs.Renamed.{AreRenamed}
 use Rattle.ec_laws.proofs.Agreeing.{renamed-agree}
 use Rattle.ec_laws.proofs.BasesAlike.{covered-as, legal-as, stored-as}
 use Rattle.ec_laws.proofs.Shapes.{kept-by}
-use Rattle.ec_laws.specs.Placing.{Clear, IsNewId, MayChange, WouldMake, made_ids}
+use Rattle.ec_laws.specs.Placing.{made_ids}
+use Rattle.ec_laws.specs.NewIds.{Clear, IsNewId, MayChange, WouldMake}
 use Rattle.ec_laws.proofs.Clearing.{Unmade, clears}
 use Rattle.ec_laws.proofs.Names.{Good, Named, named, renames}
 use Rattle.ec_laws.proofs.OwedOperands.{parts}

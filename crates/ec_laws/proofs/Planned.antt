@@ -16,7 +16,7 @@ use Rattle.ec_volume.specs.declared.update.Update.{Update}
 use Rattle.ec_volume.specs.declared.update.Update.TheVariants.{Put, Len, Mode, Stamp, Order, Owner}
 use Rattle.ec_plain.specs.Walk.{Path, Reached, At, Not, walk, parent_of, last_of}
 use Rattle.ec_plain.specs.Plain.{answers, refuses, issues, on_reached, make_in, drop_in, write_in, len_in, read_in, list_in, stat_of, once_more, plain, plain_make, plain_drop, plain_rename, plain_forder}
-use Rattle.ec_plain.specs.Bounds.{is_short, is_bounded}
+use Rattle.ec_plain.specs.BoundedCalls.{is_short, is_bounded}
 use Rattle.ec_plain.specs.declared.call.Call.{Call}
 use Rattle.ec_plain.specs.declared.call.Call.TheVariants as call
 use Rattle.ec_plain.specs.declared.call.Reply.TheVariants as reply

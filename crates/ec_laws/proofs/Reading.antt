@@ -16,7 +16,8 @@ use Rattle.ec_laws.proofs.Numbers.{each-append}
 use Rattle.ec_laws.specs.Renaming.{image_by}
 use Rattle.ec_laws.proofs.RenamedKept.{kept-at, updates-by}
 use Rattle.ec_laws.proofs.Shapes.{after-by}
-use Rattle.ec_laws.specs.Placing.{IsNewId, IsReading, made_ids}
+use Rattle.ec_laws.specs.Placing.{IsReading, made_ids}
+use Rattle.ec_laws.specs.NewIds.{IsNewId}
 use Rattle.ec_laws.proofs.Names.{Named}
 use Rattle.ec_laws.proofs.Placed.{made_places, m, changed, ren, same}
 use Rattle.ec_laws.proofs.IdleIds.{kept-so}

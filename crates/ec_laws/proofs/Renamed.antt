@@ -13,7 +13,7 @@ use Rattle.ec_volume.specs.declared.image.Image.TheVariants.{Gone, File, Dir}
 use Rattle.ec_volume.specs.declared.update.Update.{Update}
 use Rattle.ec_volume.specs.declared.update.Update.TheVariants.{Move, Shift}
 use Rattle.ec_plain.specs.Walk.{Path, Reached, At, Not, walk, parent_of, last_of, same_path}
-use Rattle.ec_plain.specs.Bounds.{is_short}
+use Rattle.ec_plain.specs.BoundedCalls.{is_short}
 use Rattle.ec_plain.specs.Plain.{answers, refuses, issues, kind_of, blocked, above, renames, move_into, loops, rename_in, plain_rename}
 use Rattle.ec_plain.specs.declared.call.Reply.TheVariants as reply
 use Rattle.ec_plain.specs.declared.call.Refusal.{Refusal}

@@ -8,7 +8,8 @@ use Rattle.ec_plain.specs.declared.call.Call.{Call}
 use Rattle.ec_history.specs.History.{Base, History, Op, updates, is_one_of, outcome, issued_by, kept_next, kept_from, kept, issued_from, issued, touched}
 use Rattle.ec_history.specs.declared.entry.Entry.{Entry}
 use Rattle.ec_history.specs.declared.entry.Entry.TheVariants as entry
-use Rattle.ec_laws.specs.Renaming.{IsRenaming, AreRenamed, update_by, issued_update_by, outcome_by, op_by}
+use Rattle.ec_laws.specs.Renaming.{IsRenaming}
+use Rattle.ec_laws.specs.Renamed.{AreRenamed, update_by, issued_update_by, outcome_by, op_by}
 use Rattle.ec_laws.proofs.Shapes.{after-by}
 use Rattle.ec_laws.proofs.Calls.{plain-by}
 use Rattle.ec_laws.proofs.Mapped.{filter-map}

@@ -10,7 +10,8 @@ use Rattle.ec_plain.specs.declared.call.Outcome.{Outcome}
 use Rattle.ec_history.specs.History.{Base, History, Op, same_start, is_one_of, outcome, kept_next, kept, Owed, pairs_of, meets, owed_next, owed_from, owed, distinct_numbers, due}
 use Rattle.ec_history.specs.declared.entry.Entry.{Entry}
 use Rattle.ec_history.specs.declared.entry.Entry.TheVariants as entry
-use Rattle.ec_laws.specs.Renaming.{IsRenaming, AreRenamed, outcome_by, op_by, owed_by}
+use Rattle.ec_laws.specs.Renaming.{IsRenaming}
+use Rattle.ec_laws.specs.Renamed.{AreRenamed, outcome_by, op_by, owed_by}
 use Rattle.ec_laws.proofs.Images.{member-by, operands-by}
 use Rattle.ec_laws.proofs.Mapped.{cond-map, filter-map}
 use Rattle.ec_laws.proofs.RenamedKept.{outcome-at, next-at, outcome-now}

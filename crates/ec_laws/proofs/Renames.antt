@@ -15,7 +15,8 @@ use Rattle.ec_plain.specs.Plain.{answers, refuses, issues, kind_of, blocked, wit
 use Rattle.ec_plain.specs.declared.call.Reply.TheVariants as reply
 use Rattle.ec_plain.specs.declared.call.Refusal.TheVariants as no
 use Rattle.ec_plain.specs.declared.call.Outcome.{Outcome}
-use Rattle.ec_laws.specs.Renaming.{IsRenaming, entries_by, image_by, option_by, above_by, outcome_by, IsRenamed}
+use Rattle.ec_laws.specs.Renaming.{IsRenaming, entries_by, image_by}
+use Rattle.ec_laws.specs.Renamed.{option_by, above_by, outcome_by, IsRenamed}
 use Rattle.ec_laws.proofs.Images.{entry-by, length-by, member-by, map-both}
 use Rattle.ec_laws.proofs.Shapes.{dir-at, entries-at}
 use Rattle.ec_laws.proofs.Walks.{reached_by, walk_by, map-snoc, cond-out, path-by, on-entry}

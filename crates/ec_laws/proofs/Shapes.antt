@@ -14,7 +14,8 @@ use Rattle.ec_volume.specs.declared.image.Image.{Image}
 use Rattle.ec_volume.specs.declared.image.Image.TheVariants.{Gone, File, Dir}
 use Rattle.ec_volume.specs.declared.update.Update.{Update}
 use Rattle.ec_laws.proofs.Objects.{fits-tried}
-use Rattle.ec_laws.specs.Renaming.{IsRenaming, entries_by, image_by, option_by, update_by, IsRenamed}
+use Rattle.ec_laws.specs.Renaming.{IsRenaming, entries_by, image_by}
+use Rattle.ec_laws.specs.Renamed.{option_by, update_by, IsRenamed}
 use Rattle.ec_laws.proofs.Images.{entry-by, gone-by, dir-by, bytes-by, entries-by, operands-by, after-at, fits-in-turn-by}
 
 module _ (r : ℕ → ℕ) (ren : IsRenaming r) where

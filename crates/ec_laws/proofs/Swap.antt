@@ -7,7 +7,8 @@ use Rattle.ec_volume.specs.declared.update.Update.{Update}
 use Rattle.ec_volume.specs.declared.update.Update.TheVariants.{Make, Drop, Move, Put, Len, Mode, Stamp, Order, Shift, Owner}
 use Rattle.ec_history.specs.History.{Each}
 use Rattle.ec_laws.proofs.Numbers.{each-back, each-front}
-use Rattle.ec_laws.specs.Renaming.{IsRenaming, above_by, option_by, update_by}
+use Rattle.ec_laws.specs.Renaming.{IsRenaming}
+use Rattle.ec_laws.specs.Renamed.{above_by, option_by, update_by}
 use Rattle.ec_laws.proofs.OwedOperands.{parts, turn}
 
 pub alike : (a : ℕ) → (a == a) ≡ true

@@ -9,7 +9,8 @@ use Rattle.ec_plain.specs.Walk.{Path, Reached, At, Not, Walk, reading, stop, wal
 use Rattle.ec_plain.specs.Plain.{refuses, on_reached, on_parent, on_entry}
 use Rattle.ec_plain.specs.declared.call.Refusal.TheVariants as no
 use Rattle.ec_plain.specs.declared.call.Outcome.{Outcome}
-use Rattle.ec_laws.specs.Renaming.{IsRenaming, entries_by, image_by, option_by, outcome_by, IsRenamed}
+use Rattle.ec_laws.specs.Renaming.{IsRenaming, entries_by, image_by}
+use Rattle.ec_laws.specs.Renamed.{option_by, outcome_by, IsRenamed}
 use Rattle.ec_laws.proofs.Images.{entry-by}
 use Rattle.ec_laws.proofs.Shapes.{gone-at, dir-at, entries-at}
 

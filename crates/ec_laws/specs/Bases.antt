@@ -5,7 +5,7 @@ use Rattle.ec_volume.specs.Image.{is_gone}
 use Rattle.ec_volume.specs.Held.{is_held}
 use Rattle.ec_volume.specs.Update.{distinct, is_sound}
 use Rattle.ec_volume.specs.Volume.{Images, after, Fits, WellFormed, AllReached}
-use Rattle.ec_plain.specs.Bounds.{is_bounded}
+use Rattle.ec_plain.specs.BoundedCalls.{is_bounded}
 use Rattle.ec_history.specs.History.{Base, History, Op, Each, updates}
 use Rattle.ec_history.specs.declared.entry.Entry.{Entry}
 use Rattle.ec_history.specs.declared.entry.Entry.TheVariants as entry

@@ -6,5 +6,7 @@ pub mod FormedExample
 pub mod Accounts
 pub mod Laws
 pub mod Renaming
+pub mod Renamed
 pub mod RenamedExample
 pub mod Placing
+pub mod NewIds

@@ -5,7 +5,7 @@ ghost use Rattle.ec_volume.specs.Update.{is_sound};
 ghost use Rattle.ec_volume.specs.Volume.{Images, after, Fits, WellFormed};
 ghost use Rattle.ec_volume.specs.declared.update.Update.{Update};
 ghost use Rattle.ec_plain.specs.Plain.{plain};
-ghost use Rattle.ec_plain.specs.Bounds.{is_bounded};
+ghost use Rattle.ec_plain.specs.BoundedCalls.{is_bounded};
 ghost use Rattle.ec_plain.specs.declared.call.Call.{Call};
 
 /// On a well-formed volume in which the fresh id is Gone, the update of a call fits; that of a call

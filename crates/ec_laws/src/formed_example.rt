@@ -7,7 +7,7 @@ ghost use Rattle.ec_volume.specs.Volume.{formatted, after, Fits, WellFormed, All
 ghost use Rattle.ec_volume.specs.declared.image.Kind.TheVariants as kind;
 ghost use Rattle.ec_volume.specs.declared.update.Update.TheVariants.{Make};
 ghost use Rattle.ec_plain.specs.Plain.{plain};
-ghost use Rattle.ec_plain.specs.Bounds.{is_bounded};
+ghost use Rattle.ec_plain.specs.BoundedCalls.{is_bounded};
 ghost use Rattle.ec_plain.specs.declared.call.Call.TheVariants as call;
 ghost use Rattle.ec_history.specs.History.{is_one_of, kept};
 ghost use Rattle.ec_history.specs.Legal.{IsLegal, is_closed, from_formatted};

@@ -1,5 +1,5 @@
 // Laws on the ids that new objects have: they may be exchanged for the places of the calls that made them.
-ghost use Rattle.ec_laws.specs.Placing.{IdlesMayChange, IdsArePlaces, NewIdsAreRead, NewIdsBesideLate, NewIdsGrow};
+ghost use Rattle.ec_laws.specs.NewIds.{IdlesMayChange, IdsArePlaces, NewIdsAreRead, NewIdsBesideLate, NewIdsGrow};
 
 /// The ids at the places of calls that make no object may be changed for other ones that no operation has.
 pub fn idle_ids_may_change()

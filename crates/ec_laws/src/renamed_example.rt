@@ -8,7 +8,8 @@ ghost use Rattle.ec_history.specs.Lines.{AreCovered, IsStored};
 ghost use Rattle.ec_history.specs.Placing.{place};
 ghost use Rattle.ec_laws.specs.Example.{two_files, write_f};
 ghost use Rattle.ec_laws.specs.ListExample.{op};
-ghost use Rattle.ec_laws.specs.Renaming.{IsRenaming, AreRenamed};
+ghost use Rattle.ec_laws.specs.Renaming.{IsRenaming};
+ghost use Rattle.ec_laws.specs.Renamed.{AreRenamed};
 ghost use Rattle.ec_laws.specs.RenamedExample.{exchange, exchanged_files, lines, issues, fsync, loss, put_f, new_h};
 
 /// Two ids are exchanged, and a base of two files has the one or the other. A transcript over it

@@ -7,7 +7,8 @@ ghost use Rattle.ec_history.specs.Legal.{IsLegal, IsLawful};
 ghost use Rattle.ec_history.specs.Lines.{AreCovered, IsStored};
 ghost use Rattle.ec_history.specs.declared.entry.Entry.{Entry};
 ghost use Rattle.ec_history.specs.declared.shown.Shown.{Shown};
-ghost use Rattle.ec_laws.specs.Renaming.{IsRenaming, AreRenamed, op_by, owed_by};
+ghost use Rattle.ec_laws.specs.Renaming.{IsRenaming};
+ghost use Rattle.ec_laws.specs.Renamed.{AreRenamed, op_by, owed_by};
 
 /// A history keeps and issues the same operations there, with renamed ids, and an entry touches the
 /// renamed objects.

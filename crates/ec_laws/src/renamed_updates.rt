@@ -4,7 +4,8 @@ ghost use Rattle.ec_volume.specs.Update.{operands, has_operand, fits, effect, is
 ghost use Rattle.ec_volume.specs.declared.image.Image.{Image};
 ghost use Rattle.ec_volume.specs.declared.update.Update.{Update};
 ghost use Rattle.ec_order.specs.Order.{is_overwrite, before, under, needs};
-ghost use Rattle.ec_laws.specs.Renaming.{IsRenaming, image_by, update_by};
+ghost use Rattle.ec_laws.specs.Renaming.{IsRenaming, image_by};
+ghost use Rattle.ec_laws.specs.Renamed.{update_by};
 
 /// An update of renamed ids has the renamed operands, fits where the update does and does the same;
 /// it is sound where the update is, and needs what the update needs.

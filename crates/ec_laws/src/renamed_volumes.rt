@@ -5,7 +5,8 @@ ghost use Rattle.ec_volume.specs.Volume.{Images, after, Fits, WellFormed, HaveOn
 ghost use Rattle.ec_volume.specs.declared.update.Update.{Update};
 ghost use Rattle.ec_plain.specs.Plain.{plain};
 ghost use Rattle.ec_plain.specs.declared.call.Call.{Call};
-ghost use Rattle.ec_laws.specs.Renaming.{IsRenaming, IsRenamed, update_by, outcome_by};
+ghost use Rattle.ec_laws.specs.Renaming.{IsRenaming};
+ghost use Rattle.ec_laws.specs.Renamed.{IsRenamed, update_by, outcome_by};
 
 /// A volume with renamed ids has the same shape, the same lists of updates fit it, and they leave a
 /// volume with renamed ids. A well-formed volume whose own ids are kept is itself renamed.

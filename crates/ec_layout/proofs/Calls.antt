@@ -1,7 +1,8 @@
 -- How many calls of a disk there were.
 use Rattle.std.proofs.Common.{◌≡◌, ℕ, ◌+◌, ◌-◌, ◌≤◌, [], Option, Some, None, refl, ap, subst, arith}
 use Rattle.ec_base.specs.Outside.{one_more}
-use Rattle.ec_disk.specs.Disk.{View, Counts, Called, after_calls}
+use Rattle.ec_disk.specs.Disk.{View, Counts, after_calls}
+use Rattle.ec_disk.specs.Effects.{Called}
 use Rattle.ec_disk.specs.Calls.{Call}
 use Rattle.ec_disk.specs.Counting.{called_both, turned_none, turned_for}
 use Rattle.ec_disk.specs.Choices.{Saves}

@@ -1,6 +1,7 @@
 -- The side that is selected after an append and after a checkpoint.
 use Rattle.std.proofs.Common.{◌≡◌, ℕ, List, length, ap, sym, ◌∙◌}
-use Rattle.ec_disk.specs.Disk.{View, LeavesOnly}
+use Rattle.ec_disk.specs.Disk.{View}
+use Rattle.ec_disk.specs.Effects.{LeavesOnly}
 use Rattle.ec_disk.specs.Runs.{Ran}
 use Rattle.ec_journal.specs.Records.{records}
 use Rattle.ec_journal.specs.Journal.{place_of, size_of, Adds, LeavesEither, LeavesOld, FromGate}

@@ -1,7 +1,8 @@
 -- A side whose table and first gate are written behind the slots.
 use Rattle.std.specs.Prelude.{◌≡◌, ◌<◌, ◌≤◌, ◌+◌, ℕ, List, [], ◌∷◌, length}
 use Rattle.std.proofs.Common.{inl, inr, arith, ◌∙◌, ap, sym, subst, refl}
-use Rattle.ec_disk.specs.Disk.{View, byte, part, written, Loose, InRange, Wrote}
+use Rattle.ec_disk.specs.Disk.{View, byte, part}
+use Rattle.ec_disk.specs.Effects.{written, Loose, InRange, Wrote}
 use Rattle.ec_disk.specs.Images.{part-loose, part-written, byte-written, byte-written_out, written-loose, length-written}
 use Rattle.ec_disk.specs.Runs.{Ran, and_wrote, ran_within}
 use Rattle.ec_layout.specs.declared.side.Side.{Side}

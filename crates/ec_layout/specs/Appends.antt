@@ -1,7 +1,8 @@
 -- What an append to the picked side's journal makes of a layout.
 use Rattle.std.specs.Prelude.{◌≡◌, ◌⊎◌, ◌<◌, ◌≤◌, ◌+◌, ℕ, List, [], ◌∷◌, ◌++◌, length}
 use Rattle.std.proofs.Common.{inl, inr, ⊎_elim, arith, ◌∙◌, ap, sym, subst}
-use Rattle.ec_disk.specs.Disk.{View, After, LeavesOnly}
+use Rattle.ec_disk.specs.Disk.{View}
+use Rattle.ec_disk.specs.Effects.{After, LeavesOnly}
 use Rattle.ec_disk.specs.Images.{part-loose}
 use Rattle.ec_disk.specs.Runs.{Ran}
 use Rattle.ec_journal.specs.Records.{HasBodies, records}

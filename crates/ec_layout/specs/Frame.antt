@@ -1,13 +1,15 @@
 -- What writes elsewhere leave alone, and what the select byte picks.
 use Rattle.std.specs.Prelude.{◌≡◌, ◌⊎◌, ◌<◌, ◌≤◌, ◌+◌, ℕ, List, [], ◌∷◌, length}
 use Rattle.std.proofs.Common.{inl, inr, ⊎_elim, arith, ◌∙◌, ap, sym, subst, refl}
-use Rattle.ec_disk.specs.Disk.{View, byte, part, Loose, InRange, After, IsSynced, LeavesOnly}
+use Rattle.ec_disk.specs.Disk.{View, byte, part}
+use Rattle.ec_disk.specs.Effects.{Loose, InRange, After, IsSynced, LeavesOnly}
 use Rattle.ec_disk.specs.Images.{part-loose}
 use Rattle.ec_disk.specs.Runs.{Ran, leaves_only, leaves_then}
 use Rattle.ec_journal.specs.Records.{HasBodies, records}
 use Rattle.ec_layout.specs.declared.side.Side.{Side}
 use Rattle.ec_layout.specs.declared.side.Side.TheVariants as side
-use Rattle.ec_layout.specs.Places.{journal_at, table_at, slot_at, side_of, select_byte, other}
+use Rattle.ec_layout.specs.Places.{journal_at, table_at, slot_at, side_of}
+use Rattle.ec_layout.specs.Sides.{select_byte, other}
 use Rattle.ec_layout.specs.Layout.{Layout, Lies, IsLaid, HasSide, HasSlots, IsFree, AreFree, IsAmong, AreAmong, Follows}
 use Rattle.ec_layout.specs.Pieces.{InSlots, InSide, InPieces}
 

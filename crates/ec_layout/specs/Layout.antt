@@ -3,7 +3,8 @@ use Rattle.std.specs.Prelude.{◌≡◌, ◌≢◌, ◌⊎◌, ◌≤◌, ◌+�
 use Rattle.ec_disk.specs.Disk.{View, byte, part}
 use Rattle.ec_journal.specs.Records.{HasBodies}
 use Rattle.ec_layout.specs.declared.side.Side.{Side}
-use Rattle.ec_layout.specs.Places.{journal_at, table_at, slot_at, side_of, other}
+use Rattle.ec_layout.specs.Places.{journal_at, table_at, slot_at, side_of}
+use Rattle.ec_layout.specs.Sides.{other}
 
 -- the 12 bytes in front of the select byte and the 3 behind it, the side, its table's bytes, the named slots with their bytes, its records' bodies
 pub record Layout : Type 0 where

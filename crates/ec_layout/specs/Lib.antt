@@ -4,10 +4,12 @@ pub mod Frame
 pub mod Free
 pub mod FreeLaws
 pub mod Head
+pub mod Heads
 pub mod Layout
 pub mod PieceLaws
 pub mod Pieces
 pub mod Places
+pub mod Sides
 pub mod Reading
 pub mod Selected
 pub mod Traces

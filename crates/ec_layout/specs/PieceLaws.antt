@@ -3,7 +3,8 @@ use Rattle.std.specs.Prelude.{◌≡◌, ◌≢◌, ◌<◌, ◌≤◌, ◌+◌,
 use Rattle.std.proofs.Common.{inl, inr, arith, ◌∙◌, ap, sym, subst, take-append-drop}
 use Rattle.std.proofs.lemmas.List.{drop_more, take_more, map-append}
 use Rattle.std.specs.declared.alloc.Global.{Global}
-use Rattle.ec_disk.specs.Disk.{View, part, written, Loose, InRange, Wrote}
+use Rattle.ec_disk.specs.Disk.{View, part}
+use Rattle.ec_disk.specs.Effects.{written, Loose, InRange, Wrote}
 use Rattle.ec_disk.specs.Images.{part-written, part-loose, written-loose, length-written}
 use Rattle.ec_disk.specs.Runs.{Ran, and_wrote}
 use Rattle.ec_layout.specs.Places.{slot_at}

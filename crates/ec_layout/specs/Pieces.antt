@@ -2,7 +2,8 @@
 use Rattle.std.specs.Prelude.{◌⊎◌, ◌<◌, ◌≤◌, ◌+◌, ℕ, List, [], ◌∷◌, length, map, Vec}
 use Rattle.std.specs.declared.alloc.Global.{Global}
 use Rattle.ec_layout.specs.declared.side.Side.{Side}
-use Rattle.ec_layout.specs.Places.{journal_at, slot_at, slot_bytes, slot_count}
+use Rattle.ec_layout.specs.Places.{journal_at, slot_at, slot_bytes}
+use Rattle.ec_layout.specs.Sides.{slot_count}
 use Rattle.ec_layout.specs.Layout.{IsFree}
 
 abbrev pub pieces_of : List (ℕ × Vec ℕ Global) → List (ℕ × List ℕ)

@@ -1,10 +1,12 @@
 // A checkpoint: the other side and free slots are written and synced, then the select byte.
 ghost use Rattle.std.specs.Prelude.{◌≡◌, ◌⊎◌, ◌<◌, ◌≤◌, ◌+◌, ℕ, [], length};
 ghost use Rattle.ec_disk.specs.declared.disk.DiskAnswer.TheVariants as said;
-ghost use Rattle.ec_disk.specs.Disk.{byte, InRange, IsSynced, LeavesOnly, Counted, Called, written};
+ghost use Rattle.ec_disk.specs.Disk.{byte};
+ghost use Rattle.ec_disk.specs.Effects.{InRange, IsSynced, LeavesOnly, Counted, Called, written};
 ghost use Rattle.ec_disk.specs.Runs.{Ran};
 ghost use Rattle.ec_journal.specs.Ends.{DidAll, EndsBy, TurnedUpTo};
 ghost use Rattle.ec_layout.specs.Places as place;
+ghost use Rattle.ec_layout.specs.Sides as sides;
 ghost use Rattle.ec_layout.specs.Layout.{Layout, Lies, IsLaid, HasSide, HasSlots, Follows};
 ghost use Rattle.ec_layout.specs.Pieces.{pieces_of, AreApart, InPieces};
 ghost use Rattle.ec_layout.specs.Traces.{NoSync, FirstSync};
@@ -29,7 +31,7 @@ pub fn prepare<D: Disk>(
     ensures ran { D.tells → Ran (InPieces side (pieces_of pieces.now)) (D.view disk.old) (D.view disk.new) }
     ensures side { D.tells → result ≡ said.Done → HasSide (D.view disk.new).gives side table.now [] }
     ensures slots { D.tells → result ≡ said.Done → HasSlots (D.view disk.new).gives (pieces_of pieces.now) }
-    ensures front { D.tells → result ≡ said.Done → (i : ℕ) → i < place.journals_at → byte (D.view disk.new).gives i ≡ byte (D.view disk.old).gives i }
+    ensures front { D.tells → result ≡ said.Done → (i : ℕ) → i < sides.journals_at → byte (D.view disk.new).gives i ≡ byte (D.view disk.old).gives i }
     ensures synced { D.tells → result ≡ said.Done → IsSynced (D.view disk.new) }
     ensures calls { result ≡ said.Done → Called (length pieces.now + 3) (D.counts disk.old) (D.counts disk.new) }
     ensures did { result ≡ said.Done → DidAll D.does (length pieces.now + 3) disk.old disk.new }
@@ -60,7 +62,7 @@ fn write_side<D: Disk>(
     ensures ran { D.tells → Ran (InPieces side (pieces_of pieces.now)) (D.view disk.old) (D.view disk.new) }
     ensures side { D.tells → result ≡ said.Done → HasSide (D.view disk.new).gives side table.now [] }
     ensures slots { D.tells → result ≡ said.Done → HasSlots (D.view disk.new).gives (pieces_of pieces.now) }
-    ensures front { D.tells → result ≡ said.Done → (i : ℕ) → i < place.journals_at → byte (D.view disk.new).gives i ≡ byte (D.view disk.old).gives i }
+    ensures front { D.tells → result ≡ said.Done → (i : ℕ) → i < sides.journals_at → byte (D.view disk.new).gives i ≡ byte (D.view disk.old).gives i }
     ensures calls { result ≡ said.Done → Called (length pieces.now + 2) (D.counts disk.old) (D.counts disk.new) }
     ensures did { result ≡ said.Done → DidAll D.does (length pieces.now + 2) disk.old disk.new }
     ensures ends { (result ≡ said.Done → ⊥) → EndsBy D.does result (length pieces.now + 2) disk.old disk.new }
@@ -82,8 +84,8 @@ fn write_side<D: Disk>(
 
 /// Turns the select byte to this side, and syncs: two calls of the disk.
 pub fn select<D: Disk>(disk: &mut D, side: Side) -> DiskAnswer
-    ensures ran { D.tells → Ran (InRange place.select_at 1) (D.view disk.old) (D.view disk.new) }
-    ensures turned { D.tells → result ≡ said.Done → byte (D.view disk.new).gives place.select_at ≡ place.select_byte side }
+    ensures ran { D.tells → Ran (InRange sides.select_at 1) (D.view disk.old) (D.view disk.new) }
+    ensures turned { D.tells → result ≡ said.Done → byte (D.view disk.new).gives sides.select_at ≡ sides.select_byte side }
     ensures synced { D.tells → result ≡ said.Done → IsSynced (D.view disk.new) }
     ensures calls { result ≡ said.Done → Called 2 (D.counts disk.old) (D.counts disk.new) }
     ensures did { result ≡ said.Done → DidAll D.does 2 disk.old disk.new }

@@ -1,9 +1,9 @@
 // The first 16 bytes of a disk.
 ghost use Rattle.std.specs.Prelude.{◌≡◌, IfOk, OnOk, IsErrOf, ℕ};
-ghost use Rattle.ec_disk.specs.Disk.{IsSynced, LeavesOnly, Counted, Called};
+ghost use Rattle.ec_disk.specs.Effects.{IsSynced, LeavesOnly, Counted, Called};
 ghost use Rattle.ec_journal.specs.declared.fault.JournalFault.TheVariants as fault;
 ghost use Rattle.ec_layout.specs.Layout.{Layout, IsLaid};
-ghost use Rattle.ec_layout.specs.Head.{IsHeaded, AwaitsHead, LiesIfWhole, second_word};
+ghost use Rattle.ec_layout.specs.Heads.{IsHeaded, AwaitsHead, LiesIfWhole, second_word};
 
 use ec_disk::Disk;
 use ec_journal::{JournalFault, write_synced};

@@ -16,12 +16,13 @@ pub struct Selected {
 impl Selected {
     ghost use Rattle.std.specs.Prelude.{◌≡◌, ◌⊎◌, ◌<◌, ◌≤◌, ◌+◌, ℕ, length, OnOk, OnErr, IsOk, IsErrOf, MatchBool};
     ghost use Rattle.ec_disk.specs.declared.disk.DiskAnswer.TheVariants as said;
-    ghost use Rattle.ec_disk.specs.Disk.{IsSynced, LeavesOnly, Counted, Called};
+    ghost use Rattle.ec_disk.specs.Effects.{IsSynced, LeavesOnly, Counted, Called};
     ghost use Rattle.ec_journal.specs.Ends.{DidAll, EndsBy, TurnedUpTo};
-    ghost use Rattle.ec_journal.specs.Records.{max_record_bytes};
+    ghost use Rattle.ec_journal.specs.RecordBytes.{max_record_bytes};
     ghost use Rattle.ec_journal.specs.Journal.{need_of};
     ghost use Rattle.ec_journal.specs.declared.fault.JournalFault.TheVariants as fault;
     ghost use Rattle.ec_layout.specs.Places as place;
+    ghost use Rattle.ec_layout.specs.Sides as sides;
     ghost use Rattle.ec_layout.specs.Layout.{Layout, Lies, Follows};
     ghost use Rattle.ec_layout.specs.Pieces.{pieces_of, AreApart};
     ghost use Rattle.ec_layout.specs.Appends.{with_body, LeavesBody};
@@ -86,16 +87,16 @@ impl Selected {
     ) -> DiskAnswer
         requires apart { AreApart (pieces_of pieces.now) }
         requires small { length table.now ≤ place.table_bytes }
-        ensures done { D.tells → result ≡ said.Done → (before after : Layout) → Follows (place.other (side_now self.old)) table.now (pieces_of pieces.now) before after → IsOn (D.view disk.old) self.old before → IsOn (D.view disk.new) self.new after }
-        ensures any_moment { D.tells → (before after : Layout) → Follows (place.other (side_now self.old)) table.now (pieces_of pieces.now) before after → IsOn (D.view disk.old) self.old before → LeavesOnly (D.view disk.old) (D.view disk.new) (λ image. Lies image before ⊎ Lies image after) }
+        ensures done { D.tells → result ≡ said.Done → (before after : Layout) → Follows (sides.other (side_now self.old)) table.now (pieces_of pieces.now) before after → IsOn (D.view disk.old) self.old before → IsOn (D.view disk.new) self.new after }
+        ensures any_moment { D.tells → (before after : Layout) → Follows (sides.other (side_now self.old)) table.now (pieces_of pieces.now) before after → IsOn (D.view disk.old) self.old before → LeavesOnly (D.view disk.old) (D.view disk.new) (λ image. Lies image before ⊎ Lies image after) }
         ensures synced { D.tells → result ≡ said.Done → IsSynced (D.view disk.new) }
-        ensures empty { result ≡ said.Done → IsSelected (place.other (side_now self.old)) 0 self.new }
+        ensures empty { result ≡ said.Done → IsSelected (sides.other (side_now self.old)) 0 self.new }
         ensures calls { result ≡ said.Done → Called (length pieces.now + 5) (D.counts disk.old) (D.counts disk.new) }
         ensures did { result ≡ said.Done → DidAll D.does (length pieces.now + 5) disk.old disk.new }
         ensures ends { (result ≡ said.Done → ⊥) → EndsBy D.does result (length pieces.now + 5) disk.old disk.new }
         ensures turns { TurnedUpTo (length pieces.now + 5) (D.counts disk.old).armed (D.counts disk.new).armed (result ≡ said.Done) (result ≡ said.Stopped) }
         // What was synced before it was done has the old layout.
-        ensures old { D.tells → (result ≡ said.Done → ⊥) → (before after : Layout) → Follows (place.other (side_now self.old)) table.now (pieces_of pieces.now) before after → IsOn (D.view disk.old) self.old before → Lies (D.view disk.new).synced before }
+        ensures old { D.tells → (result ≡ said.Done → ⊥) → (before after : Layout) → Follows (sides.other (side_now self.old)) table.now (pieces_of pieces.now) before after → IsOn (D.view disk.old) self.old before → Lies (D.view disk.new).synced before }
         ensures counts { Counted (D.counts disk.old) (D.counts disk.new) (result ≡ said.Failed) (result ≡ said.Stopped) }
     {
         let side = self.side.other();

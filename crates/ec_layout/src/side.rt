@@ -1,6 +1,7 @@
 // The two sides of a disk.
 ghost use Rattle.std.specs.Prelude.{◌≡◌};
 ghost use Rattle.ec_layout.specs.Places as place;
+ghost use Rattle.ec_layout.specs.Sides as sides;
 
 /// Bytes of a side's journal.
 pub const JOURNAL_BYTES: u64 = 2_097_152;
@@ -35,7 +36,7 @@ impl Side {
 
     /// The select byte that a checkpoint writes to pick this side.
     pub fn select_byte(self) -> u8
-        ensures { result ≡ place.select_byte self }
+        ensures { result ≡ sides.select_byte self }
     {
         match self {
             Side::Even => 0,
@@ -44,7 +45,7 @@ impl Side {
     }
 
     pub fn other(self) -> Side
-        ensures { result ≡ place.other self }
+        ensures { result ≡ sides.other self }
     {
         match self {
             Side::Even => Side::Odd,

@@ -1,7 +1,8 @@
 // Slots, each of which holds one image.
 ghost use Rattle.std.specs.Prelude.{◌≡◌, ◌<◌, ℕ, length};
 ghost use Rattle.ec_disk.specs.declared.disk.DiskAnswer.TheVariants as said;
-ghost use Rattle.ec_disk.specs.Disk.{byte, Counted, Called};
+ghost use Rattle.ec_disk.specs.Disk.{byte};
+ghost use Rattle.ec_disk.specs.Effects.{Counted, Called};
 ghost use Rattle.ec_disk.specs.Runs.{Ran};
 ghost use Rattle.ec_journal.specs.Ends.{DidAll, EndsBy, TurnedUpTo};
 ghost use Rattle.ec_layout.specs.Places as place;

@@ -1,6 +1,6 @@
 -- Runs over scripts with leases: their lines without `held` are lawful, and legal in the order in which they were printed.
 use Rattle.std.specs.Prelude.{◌≡◌, ◌<◌, ◌≤◌, ◌-◌, ℕ, Some, slice_get, T, List, [], ◌∷◌, ◌++◌, length, Ok, ⊤}
-use Rattle.ec_plain.specs.Bounds.{is_bounded}
+use Rattle.ec_plain.specs.BoundedCalls.{is_bounded}
 use Rattle.ec_plain.specs.declared.call.Call.{Call}
 use Rattle.ec_volume.specs.Volume.{Images, images}
 use Rattle.ec_volume.specs.declared.image.Image.TheVariants.{Gone}

@@ -1,6 +1,6 @@
 -- Lines whose calls are within their bounds, and the entries that they give.
 use Rattle.std.specs.Prelude.{◌<◌, ◌^◌, Bool, true}
-use Rattle.ec_plain.specs.Bounds.{is_bounded}
+use Rattle.ec_plain.specs.BoundedCalls.{is_bounded}
 use Rattle.ec_history.specs.History.{History, Each}
 use Rattle.ec_history.specs.declared.shown.Shown.{Shown}
 use Rattle.ec_history.specs.declared.shown.Shown.TheVariants.{Waits, Answered}

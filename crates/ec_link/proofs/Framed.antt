@@ -6,7 +6,7 @@ use Rattle.ec_link.specs.declared.link.Sent.{Sent}
 use Rattle.ec_link.specs.declared.link.Sent.TheVariants as sent
 use Rattle.ec_link.specs.declared.link.Got.{Got}
 use Rattle.ec_link.specs.declared.link.Got.TheVariants as got
-use Rattle.ec_link.specs.Links.{carried, Reads}
+use Rattle.ec_link.specs.LinkAnswers.{carried, Reads}
 
 drop_front : {A : Type 0} (n : ℕ) (xs ys : List A) → length xs ≡ n → drop n (xs ++ ys) ≡ ys
 drop_front n [] ys e = ap (λ k. drop k ys) (sym e)

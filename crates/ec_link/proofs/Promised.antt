@@ -2,7 +2,7 @@
 use Rattle.std.proofs.Common.{◌≡◌, List, ◌∷◌}
 use Rattle.std.specs.List.{All}
 use Rattle.std.proofs.lemmas.List.Elements.{All-rest}
-use Rattle.ec_link.specs.Spawns.{IsPromised}
+use Rattle.ec_link.specs.JobCounts.{IsPromised}
 
 module _ {J O S H : Type 0} (job_of : H → J) (gives : J → O → Type 0) (owns : S → O → Type 0) where
   pub still_owned : (a b : S) (hs : List H) → ((out : O) → owns a out → owns b out) → All (IsPromised job_of gives owns a) hs → All (IsPromised job_of gives owns b) hs

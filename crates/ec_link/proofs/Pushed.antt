@@ -3,7 +3,8 @@ use Rattle.std.proofs.Common.{◌≡◌, ℕ, ◌+◌, List, [], ◌∷◌, ◌+
 use Rattle.ec_link.specs.declared.happenings.Happening.{Happening}
 use Rattle.ec_link.specs.declared.happenings.Happenings.{Happenings}
 use Rattle.ec_link.specs.Links.{Heard}
-use Rattle.ec_link.specs.Happenings.{fault_at, close_at, given_at, got_at, total, each, More}
+use Rattle.ec_link.specs.Happenings.{fault_at, total, each}
+use Rattle.ec_link.specs.HappeningBodies.{close_at, given_at, got_at, More}
 
 pub total-push : {A : Type 0} (f : A → ℕ) (xs : List A) (x : A) → total f (xs ++ x ∷ []) ≡ total f xs + f x
 total-push f [] x = omega arith

@@ -1,6 +1,10 @@
 pub mod Links
+pub mod LinkAnswers
 pub mod Happenings
+pub mod HappeningBodies
 pub mod Memory
 pub mod Nets
+pub mod NetAnswers
 pub mod Spawns
+pub mod JobCounts
 pub mod Tcp

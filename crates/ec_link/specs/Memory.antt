@@ -3,7 +3,8 @@ use Rattle.std.specs.Prelude.{◌≡◌, ℕ, Bool, List, [], nat_eq}
 use Rattle.std.specs.List.{list_any}
 use Rattle.ec_base.specs.Outside.{one_more}
 use Rattle.ec_link.specs.declared.memory.MemLink.{MemLink}
-use Rattle.ec_link.specs.Happenings.{faults_in, closes_in, given_in, got_in}
+use Rattle.ec_link.specs.Happenings.{faults_in}
+use Rattle.ec_link.specs.HappeningBodies.{closes_in, given_in, got_in}
 
 -- the next send or receive is listed as one that fails
 abbrev pub is_due : MemLink → Bool

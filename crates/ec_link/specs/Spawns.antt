@@ -1,30 +1,10 @@
 -- What is counted of jobs.
-use Rattle.std.specs.Prelude.{ℕ, Option, Some, None}
-use Rattle.ec_link.specs.declared.spawn.Spawned.{Spawned}
-use Rattle.ec_link.specs.declared.spawn.Spawned.TheVariants as spawned
+use Rattle.std.specs.Prelude.{ℕ}
 use Rattle.ec_link.specs.declared.spawn.Spawner.{Spawner}
 use Rattle.ec_link.specs.declared.spawn.Spawner.TheVariants as by
 use Rattle.ec_link.specs.Happenings.{faults_in}
-
-abbrev pub taken : {A : Type 0} → Option A → ℕ
-taken None = 0
-taken (Some job) = 1
-
--- the jobs that were dropped since they couldn't be started
-abbrev pub refused : Spawned → ℕ
-refused spawned.All = 0
-refused spawned.Failed = 1
-refused spawned.NoMemory = 0
-
-abbrev pub refused_by : Option Spawned → ℕ
-refused_by None = 0
-refused_by (Some s) = refused s
 
 -- how often a job couldn't be started
 abbrev pub faults_of : Spawner → ℕ
 faults_of (by.Threads s) = faults_in s.happened
 faults_of (by.Fails s) = faults_in s.happened
-
--- what this job gives is a result of the jobs' own
-abbrev pub IsPromised : {J O S H : Type 0} → (H → J) → (J → O → Type 0) → (S → O → Type 0) → S → H → Type 0
-IsPromised {O} job_of gives owns jobs handle = (out : O) → gives (job_of handle) out → owns jobs out

@@ -1,7 +1,8 @@
 -- A link over TCP.
 use Rattle.std.specs.Prelude.{◌≡◌, ◌==◌, ◌&&◌, Bool, [], length}
 use Rattle.ec_link.specs.declared.tcp.TcpLink.{TcpLink}
-use Rattle.ec_link.specs.Happenings.{faults_in, closes_in, given_in, got_in}
+use Rattle.ec_link.specs.Happenings.{faults_in}
+use Rattle.ec_link.specs.HappeningBodies.{closes_in, given_in, got_in}
 
 -- the socket has taken all that the link got, and nothing rests
 abbrev pub has_sent_all : TcpLink → Bool

@@ -1,7 +1,8 @@
 // What happened at a link, which stands in proofs alone and has no bytes.
 ghost use Rattle.std.specs.Prelude.{◌≡◌, [], ◌∷◌, ◌++◌, drop};
 ghost use Rattle.ec_link.specs.Links.{body, long};
-ghost use Rattle.ec_link.specs.Happenings.{fault_at, close_at, given_at, got_at, faults_in, closes_in, given_in, got_in, More};
+ghost use Rattle.ec_link.specs.Happenings.{fault_at, faults_in};
+ghost use Rattle.ec_link.specs.HappeningBodies.{close_at, given_at, got_at, closes_in, given_in, got_in, More};
 
 use ec_trace::Trace;
 use std::snapshot::Snapshot;

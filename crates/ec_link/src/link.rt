@@ -2,8 +2,9 @@
 ghost use Rattle.std.specs.Prelude.{◌≡◌, ℕ, ◌+◌, ◌≤◌, Bool, List, Option};
 ghost use Rattle.ec_frame.specs.Frames.{IsBody};
 ghost use Rattle.ec_link.specs.declared.link.Sent.TheVariants as sent;
-ghost use Rattle.ec_link.specs.Links.{Heard, failed, fault_of, close_of, heard, carried, added, Reads};
-ghost use Rattle.ec_link.specs.Nets.{faulted};
+ghost use Rattle.ec_link.specs.Links.{Heard, added};
+ghost use Rattle.ec_link.specs.LinkAnswers.{failed, fault_of, close_of, heard, carried, Reads};
+ghost use Rattle.ec_link.specs.NetAnswers.{faulted};
 
 use crate::around::Around;
 use crate::bell::Bell;

@@ -3,8 +3,8 @@ ghost use Rattle.std.specs.Prelude.{◌≡◌, ℕ, [], ◌++◌, List, drop, If
 ghost use Rattle.ec_base.specs.Outside.{one_more};
 ghost use Rattle.ec_frame.specs.Frames.{BeginsNone};
 ghost use Rattle.ec_link.specs.declared.link.Sent.TheVariants as sent;
-ghost use Rattle.ec_link.specs.Links.{failed, fault_of, close_of, heard, carried, Reads};
-ghost use Rattle.ec_link.specs.Happenings.{More};
+ghost use Rattle.ec_link.specs.LinkAnswers.{failed, fault_of, close_of, heard, carried, Reads};
+ghost use Rattle.ec_link.specs.HappeningBodies.{More};
 ghost use Rattle.ec_link.specs.Memory.{is_due, IsNew};
 
 use crate::around::Around;
@@ -276,7 +276,8 @@ impl Link for MemLink {
     type Bell = MemBell;
 
     ghost use Rattle.std.specs.Prelude.{Some, true};
-    ghost use Rattle.ec_link.specs.Happenings.{faults_in, closes_in, given_in, got_in};
+    ghost use Rattle.ec_link.specs.Happenings.{faults_in};
+    ghost use Rattle.ec_link.specs.HappeningBodies.{closes_in, given_in, got_in};
 
     ghost faults = { λ link. faults_in link.happened };
 

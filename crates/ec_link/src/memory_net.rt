@@ -4,7 +4,7 @@ ghost use Rattle.std.specs.List.{list_any};
 ghost use Rattle.ec_base.specs.Outside.{one_more};
 ghost use Rattle.ec_link.specs.Happenings.{faults_in};
 ghost use Rattle.ec_link.specs.Memory.{IsNew};
-ghost use Rattle.ec_link.specs.Nets.{faulted};
+ghost use Rattle.ec_link.specs.NetAnswers.{faulted};
 
 use crate::around::Around;
 use crate::bell::{Bell, MemBell};
@@ -256,8 +256,9 @@ impl MemNet {
 
 impl Net for MemNet {
     ghost use Rattle.std.specs.Prelude.{Some, map};
-    ghost use Rattle.ec_link.specs.Happenings.{faults_in, closes_in, given_in, got_in, total};
-    ghost use Rattle.ec_link.specs.Nets.{is_bad};
+    ghost use Rattle.ec_link.specs.Happenings.{faults_in, total};
+    ghost use Rattle.ec_link.specs.HappeningBodies.{closes_in, given_in, got_in};
+    ghost use Rattle.ec_link.specs.NetAnswers.{is_bad};
 
     type Link = MemLink;
 

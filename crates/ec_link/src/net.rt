@@ -1,6 +1,7 @@
 // Nets, which hand out links by address and take them back.
 ghost use Rattle.std.specs.Prelude.{◌≡◌, ℕ, ◌+◌, ◌≤◌, ◌++◌, [], ◌∷◌, List, IfOk, IfSome, OnOk};
-ghost use Rattle.ec_link.specs.Nets.{Ended, is_bad, IsEmpty, faulted};
+ghost use Rattle.ec_link.specs.Nets.{Ended};
+ghost use Rattle.ec_link.specs.NetAnswers.{is_bad, IsEmpty, faulted};
 
 use crate::around::Around;
 use crate::bell::Bell;

@@ -3,7 +3,8 @@ ghost use Rattle.std.specs.Prelude.{true, false, ◌≡◌, ℕ, ◌+◌, IfNone
 ghost use Rattle.std.specs.List.{All};
 ghost use Rattle.ec_link.specs.declared.spawn.Spawned.TheVariants as spawned;
 ghost use Rattle.ec_link.specs.Happenings.{faults_in};
-ghost use Rattle.ec_link.specs.Spawns.{taken, refused, faults_of, IsPromised};
+ghost use Rattle.ec_link.specs.Spawns.{faults_of};
+ghost use Rattle.ec_link.specs.JobCounts.{taken, refused, IsPromised};
 
 use crate::around::Around;
 use crate::happenings::Happenings;

@@ -2,8 +2,8 @@
 ghost use Rattle.std.specs.Prelude.{◌≡◌, ℕ, [], ◌++◌, List, drop, IfOk, IfSome, IfNone};
 ghost use Rattle.ec_frame.specs.Frames.{BeginsNone};
 ghost use Rattle.ec_link.specs.declared.link.Sent.TheVariants as sent;
-ghost use Rattle.ec_link.specs.Links.{failed, fault_of, close_of, heard, carried, Reads};
-ghost use Rattle.ec_link.specs.Happenings.{More};
+ghost use Rattle.ec_link.specs.LinkAnswers.{failed, fault_of, close_of, heard, carried, Reads};
+ghost use Rattle.ec_link.specs.HappeningBodies.{More};
 ghost use Rattle.ec_link.specs.Tcp.{IsNewOver};
 
 use crate::around::Around;
@@ -375,7 +375,8 @@ impl Link for TcpLink {
     type Bell = TcpBell;
 
     ghost use Rattle.std.specs.Prelude.{Some};
-    ghost use Rattle.ec_link.specs.Happenings.{faults_in, closes_in, given_in, got_in};
+    ghost use Rattle.ec_link.specs.Happenings.{faults_in};
+    ghost use Rattle.ec_link.specs.HappeningBodies.{closes_in, given_in, got_in};
     ghost use Rattle.ec_link.specs.Tcp.{has_sent_all};
 
     ghost faults = { λ link. faults_in link.happened };

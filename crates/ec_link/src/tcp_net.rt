@@ -1,7 +1,7 @@
 // The net over TCP.
 ghost use Rattle.std.specs.Prelude.{◌≡◌, ◌+◌, [], IfOk, IfSome};
 ghost use Rattle.ec_link.specs.Happenings.{faults_in};
-ghost use Rattle.ec_link.specs.Nets.{faulted};
+ghost use Rattle.ec_link.specs.NetAnswers.{faulted};
 ghost use Rattle.ec_link.specs.Tcp.{IsNewOver};
 
 use crate::around::Around;
@@ -127,8 +127,9 @@ fn over_or_gone(link: Result<TcpLink, NetFault>) -> Result<Option<TcpLink>, NetF
 
 impl Net for TcpNet {
     ghost use Rattle.std.specs.Prelude.{Some, map};
-    ghost use Rattle.ec_link.specs.Happenings.{faults_in, closes_in, given_in, got_in, total};
-    ghost use Rattle.ec_link.specs.Nets.{is_bad};
+    ghost use Rattle.ec_link.specs.Happenings.{faults_in, total};
+    ghost use Rattle.ec_link.specs.HappeningBodies.{closes_in, given_in, got_in};
+    ghost use Rattle.ec_link.specs.NetAnswers.{is_bad};
 
     type Link = TcpLink;
 

@@ -2,4 +2,5 @@ pub mod Steps
 pub mod Rule
 pub mod Told
 pub mod Passes
+pub mod PassViews
 pub mod Laws

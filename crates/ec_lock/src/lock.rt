@@ -4,7 +4,7 @@ ghost use mathlib.Core.List.{IsPrefix};
 ghost use Rattle.ec_lock.specs.declared.view.Stage.TheVariants.{Waiting};
 ghost use Rattle.ec_lock.specs.Steps.{Member, of};
 ghost use Rattle.ec_lock.specs.Told.{opened, at_stage, Got};
-ghost use Rattle.ec_lock.specs.Passes.{first, view, front, numbers, next_number, IsPassOf, HasTurn, Same, Marked};
+ghost use Rattle.ec_lock.specs.PassViews.{first, view, front, numbers, next_number, IsPassOf, HasTurn, Same, Marked};
 
 use crate::plays::{Draw, Look, Next, Noting};
 use crate::traced::{Held, Traced};

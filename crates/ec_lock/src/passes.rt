@@ -3,7 +3,8 @@ ghost use Rattle.std.specs.Prelude.{◌≡◌, ℕ, ◌+◌, ◌<◌, ◌≤◌,
 ghost use mathlib.Core.List.{IsPrefix};
 ghost use Rattle.ec_base.specs.Limits.{last_counter};
 ghost use Rattle.ec_lock.specs.Steps.{Member, of};
-ghost use Rattle.ec_lock.specs.Passes.{first, front, numbers, next_number, raised, answered, note_view, IsSeatOf, IsPassOf, IsNoteOf, Same, Marked, Reached};
+ghost use Rattle.ec_lock.specs.Passes.{answered};
+ghost use Rattle.ec_lock.specs.PassViews.{first, front, numbers, next_number, raised, note_view, IsSeatOf, IsPassOf, IsNoteOf, Same, Marked, Reached};
 
 use crate::lock::{LENGTH, MARK};
 use crate::plays::{Copied, Cut, Joined, Met, Raise, ReadMark};

@@ -5,7 +5,7 @@ use Rattle.ec_base.specs.Tables.{Table, keys, first as first_of}
 use Rattle.ec_order.specs.Order.{Issued}
 use Rattle.ec_sessions.specs.Limits.{max_batch_ops, window_size}
 use Rattle.ec_log.specs.Log.{has_one_of, in_window, least, pick_from}
-use Rattle.ec_log.specs.Choice as choice
+use Rattle.ec_log.specs.Chosen as choice
 use Rattle.ec_log.specs.declared.state.Pick.{Pick}
 use Rattle.ec_log.specs.declared.state.Pick.TheVariants.{Batch, Window, Behind}
 use Rattle.ec_log.specs.declared.state.LogState.{LogState}

@@ -13,8 +13,9 @@ use Rattle.ec_chains.specs.SlotLaws.{live-next}
 use Rattle.ec_chains.specs.Slots.{Slots, with_one, live}
 use Rattle.ec_chains.specs.Walk.{passes}
 use Rattle.ec_chains.specs.declared.closure.Ask.TheVariants.{All}
-use Rattle.ec_log.specs.Choice.{ask_of}
-use Rattle.ec_log.specs.Log.{first_number, is_asked, is_from, kept}
+use Rattle.ec_log.specs.Chosen.{ask_of}
+use Rattle.ec_log.specs.Log.{first_number, is_asked, kept}
+use Rattle.ec_log.specs.LogOrder.{is_from}
 use Rattle.ec_log.specs.declared.state.Asked.{Asked}
 use Rattle.ec_log.specs.declared.state.Asked.TheVariants as asked_of
 use Rattle.ec_log.specs.declared.state.LogState.{LogState}

@@ -17,7 +17,7 @@ use Rattle.ec_volume.specs.Update.{member}
 use Rattle.ec_volume.specs.declared.update.Update.{Update}
 use Rattle.ec_order.specs.Order.{Issued, needs, closure}
 use Rattle.ec_sessions.specs.Limits.{max_batch_ops}
-use Rattle.ec_log.specs.Choice.{all_rise, chosen, new_batch, full_from, closure_in, IsFrontOf}
+use Rattle.ec_log.specs.Chosen.{all_rise, chosen, new_batch, full_from, closure_in, IsFrontOf}
 use Rattle.ec_log.specs.declared.state.Asked.{Asked}
 use Rattle.ec_log.specs.declared.state.Pick.{Pick}
 use Rattle.ec_log.specs.declared.state.Pick.TheVariants.{Batch, Settled, Behind, Window}

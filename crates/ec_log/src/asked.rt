@@ -4,7 +4,8 @@ ghost use Rattle.std.specs.Ordering.{nat_cmp};
 ghost use Rattle.std.specs.FinMap.{is_sorted};
 ghost use Rattle.ec_volume.specs.Update.{member};
 ghost use Rattle.ec_log.specs.Log.{is_asked, first_number};
-ghost use Rattle.ec_log.specs.Choice.{ask_of, numbers_asked, IsFrontOf};
+ghost use Rattle.ec_log.specs.Choice.{numbers_asked};
+ghost use Rattle.ec_log.specs.Chosen.{ask_of, IsFrontOf};
 
 use crate::limits::MAX_BATCH_OPS;
 use crate::state::Asked;

@@ -6,6 +6,7 @@ ghost use Rattle.ec_volume.specs.Update.{member};
 ghost use Rattle.ec_chains.specs.Slots.{live};
 ghost use Rattle.ec_sessions.specs.Windows.{has};
 ghost use Rattle.ec_log.specs.Choice as choice;
+ghost use Rattle.ec_log.specs.Chosen as chosen;
 ghost use Rattle.ec_base.specs.SmallLaws.{rises};
 
 use crate::asked::is_asked_for;
@@ -25,7 +26,7 @@ pub fn choose(
     batches: &[(u64, List<OpNo>)],
     behind: Option<u64>,
 ) -> Pick
-    ensures { result ≡ choice.chosen ops.items next batches.now behind }
+    ensures { result ≡ chosen.chosen ops.items next batches.now behind }
 {
     if ops.as_slice().is_empty() {
         return Pick::Settled;
@@ -47,7 +48,7 @@ pub fn first_met(
     asked: &Asked,
     undurable: &Order,
 ) -> Option<u64>
-    ensures { result ≡ choice.number_of (first (choice.is_met ops.now asked.now undurable.now) batches.now) }
+    ensures { result ≡ chosen.number_of (first (chosen.is_met ops.now asked.now undurable.now) batches.now) }
 {
     match batches {
         [] => None,
@@ -76,7 +77,7 @@ fn is_met(members: &[OpNo], ops: &[OpNo], asked: &Asked, undurable: &Order) -> b
 
 // The least batch under way, where the next one would be a whole window above it.
 fn full_from(next: u64, batches: &[(u64, List<OpNo>)]) -> Option<u64>
-    ensures { result ≡ choice.full_from next batches.now }
+    ensures { result ≡ chosen.full_from next batches.now }
 {
     match batches {
         [(least, _), ..] if next >= WINDOW_SIZE && next - WINDOW_SIZE == *least => Some(*least),
@@ -110,7 +111,7 @@ pub fn lost_of(
     batches: &[(u64, List<OpNo>)],
     slots: &[Slot],
 ) -> Result<Vec<OpNo>, NoMemory>
-    ensures { IfOk result (λ lost. lost.items ≡ keys (choice.lost_in window.now batches.now (live slots.now))) }
+    ensures { IfOk result (λ lost. lost.items ≡ keys (chosen.lost_in window.now batches.now (live slots.now))) }
 {
     let mut lost = Vec::new(alloc);
     'slots: for (op, update) in slots {

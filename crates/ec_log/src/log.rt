@@ -5,6 +5,7 @@ ghost use Rattle.ec_base.specs.declared.counter.Counter.{Counter as Kind};
 ghost use Rattle.ec_base.specs.declared.counter.Counter.TheVariants as counter;
 ghost use Rattle.ec_chains.specs.Slots.{live};
 ghost use Rattle.ec_log.specs.Log as log;
+ghost use Rattle.ec_log.specs.LogOrder as log_order;
 ghost use Rattle.ec_log.specs.declared.state.LogFault.TheVariants as fault;
 ghost use Rattle.ec_log.specs.declared.state.Pick.TheVariants as picked;
 
@@ -48,8 +49,8 @@ impl Drop for Log {
 impl Model for Log {
     ghost use Rattle.std.specs.Prelude.{◌≡◌, ◌≤◌, true};
     ghost use Rattle.ec_chains.specs.Held.{is_behind};
-    ghost use Rattle.ec_log.specs.Log.{is_from};
-    ghost use Rattle.ec_log.specs.Choice.{all_rise};
+    ghost use Rattle.ec_log.specs.LogOrder.{is_from};
+    ghost use Rattle.ec_log.specs.Chosen.{all_rise};
     ghost use Rattle.ec_log.specs.declared.state.LogState.{LogState};
 
     ghost Value = { LogState };
@@ -116,7 +117,7 @@ impl Log {
         ensures room { (no : ℕ) (ops : List ℕ) → result ≡ Ok (picked.Batch no ops) → log.batches_are_spent self.old ≡ false }
         ensures err { OnErr result (self.new ≡ self.old) }
         ensures full { result ≡ Err fault.Full → ⊥ }
-        ensures spent { (c : Kind) → result ≡ Err (fault.Spent c) → (c ≡ counter.Batch) × (log.is_new (log.pick asked self.old) ≡ true) × (log.batches_are_spent self.old ≡ true) }
+        ensures spent { (c : Kind) → result ≡ Err (fault.Spent c) → (c ≡ counter.Batch) × (log_order.is_new (log.pick asked self.old) ≡ true) × (log.batches_are_spent self.old ≡ true) }
     {
         let ops = front_of(&self.undurable, asked)?;
         let batches = self.batches.items();
@@ -201,7 +202,7 @@ impl Log {
     /// places are empty, no more than have one. They rise from the first one of this session on.
     pub fn undurable(&self) -> &[Slot]
         ensures value { live result.now ≡ self.now.undurable }
-        ensures own { log.AreOwn self.now }
+        ensures own { log_order.AreOwn self.now }
     {
         self.undurable.slots()
     }

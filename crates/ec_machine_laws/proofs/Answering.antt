@@ -16,7 +16,8 @@ use Rattle.ec_history.specs.declared.entry.Entry.{Entry}
 use Rattle.ec_history.specs.declared.entry.Entry.TheVariants as entry
 use Rattle.ec_history.specs.declared.shown.Shown.{Shown}
 use Rattle.ec_history.specs.declared.shown.Shown.TheVariants as show
-use Rattle.ec_machine_laws.specs.Answers.{IsPlain, Plainly, after_call, answers_in, answers_to, asked_in, ids_from, none_yet, number_of, outcome_on}
+use Rattle.ec_machine_laws.specs.Answers.{Plainly, after_call, answers_in, answers_to, none_yet, number_of, outcome_on}
+use Rattle.ec_machine_laws.specs.PlainLines.{IsPlain, asked_in, ids_from}
 use Rattle.ec_machine_laws.proofs.Watching.{IsOne, stays-one, watch-push}
 
 -- Lists.

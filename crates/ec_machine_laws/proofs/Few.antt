@@ -12,7 +12,7 @@ use Rattle.ec_volume.specs.declared.image.Image.TheVariants.{Gone, File, Dir}
 use Rattle.ec_volume.specs.declared.image.Kind.{Kind}
 use Rattle.ec_volume.specs.declared.image.Kind.TheVariants as kind
 use Rattle.ec_volume.specs.declared.update.Update.TheVariants.{Make, Drop, Move, Put, Len, Mode, Stamp, Shift, Owner}
-use Rattle.ec_plain.specs.Bounds.{is_short, is_bounded}
+use Rattle.ec_plain.specs.BoundedCalls.{is_short, is_bounded}
 use Rattle.ec_plain.specs.Walk.{Path, Reached, At, Not, Walk, walk, walk_from, stop, parent_of, last_of, same_path}
 use Rattle.ec_plain.specs.Plain.{on_reached, on_parent, on_entry, answers, refuses, issues, plain, plain_make, plain_drop, plain_rename, plain_forder, once_more, blocked, kind_of, make_in, drop_in, above, renames, move_into, loops, rename_in, write_in, len_in, read_in, list_in, stat_of}
 use Rattle.ec_plain.specs.declared.call.Call.{Call}

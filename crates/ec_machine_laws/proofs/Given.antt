@@ -10,7 +10,8 @@ use Rattle.ec_base.specs.declared.ids.Hold.{Hold}
 use Rattle.ec_base.specs.declared.ids.Hold.TheVariants.{Write}
 use Rattle.ec_volume.specs.Update.{member}
 use Rattle.ec_tokens.specs.Laws.{holder_has, sound_granted, token-granted}
-use Rattle.ec_tokens.specs.Tokens.{Row, Tokens, Holder, IsSound, row_of, row, token, holders, first, is_conflict, is_clear, granted, lowered_in, with_row, lowered}
+use Rattle.ec_tokens.specs.Tokens.{Row, Tokens, Holder, row_of, row, token, holders, first, is_conflict, is_clear, granted, lowered_in, with_row, lowered}
+use Rattle.ec_tokens.specs.SoundTokens.{IsSound}
 use Rattle.ec_tokens.specs.declared.token.Token.{Token}
 use Rattle.ec_protocol.specs.Server.{with_ids}
 use Rattle.ec_machine_laws.specs.Holding.{left_at, AreOwn}

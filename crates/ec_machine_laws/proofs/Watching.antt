@@ -8,7 +8,7 @@ use Rattle.ec_history.specs.declared.entry.Answer.TheVariants as answer
 use Rattle.ec_history.specs.declared.shown.Shown.{Shown}
 use Rattle.ec_history.specs.declared.shown.Shown.TheVariants as show
 use Rattle.ec_history.specs.declared.watch.Watch.{Watch}
-use Rattle.ec_machine_laws.specs.Answers.{IsPlain}
+use Rattle.ec_machine_laws.specs.PlainLines.{IsPlain}
 
 pub watch-push : (c : ℕ) (w : Watch) (ss : List Shown) (s : Shown) → watch_from c w (ss ++ s ∷ []) ≡ watch_next c (watch_from c w ss) s
 watch-push c w [] s = refl

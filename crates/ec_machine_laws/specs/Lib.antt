@@ -10,3 +10,4 @@ pub mod Serving
 pub mod Counts
 pub mod Unspent
 pub mod Answers
+pub mod PlainLines

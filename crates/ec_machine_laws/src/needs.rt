@@ -6,7 +6,7 @@ ghost use Rattle.ec_volume.specs.Update.{member};
 ghost use Rattle.ec_volume.specs.Volume.{Images};
 ghost use Rattle.ec_volume.specs.declared.image.Kind.{Kind};
 ghost use Rattle.ec_volume.specs.declared.update.Update.TheVariants.{Make};
-ghost use Rattle.ec_plain.specs.Bounds.{is_bounded};
+ghost use Rattle.ec_plain.specs.BoundedCalls.{is_bounded};
 ghost use Rattle.ec_plain.specs.Plain.{plain};
 ghost use Rattle.ec_plain.specs.Walk.{Path, walk};
 ghost use Rattle.ec_plain.specs.declared.call.Call.{Call};

@@ -4,7 +4,8 @@ use Rattle.std.specs.Prelude.{IfOk, IfErr}
 use Rattle.std.proofs.lemmas.Bool.Decides.{leb_tells}
 use Rattle.ec_base.specs.Outside.{Rose}
 use Rattle.ec_base.specs.declared.counter.Counter.{Counter}
-use Rattle.ec_disk.specs.Disk.{View, LeavesOnly, Counts, Counted, Called, Turned}
+use Rattle.ec_disk.specs.Disk.{View, Counts}
+use Rattle.ec_disk.specs.Effects.{LeavesOnly, Counted, Called, Turned}
 use Rattle.ec_durable.specs.Durable.{step}
 use Rattle.ec_durable.specs.declared.state.Durable.{Durable}
 use Rattle.ec_durable.specs.declared.record.Record.{Record}
@@ -22,7 +23,7 @@ use Rattle.ec_server.specs.declared.fault.ServerFault.{ServerFault}
 use Rattle.ec_server.specs.declared.fault.ServerFault.TheVariants as server
 use Rattle.ec_store.specs.Store.{IsHeld, StandsForEither, view_of}
 use Rattle.ec_store.specs.declared.store.Store.{Store}
-use Rattle.ec_marking.specs.Runs.{LeavesEither, HasRun}
+use Rattle.ec_marking.specs.KeptRuns.{LeavesEither, HasRun}
 use Rattle.ec_marking.specs.Keeping.{IsDone, InDoubt, LeavesSome, CameOf, Unchanged, HasMark, Turns, IsStop, RunsIn}
 use Rattle.ec_marking.proofs.Runs.{run_same}
 use Rattle.ec_keeper.specs.Keeps.{Keeps, Leaves}

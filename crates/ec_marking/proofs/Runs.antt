@@ -2,7 +2,7 @@
 use Rattle.std.proofs.Common.{◌≡◌, ◌-◌, ℕ, Option, None, Some, refl, ap, arith, inl}
 use Rattle.ec_disk.specs.Disk.{Counts, NoneDue, after_calls}
 use Rattle.ec_durable.specs.declared.state.Durable.{Durable}
-use Rattle.ec_marking.specs.Runs.{HasRun}
+use Rattle.ec_marking.specs.KeptRuns.{HasRun}
 
 no_turn : (a : Option ℕ) → a ≡ after_calls 0 a
 no_turn None = refl

@@ -1,4 +1,5 @@
 pub mod Runs
+pub mod KeptRuns
 pub mod Held
 pub mod Signs
 pub mod Marks

@@ -1,7 +1,8 @@
 -- What a keeper that marks its records makes of one.
 use Rattle.std.specs.Prelude.{◌≡◌, ◌⊎◌, List, length, Option}
 use Rattle.ec_base.specs.Outside.{Rose}
-use Rattle.ec_disk.specs.Disk.{Counts, Counted}
+use Rattle.ec_disk.specs.Disk.{Counts}
+use Rattle.ec_disk.specs.Effects.{Counted}
 use Rattle.ec_durable.specs.declared.state.Durable.{Durable}
 use Rattle.ec_durable.specs.declared.record.Record.{Record}
 use Rattle.ec_marking.specs.Marks.{Marked}

@@ -1,6 +1,6 @@
 // A server's steps over the store and its disk, with the mark of the record.
 ghost use Rattle.std.specs.Prelude.{◌≡◌, [], None, Ok, IfOk, IfErr, IsTrue};
-ghost use Rattle.ec_disk.specs.Disk.{Counted};
+ghost use Rattle.ec_disk.specs.Effects.{Counted};
 ghost use Rattle.ec_wire.specs.Messages.{is_sound};
 ghost use Rattle.ec_protocol.specs.Server as machine;
 ghost use Rattle.ec_server.specs.Servers.{standing, StandsOn};

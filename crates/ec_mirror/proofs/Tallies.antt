@@ -4,7 +4,8 @@ use Rattle.std.specs.Prelude.{IsSome}
 use Rattle.std.proofs.lemmas.Bool.Decides.{nat_tests}
 use Rattle.ec_base.specs.Outside.{one_more}
 use Rattle.ec_disk.specs.Counting.{counted_both}
-use Rattle.ec_disk.specs.Disk.{Counts, Counted, CountsDown, IsDue, IsOver, after_calls}
+use Rattle.ec_disk.specs.Disk.{Counts, after_calls}
+use Rattle.ec_disk.specs.Effects.{Counted, CountsDown, IsDue, IsOver}
 use Rattle.ec_disk.specs.declared.disk.DiskAnswer.{DiskAnswer}
 use Rattle.ec_disk.specs.declared.disk.DiskAnswer.TheVariants as said
 use Rattle.ec_mirror.specs.Tally.{counts_of, told, behind_cut, Turned}

@@ -1,7 +1,8 @@
 -- How often a mirror was called, failed and stopped.
 use Rattle.std.specs.Prelude.{◌≡◌, None}
 use Rattle.ec_base.specs.Outside.{one_more}
-use Rattle.ec_disk.specs.Disk.{Counts, Counted, CountsDown, IsDue}
+use Rattle.ec_disk.specs.Disk.{Counts}
+use Rattle.ec_disk.specs.Effects.{Counted, CountsDown, IsDue}
 use Rattle.ec_disk.specs.declared.disk.DiskAnswer.{DiskAnswer}
 use Rattle.ec_disk.specs.declared.disk.DiskAnswer.TheVariants as said
 use Rattle.ec_mirror.specs.declared.tally.Tally.{Tally}

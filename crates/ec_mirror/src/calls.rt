@@ -1,7 +1,7 @@
 // What reads, writes, syncs and questions for the length do with the disks of a mirror.
 ghost use Rattle.std.specs.Prelude.{◌≡◌, ℕ, Some, true, false};
 ghost use Rattle.ec_base.specs.Outside.{one_more};
-ghost use Rattle.ec_disk.specs.Disk.{Counted};
+ghost use Rattle.ec_disk.specs.Effects.{Counted};
 ghost use Rattle.ec_disk.specs.declared.disk.DiskAnswer.TheVariants as said;
 ghost use Rattle.ec_disk.specs.declared.disk.DiskLen.TheVariants as len;
 ghost use Rattle.ec_mirror.specs.declared.kept.Kept.TheVariants as left;

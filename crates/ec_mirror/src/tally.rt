@@ -20,7 +20,7 @@ pub(crate) struct Tally {
 impl Tally {
     ghost use Rattle.std.specs.Prelude.{◌≡◌, None, Some, true, false};
     ghost use Rattle.ec_base.specs.Outside.{one_more};
-    ghost use Rattle.ec_disk.specs.Disk.{Counted, CountsDown, IsDue};
+    ghost use Rattle.ec_disk.specs.Effects.{Counted, CountsDown, IsDue};
     ghost use Rattle.ec_mirror.specs.Tally.{counts_of};
     ghost use Rattle.ec_mirror.specs.declared.tally.Turn.TheVariants as turn;
 

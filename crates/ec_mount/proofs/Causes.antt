@@ -4,7 +4,7 @@ use mathlib.Core.List.{IsPrefix}
 use Rattle.ec_base.specs.declared.counter.Counter.TheVariants as counter
 use Rattle.ec_plain.specs.declared.call.Call.{Call}
 use Rattle.ec_lock.specs.Steps.{is_number, of}
-use Rattle.ec_link.specs.Links.{failed}
+use Rattle.ec_link.specs.LinkAnswers.{failed}
 use Rattle.ec_link.specs.declared.link.Sent.{Sent}
 use Rattle.ec_link.specs.declared.link.Sent.TheVariants as sent
 use Rattle.ec_clerknode.specs.declared.fault.NodeFault.{NodeFault}
@@ -13,9 +13,11 @@ use Rattle.ec_clerknode.specs.declared.step.Deed.{Deed}
 use Rattle.ec_clerknode.specs.declared.step.Deed.TheVariants.{Began, Took, Picked, Parted, Resent, Linked, Net, Peer, Long, NotBegun, NotTaken, NotPicked, Broke}
 use Rattle.ec_clerknode.specs.declared.step.Step.{Step}
 use Rattle.ec_clerknode.specs.Closed.{Caused}
-use Rattle.ec_clerknode.specs.Lanes.{IsMarked, LaneFault}
-use Rattle.ec_clerknode.specs.Run.{Among, marks, mark_of_deed, mark_of_end, net_of, nets, old_boot}
-use Rattle.ec_clerknode.specs.Turns.{number_of, Failed}
+use Rattle.ec_clerknode.specs.LaneRuns.{IsMarked, LaneFault}
+use Rattle.ec_clerknode.specs.Run.{Among, marks, mark_of_deed, mark_of_end, old_boot}
+use Rattle.ec_clerknode.specs.RunEnds.{net_of, nets}
+use Rattle.ec_clerknode.specs.Turns.{number_of}
+use Rattle.ec_clerknode.specs.PassTurns.{Failed}
 use Rattle.ec_clerknode.proofs.Turns.{among_right, marks-right}
 use Rattle.ec_clerknode.proofs.LanePasses.{marks-left, old_boot_stays}
 use Rattle.ec_mount.specs.Run.{Has}

@@ -13,7 +13,8 @@ use Rattle.ec_clerknode.specs.declared.fault.NodeFault.{NodeFault}
 use Rattle.ec_clerknode.specs.declared.fault.NodeFault.TheVariants as fault
 use Rattle.ec_mount.specs.Mount.{Outside, Ends, Mounts}
 use Rattle.ec_mount.specs.Run.{place_in}
-use Rattle.ec_mount.specs.Script.{most_bytes, GivesRows, Withholds, lanes_of}
+use Rattle.ec_mount.specs.Script.{most_bytes, GivesRows, lanes_of}
+use Rattle.ec_mount.specs.Withheld.{Withholds}
 use Rattle.ec_mount.specs.Shown.{came_text, mount_text, old_boot_text, peer_text}
 use Rattle.ec_mount.specs.Work.{Given, Works, WorksTo}
 use Rattle.ec_mount.specs.Writes.{Wrote, WroteAs, Silent, Refuses, TellsEnd, TellsWork, ended_by}

@@ -2,18 +2,23 @@
 use Rattle.std.specs.Prelude.{OnOk}
 use Rattle.std.proofs.Common.{◌≡◌, ◌+◌, ◌<◌, ◌≤◌, ◌⊎◌, ℕ, zero, suc, Result, Ok, Err, Bool, true, false, List, [], ◌∷◌, ◌++◌, Option, Some, None, sym, refl, ap, ◌∙◌, subst, inl, inr, ⊎_elim, arith, append_assoc, append-nil}
 use mathlib.Core.List.{IsPrefix}
-use Rattle.ec_lock.specs.Passes.{front, numbers, IsPassOf}
+use Rattle.ec_lock.specs.PassViews.{front, numbers, IsPassOf}
 use Rattle.ec_lock.specs.Steps.{Member, of}
 use Rattle.ec_lock.specs.declared.types.Pass.{Pass}
 use Rattle.ec_lock.specs.declared.types.TracedLock.{TracedLock}
-use Rattle.ec_link.specs.Links.{Heard, added, failed}
-use Rattle.ec_link.specs.Nets.{Ended, is_bad, IsEmpty}
+use Rattle.ec_link.specs.Links.{Heard, added}
+use Rattle.ec_link.specs.LinkAnswers.{failed}
+use Rattle.ec_link.specs.Nets.{Ended}
+use Rattle.ec_link.specs.NetAnswers.{is_bad, IsEmpty}
 use Rattle.ec_outs.proofs.Told.{added-added}
 use Rattle.ec_clerknode.specs.declared.state.Node.{Node}
 use Rattle.ec_clerknode.specs.declared.step.Step.{Step}
-use Rattle.ec_clerknode.specs.Parts.{has_link, is_linked, onto, part, parts, IsBase, Over, Counted, LinksBy}
-use Rattle.ec_clerknode.specs.Run.{heard_of, heard_by, said_in, said_by, net_of, nets}
-use Rattle.ec_clerknode.specs.Turns.{number_of, Turned, Relinked}
+use Rattle.ec_clerknode.specs.Parts.{is_linked, onto, parts}
+use Rattle.ec_clerknode.specs.PresentLink.{has_link, part, IsBase, Over, Counted, LinksBy}
+use Rattle.ec_clerknode.specs.Run.{heard_of, heard_by, said_in, said_by}
+use Rattle.ec_clerknode.specs.RunEnds.{net_of, nets}
+use Rattle.ec_clerknode.specs.Turns.{number_of}
+use Rattle.ec_clerknode.specs.PassTurns.{Turned, Relinked}
 use Rattle.ec_clerknode.proofs.Lists.{prefix_self, prefix_trans, member_right}
 use Rattle.ec_clerknode.proofs.Parts.{went_on, some_parts, parts_more, parts_new, part_new, has_two, has_parts}
 use Rattle.ec_mount.specs.Run.{NetSeen, AreTold}

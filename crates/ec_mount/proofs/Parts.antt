@@ -2,13 +2,13 @@
 use Rattle.std.specs.Prelude.{OnOk}
 use Rattle.std.proofs.Common.{◌≡◌, ◌<◌, ◌≤◌, ℕ, zero, suc, List, [], ◌∷◌, ◌++◌, length, length-append, take, drop, Option, Some, None, Ok, slice_index_or, refl, sym, ap, ◌∙◌, subst, arith}
 use Rattle.ec_plain.specs.declared.call.Call.{Call}
-use Rattle.ec_lock.specs.Passes.{first}
+use Rattle.ec_lock.specs.PassViews.{first}
 use Rattle.ec_lock.specs.declared.types.Pass.{Pass}
 use Rattle.ec_lock.specs.declared.types.TracedLock.{TracedLock}
 use Rattle.ec_link.specs.Links.{Heard}
 use Rattle.ec_clerknode.specs.declared.state.Node.{Node}
 use Rattle.ec_clerknode.specs.declared.step.Step.{Step}
-use Rattle.ec_clerknode.specs.Lanes.{lists_of}
+use Rattle.ec_clerknode.specs.LaneRuns.{lists_of}
 use Rattle.ec_mount.specs.Run.{NetSeen}
 use Rattle.ec_mount.specs.Calls.{Called}
 use Rattle.ec_mount.specs.Linking.{Linked, LinkedMore}

@@ -5,7 +5,7 @@ use mathlib.Core.List.{IsPrefix}
 use Rattle.ec_base.specs.declared.counter.Counter.TheVariants as counter
 use Rattle.ec_plain.specs.declared.call.Call.{Call}
 use Rattle.ec_plain.specs.declared.call.Call.TheVariants.{Sync}
-use Rattle.ec_lock.specs.Passes.{front, numbers, IsPassOf, Same}
+use Rattle.ec_lock.specs.PassViews.{front, numbers, IsPassOf, Same}
 use Rattle.ec_lock.specs.Steps.{Member, of}
 use Rattle.ec_lock.specs.declared.types.Pass.{Pass}
 use Rattle.ec_lock.specs.declared.types.TracedLock.{TracedLock}
@@ -15,9 +15,11 @@ use Rattle.ec_clerknode.specs.declared.fault.NodeFault.TheVariants as fault
 use Rattle.ec_clerknode.specs.declared.state.Node.{Node}
 use Rattle.ec_clerknode.specs.declared.step.Step.{Step}
 use Rattle.ec_clerknode.specs.Run.{calls}
-use Rattle.ec_clerknode.specs.Turns.{number_of, calls_by, Turned, Replied, Failed, Worked, SaidBye}
+use Rattle.ec_clerknode.specs.Turns.{number_of, calls_by, Replied, SaidBye}
+use Rattle.ec_clerknode.specs.PassTurns.{Turned, Failed, Worked}
 use Rattle.ec_clerknode.specs.declared.jobs.AllReplied.{AllReplied}
-use Rattle.ec_clerknode.specs.Lanes.{AreFronts, IfTold, LanesCame, LanesMade}
+use Rattle.ec_clerknode.specs.Lanes.{AreFronts}
+use Rattle.ec_clerknode.specs.LaneRuns.{IfTold, LanesCame, LanesMade}
 use Rattle.ec_clerknode.proofs.LanePasses.{whole_fronts}
 use Rattle.ec_clerknode.proofs.Lists.{prefix_self, prefix_trans, member_left, member_right}
 use Rattle.ec_mount.specs.Run.{Has, Holds}

@@ -7,24 +7,29 @@ use Rattle.ec_plain.specs.declared.call.Call.{Call}
 use Rattle.ec_protocol.specs.Clerk.{start}
 use Rattle.ec_protocol.specs.declared.clerk.Clerk.{Clerk}
 use Rattle.ec_protocol.specs.declared.clerk.Out.{Out}
-use Rattle.ec_lock.specs.Passes.{front, numbers}
+use Rattle.ec_lock.specs.PassViews.{front, numbers}
 use Rattle.ec_lock.specs.Steps.{Member, of}
 use Rattle.ec_lock.specs.declared.types.Pass.{Pass}
 use Rattle.ec_lock.specs.declared.types.TracedLock.{TracedLock}
 use Rattle.ec_link.specs.Links.{Heard, added}
-use Rattle.ec_link.specs.Nets.{Ended, is_bad, IsEmpty}
+use Rattle.ec_link.specs.Nets.{Ended}
+use Rattle.ec_link.specs.NetAnswers.{is_bad, IsEmpty}
 use Rattle.ec_outs.specs.Outs.{Reply, encoded, sends}
 use Rattle.ec_clerknode.specs.declared.fault.NodeFault.{NodeFault}
 use Rattle.ec_clerknode.specs.declared.fault.NodeFault.TheVariants as fault
 use Rattle.ec_clerknode.specs.declared.state.Node.{Node}
 use Rattle.ec_clerknode.specs.declared.step.Step.{Step}
-use Rattle.ec_clerknode.specs.Parts.{has_link, part, parts, LinksBy}
-use Rattle.ec_clerknode.specs.Run.{IsRun, AreSaid, calls, heard_by, nets, said_by, told_by, old_boot}
-use Rattle.ec_clerknode.specs.Turns.{number_of, Finished}
+use Rattle.ec_clerknode.specs.Parts.{parts}
+use Rattle.ec_clerknode.specs.PresentLink.{has_link, part, LinksBy}
+use Rattle.ec_clerknode.specs.Run.{IsRun, AreSaid, calls, heard_by, said_by, told_by, old_boot}
+use Rattle.ec_clerknode.specs.RunEnds.{nets}
+use Rattle.ec_clerknode.specs.Turns.{number_of}
+use Rattle.ec_clerknode.specs.PassTurns.{Finished}
 use Rattle.ec_clerknode.proofs.Lists.{prefix_get, prefix_trans}
 use Rattle.ec_clerknode.proofs.Parts.{part_whole, parts_more, has_two, has_parts}
 use Rattle.ec_outs.proofs.Told.{added-nil}
-use Rattle.ec_mount.specs.Run.{NetSeen, AreTold, Ran, RanAlone, Holds, HoldsFronts, Has, Met, Lost, Spends, Unheard}
+use Rattle.ec_mount.specs.Run.{NetSeen, AreTold, Ran, Holds, HoldsFronts, Has, Met, Lost, Spends, Unheard}
+use Rattle.ec_mount.specs.RunsAlone.{RanAlone}
 use Rattle.ec_mount.specs.Run as run
 use Rattle.ec_mount.specs.Calls.{HoldsAll, FrontsStand, IfSaid, CallsEnd, Called}
 use Rattle.ec_mount.specs.Work.{Given, LinkSeen, RanOver, Cut, Tells, UnlessWanting, Concludes, last_of, RunsOver, WorksOver, Works, WorksTo}

@@ -7,7 +7,7 @@ use Rattle.std.specs.declared.alloc.Global.{Global}
 use Rattle.std.specs.List.{flat_map}
 use Rattle.ec_base.specs.Limits.{last_count}
 use Rattle.ec_base.specs.Outside.{Rose}
-use Rattle.ec_streams.specs.Streams.{WriteFailed, WrotePart}
+use Rattle.ec_streams.specs.Writes.{WriteFailed, WrotePart}
 use Rattle.ec_streams.specs.declared.streams.WriteFault.{WriteFault}
 use Rattle.ec_streams.specs.declared.streams.WriteFault.TheVariants as write
 use Rattle.ec_mount.specs.Mount.{WroteFront}

@@ -5,7 +5,7 @@ use mathlib.Core.List.{IsPrefix}
 use Rattle.ec_base.specs.declared.counter.Counter.TheVariants as counter
 use Rattle.ec_plain.specs.declared.call.Call.{Call}
 use Rattle.ec_plain.specs.declared.call.Call.TheVariants.{Sync}
-use Rattle.ec_lock.specs.Passes.{front, numbers, IsPassOf, Same}
+use Rattle.ec_lock.specs.PassViews.{front, numbers, IsPassOf, Same}
 use Rattle.ec_lock.specs.Steps.{Member, Distinct, of}
 use Rattle.ec_lock.specs.declared.types.Pass.{Pass}
 use Rattle.ec_lock.specs.declared.types.TracedLock.{TracedLock}
@@ -15,7 +15,8 @@ use Rattle.ec_clerknode.specs.declared.fault.NodeFault.TheVariants as fault
 use Rattle.ec_clerknode.specs.declared.state.Node.{Node}
 use Rattle.ec_clerknode.specs.declared.step.Step.{Step}
 use Rattle.ec_clerknode.specs.Turns.{number_of, calls_by, Replied, SaidBye}
-use Rattle.ec_clerknode.specs.Lanes.{AreLanes, AreFronts, LanesCame, lists_of}
+use Rattle.ec_clerknode.specs.Lanes.{AreLanes, AreFronts}
+use Rattle.ec_clerknode.specs.LaneRuns.{LanesCame, lists_of}
 use Rattle.ec_mount.specs.Run.{Has, Holds}
 use Rattle.ec_mount.specs.Script.{IsBadAt}
 use Rattle.ec_mount.specs.declared.calls.Met.{Met}

@@ -1,8 +1,11 @@
 pub mod Script
+pub mod Withheld
 pub mod Shown
 pub mod Run
+pub mod RunsAlone
 pub mod Linking
 pub mod Mount
+pub mod ExitCodes
 pub mod Calls
 pub mod Parts
 pub mod Work

@@ -1,7 +1,7 @@
 -- No public clause cites this module: it says what who links again does beside the calls.
 use Rattle.std.specs.Prelude.{◌≡◌, ◌+◌, ◌≤◌, ◌<◌, ℕ, List, [], ◌∷◌, ◌++◌, Option, Some}
 use mathlib.Core.List.{IsPrefix}
-use Rattle.ec_lock.specs.Passes.{front, numbers, IsPassOf}
+use Rattle.ec_lock.specs.PassViews.{front, numbers, IsPassOf}
 use Rattle.ec_lock.specs.Steps.{Member, of}
 use Rattle.ec_lock.specs.declared.types.Pass.{Pass}
 use Rattle.ec_lock.specs.declared.types.TracedLock.{TracedLock}
@@ -9,8 +9,10 @@ use Rattle.ec_link.specs.Links.{Heard, added}
 use Rattle.ec_link.specs.Nets.{Ended}
 use Rattle.ec_clerknode.specs.declared.state.Node.{Node}
 use Rattle.ec_clerknode.specs.declared.step.Step.{Step}
-use Rattle.ec_clerknode.specs.Parts.{part, parts}
-use Rattle.ec_clerknode.specs.Run.{heard_by, said_by, nets}
+use Rattle.ec_clerknode.specs.Parts.{parts}
+use Rattle.ec_clerknode.specs.PresentLink.{part}
+use Rattle.ec_clerknode.specs.Run.{heard_by, said_by}
+use Rattle.ec_clerknode.specs.RunEnds.{nets}
 use Rattle.ec_clerknode.specs.Turns.{number_of}
 use Rattle.ec_mount.specs.Run.{NetSeen, AreTold}
 

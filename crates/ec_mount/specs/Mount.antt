@@ -22,20 +22,6 @@ use Rattle.ec_mount.specs.declared.script.Row.{Row}
 use Rattle.ec_mount.specs.declared.status.Status.{Status}
 use Rattle.ec_mount.specs.declared.status.Status.TheVariants as status
 
--- the number that the process answers
-abbrev pub code : Status → ℕ
-code status.Done = 0
-code status.BadLine = 3
-code status.SourceFault = 4
-code status.SinkFault = 5
-code status.NetFault = 8
-code status.NoMemory = 9
-code status.StartFault = 10
-code status.Limit = 11
-code status.OldBoot = 13
-code status.PeerFault = 14
-code status.Spent = 15
-
 -- A source, a sink and a net, before and after: the bytes left and held, where told, the counts of faults, and what the net shows.
 pub record Outside : Type 0 where
   pub left : Option (List ℕ)

@@ -3,13 +3,13 @@ use Rattle.std.specs.Prelude.{◌≡◌, ◌≤◌, ℕ, List, [], Option, Some,
 use Rattle.std.specs.declared.alloc.Global.{Global}
 use Rattle.ec_base.specs.declared.list.NoMemory.{NoMemory}
 use Rattle.ec_plain.specs.declared.call.Call.{Call}
-use Rattle.ec_lock.specs.Passes.{first, front, IsPassOf}
+use Rattle.ec_lock.specs.PassViews.{first, front, IsPassOf}
 use Rattle.ec_lock.specs.declared.types.Pass.{Pass}
 use Rattle.ec_lock.specs.declared.types.TracedLock.{TracedLock}
 use Rattle.ec_link.specs.Links.{Heard}
 use Rattle.ec_clerknode.specs.declared.state.Node.{Node}
 use Rattle.ec_clerknode.specs.declared.step.Step.{Step}
-use Rattle.ec_clerknode.specs.Lanes.{lists_of}
+use Rattle.ec_clerknode.specs.LaneRuns.{lists_of}
 use Rattle.ec_clerknode.specs.Turns.{calls_by}
 use Rattle.ec_mount.specs.Run.{NetSeen}
 use Rattle.ec_mount.specs.Calls.{Called}

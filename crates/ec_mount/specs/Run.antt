@@ -47,19 +47,6 @@ pub record Ran (id boot : ℕ) (before after : NetSeen) (steps : List Step) : Ty
   pub ended : after.ended ≡ before.ended ++ links
   pub told : AreTold (map encoded (sends outs)) links (parts steps)
 
--- The same where one link came back: without an exchange it's said so.
-pub record RanAlone (id boot : ℕ) (before after : NetSeen) (steps : List Step) : Type 0 where
-  pub clerk : Clerk
-  pub outs : List Out
-  pub starts : start id boot ≡ record { clerk = clerk; outs = outs; spent = None }
-  pub run : IsRun clerk steps
-  pub whole : AreSaid steps
-  pub given : Option (List Heard)
-  pub got : Option (List (List ℕ))
-  pub ended : after.ended ≡ before.ended ++ (given, got) ∷ []
-  pub heard : Tells given (heard_by steps)
-  pub sent : Tells got (map encoded (sends outs) ++ said_by steps)
-
 -- The steps hold the calls of lanes, each lane's by a pass of its own, in order and each once, with these answers. Behind all of them the pass `own`
 -- made one call, a sync, with the last answer, and then said goodbye.
 pub record Holds (own : ℕ) (lanes : List (List Call)) (steps : List Step) (all : List (List Reply)) (last : Reply) : Type 0 where

@@ -1,14 +1,11 @@
 -- A script of lanes: its rows, and the calls of each lane.
-use Rattle.std.specs.Prelude.{◌≡◌, ◌==◌, ◌+◌, ◌<◌, ◌≤◌, ℕ, if◌then◌else◌, List, [], ◌∷◌, ◌++◌, length, map, Option}
+use Rattle.std.specs.Prelude.{◌≡◌, ◌==◌, ◌+◌, ◌≤◌, ℕ, if◌then◌else◌, List, [], ◌∷◌, ◌++◌, length, map, Option}
 use Rattle.std.specs.Io.KnownBytes.{Consumes, IsAtEnd}
-use Rattle.ec_base.specs.Outside.{Rose}
 use Rattle.ec_plain.specs.declared.call.Call.{Call}
 use Rattle.ec_script.specs.Grammar.{IsLaneLine, IsOutside, SpellsLane}
 use Rattle.ec_script.specs.Lines.{lines_of}
 use Rattle.ec_script.specs.declared.line.LineFault.TheVariants as line
 use Rattle.ec_mount.specs.declared.script.Row.{Row}
-use Rattle.ec_mount.specs.declared.script.Unread.{Unread}
-use Rattle.ec_mount.specs.declared.script.Unread.TheVariants as unread
 
 -- the greatest number of bytes of a script, and of lines
 abbrev pub most_bytes : ℕ
@@ -59,11 +56,3 @@ pub record IsBadAt (lines : List (List ℕ)) (n column : ℕ) : Type 0 where
   pub read : AreRows 1 before rows
   pub number : n ≡ length before + 1
   pub outside : IsOutside SpellsLane bytes (line.At column)
-
--- why there are no rows
-abbrev pub Withholds : Option (List ℕ) → Option (List ℕ) → ℕ → ℕ → Unread → Type 0
-Withholds left left_after faults later unread.Bytes = (bytes : List ℕ) × Consumes left left_after bytes × (length bytes ≡ most_bytes + 1)
-Withholds left left_after faults later (unread.Lines n) = (script : List ℕ) × IsScript left left_after script × (n ≡ length (lines_of script)) × (most_lines < n)
-Withholds left left_after faults later (unread.Bad n column) = (script : List ℕ) × IsScript left left_after script × (length (lines_of script) ≤ most_lines) × IsBadAt (lines_of script) n column
-Withholds left left_after faults later unread.Source = Rose faults later
-Withholds left left_after faults later unread.NoMemory = Unit {0}

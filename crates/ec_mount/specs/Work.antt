@@ -11,8 +11,9 @@ use Rattle.ec_clerknode.specs.declared.fault.NodeFault.{NodeFault}
 use Rattle.ec_clerknode.specs.declared.fault.NodeFault.TheVariants as fault
 use Rattle.ec_clerknode.specs.declared.step.Step.{Step}
 use Rattle.ec_clerknode.specs.Parts.{parts}
-use Rattle.ec_clerknode.specs.Run.{IsRun, AreSaid, nets, told_by, old_boot}
-use Rattle.ec_clerknode.specs.Lanes.{lists_of}
+use Rattle.ec_clerknode.specs.Run.{IsRun, AreSaid, told_by, old_boot}
+use Rattle.ec_clerknode.specs.RunEnds.{nets}
+use Rattle.ec_clerknode.specs.LaneRuns.{lists_of}
 use Rattle.ec_mount.specs.Run.{NetSeen, Ran, Holds, HoldsFronts, Has, Met, Lost, Spends}
 use Rattle.ec_mount.specs.Linking.{AreToldFrom}
 use Rattle.ec_mount.specs.declared.work.Answers.{Answers}

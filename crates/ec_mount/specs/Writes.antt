@@ -3,7 +3,7 @@ use Rattle.std.specs.Prelude.{◌≡◌, ◌+◌, ℕ, List, [], ◌++◌, Optio
 use Rattle.std.specs.Io.KnownBytes.{Appends}
 use Rattle.ec_history.specs.declared.shown.LimitName.TheVariants as limit
 use Rattle.ec_history.specs.declared.shown.Shown.TheVariants as shown
-use Rattle.ec_streams.specs.Streams.{WriteFailed}
+use Rattle.ec_streams.specs.Writes.{WriteFailed}
 use Rattle.ec_streams.specs.declared.streams.WriteFault.{WriteFault}
 use Rattle.ec_streams.specs.declared.streams.WriteFault.TheVariants as write
 use Rattle.ec_text.specs.Lines.{shown_text}

@@ -4,8 +4,8 @@ ghost use Rattle.std.specs.List.{All};
 ghost use Rattle.std.specs.Thread.{IsSync};
 ghost use Rattle.ec_clerknode.specs.declared.fault.NodeFault.TheVariants as fault;
 ghost use Rattle.ec_mount.specs.declared.calls.Met.TheVariants as met;
-ghost use Rattle.ec_lock.specs.Passes.{front, IsPassOf};
-ghost use Rattle.ec_clerknode.specs.Lanes.{LanesCame, lists_of};
+ghost use Rattle.ec_lock.specs.PassViews.{front, IsPassOf};
+ghost use Rattle.ec_clerknode.specs.LaneRuns.{LanesCame, lists_of};
 ghost use Rattle.ec_clerknode.specs.Turns.{calls_by};
 ghost use Rattle.ec_mount.specs.Calls.{Judges, Flushed as HasFlushed, SideRan, Drew, RanBeside, Ended, Called};
 

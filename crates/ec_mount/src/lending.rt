@@ -1,6 +1,7 @@
 // A net that is lent to who links again, which may be another thread.
 ghost use Rattle.std.specs.Prelude.{◌≡◌, ℕ, ◌+◌, ◌≤◌, ◌++◌, [], ◌∷◌, List, IfOk, OnOk};
-ghost use Rattle.ec_link.specs.Nets.{Ended, is_bad, IsEmpty, faulted};
+ghost use Rattle.ec_link.specs.Nets.{Ended};
+ghost use Rattle.ec_link.specs.NetAnswers.{is_bad, IsEmpty, faulted};
 
 use ec_base::NoMemory;
 use ec_link::{Around, Link, Net, NetFault};

@@ -2,8 +2,8 @@
 ghost use Rattle.std.specs.Prelude.{◌≡◌, ◌+◌, ◌<◌, ◌≤◌, ℕ, [], Some, None, Ok, length, slice_index_or, IfSome, IsTrue};
 ghost use Rattle.std.specs.List.{All};
 ghost use Rattle.std.specs.Thread.{IsSync};
-ghost use Rattle.ec_lock.specs.Passes.{first, front, IsPassOf};
-ghost use Rattle.ec_clerknode.specs.Lanes.{lists_of};
+ghost use Rattle.ec_lock.specs.PassViews.{first, front, IsPassOf};
+ghost use Rattle.ec_clerknode.specs.LaneRuns.{lists_of};
 ghost use Rattle.ec_clerknode.specs.Turns.{calls_by};
 ghost use Rattle.ec_mount.specs.Calls.{Called};
 ghost use Rattle.ec_mount.specs.Linking.{HasLinked};

@@ -1,7 +1,7 @@
 // Who calls again where a link failed, beside the calls.
 ghost use Rattle.std.specs.Prelude.{◌≡◌, ◌≤◌, ◌+◌, ℕ, Some, IfOk, IfSome, OnOk};
-ghost use Rattle.ec_lock.specs.Passes.{first, IsPassOf};
-ghost use Rattle.ec_link.specs.Nets.{IsEmpty};
+ghost use Rattle.ec_lock.specs.PassViews.{first, IsPassOf};
+ghost use Rattle.ec_link.specs.NetAnswers.{IsEmpty};
 ghost use Rattle.ec_mount.specs.Linking.{Linked, LinkedMore};
 
 use crate::lending::Lending;

@@ -1,7 +1,8 @@
 // The script of a mount: each line is a lane's number and a call.
 ghost use Rattle.std.specs.Prelude.{◌≡◌, ◌≤◌, ◌<◌, ℕ, length, map, MatchResult, IfOk};
 ghost use Rattle.ec_script.specs.Lines.{lines_of};
-ghost use Rattle.ec_mount.specs.Script.{AreRows, GivesRows, Withholds, IsBadAt, calls_of, lanes_of, most_lines};
+ghost use Rattle.ec_mount.specs.Script.{AreRows, GivesRows, IsBadAt, calls_of, lanes_of, most_lines};
+ghost use Rattle.ec_mount.specs.Withheld.{Withholds};
 ghost use Rattle.ec_mount.specs.Calls.{ReadsRows};
 
 use crate::limits::{MOST_BYTES, MOST_LINES};

@@ -1,6 +1,6 @@
 // How a mount ends.
 ghost use Rattle.std.specs.Prelude.{◌≡◌};
-ghost use Rattle.ec_mount.specs.Mount.{code};
+ghost use Rattle.ec_mount.specs.ExitCodes.{code};
 
 /// How a mount ends.
 #[derive(Clone, Copy, Debug, Drop, PartialEq, Eq)]

@@ -1,6 +1,6 @@
 // A mounted clerk: it's started, run over a link of the net, and ended.
 ghost use Rattle.std.specs.Prelude.{◌≡◌, ◌≤◌, ◌+◌, [], Err, IfSome};
-ghost use Rattle.ec_clerknode.specs.Lanes.{lists_of};
+ghost use Rattle.ec_clerknode.specs.LaneRuns.{lists_of};
 ghost use Rattle.ec_mount.specs.Work.{RunsOver, WorksOver, Works, Concludes, last_of, seen};
 
 use crate::calls::Replies;

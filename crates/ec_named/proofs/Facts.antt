@@ -15,7 +15,7 @@ use Rattle.ec_complete.specs.Complete.{IsComplete}
 use Rattle.ec_complete.specs.PlainScripts.{IsPlainScript}
 use Rattle.ec_promise.specs.Behind.{BehindIsKept, IsKeptBehind, PartIsKept}
 use Rattle.ec_promise.specs.Pieces.{first_lines, pieces_of}
-use Rattle.ec_promise.specs.Promise.{AreLawfulOn, AreStoredOn, CleanIsLawful, CutIsLawful, HasNewDisk, IsLawful, PartIsLawful, PlainIsComplete, SpentIsLawful, WholeIsLawful}
+use Rattle.ec_promise.specs.LawfulEnds.{AreLawfulOn, AreStoredOn, CleanIsLawful, CutIsLawful, HasNewDisk, IsLawful, PartIsLawful, PlainIsComplete, SpentIsLawful, WholeIsLawful}
 use Rattle.ec_promise.specs.Rooms.{CleanTellsRoom, CutTellsRoom, PartTellsRoom, RoomIsTold, TellsRoom}
 use Rattle.ec_promise.specs.Spent.{CleanTellsSpent, CutTellsSpent, PartTellsSpent, SpentIsTold, TellsSpent}
 use Rattle.ec_promise.proofs.Lawful.{drills-lawful}

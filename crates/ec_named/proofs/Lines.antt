@@ -12,7 +12,7 @@ use Rattle.ec_text.specs.Lines.{text_of}
 use Rattle.ec_lawful.specs.Headline.{AreLawful, placed_on}
 use Rattle.ec_rooms.specs.Rooms.{AreWithinRoom}
 use Rattle.ec_rooms.proofs.Rooms.{front-within}
-use Rattle.ec_promise.specs.Promise.{AreLawfulOn}
+use Rattle.ec_promise.specs.LawfulEnds.{AreLawfulOn}
 use Rattle.ec_named.specs.Seen.{Stream, Store, IsNew}
 use Rattle.ec_named.specs.Told.{HoldsOfLines, OfLines, OnFronts, Wrote, WroteLines, WroteNone}
 use Rattle.ec_named.proofs.Bytes.{ends-early, formatted-greatest}

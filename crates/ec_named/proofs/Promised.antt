@@ -16,16 +16,18 @@ use Rattle.ec_drill.specs.Drill.{Outside, Drilled}
 use Rattle.ec_drill.specs.declared.status.Status as drilled
 use Rattle.ec_drill.specs.declared.status.Status.TheVariants as drill
 use Rattle.ec_node_laws.specs.Claims.{ClaimsComeFirst}
-use Rattle.ec_promise.specs.Promise.{IsLawful}
+use Rattle.ec_promise.specs.LawfulEnds.{IsLawful}
 use Rattle.ec_promise.proofs.Completes.{drills-complete}
 use Rattle.ec_promise.proofs.Lawful.{drills-lawful}
 use Rattle.ec_promise.proofs.Rooms.{drills-told}
 use Rattle.ec_promise.proofs.Spent.{drills-spent}
-use Rattle.ec_echo.specs.Echo.{Does, Echoes, Links}
+use Rattle.ec_echo.specs.Echo.{Links}
+use Rattle.ec_echo.specs.Forms.{Does, Echoes}
 use Rattle.ec_gen.specs.Generator.{script_of}
 use Rattle.ec_drill.specs.Limits.{most_objects}
 use Rattle.ec_echo.specs.Made.{made_lines}
-use Rattle.ec_echo.specs.Soak.{IsUnmade, Soaked}
+use Rattle.ec_echo.specs.Soak.{IsUnmade}
+use Rattle.ec_echo.specs.SoakDrills.{Soaked}
 use Rattle.ec_echo.proofs.Plain.{made-plain}
 use Rattle.ec_echo.proofs.Soaks.{soaked_by}
 use Rattle.ec_echo.specs.Statuses.{code, of_drill, of_mount}

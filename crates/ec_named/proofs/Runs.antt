@@ -16,8 +16,8 @@ use Rattle.ec_complete.specs.Complete.{IsComplete, IsFaultlessRead}
 use Rattle.ec_complete.specs.Pieces.{ArePiecesBehind}
 use Rattle.ec_complete.specs.PlainScripts.{IsPlainScript}
 use Rattle.ec_promise.specs.Behind.{AreBehindOn}
-use Rattle.ec_promise.specs.Completes.{EndsPlainly}
-use Rattle.ec_promise.specs.Promise.{AreLawfulOn, AreStoredOn}
+use Rattle.ec_promise.specs.PlainEnds.{EndsPlainly}
+use Rattle.ec_promise.specs.LawfulEnds.{AreLawfulOn, AreStoredOn}
 use Rattle.ec_promise.proofs.Completes.{drills-complete}
 use Rattle.ec_promise.proofs.Lawful.{drills-lawful}
 use Rattle.ec_drill.specs.Drill.{Outside, Drilled, IsGiven, IsToldAll}

@@ -15,7 +15,8 @@ use Rattle.ec_stands.proofs.Volumes.{step_well}
 use Rattle.ec_protocol.specs.Server.{Serving, take, end, start, new_server}
 use Rattle.ec_protocol.specs.declared.server.Server.{Server}
 use Rattle.ec_once.specs.Once.{record_list}
-use Rattle.ec_once.specs.Safe.{Act, takes, ends, starts, does, AreSound, server_after, records_after, acted, committed, IsSafe, IsSafeBehind}
+use Rattle.ec_once.specs.Safe.{Act, takes, ends, starts, does, server_after, acted}
+use Rattle.ec_once.specs.SafeServers.{AreSound, records_after, committed, IsSafe, IsSafeBehind}
 use Rattle.ec_once.proofs.Once.{once}
 use Rattle.ec_once.proofs.Walk.{Good, Led, Going, take-goes, end-goes, start-goes}
 

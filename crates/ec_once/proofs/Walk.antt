@@ -18,13 +18,15 @@ use Rattle.ec_sessions.specs.Windows.{has}
 use Rattle.ec_sessions.specs.declared.slot.Greeting.{Greeting}
 use Rattle.ec_sessions.specs.declared.slot.Greeting.TheVariants as greeted
 use Rattle.ec_sessions.specs.declared.slot.Slot.{Slot}
-use Rattle.ec_tokens.specs.Tokens.{Tokens, IsSound, claimed as with_claim, fits_back, first_clash, granted, is_clear, lowered, token}
+use Rattle.ec_tokens.specs.Tokens.{Tokens, claimed as with_claim, fits_back, first_clash, granted, is_clear, lowered, token}
+use Rattle.ec_tokens.specs.SoundTokens.{IsSound}
 use Rattle.ec_tokens.specs.Laws.{sound_claimed, sound_granted, sound_lowered, sound_none, sound_without}
 use Rattle.ec_tokens.specs.declared.token.Token.{Token}
 use Rattle.ec_recall.specs.Due.{actions, wants_after}
 use Rattle.ec_recall.specs.Laws.{go_in}
 use Rattle.ec_recall.specs.Rounds.{GrantsGoIn}
-use Rattle.ec_recall.specs.Wants.{NoneFree, noted}
+use Rattle.ec_recall.specs.Wants.{noted}
+use Rattle.ec_recall.specs.HeldWants.{NoneFree}
 use Rattle.ec_recall.specs.declared.want.Action.{Action}
 use Rattle.ec_recall.specs.declared.want.Action.TheVariants.{Grant, Recall}
 use Rattle.ec_recall.proofs.KeyLemmas.{held_noted, held_filter, held_stays}

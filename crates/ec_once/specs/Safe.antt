@@ -1,28 +1,8 @@
 -- A server that takes any messages, from anybody, is told any ends, and starts again over what is durable.
-use Rattle.std.specs.Prelude.{◌≡◌, ◌≤◌, ℕ, T, List, [], ◌∷◌, ◌++◌, None, Some, Ok}
-use Rattle.ec_wire.specs.Messages.{is_sound}
+use Rattle.std.specs.Prelude.{ℕ, List, [], ◌∷◌, None, Some}
 use Rattle.ec_wire.specs.declared.msg.Msg.{Msg}
-use Rattle.ec_tokens.specs.Tokens.{IsSound}
-use Rattle.ec_recall.specs.Wants.{NoneFree}
-use Rattle.ec_durable.specs.Durable.{steps}
-use Rattle.ec_durable.specs.WellFormed.{WellFormed}
-use Rattle.ec_durable.specs.declared.record.Record.{Record}
-use Rattle.ec_durable.specs.declared.state.Durable.{Durable}
 use Rattle.ec_protocol.specs.Server.{Serving, take, end, start}
 use Rattle.ec_protocol.specs.declared.server.Server.{Server}
-use Rattle.ec_once.specs.Once.{applied, record_list}
-
--- No two tokens conflict, no want is Free, and the volume is well formed.
-pub record IsSafe (v : Server) : Type 0 where
-  pub tokens : IsSound v.tokens
-  pub wants : NoneFree v.recalls
-  pub formed : WellFormed v.durable
-
--- A safe server to which these records lead, which apply each batch of a session at most once.
-pub record IsSafeBehind (d : Durable) (rs : List Record) (v : Server) : Type 0 where
-  pub safe : IsSafe v
-  pub stepped : steps rs d ≡ Ok v.durable
-  pub once : (s b : ℕ) → applied s b rs ≤ 1
 
 pub data Act : Type 0 where
   takes : ℕ → Msg → Act
@@ -34,25 +14,10 @@ does (takes c m) v = take c m v
 does (ends c) v = end c v
 does starts v = start v.durable
 
--- A message's fields are within their ranges.
-abbrev pub AreSound : List Act → Type 0
-AreSound [] = Unit {0}
-AreSound (takes c m ∷ more) = T (is_sound m) × AreSound more
-AreSound (ends c ∷ more) = AreSound more
-AreSound (starts ∷ more) = AreSound more
-
 -- A step that would spend a counter is refused, and changes nothing.
 abbrev pub server_after : Serving → Server → Server
 server_after t v = elim t.spent [ None ↦ t.server | Some n ↦ v ]
 
-abbrev pub records_after : Serving → List Record
-records_after t = elim t.spent [ None ↦ record_list t.rec | Some n ↦ [] ]
-
 abbrev pub acted : List Act → Server → Server
 acted [] v = v
 acted (a ∷ more) v = acted more (server_after (does a v) v)
-
--- the records that were committed, in order
-abbrev pub committed : List Act → Server → List Record
-committed [] v = []
-committed (a ∷ more) v = records_after (does a v) ++ committed more (server_after (does a v) v)

@@ -11,7 +11,8 @@ ghost use Rattle.ec_durable.specs.declared.state.Durable.{Durable};
 ghost use Rattle.ec_protocol.specs.Server.{take, end, start, new_server};
 ghost use Rattle.ec_protocol.specs.declared.server.Server.{Server};
 ghost use Rattle.ec_once.specs.Once.{applied, NoneAgain, AllPast};
-ghost use Rattle.ec_once.specs.Safe.{Act, AreSound, acted, committed, IsSafe, IsSafeBehind};
+ghost use Rattle.ec_once.specs.Safe.{Act, acted};
+ghost use Rattle.ec_once.specs.SafeServers.{AreSound, committed, IsSafe, IsSafeBehind};
 
 /// Records that step one after the other apply each batch of a session at most once. What was applied is past, and what is past isn't
 /// applied again: across ends, starts and crashes too, since the durable state alone tells it.

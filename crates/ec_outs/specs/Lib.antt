@@ -1,2 +1,3 @@
 pub mod Outs
+pub mod KeptAnswers
 pub mod Patience

@@ -1,14 +1,12 @@
 -- What came out of a step, and what is kept of it.
-use Rattle.std.specs.Prelude.{ℕ, List, [], ◌∷◌, Option, Some, None}
+use Rattle.std.specs.Prelude.{ℕ, List, [], ◌∷◌, Option}
 use Rattle.ec_base.specs.declared.ids.Age.{Age}
 use Rattle.ec_history.specs.declared.entry.Answer.{Answer}
 use Rattle.ec_wire.specs.declared.msg.Msg.{Msg}
 use Rattle.ec_wire.specs.Codes.{msg_code}
 use Rattle.ec_protocol.specs.declared.clerk.Out.{Out}
 use Rattle.ec_protocol.specs.declared.clerk.Out.TheVariants as out
-use Rattle.ec_outs.specs.declared.kept.Kept.{Kept}
 use Rattle.ec_link.specs.Happenings.{each}
-use Rattle.ec_base.specs.Lists.{first_of}
 
 -- an answer, with its operation's number
 abbrev pub Reply : Type 0
@@ -55,12 +53,3 @@ old_boots = each old_boot_of
 -- the bytes of a message
 abbrev pub encoded : Msg → List ℕ
 encoded msg = msg_code.spell msg
-
--- the first greater age that is known, where these come behind
-abbrev pub first_known : Option Age → List Age → Option Age
-first_known None l = first_of l
-first_known (Some age) l = Some age
-
--- an answer of the step at this place
-abbrev pub kept_at : ℕ → ℕ × Reply → Kept
-kept_at at a = record { number = a.0; at = at; reply = a.1 }

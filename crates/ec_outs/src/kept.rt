@@ -1,6 +1,7 @@
 // The answers and the losses that came out of one step are kept.
 ghost use Rattle.std.specs.Prelude.{◌≡◌, ℕ, ◌+◌, ◌≤◌, [], ◌++◌, map, take, drop, IfSome, IfNone, IsTrue, MatchBool, slice_get};
-ghost use Rattle.ec_outs.specs.Outs.{answers, answer_of, told as told_in_all, told_of, old_boots, first_known, kept_at};
+ghost use Rattle.ec_outs.specs.Outs.{answers, answer_of, told as told_in_all, told_of, old_boots};
+ghost use Rattle.ec_outs.specs.KeptAnswers.{first_known, kept_at};
 ghost use Rattle.ec_base.specs.Lists.{first_of};
 ghost use Rattle.ec_outs.specs.declared.kept.Kept.{Kept as Row};
 

@@ -1,7 +1,8 @@
 // The messages that came out of one step are sent.
 ghost use Rattle.std.specs.Prelude.{◌≡◌, ◌+◌, ◌≤◌, length, map, take, if◌then◌else◌};
 ghost use Rattle.ec_link.specs.declared.link.Sent.TheVariants as sent;
-ghost use Rattle.ec_link.specs.Links.{added, carried, failed};
+ghost use Rattle.ec_link.specs.Links.{added};
+ghost use Rattle.ec_link.specs.LinkAnswers.{carried, failed};
 ghost use Rattle.ec_outs.specs.Outs.{encoded, sends};
 ghost use Rattle.ec_outs.specs.Patience.{is_again as is_again_in};
 

@@ -1,7 +1,7 @@
 //! Two passes, one of which makes a step. The other knows it by a note, and then goes into it.
 ghost use Rattle.std.specs.Prelude.{◌≡◌, ◌<◌, [], ◌∷◌, ◌++◌, length, IfSome, IsTrue, MatchBool};
 ghost use Rattle.ec_lock.specs.Laws.{steps_of};
-ghost use Rattle.ec_lock.specs.Passes.{front, IsPassOf};
+ghost use Rattle.ec_lock.specs.PassViews.{front, IsPassOf};
 
 use ec_lock::{Pass, Traced, TracedLock};
 use std::alloc::Global;

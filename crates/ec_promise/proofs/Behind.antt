@@ -17,14 +17,16 @@ use Rattle.ec_protocol.specs.Drill.{Fates, Ran, Read, bound, close, drill, drill
 use Rattle.ec_protocol.specs.declared.world.World.{World}
 use Rattle.ec_lawful.specs.Headline.{IsGreatest}
 use Rattle.ec_lawful.specs.Headline as headline
-use Rattle.ec_lawful.specs.Drills.{AreFit, lines_in}
+use Rattle.ec_lawful.specs.Drills.{lines_in}
+use Rattle.ec_lawful.specs.DrillRuns.{AreFit}
 use Rattle.ec_lawful.specs.Runs.{RunShows}
 use Rattle.ec_lawful.proofs.Shows.{runs-show}
 use Rattle.ec_world.specs.Steps.{Opens}
 use Rattle.ec_drill.specs.Drill.{AreStops, IsGiven, Outside, RanInPart, RanWhole}
 use Rattle.ec_deliveries.specs.Runs.{AllRun}
 use Rattle.ec_complete.specs.Complete.{IsFaultlessRead}
-use Rattle.ec_complete.specs.Pieces.{ArePiecesBehind, WritesBehind}
+use Rattle.ec_complete.specs.Pieces.{ArePiecesBehind}
+use Rattle.ec_complete.specs.RunsBehind.{WritesBehind}
 use Rattle.ec_complete.proofs.Drills.{disks-behind}
 use Rattle.ec_promise.specs.Behind.{AreBehindOn, BehindIsKept, DrillsAreBehind, PartIsKept}
 use Rattle.ec_promise.specs.Pieces.{first_lines, pieces_in, pieces_of}

@@ -12,8 +12,9 @@ use Rattle.ec_drill.specs.Drill.{Outside, Drilled, IsGiven, IsOver}
 use Rattle.ec_drill.specs.Script.{AreRead}
 use Rattle.ec_drill.specs.declared.status.Status.{Status}
 use Rattle.ec_drill.specs.declared.status.Status.TheVariants as status
-use Rattle.ec_promise.specs.Completes.{Completes, EndsPlainly, GivesPlainScript}
-use Rattle.ec_promise.specs.Promise.{HasNewDisk, IsLawful}
+use Rattle.ec_promise.specs.Completes.{GivesPlainScript}
+use Rattle.ec_promise.specs.PlainEnds.{Completes, EndsPlainly}
+use Rattle.ec_promise.specs.LawfulEnds.{HasNewDisk, IsLawful}
 
 -- what a source gave to its end is what it had
 all-given : (xs script : List ℕ) (left : Option (List ℕ)) → Consumes (Some xs) left script → IsAtEnd left → script ≡ xs

@@ -9,7 +9,7 @@ use Rattle.ec_script.specs.Grammar.{IsLine, Spells, Says}
 use Rattle.ec_script.specs.declared.line.Line.{Line}
 use Rattle.ec_protocol.specs.Drill.{Read, reads, unfit}
 use Rattle.ec_drill.specs.Script.{IsRead, AreRead, machine_line}
-use Rattle.ec_lawful.specs.Drills.{IsFit, AreFit}
+use Rattle.ec_lawful.specs.DrillRuns.{IsFit, AreFit}
 
 -- a line of the script
 abbrev IsOne : ℕ → Line → Type 0

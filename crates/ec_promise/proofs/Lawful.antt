@@ -17,7 +17,7 @@ use Rattle.ec_protocol.specs.Drill.{Read, Fates, Ran, Ending, IsSpent, Done, Bad
 use Rattle.ec_protocol.specs.declared.world.World.{World}
 use Rattle.ec_lawful.specs.Headline.{AreLawful, FrontsAreLawful, IsGreatest}
 use Rattle.ec_lawful.specs.Headline as headline
-use Rattle.ec_lawful.specs.Drills.{AreFit, IsUnspent}
+use Rattle.ec_lawful.specs.DrillRuns.{AreFit, IsUnspent}
 use Rattle.ec_lawful.specs.Runs.{RunShows}
 use Rattle.ec_lawful.proofs.Shows.{runs-show}
 use Rattle.ec_drill.specs.Drill.{Outside, Drilled, IsCut, IsCutClean, IsToldAll, RanWhole, RanInPart, end_of, state_after}
@@ -28,7 +28,8 @@ use Rattle.ec_lawful.proofs.RunsInOrder.{run-in-order}
 use Rattle.ec_promise.specs.Left.{EndsStored, IsStoredIn, LeavesStored}
 use Rattle.ec_promise.specs.Pieces.{first_lines, pieces_in, pieces_of}
 use Rattle.ec_promise.specs.Spared.{LosesNothing}
-use Rattle.ec_promise.specs.Promise.{AreInOrder, AreLawfulOn, AreStoredOn, AreWholeOn, CutIsLawful, DrillsAreLawful, CleanIsLawful, IsLawful, MomentsAreStored, PartIsLawful, SpentIsLawful, WholeIsLawful, WholeState, base_on}
+use Rattle.ec_promise.specs.Promise.{AreInOrder}
+use Rattle.ec_promise.specs.LawfulEnds.{AreLawfulOn, AreStoredOn, AreWholeOn, CutIsLawful, DrillsAreLawful, CleanIsLawful, IsLawful, MomentsAreStored, PartIsLawful, SpentIsLawful, WholeIsLawful, WholeState, base_on}
 use Rattle.ec_promise.proofs.Behind.{behind-kept, part-kept}
 use Rattle.ec_promise.proofs.Cut.{cut-front, first-all, first-are, first-ends, first-fewer, first-numbered}
 use Rattle.ec_promise.proofs.Fit.{fit_script}

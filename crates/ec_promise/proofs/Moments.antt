@@ -9,7 +9,7 @@ use Rattle.ec_history.specs.Placing.{EachLine}
 use Rattle.ec_history.specs.declared.shown.Shown.{Shown}
 use Rattle.ec_history.specs.declared.shown.Shown.TheVariants as show
 use Rattle.ec_laws.proofs.Numbers.{each-back, each-front}
-use Rattle.ec_plain.specs.Bounds.{is_bounded}
+use Rattle.ec_plain.specs.BoundedCalls.{is_bounded}
 use Rattle.ec_plain.specs.declared.call.Call.{Call}
 use Rattle.ec_durable.specs.WellFormed.{WellFormed}
 use Rattle.ec_durable.specs.declared.state.Durable.{Durable}
@@ -27,7 +27,8 @@ use Rattle.ec_coherence.proofs.Tables.{none_some, same_some}
 use Rattle.ec_lawful.specs.Headline.{IsGreatest, Lines, Pieces}
 use Rattle.ec_lawful.specs.Headline as headline
 use Rattle.ec_lawful.specs.Calls.{AreOf, IsOf}
-use Rattle.ec_lawful.specs.Drills.{AreFit, Closed, Comes, IsCallIn, IsFit, Sofar, lines_in}
+use Rattle.ec_lawful.specs.Drills.{lines_in}
+use Rattle.ec_lawful.specs.DrillRuns.{AreFit, Closed, Comes, IsCallIn, IsFit, Sofar}
 use Rattle.ec_lawful.specs.Steps.{Holds}
 use Rattle.ec_lawful.proofs.Drills.{drills-on, runs-on}
 use Rattle.ec_drill.specs.Left.{Moment, behind_lines, in_line, at_end, fates_behind}

@@ -8,13 +8,14 @@ use Rattle.ec_durable.specs.Durable.{formatted}
 use Rattle.ec_durable.specs.WellFormed.{WellFormed}
 use Rattle.ec_durable.specs.declared.state.Durable.{Durable}
 use Rattle.ec_protocol.specs.Drill.{Fates, Read, drill}
-use Rattle.ec_lawful.specs.Drills.{AreFit, lines_in}
+use Rattle.ec_lawful.specs.Drills.{lines_in}
+use Rattle.ec_lawful.specs.DrillRuns.{AreFit}
 use Rattle.ec_deliveries.specs.Runs as runs
 use Rattle.ec_complete.specs.Complete.{IsComplete}
 use Rattle.ec_complete.proofs.PlainScripts.{plain-scripts-complete}
 use Rattle.ec_drill.specs.Drill.{Outside, IsToldAll, RanWhole}
 use Rattle.ec_drill.specs.Script.{AreRead}
-use Rattle.ec_promise.specs.Promise.{PlainIsComplete}
+use Rattle.ec_promise.specs.LawfulEnds.{PlainIsComplete}
 use Rattle.ec_promise.proofs.Calm.{all-run}
 use Rattle.ec_promise.proofs.Fit.{fit_script}
 

@@ -3,7 +3,8 @@ use Rattle.std.proofs.Common.{arith, subst, inl, inr, ◌≤◌, ℕ, List, [], 
 use Rattle.ec_durable.specs.declared.state.Durable.{Durable}
 use Rattle.ec_script.specs.Lines.{lines_of}
 use Rattle.ec_protocol.specs.Drill.{Fates, Read, drill}
-use Rattle.ec_spent.specs.Spent.{AllSpendFew, most_lines}
+use Rattle.ec_spent.specs.Spent.{AllSpendFew}
+use Rattle.ec_spent.specs.SpentDrills.{most_lines}
 use Rattle.ec_spent.proofs.Drills.{drills-spend-few, front-few}
 use Rattle.ec_drill.specs.Drill.{Outside, Drilled, IsCut, IsCutClean, IsGiven, RanInPart, RanWhole}
 use Rattle.ec_drill.specs.declared.status.Status.{Status}

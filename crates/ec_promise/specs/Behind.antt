@@ -11,7 +11,8 @@ use Rattle.ec_durable.specs.WellFormed.{WellFormed}
 use Rattle.ec_durable.specs.declared.state.Durable.{Durable}
 use Rattle.ec_protocol.specs.Drill.{Fates, Read, drill, named_in}
 use Rattle.ec_lawful.specs.Headline.{ArePieces, IsGreatest, Pieces, joined, placed_on}
-use Rattle.ec_lawful.specs.Drills.{AreFit, lines_in}
+use Rattle.ec_lawful.specs.Drills.{lines_in}
+use Rattle.ec_lawful.specs.DrillRuns.{AreFit}
 use Rattle.ec_drill.specs.Drill.{Outside, RanInPart, RanWhole}
 use Rattle.ec_deliveries.specs.Runs.{AllRun}
 use Rattle.ec_complete.specs.Complete.{IsFaultlessRead}

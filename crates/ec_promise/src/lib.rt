@@ -3,7 +3,7 @@
 #![tactic(auto)]
 
 ghost use Rattle.ec_promise.specs.Behind.{DrillsAreBehind};
-ghost use Rattle.ec_promise.specs.Promise.{DrillsAreLawful, MomentsAreStored};
+ghost use Rattle.ec_promise.specs.LawfulEnds.{DrillsAreLawful, MomentsAreStored};
 
 /// Whatever a drill did, the lines that it wrote stand in one legal history of one uncached volume.
 pub fn drills_are_lawful()

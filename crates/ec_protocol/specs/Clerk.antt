@@ -46,8 +46,6 @@ use Rattle.ec_protocol.specs.declared.clerk.Recalled.{Recalled}
 use Rattle.ec_protocol.specs.declared.clerk.Wanted.{Wanted}
 use Rattle.ec_protocol.specs.declared.clerk.Out.{Out}
 use Rattle.ec_protocol.specs.declared.clerk.Out.TheVariants as out
-use Rattle.ec_protocol.specs.declared.clerk.Flushed.{Flushed}
-use Rattle.ec_protocol.specs.declared.clerk.Flushed.TheVariants as flushed
 use Rattle.ec_protocol.specs.Server.{first_spent}
 
 -- A step under way: the clerk, what came out so far, and the first counter that would pass its limit. Where there is one, the step is refused
@@ -555,15 +553,6 @@ bye k = elim (has_session k) [ true ↦ send (Bye (session (doing k)) k.epoch) (
 -- one pick, which isn't asked again
 abbrev pub flush : Asked → Clerk → Doing
 flush a k = ask_for a (doing k)
-
-abbrev pub flushed_by : Pick → Flushed
-flushed_by (pick_of.Batch b ns) = flushed.Sent b
-flushed_by pick_of.Settled = flushed.Settled
-flushed_by (pick_of.Behind b) = flushed.Behind b
-flushed_by (pick_of.Window b) = flushed.Window b
-
-abbrev pub flush_answer : Asked → Clerk → Flushed
-flush_answer a k = flushed_by (log.pick a k.log)
 
 abbrev pub floor : Clerk → ℕ
 floor k = log.floor k.log

@@ -10,6 +10,7 @@ ghost use Rattle.ec_protocol.specs.declared.clerk.Flushed.TheVariants as flushed
 ghost use Rattle.ec_protocol.specs.declared.clerk.Out.TheVariants as out;
 ghost use Rattle.ec_protocol.specs.Server as server;
 ghost use Rattle.ec_protocol.specs.Clerk as clerk;
+ghost use Rattle.ec_protocol.specs.Flushes as flushes;
 ghost use Rattle.ec_protocol.specs.Parts.{first_age, started, with_session, with_two, said, fresh, outs, without_recall, under_recall};
 
 /// A session opens and ends, each with a record.
@@ -38,7 +39,7 @@ pub fn waits_for_a_session()
     ensures begins { outs (clerk.begin (call.Stat []) fresh) ≡ [] }
     ensures resends { outs (clerk.resend fresh) ≡ out.Send (msg.Hello 0 first_age) ∷ [] }
     ensures issued_none { clerk.has_issued 1 fresh ≡ false }
-    ensures flushes { clerk.flush_answer All fresh ≡ flushed.Settled }
+    ensures flushes { flushes.flush_answer All fresh ≡ flushed.Settled }
     ensures leaves { outs (clerk.bye fresh) ≡ [] }
     ensures floor { clerk.floor fresh ≡ 1 }
 {}

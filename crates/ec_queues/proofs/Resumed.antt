@@ -1,7 +1,7 @@
 -- A call of a running clerk has begun whose line was shown before: the step under way stands.
 use Rattle.std.proofs.Common.{◌≡◌, refl, sym, ap, subst, ◌∙◌, inl, inr, ◌⊎◌, ◌+◌, ℕ, T, [], Option, Some, None, append-nil}
 use Rattle.ec_base.specs.Tables.{at_or, put}
-use Rattle.ec_plain.specs.Bounds.{is_bounded}
+use Rattle.ec_plain.specs.BoundedCalls.{is_bounded}
 use Rattle.ec_plain.specs.declared.call.Call.{Call}
 use Rattle.ec_protocol.specs.Clerk.{add_call, doing}
 use Rattle.ec_protocol.specs.declared.clerk.Clerk.{Clerk}

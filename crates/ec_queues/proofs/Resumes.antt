@@ -3,7 +3,7 @@ use Rattle.std.proofs.Common.{◌≡◌, refl, sym, ap, subst, ◌∙◌, inl, �
 use Rattle.std.specs.Prelude.{is_some, nat_le}
 use Rattle.ec_base.specs.Limits.{last_counter}
 use Rattle.ec_base.specs.declared.counter.Counter.TheVariants as counter
-use Rattle.ec_plain.specs.Bounds.{is_bounded}
+use Rattle.ec_plain.specs.BoundedCalls.{is_bounded}
 use Rattle.ec_plain.specs.declared.call.Call.{Call}
 use Rattle.ec_history.specs.History.{Each}
 use Rattle.ec_protocol.specs.Clerk.{Doing, add_call, begin, doing, settle, spend, try_all}

@@ -23,14 +23,15 @@ use Rattle.ec_lawful.specs.AskedLaws.{RestsKeep}
 use Rattle.ec_lawful.specs.Calls.{AreOf, IsOf}
 use Rattle.ec_lawful.specs.Doubts.{doubted}
 use Rattle.ec_lawful.specs.Olds.{opened_in}
-use Rattle.ec_lawful.specs.Reached.{IsInOrder, Reached}
-use Rattle.ec_lawful.specs.Reached as plain
+use Rattle.ec_lawful.specs.Reached.{IsInOrder}
+use Rattle.ec_lawful.specs.ReachedWorlds.{Reached}
+use Rattle.ec_lawful.specs.ReachedWorlds as plain
 use Rattle.ec_lawful.specs.Runs.{OfRun}
 use Rattle.ec_lawful.specs.Steps as steps
 use Rattle.ec_lawful.specs.Steps.{MayHappen, StepsKeep}
 use Rattle.ec_lawful.specs.Whole.{Whole}
 use Rattle.ec_lawful.proofs.Agreeing.{asks-keep}
-use Rattle.ec_plain.specs.Bounds.{is_bounded}
+use Rattle.ec_plain.specs.BoundedCalls.{is_bounded}
 use Rattle.ec_lawful.proofs.Events.{event-holds}
 use Rattle.ec_lawful.proofs.Founds.{steps-so}
 use Rattle.ec_lawful.proofs.Frames.{forgotten-stands, lined-stands}

@@ -2,7 +2,7 @@
 use Rattle.std.specs.Prelude.{◌≡◌, ◌==◌, ◌+◌, ℕ, T, true, false, None, Some, is_some}
 use Rattle.std.specs.List.{list_any}
 use Rattle.ec_base.specs.Tables.{at}
-use Rattle.ec_plain.specs.Bounds.{is_bounded}
+use Rattle.ec_plain.specs.BoundedCalls.{is_bounded}
 use Rattle.ec_plain.specs.declared.call.Call.{Call}
 use Rattle.ec_history.specs.Placing.{Agrees, EachLine, Unanswered, is_numbered}
 use Rattle.ec_history.specs.declared.shown.Shown.TheVariants.{Waits}

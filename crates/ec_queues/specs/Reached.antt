@@ -12,7 +12,8 @@ use Rattle.ec_protocol.specs.declared.world.World.{World}
 use Rattle.ec_lease_machine.specs.World.{resume, wait}
 use Rattle.ec_lawful.specs.Asked.{AsksAgree}
 use Rattle.ec_lawful.specs.Olds.{opened_in}
-use Rattle.ec_lawful.specs.Reached.{IsInOrder, Reached}
+use Rattle.ec_lawful.specs.Reached.{IsInOrder}
+use Rattle.ec_lawful.specs.ReachedWorlds.{Reached}
 use Rattle.ec_lawful.specs.Steps.{Holds, MayHappen}
 use Rattle.ec_lawful.specs.Whole.{Whole}
 use Rattle.ec_queues.specs.Queued.{MayResume, MayWait}

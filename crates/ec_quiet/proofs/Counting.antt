@@ -25,7 +25,7 @@ use Rattle.ec_protocol.specs.declared.world.WorldFault.TheVariants as fault
 use Rattle.ec_quiet.specs.Scenes.{IsScene, Mail, Scene}
 use Rattle.ec_quiet.proofs.Sending.{IsFirst, first-leaves}
 use Rattle.ec_quiet.proofs.Delivering as delivering
-use Rattle.ec_quiet.specs.Settling.{Counts}
+use Rattle.ec_quiet.specs.SettlingCounts.{Counts}
 use Rattle.ec_quiet.proofs.Mail.{pending-is}
 
 -- the step m from the world a sends as many messages as become pending

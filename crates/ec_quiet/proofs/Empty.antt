@@ -11,7 +11,7 @@ use Rattle.ec_volume.specs.declared.image.Image.TheVariants.{Gone}
 use Rattle.ec_volume.specs.declared.image.Kind.{Kind}
 use Rattle.ec_volume.specs.declared.image.Kind.TheVariants as kind
 use Rattle.ec_volume.specs.declared.update.Update.TheVariants.{Mode, Owner, Stamp}
-use Rattle.ec_plain.specs.Bounds.{is_bounded}
+use Rattle.ec_plain.specs.BoundedCalls.{is_bounded}
 use Rattle.ec_plain.specs.Plain.{answers, drop_in, issues, len_in, list_in, make_in, on_entry, on_parent, on_reached, once_more, plain, plain_forder, read_in, refuses, rename_in, stat_of, write_in}
 use Rattle.ec_plain.specs.Walk.{At, Not, Path, Walk, last_of, parent_of, walk}
 use Rattle.ec_plain.specs.declared.call.Call.{Call}

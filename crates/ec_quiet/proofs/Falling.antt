@@ -11,7 +11,8 @@ use Rattle.ec_base.specs.declared.ids.Hold.{Hold}
 use Rattle.ec_base.specs.declared.ids.Hold.TheVariants.{Free, Read, Write}
 use Rattle.ec_volume.specs.Update.{member}
 use Rattle.ec_tokens.specs.Laws.{token-granted}
-use Rattle.ec_tokens.specs.Tokens.{Tokens, Holder, Row, IsSound, row, token, mode, holders, is_conflict, conflicts, granted, lowered_in, lowered}
+use Rattle.ec_tokens.specs.Tokens.{Tokens, Holder, Row, row, token, mode, holders, is_conflict, conflicts, granted, lowered_in, lowered}
+use Rattle.ec_tokens.specs.SoundTokens.{IsSound}
 use Rattle.ec_tokens.specs.declared.token.Token.{Token}
 use Rattle.ec_recall.specs.Due.{recall_to}
 use Rattle.ec_protocol.specs.declared.clerk.Clerk.{Clerk}

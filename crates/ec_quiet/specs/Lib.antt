@@ -11,6 +11,7 @@ pub mod Scripts
 pub mod Bounds
 pub mod SettlingScenes
 pub mod Settling
+pub mod SettlingCounts
 pub mod Tries
 pub mod Frames
 pub mod Evictions

@@ -1,5 +1,5 @@
 // Lines of a script without faults that settle: how many messages there are, and which lines aren't shown.
-ghost use Rattle.ec_quiet.specs.Settling.{CallsCount, DeliveriesCount, MailIsPending, MessagesAreFew, PushesCount, SettledLines};
+ghost use Rattle.ec_quiet.specs.SettlingCounts.{CallsCount, DeliveriesCount, MailIsPending, MessagesAreFew, PushesCount, SettledLines};
 
 /// A measure bounds the messages under way, and just those are pending.
 pub fn messages_under_way_are_few()

@@ -12,7 +12,8 @@ use Rattle.ec_tokens.specs.Tokens.{Tokens, conflicts}
 use Rattle.ec_recall.specs.declared.want.Want.{Want}
 use Rattle.ec_recall.specs.Due.{is_due, told_of, given_after, wants_from}
 use Rattle.ec_recall.specs.Keys.{Key, key_of, same_key, IsKeyed, AreApart}
-use Rattle.ec_recall.specs.Wants.{is_of, noted, NoneFree}
+use Rattle.ec_recall.specs.Wants.{is_of, noted}
+use Rattle.ec_recall.specs.HeldWants.{NoneFree}
 
 same_key-sym : (a b : Key) → same_key a b ≡ same_key b a
 same_key-sym a b = ap (λ c. c && (a.1 == b.1)) (eqb-sym a.0 b.0) ∙ ap (λ c. (b.0 == a.0) && c) (eqb-sym a.1 b.1)

@@ -6,13 +6,14 @@ use Rattle.std.proofs.lemmas.Bool.{and_parts}
 use Rattle.ec_base.specs.declared.ids.Hold.{Hold}
 use Rattle.ec_base.specs.Holds.{clash}
 use Rattle.ec_tokens.specs.Laws.{clear_of, holder_has, sound_granted, token-granted}
-use Rattle.ec_tokens.specs.Tokens.{Tokens, Holder, IsSound, first as front, mode, token, holders, is_conflict, conflicts, is_clear, granted}
+use Rattle.ec_tokens.specs.Tokens.{Tokens, Holder, first as front, mode, token, holders, is_conflict, conflicts, is_clear, granted}
+use Rattle.ec_tokens.specs.SoundTokens.{IsSound}
 use Rattle.ec_recall.specs.declared.want.Want.{Want}
 use Rattle.ec_recall.specs.declared.want.Action.{Action}
 use Rattle.ec_recall.specs.declared.want.Action.TheVariants.{Grant, Recall}
 use Rattle.ec_recall.specs.Due.{is_due, given_to, is_told, told_of, news, recall_of, actions, actions_from, wants_after, wants_from}
 use Rattle.ec_recall.specs.Rounds.{is_grant, GrantsAreClear, GrantsGoIn}
-use Rattle.ec_recall.specs.Wants.{NoneFree}
+use Rattle.ec_recall.specs.HeldWants.{NoneFree}
 
 pub grants_are_clear : (ts given : Tokens) (ws : List Want) → GrantsAreClear ts given (actions_from ts given ws)
 grants_are_clear ts given [] = tt

@@ -3,3 +3,4 @@ pub mod Keys
 pub mod Laws
 pub mod Rounds
 pub mod Wants
+pub mod HeldWants

@@ -1,17 +1,12 @@
 -- The wants that wait, in the order of arrival.
-use Rattle.std.specs.Prelude.{◌≡◌, ◌==◌, ℕ, Bool, false, ◌&&◌, if◌then◌else◌, List, [], ◌∷◌}
+use Rattle.std.specs.Prelude.{◌==◌, ℕ, Bool, ◌&&◌, if◌then◌else◌, List, [], ◌∷◌}
 use Rattle.ec_base.specs.declared.ids.Hold.{Hold}
-use Rattle.ec_base.specs.Holds.{is_free, stronger}
+use Rattle.ec_base.specs.Holds.{stronger}
 use Rattle.ec_recall.specs.declared.want.Want.{Want}
 
 -- The want is this session's for this object.
 abbrev pub is_of : ℕ → ℕ → Want → Bool
 is_of s x w = (s == w.session) && (x == w.obj)
-
--- No want is Free.
-abbrev pub NoneFree : List Want → Type 0
-NoneFree [] = Unit {0}
-NoneFree (w ∷ ws) = (is_free w.hold ≡ false) × NoneFree ws
 
 -- A further noting leaves the stronger want at its place, and none of its recalls is told any more.
 abbrev pub noted : ℕ → ℕ → Hold → List Want → List Want

@@ -1,7 +1,7 @@
 // What is due to a list of wants.
 ghost use Rattle.std.specs.Prelude.{◌≡◌, ◌≢◌, ◌++◌, ◌∷◌, [], map, filter, not, OnOk, IfOk, IsTrue};
 ghost use Rattle.ec_recall.specs.Due as due;
-ghost use Rattle.ec_recall.specs.Wants.{NoneFree};
+ghost use Rattle.ec_recall.specs.HeldWants.{NoneFree};
 ghost use Rattle.ec_tokens.specs.Tokens.{is_clear, conflicts};
 
 use crate::want::{Action, Want};

@@ -1,11 +1,12 @@
 // What holds of each round of `due`.
 ghost use Rattle.std.specs.Prelude.{◌≡◌, ◌+◌, ◌<◌, true, false, [], List, length, filter};
 ghost use Rattle.std.specs.List.{list_any};
-ghost use Rattle.ec_tokens.specs.Tokens.{Tokens, IsSound};
+ghost use Rattle.ec_tokens.specs.Tokens.{Tokens};
+ghost use Rattle.ec_tokens.specs.SoundTokens.{IsSound};
 ghost use Rattle.ec_recall.specs.declared.want.Want.{Want};
 ghost use Rattle.ec_recall.specs.Due.{actions, wants_after};
 ghost use Rattle.ec_recall.specs.Rounds.{is_grant, GrantsAreClear, GrantsGoIn};
-ghost use Rattle.ec_recall.specs.Wants.{NoneFree};
+ghost use Rattle.ec_recall.specs.HeldWants.{NoneFree};
 
 /// Each grant conflicts with no recorded token and with no grant before it. So it conflicts with no token of the table in which
 /// the grants before it are recorded.

@@ -4,7 +4,7 @@ ghost use Rattle.ec_recall.specs.Due as due;
 ghost use Rattle.ec_recall.specs.Wants as wants;
 ghost use Rattle.ec_recall.specs.Keys.{AreApart, IsKeyed, same_key};
 ghost use Rattle.ec_recall.specs.Rounds.{GrantsGoIn};
-ghost use Rattle.ec_tokens.specs.Tokens.{IsSound};
+ghost use Rattle.ec_tokens.specs.SoundTokens.{IsSound};
 ghost use Rattle.indexmap.specs.IndexMap.{IsUnique, values};
 
 use crate::due::serve;
@@ -33,7 +33,7 @@ impl Model for Recalls {
     ghost use Rattle.std.specs.Prelude.{List};
     ghost use Rattle.ec_recall.specs.declared.want.Want.{Want};
     ghost use Rattle.ec_recall.specs.Keys.{IsKeyed, same_key};
-    ghost use Rattle.ec_recall.specs.Wants.{NoneFree};
+    ghost use Rattle.ec_recall.specs.HeldWants.{NoneFree};
     ghost use Rattle.indexmap.specs.IndexMap.{IsUnique, values};
 
     ghost Value = { List Want };

@@ -1,6 +1,7 @@
 // Owed mentions by operation and by object.
 ghost use Rattle.std.specs.Prelude.{◌≡◌, [], true, IfOk, OnOk, OnErr};
 ghost use Rattle.ec_report.specs.Report as report;
+ghost use Rattle.ec_report.specs.OwedOrder as owed_order;
 
 use crate::maps::{self, Places, Rows};
 use ec_base::{Duplicate, List, NoMemory, ObjId, OpNo, SortedMap};
@@ -56,7 +57,7 @@ impl Report {
 
     /// Each of these lost operations is owed on each of its objects. The operations rise, and are above those that are owed.
     pub fn owe(&mut self, lost: &[(OpNo, List<ObjId>)]) -> Result<(), NoMemory>
-        requires { report.come_behind lost.now self.old ≡ true }
+        requires { owed_order.come_behind lost.now self.old ≡ true }
         ensures ok { OnOk result (self.new ≡ report.owe lost.now self.old) }
         ensures err { OnErr result (self.new ≡ self.old) }
     {

@@ -11,12 +11,13 @@ use Rattle.ec_protocol.specs.Drill.{BadLine, Done, Ending, Fates, IsSpent, Ran, 
 use Rattle.ec_protocol.specs.Drill as machine
 use Rattle.ec_protocol.specs.World.{open_world}
 use Rattle.ec_protocol.specs.declared.world.World.{World}
-use Rattle.ec_lawful.specs.Drills.{AreFit, Closed}
+use Rattle.ec_lawful.specs.DrillRuns.{AreFit, Closed}
 use Rattle.ec_lawful.specs.Headline as headline
 use Rattle.ec_lawful.specs.Steps.{Holds}
 use Rattle.ec_lawful.proofs.Drills.{drills-on}
 use Rattle.ec_lawful.proofs.Worlds.{no-calls, no-lines}
-use Rattle.ec_rooms.specs.Rooms.{AreWithinRoom, DrillsTellRoom}
+use Rattle.ec_rooms.specs.Rooms.{AreWithinRoom}
+use Rattle.ec_rooms.specs.DrillRooms.{DrillsTellRoom}
 use Rattle.ec_rooms.proofs.Roomy.{K, opened-room, room-kept}
 
 -- the same pieces

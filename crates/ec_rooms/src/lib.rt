@@ -1,7 +1,7 @@
 //! Refusals for want of room. The function has an empty body, and its contract is a law.
 #![tactic(auto)]
 
-ghost use Rattle.ec_rooms.specs.Rooms.{DrillsTellRoom};
+ghost use Rattle.ec_rooms.specs.DrillRooms.{DrillsTellRoom};
 
 /// A refusal for want of room tells how many objects live and how many ids are reserved, which together are
 /// within the number of objects.

@@ -3,7 +3,7 @@ use Rattle.std.proofs.Common.{subst, refl, Result, Ok, Err, MatchResult}
 use Rattle.ec_plain.specs.declared.call.Call.{Call}
 use Rattle.ec_words.specs.declared.cursor.Misfit.{Misfit}
 use Rattle.ec_words.specs.declared.cursor.Misfit.TheVariants as misfit
-use Rattle.ec_words.specs.Rows.{IsMisfit, joined_len}
+use Rattle.ec_words.specs.RowsLeft.{IsMisfit, joined_len}
 use Rattle.ec_words.specs.Calls.{SpellsCall}
 use Rattle.ec_words.proofs.Misfits.{choice_lacks, choice_has, choice_is, made}
 use Rattle.ec_script.specs.declared.line.Line.{Line}

@@ -1,7 +1,8 @@
 -- The last word of a line.
 use Rattle.std.proofs.Common.{◌≡◌, ◌+◌, ◌-◌, ◌^◌, min, ℕ, List, [], ◌∷◌, length, drop, refl, sym, ap, ◌∙◌, arith}
 use Rattle.ec_words.specs.Words.{words_of, column_of}
-use Rattle.ec_words.specs.Rows.{Word, joined_len, column_left, shown_column}
+use Rattle.ec_words.specs.Rows.{Word, shown_column}
+use Rattle.ec_words.specs.RowsLeft.{joined_len, column_left}
 use Rattle.ec_words.proofs.Left.{column_by_left}
 use Rattle.ec_script.specs.Last.{last_len}
 

@@ -3,12 +3,14 @@ use Rattle.std.proofs.Common.{◌≡◌, inl, inr, ℕ, List, sym, subst}
 use Rattle.ec_words.specs.declared.cursor.Misfit.{Misfit}
 use Rattle.ec_words.specs.declared.cursor.Misfit.TheVariants as misfit
 use Rattle.ec_words.specs.Words.{words_of}
-use Rattle.ec_words.specs.Rows.{Word, IsMisfit}
+use Rattle.ec_words.specs.Rows.{Word}
+use Rattle.ec_words.specs.RowsLeft.{IsMisfit}
 use Rattle.ec_words.proofs.Columns.{placed}
 use Rattle.ec_script.specs.declared.line.Line.{Line}
 use Rattle.ec_script.specs.declared.line.LineFault.{LineFault}
 use Rattle.ec_script.specs.Grammar.{IsComment}
-use Rattle.ec_script.specs.Grammar.{Spells, IsLine, IsFault, IsOutside, fault_at}
+use Rattle.ec_script.specs.Grammar.{Spells, IsLine, IsFault, IsOutside}
+use Rattle.ec_script.specs.LineFaults.{fault_at}
 
 refused_at : {X : Type 0} (G : List Word → X → Type 0) (bytes : List ℕ) (m : Misfit) → IsMisfit G (words_of bytes) m → IsOutside G bytes (fault_at bytes m)
 refused_at G bytes misfit.NoMemory r = tt

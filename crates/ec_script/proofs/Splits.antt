@@ -4,7 +4,8 @@ use Rattle.std.specs.Prelude.{◌==◌, if◌then◌else◌}
 use Rattle.std.specs.List.{take-map, drop-map}
 use Rattle.std.proofs.lemmas.List.{length-map}
 use Rattle.std.proofs.lemmas.Bool.{lt-ltb, le-ltb}
-use Rattle.ec_words.specs.Pieces.{piece_len, onto}
+use Rattle.ec_words.specs.Pieces.{onto}
+use Rattle.ec_words.specs.PieceLengths.{piece_len}
 use Rattle.ec_words.specs.Words.{words_of, spaced_len, column_of}
 use Rattle.ec_script.specs.Lines.{lines_of}
 use Rattle.ec_words.proofs.Splits.{with_piece, spaced_len-take, spaced_len-words_of}

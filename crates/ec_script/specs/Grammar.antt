@@ -2,12 +2,10 @@
 use Rattle.std.specs.Prelude.{◌≡◌, ◌⊎◌, ℕ, List, [], ◌∷◌, ⊤}
 use Rattle.std.proofs.Common.{inl, inr}
 use Rattle.ec_plain.specs.declared.call.Call.{Call}
-use Rattle.ec_words.specs.declared.cursor.Misfit.{Misfit}
-use Rattle.ec_words.specs.declared.cursor.Misfit.TheVariants as misfit
 use Rattle.ec_words.specs.declared.name.Keyword.{Keyword}
 use Rattle.ec_words.specs.declared.name.Keyword.TheVariants as keyword
 use Rattle.ec_words.specs.Words.{words_of}
-use Rattle.ec_words.specs.Rows.{Word, ◌▸◌, End, Last, ◌⊳◌, ◌makes◌, FirstUnfit, column_left, shown_column}
+use Rattle.ec_words.specs.Rows.{Word, ◌▸◌, End, Last, ◌⊳◌, ◌makes◌, FirstUnfit, shown_column}
 use Rattle.ec_words.specs.Spelling.{IsClerk, IsSmallNumber, IsNumber, IsArmed, IsLane, IsKind, IsChoice, IsKeyword}
 use Rattle.ec_words.specs.Calls.{SpellsCall}
 use Rattle.ec_script.specs.declared.line.Line.{Line}
@@ -69,8 +67,3 @@ SpellsLane = IsLane ▸ SpellsCall
 
 abbrev pub IsLaneLine : List ℕ → ℕ × Call → Type 0
 IsLaneLine bytes = SpellsLane (words_of bytes)
-
--- the fault of a line whose words are refused so
-abbrev pub fault_at : List ℕ → Misfit → LineFault
-fault_at bytes (misfit.Unfit n) = fault.At (column_left bytes n)
-fault_at bytes misfit.NoMemory = fault.NoMemory

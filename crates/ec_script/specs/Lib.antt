@@ -1,4 +1,5 @@
 pub mod Lines
 pub mod Grammar
+pub mod LineFaults
 pub mod Heads
 pub mod Last

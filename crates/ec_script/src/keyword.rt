@@ -1,7 +1,7 @@
 // Lines that are no calls, by their words.
 ghost use Rattle.std.specs.Prelude.{MatchResult};
 ghost use Rattle.ec_script.specs.Grammar.{Says};
-ghost use Rattle.ec_words.specs.Rows.{IsMisfit, left};
+ghost use Rattle.ec_words.specs.RowsLeft.{IsMisfit, left};
 
 use crate::line::Line;
 use ec_base::{ClerkId, OpNo};

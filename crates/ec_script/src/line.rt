@@ -1,7 +1,8 @@
 // The grammar of a line.
 ghost use Rattle.std.specs.Prelude.{◌≡◌, MatchBool, MatchResult};
-ghost use Rattle.ec_script.specs.Grammar.{Spells, SpellsLane, IsComment, IsLine, IsFault, IsLaneLine, IsOutside, fault_at};
-ghost use Rattle.ec_words.specs.Rows.{IsMisfit, left};
+ghost use Rattle.ec_script.specs.Grammar.{Spells, SpellsLane, IsComment, IsLine, IsFault, IsLaneLine, IsOutside};
+ghost use Rattle.ec_script.specs.LineFaults.{fault_at};
+ghost use Rattle.ec_words.specs.RowsLeft.{IsMisfit, left};
 
 use crate::keyword::read_keyword;
 use ec_base::{ClerkId, NoMemory, OpNo};

@@ -1,7 +1,8 @@
 // Where the last word of a line stands.
 ghost use Rattle.std.specs.Prelude.{◌≡◌, ◌-◌, length};
 ghost use Rattle.ec_words.specs.Words.{words_of};
-ghost use Rattle.ec_words.specs.Rows.{left, shown_column};
+ghost use Rattle.ec_words.specs.Rows.{shown_column};
+ghost use Rattle.ec_words.specs.RowsLeft.{left};
 ghost use Rattle.ec_script.specs.Last.{last_len};
 
 use ec_words::{Words, column_left};

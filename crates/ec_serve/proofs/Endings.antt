@@ -1,7 +1,8 @@
 -- Why a server ends so, from the parts of its work.
 use Rattle.std.proofs.Common.{◌≡◌, ◌⊎◌, ◌≤◌, ℕ, Bool, true, false, List, [], ◌++◌, Option, Some, None, is_some, Result, Err, refl, sym, ◌∙◌, subst, inl, inr, arith}
 use mathlib.Core.List.{IsPrefix}
-use Rattle.ec_disk.specs.Disk.{Counts, Counted}
+use Rattle.ec_disk.specs.Disk.{Counts}
+use Rattle.ec_disk.specs.Effects.{Counted}
 use Rattle.ec_durable.specs.declared.state.Durable.{Durable}
 use Rattle.ec_durable.specs.declared.record.Record.{Record}
 use Rattle.ec_wire.specs.declared.msg.Msg.{Msg}
@@ -19,10 +20,11 @@ use Rattle.ec_servernode.specs.declared.step.Step.{Step}
 use Rattle.ec_servernode.specs.declared.state.Node.{Node}
 use Rattle.ec_servernode.specs.Run.{number_of, halted, records, record_of}
 use Rattle.ec_servernode.specs.Node.{queue_at, state_of, Chain, CountsUp}
-use Rattle.ec_servernode.specs.Turns.{RunsFrom, Finished}
+use Rattle.ec_servernode.specs.TurnSteps.{RunsFrom, Finished}
 use Rattle.ec_lock.specs.Steps.{Member, of}
 use Rattle.ec_threads.specs.Goings.{served_later}
-use Rattle.ec_serve.specs.Serve.{Outer, AllBack, Tends, KeeperEnds, RanWhole, RanOut, EndsAs, Spends, boxes_of, Ran, RanFrom, EndsBy}
+use Rattle.ec_serve.specs.Serve.{Outer, AllBack, RanOut, Spends, boxes_of}
+use Rattle.ec_serve.specs.ServerRuns.{Tends, KeeperEnds, RanWhole, EndsAs, Ran, RanFrom, EndsBy}
 use Rattle.ec_serve.specs.Endings.{ending_of, unstarted}
 use Rattle.ec_serve.specs.declared.ending.Ending.{Ending}
 use Rattle.ec_serve.specs.declared.ending.Ending.TheVariants as ending

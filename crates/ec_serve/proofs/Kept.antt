@@ -1,6 +1,7 @@
 -- What a server's run makes of a store and its disk, both lent to its keeper.
 use Rattle.std.proofs.Common.{◌≡◌, ◌<◌, ◌≤◌, ℕ, List, Ok, refl, ◌∙◌, subst}
-use Rattle.ec_disk.specs.Disk.{View, Counts, Called, Turned}
+use Rattle.ec_disk.specs.Disk.{View, Counts}
+use Rattle.ec_disk.specs.Effects.{Called, Turned}
 use Rattle.ec_durable.specs.Codes.{record_code}
 use Rattle.ec_durable.specs.Durable.{step}
 use Rattle.ec_durable.specs.declared.state.Durable.{Durable}
@@ -16,7 +17,8 @@ use Rattle.ec_stands.specs.Laws.{lies_stands}
 use Rattle.ec_stands.specs.Stands.{StandsFor}
 use Rattle.ec_store.specs.Store.{IsHeld, view_of}
 use Rattle.ec_store.specs.declared.store.Store.{Store}
-use Rattle.ec_serve.specs.Serve.{HoldsState, Outer, AllBack, RanWhole, EndsAs, EndsBy, Spends, RanOn, ServesOn, boxes_of}
+use Rattle.ec_serve.specs.Serve.{HoldsState, Outer, AllBack, Spends, RanOn, boxes_of}
+use Rattle.ec_serve.specs.ServerRuns.{RanWhole, EndsAs, EndsBy, ServesOn}
 use Rattle.ec_serve.specs.declared.ending.Ending.{Ending}
 use Rattle.ec_serve.specs.declared.ending.Ending.TheVariants as ending
 use Rattle.ec_serve.proofs.Keepers.{chain_keeps, doubt_keeps, chain_folds}

@@ -1,11 +1,13 @@
 -- How a server ends that opens its disk first.
 use Rattle.std.proofs.Common.{◌≡◌, ◌≤◌, ℕ, length, Result, Err}
-use Rattle.ec_disk.specs.Disk.{View, Counts, Counted}
+use Rattle.ec_disk.specs.Disk.{View, Counts}
+use Rattle.ec_disk.specs.Effects.{Counted}
 use Rattle.ec_durable.specs.declared.state.Durable.{Durable}
 use Rattle.ec_stands.specs.Stands.{IsBadAt}
 use Rattle.ec_store.specs.declared.fault.StoreFault.{StoreFault}
 use Rattle.ec_store.specs.declared.fault.StoreFault.TheVariants as store
-use Rattle.ec_serve.specs.Serve.{Outside, Opens, Serves, ServesOn}
+use Rattle.ec_serve.specs.Serve.{Outside, Opens, Serves}
+use Rattle.ec_serve.specs.ServerRuns.{ServesOn}
 use Rattle.ec_serve.specs.Endings.{unopened}
 use Rattle.ec_serve.specs.declared.ending.Ending.{Ending}
 use Rattle.ec_serve.specs.declared.ending.Ending.TheVariants as ending

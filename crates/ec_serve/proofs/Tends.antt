@@ -4,13 +4,15 @@ use Rattle.std.specs.declared.snapshot.Snapshot.{Snapshot}
 use Rattle.std.proofs.lemmas.List.{length-map}
 use Rattle.ec_link.specs.Happenings.{total}
 use Rattle.ec_link.specs.Nets.{Ended}
-use Rattle.ec_link.specs.Spawns.{refused}
+use Rattle.ec_link.specs.JobCounts.{refused}
 use Rattle.ec_link.specs.declared.spawn.Spawned.{Spawned}
 use Rattle.ec_link.specs.declared.spawn.Spawned.TheVariants as spawned
 use Rattle.ec_lock.specs.Steps.{Member}
 use Rattle.ec_servernode.specs.declared.step.Step.{Step}
-use Rattle.ec_threads.specs.Moments.{Back, Moment, GoesOn}
-use Rattle.ec_serve.specs.Serve.{Outer, AllBack, Tends, tended_of}
+use Rattle.ec_threads.specs.Moments.{Back}
+use Rattle.ec_threads.specs.ServingMoments.{Moment, GoesOn}
+use Rattle.ec_serve.specs.Serve.{Outer, AllBack}
+use Rattle.ec_serve.specs.ServerRuns.{Tends, tended_of}
 use Rattle.ec_serve.specs.declared.ending.Tended.{Tended as Ends}
 use Rattle.ec_serve.specs.declared.ending.Tended.TheVariants as tended
 

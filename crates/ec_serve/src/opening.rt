@@ -1,6 +1,6 @@
 // Opening a server's disk.
 ghost use Rattle.std.specs.Prelude.{◌≡◌, ℕ, length, IfOk, IsErrOf};
-ghost use Rattle.ec_disk.specs.Disk.{Counted};
+ghost use Rattle.ec_disk.specs.Effects.{Counted};
 ghost use Rattle.ec_stands.specs.Stands.{IsBadAt};
 ghost use Rattle.ec_store.specs.Store.{IsHeld, view_of};
 ghost use Rattle.ec_store.specs.declared.fault.StoreFault.TheVariants as fault;

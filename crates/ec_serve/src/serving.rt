@@ -4,10 +4,11 @@ ghost use Rattle.ec_link.specs.Spawns.{faults_of};
 ghost use Rattle.ec_protocol.specs.Server as machine;
 ghost use Rattle.ec_server.specs.Servers.{Does, StandsOn};
 ghost use Rattle.ec_servernode.specs.Node.{state_of, queue_at};
-ghost use Rattle.ec_servernode.specs.Turns.{IsServerPass};
-ghost use Rattle.ec_lock.specs.Passes.{first};
+ghost use Rattle.ec_servernode.specs.TurnSteps.{IsServerPass};
+ghost use Rattle.ec_lock.specs.PassViews.{first};
 ghost use Rattle.ec_store.specs.Store.{IsHeld, view_of};
-ghost use Rattle.ec_serve.specs.Serve.{Outer, Serves, ServesOn, EndsBy, RanFrom, Ran};
+ghost use Rattle.ec_serve.specs.Serve.{Outer, Serves};
+ghost use Rattle.ec_serve.specs.ServerRuns.{ServesOn, EndsBy, RanFrom, Ran};
 
 use crate::ending::{Ending, ending_of, unopened, unstarted};
 use crate::opening::store_on;

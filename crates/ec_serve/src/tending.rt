@@ -1,12 +1,12 @@
 // The links of a server, from the first to the last.
 ghost use Rattle.std.specs.Prelude.{◌≡◌, ◌+◌, ◌≤◌};
 ghost use mathlib.Core.List.{IsPrefix};
-ghost use Rattle.ec_lock.specs.Passes.{front, numbers};
-ghost use Rattle.ec_link.specs.Nets.{faulted};
+ghost use Rattle.ec_lock.specs.PassViews.{front, numbers};
+ghost use Rattle.ec_link.specs.NetAnswers.{faulted};
 ghost use Rattle.ec_link.specs.Spawns.{faults_of};
 ghost use Rattle.ec_link.specs.declared.spawn.Spawned.TheVariants as spawned;
-ghost use Rattle.ec_servernode.specs.Turns.{IsServerPass};
-ghost use Rattle.ec_serve.specs.Serve.{Tends, tended_of};
+ghost use Rattle.ec_servernode.specs.TurnSteps.{IsServerPass};
+ghost use Rattle.ec_serve.specs.ServerRuns.{Tends, tended_of};
 
 use crate::ending::Tended;
 use ec_bells::{Bells, Watch, tell_door, tell_no_door};

@@ -9,7 +9,7 @@ use Rattle.ec_base.specs.Holds.{is_free}
 use Rattle.ec_base.specs.Tables.{keys}
 use Rattle.ec_disk.specs.Disk.{Counts}
 use Rattle.ec_sessions.specs.Slots as slots
-use Rattle.ec_tokens.specs.Tokens.{rises_from, is_claim}
+use Rattle.ec_tokens.specs.SoundTokens.{rises_from, is_claim}
 use Rattle.ec_volume.specs.Update.{is_sound as is_sound_update}
 use Rattle.ec_volume.specs.declared.update.Update.{Update}
 use Rattle.ec_wire.specs.Messages.{is_sound, rises, is_held_mode}
@@ -17,7 +17,7 @@ use Rattle.ec_wire.specs.declared.msg.Msg.{Msg}
 use Rattle.ec_wire.specs.declared.msg.Msg.TheVariants as msg
 use Rattle.ec_durable.specs.Durable.{slot, steps}
 use Rattle.ec_durable.specs.WellFormed.{IsInOrder}
-use Rattle.ec_durable.specs.Codes.{is_sound_record}
+use Rattle.ec_durable.specs.SoundRecords.{is_sound_record}
 use Rattle.ec_durable.specs.declared.state.Durable.{Durable}
 use Rattle.ec_durable.specs.declared.record.Record.{Record}
 use Rattle.ec_durable.specs.declared.record.Record.TheVariants.{Batch}

@@ -1,6 +1,7 @@
 -- What a keeper of the durable state promises.
 use Rattle.std.specs.Prelude.{◌≡◌, ◌+◌, ◌≤◌, ℕ, Ok, Err, Some, IsSome}
-use Rattle.ec_disk.specs.Disk.{Counts, IsOver}
+use Rattle.ec_disk.specs.Disk.{Counts}
+use Rattle.ec_disk.specs.Effects.{IsOver}
 use Rattle.ec_sessions.specs.Limits.{ids_per_grant}
 use Rattle.ec_sessions.specs.declared.slot.Slot.{Slot}
 use Rattle.ec_durable.specs.Durable.{step, slot}

@@ -1,7 +1,8 @@
 -- What the code's server is to the machine, and what its faults leave.
 use Rattle.std.specs.Prelude.{◌≡◌, ◌==◌, ℕ, Bool, true, false, Option, None, Some, Ok, Err, is_some, IsSome}
 use Rattle.ec_base.specs.Outside.{Rose}
-use Rattle.ec_disk.specs.Disk.{Counts, IsOver}
+use Rattle.ec_disk.specs.Disk.{Counts}
+use Rattle.ec_disk.specs.Effects.{IsOver}
 use Rattle.ec_wire.specs.declared.msg.Msg.{Msg}
 use Rattle.ec_wire.specs.declared.msg.Msg.TheVariants as msg
 use Rattle.ec_sessions.specs.declared.window.Window.{Window}

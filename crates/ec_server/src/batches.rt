@@ -1,7 +1,7 @@
 // Batches.
 ghost use Rattle.std.specs.Prelude.{◌≡◌, OnOk, IfErr, true};
 ghost use Rattle.ec_durable.specs.Durable.{slot, has_batch};
-ghost use Rattle.ec_durable.specs.Codes.{is_sound_record};
+ghost use Rattle.ec_durable.specs.SoundRecords.{is_sound_record};
 ghost use Rattle.ec_protocol.specs.Server as machine;
 ghost use Rattle.ec_server.specs.Keepers.{Moves, Hurts, HasNumbers};
 ghost use Rattle.ec_server.specs.Kept.{IsLater};

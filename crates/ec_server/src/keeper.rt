@@ -1,7 +1,8 @@
 // What keeps the durable state, and one that keeps it in memory.
 ghost use Rattle.std.specs.Prelude.{◌≡◌, ◌≤◌, None, Ok, Err, true, OnOk, IfErr};
-ghost use Rattle.ec_disk.specs.Disk.{Counts, Counted};
-ghost use Rattle.ec_durable.specs.Codes.{is_sound_record};
+ghost use Rattle.ec_disk.specs.Disk.{Counts};
+ghost use Rattle.ec_disk.specs.Effects.{Counted};
+ghost use Rattle.ec_durable.specs.SoundRecords.{is_sound_record};
 ghost use Rattle.ec_durable.specs.Durable.{step};
 ghost use Rattle.ec_durable.specs.WellFormed.{IsInOrder};
 ghost use Rattle.ec_server.specs.Kept.{Refuses, HasIds};

@@ -2,7 +2,7 @@
 ghost use Rattle.std.specs.Prelude.{◌≡◌, ◌++◌, ◌∷◌, ◌+◌, ◌<◌, Some, OnOk, IfOk, IfErr, IsTrue, true};
 ghost use Rattle.ec_base.specs.Tables.{without, put};
 ghost use Rattle.ec_base.specs.Limits.{last_counter};
-ghost use Rattle.ec_durable.specs.Codes.{is_sound_record};
+ghost use Rattle.ec_durable.specs.SoundRecords.{is_sound_record};
 ghost use Rattle.ec_protocol.specs.Server as machine;
 ghost use Rattle.ec_volume.specs.Update.{member};
 ghost use Rattle.ec_server.specs.Keepers.{HasRoom, Ends, Fails};

@@ -1,7 +1,8 @@
 // Wants are served after each step, where every open session has claimed.
 ghost use Rattle.std.specs.Prelude.{◌≡◌, ◌≢◌, ◌∷◌, [], suc, OnOk, IfOk, IsTrue, length, List};
 ghost use Rattle.std.specs.List.{list_any};
-ghost use Rattle.ec_tokens.specs.Tokens.{is_clear, granted, IsSound};
+ghost use Rattle.ec_tokens.specs.Tokens.{is_clear, granted};
+ghost use Rattle.ec_tokens.specs.SoundTokens.{IsSound};
 ghost use Rattle.ec_protocol.specs.Server as machine;
 ghost use Rattle.ec_admission.specs.Clerks.{IsOpenIn};
 ghost use Rattle.ec_server.specs.Clerks.{HaveClerks, Each, session_of};

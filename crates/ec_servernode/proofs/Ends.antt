@@ -3,7 +3,8 @@ use Rattle.std.proofs.Common.{◌≡◌, ◌⊎◌, ℕ, ◌+◌, Bool, true, fa
 use Rattle.std.specs.declared.alloc.Global.{Global}
 use Rattle.std.specs.declared.snapshot.Snapshot.{Snapshot}
 use Rattle.ec_base.specs.declared.counter.Counter.{Counter}
-use Rattle.ec_disk.specs.Disk.{Counts, Counted}
+use Rattle.ec_disk.specs.Disk.{Counts}
+use Rattle.ec_disk.specs.Effects.{Counted}
 use Rattle.ec_wire.specs.declared.msg.Msg.{Msg}
 use Rattle.ec_protocol.specs.Server.{Serving}
 use Rattle.ec_protocol.specs.declared.server.Server.{Server as State}
@@ -29,7 +30,7 @@ use Rattle.ec_servernode.specs.Run.{Halts, caller_after, caller_by}
 use Rattle.ec_servernode.specs.Node.{CountsUp}
 use Rattle.ec_servernode.specs.Steps.{TookAs, EndedAs, Stops, Refuses, halt_in, spends}
 use Rattle.ec_servernode.specs.Told.{IsToldOf}
-use Rattle.ec_servernode.specs.Turns.{More, TakeFails, Takes, EndFails, Ends, Gives, fault_of}
+use Rattle.ec_servernode.specs.TurnSteps.{More, TakeFails, Takes, EndFails, Ends, Gives, fault_of}
 use Rattle.ec_servernode.proofs.Runs.{caller-push}
 
 -- Counts behind the server's step.

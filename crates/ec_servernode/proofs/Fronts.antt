@@ -6,7 +6,7 @@ use Rattle.ec_disk.specs.Disk.{Counts}
 use Rattle.ec_durable.specs.declared.state.Durable.{Durable}
 use Rattle.ec_durable.specs.declared.record.Record.{Record}
 use Rattle.ec_server.specs.Servers.{StandsOn}
-use Rattle.ec_lock.specs.Passes.{first, front, IsPassOf, Reached, Same}
+use Rattle.ec_lock.specs.PassViews.{first, front, IsPassOf, Reached, Same}
 use Rattle.ec_lock.specs.Steps.{of}
 use Rattle.ec_lock.specs.declared.types.Pass.{Pass}
 use Rattle.ec_lock.specs.declared.types.TracedLock.{TracedLock}
@@ -17,7 +17,7 @@ use Rattle.ec_servernode.specs.declared.passes.ServerPass.{ServerPass}
 use Rattle.ec_servernode.specs.Callers.{nobody}
 use Rattle.ec_servernode.specs.Run.{number_of, caller_from, caller_by, leads, records, halted, box_from, owner, IsRun}
 use Rattle.ec_servernode.specs.Node.{queue_at, owner_at, Chain, ChainInDoubt, CountsUp, state_of, Since}
-use Rattle.ec_servernode.specs.Turns.{More, RunsFrom, IsServerPass, Finished}
+use Rattle.ec_servernode.specs.TurnSteps.{More, RunsFrom, IsServerPass, Finished}
 use Rattle.ec_servernode.proofs.Lists.{prefix_trans}
 use Rattle.ec_servernode.proofs.Runs.{no_run}
 use Rattle.ec_servernode.proofs.Counts.{no_halt_up}

@@ -3,7 +3,8 @@ use Rattle.std.proofs.Common.{◌≡◌, ◌⊎◌, ℕ, Bool, true, false, cond
 use mathlib.Core.List.{IsPrefix}
 use Rattle.ec_lock.specs.Steps.{is_number, of}
 use Rattle.ec_servernode.specs.declared.step.Step.{Step}
-use Rattle.ec_servernode.specs.Run.{number_of, By}
+use Rattle.ec_servernode.specs.Run.{number_of}
+use Rattle.ec_servernode.specs.OwnSteps.{By}
 use Rattle.ec_link.specs.Happenings.{each}
 
 pub prefix_self : {A : Type 0} (xs : List A) → IsPrefix xs xs

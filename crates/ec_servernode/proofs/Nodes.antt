@@ -3,7 +3,8 @@ use Rattle.std.proofs.Common.{◌≡◌, ◌==◌, ◌⊎◌, ℕ, ◌+◌, ◌<
 use Rattle.std.specs.declared.alloc.Global.{Global}
 use Rattle.std.specs.declared.snapshot.Snapshot.{Snapshot}
 use Rattle.ec_base.specs.Limits.{clerk_count}
-use Rattle.ec_disk.specs.Disk.{Counts, Counted}
+use Rattle.ec_disk.specs.Disk.{Counts}
+use Rattle.ec_disk.specs.Effects.{Counted}
 use Rattle.ec_wire.specs.Codes.{said}
 use Rattle.ec_wire.specs.Messages.{is_sound}
 use Rattle.ec_wire.specs.declared.msg.Msg.{Msg}

@@ -8,7 +8,7 @@ use Rattle.ec_durable.specs.declared.record.RecordFault.{RecordFault}
 use Rattle.ec_durable.specs.declared.state.Durable.{Durable}
 use Rattle.ec_protocol.specs.Server.{Serving, take, end}
 use Rattle.ec_protocol.specs.declared.server.Server.{Server}
-use Rattle.ec_once.specs.Safe.{IsSafe, IsSafeBehind}
+use Rattle.ec_once.specs.SafeServers.{IsSafe, IsSafeBehind}
 use Rattle.ec_once.proofs.Once.{once}
 use Rattle.ec_once.proofs.Steps.{take-safe, end-safe, steps-append}
 use Rattle.ec_once.proofs.Walk.{Led, take-goes, end-goes}

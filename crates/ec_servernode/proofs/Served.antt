@@ -3,7 +3,8 @@ use Rattle.std.proofs.Common.{◌≡◌, ℕ, ◌+◌, ◌≤◌, ◌<◌, ◌�
 use mathlib.Core.List.{IsPrefix}
 use Rattle.ec_base.specs.Limits.{clerk_count}
 use Rattle.ec_disk.specs.Disk.{Counts}
-use Rattle.ec_wire.specs.Codes.{said, msg_code, Answers}
+use Rattle.ec_wire.specs.Codes.{said, msg_code}
+use Rattle.ec_wire.specs.CodeAnswers.{Answers}
 use Rattle.ec_wire.specs.declared.msg.Msg.{Msg}
 use Rattle.ec_wire.specs.declared.fault.WireFault.{WireFault}
 use Rattle.ec_wire.specs.declared.fault.WireFault.TheVariants as wire
@@ -13,8 +14,9 @@ use Rattle.ec_sessions.specs.Slots.{is_open}
 use Rattle.ec_protocol.specs.declared.server.Server.{Server}
 use Rattle.ec_durable.specs.declared.record.Record.{Record}
 use Rattle.ec_link.specs.declared.link.Got.TheVariants as got
-use Rattle.ec_link.specs.Links.{Heard, Reads, added}
-use Rattle.ec_lock.specs.Passes.{first, front, IsPassOf}
+use Rattle.ec_link.specs.Links.{Heard, added}
+use Rattle.ec_link.specs.LinkAnswers.{Reads}
+use Rattle.ec_lock.specs.PassViews.{first, front, IsPassOf}
 use Rattle.ec_lock.specs.Steps.{of}
 use Rattle.ec_lock.specs.declared.types.Pass.{Pass}
 use Rattle.ec_lock.specs.declared.types.TracedLock.{TracedLock}
@@ -32,7 +34,7 @@ use Rattle.ec_servernode.specs.declared.shared.Turned.TheVariants as turned
 use Rattle.ec_servernode.specs.Run.{number_of, is_for, owner, box_from, halted, leads, caller_from, caller_by}
 use Rattle.ec_servernode.specs.Node.{queue_at, owner_at, state_of, Since}
 use Rattle.ec_servernode.specs.Callers.{nobody}
-use Rattle.ec_servernode.specs.Turns.{More, Takes, Ends, Gives, peer_of, EndsSession, Adds, HearFails, TakesMessage, Looked, Hears, HasNone, HasNext, NextFails, GivesNext, GaveBody, GaveNone, WasClear, ServeFails, Serves, RunsFrom, IsServerPass}
+use Rattle.ec_servernode.specs.TurnSteps.{More, Takes, Ends, Gives, peer_of, EndsSession, Adds, HearFails, TakesMessage, Looked, Hears, HasNone, HasNext, NextFails, GivesNext, GaveBody, GaveNone, WasClear, ServeFails, Serves, RunsFrom, IsServerPass}
 use Rattle.ec_servernode.proofs.Lists.{of-append, of_others, none_more}
 use Rattle.ec_base.specs.Lists.{first_of}
 

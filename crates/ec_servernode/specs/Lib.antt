@@ -1,10 +1,12 @@
 pub mod Callers
 pub mod Folded
 pub mod Run
+pub mod OwnSteps
 pub mod Node
 pub mod Steps
 pub mod Told
 pub mod Bodies
 pub mod Turns
+pub mod TurnSteps
 pub mod Floors
 pub mod Safe

@@ -184,8 +184,3 @@ IsStep s boxes before x = (halted before ≡ None) × IsDeed s boxes x.pass befo
 
 abbrev pub IsRun : Server → (ℕ → List Msg) → List Step → Type 0
 IsRun s boxes steps = (before : List Step) (x : Step) (rest : List Step) → before ++ x ∷ rest ≡ steps → IsStep s boxes before x
-
--- each step is of this pass
-abbrev pub By : ℕ → List Step → Type 0
-By pass [] = Unit {0}
-By pass (s ∷ ss) = (s.pass ≡ pass) × By pass ss

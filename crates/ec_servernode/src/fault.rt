@@ -1,6 +1,6 @@
 // Why a turn with a link gives nothing.
 ghost use Rattle.std.specs.Prelude.{◌≡◌};
-ghost use Rattle.ec_servernode.specs.Turns.{fault_of};
+ghost use Rattle.ec_servernode.specs.TurnSteps.{fault_of};
 
 use crate::step::Halt;
 use ec_base::Counter;

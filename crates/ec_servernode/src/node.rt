@@ -5,7 +5,8 @@ ghost use Rattle.ec_durable.specs.Durable.{slot};
 ghost use Rattle.ec_sessions.specs.Slots.{is_open};
 ghost use Rattle.ec_wire.specs.Codes.{said, msg_code};
 ghost use Rattle.ec_wire.specs.Messages.{is_sound};
-ghost use Rattle.ec_link.specs.Links.{added, carried, failed};
+ghost use Rattle.ec_link.specs.Links.{added};
+ghost use Rattle.ec_link.specs.LinkAnswers.{carried, failed};
 ghost use Rattle.ec_servernode.specs.declared.step.Halt.{Halt as Stop};
 ghost use Rattle.ec_servernode.specs.declared.step.Step.{Step as Made};
 ghost use Rattle.ec_servernode.specs.declared.state.Node.{Node as Value};
@@ -15,7 +16,7 @@ ghost use Rattle.ec_servernode.specs.Node.{Since, Keeps, owner_at};
 ghost use Rattle.ec_servernode.specs.Run.{sender, clerk_by, caller_by, is_for};
 ghost use Rattle.ec_servernode.specs.Steps.{Grew, TookAs, EndedAs, Stops, halt_in, spends, told_in, taken_by, told_by};
 ghost use Rattle.ec_servernode.specs.Told.{IsToldOf};
-ghost use Rattle.ec_servernode.specs.Turns.{Takes, Ends, Gives, fault_of};
+ghost use Rattle.ec_servernode.specs.TurnSteps.{Takes, Ends, Gives, fault_of};
 
 use crate::caller::{Caller, Refusal, accepted, hello_in, posted, refusal_in};
 use crate::fault::{ServeFault, halted};

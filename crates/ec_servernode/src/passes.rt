@@ -2,10 +2,11 @@
 ghost use Rattle.std.specs.Prelude.{◌≡◌, ℕ, ◌+◌, ◌<◌, ◌≤◌, ◌⊎◌, max, [], ◌∷◌, ◌++◌, IfSome, IfNone};
 ghost use mathlib.Core.List.{IsPrefix};
 ghost use Rattle.ec_base.specs.Limits.{last_counter};
-ghost use Rattle.ec_lock.specs.Passes.{first, front, numbers, next_number, raised, answered, note_view, Same, Marked};
+ghost use Rattle.ec_lock.specs.Passes.{answered};
+ghost use Rattle.ec_lock.specs.PassViews.{first, front, numbers, next_number, raised, note_view, Same, Marked};
 ghost use Rattle.ec_lock.specs.Steps.{Member, of};
 ghost use Rattle.ec_servernode.specs.Run.{number_of};
-ghost use Rattle.ec_servernode.specs.Turns.{IsServerPass, IsServerNote};
+ghost use Rattle.ec_servernode.specs.TurnSteps.{IsServerPass, IsServerNote};
 
 use crate::caller::Caller;
 use crate::shared::SharedServer;

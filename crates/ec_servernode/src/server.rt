@@ -1,6 +1,6 @@
 // The server's step, in words that stay folded above.
 ghost use Rattle.std.specs.Prelude.{◌≡◌, IfOk, IfErr, OnOk, IsTrue, Err};
-ghost use Rattle.ec_disk.specs.Disk.{Counted};
+ghost use Rattle.ec_disk.specs.Effects.{Counted};
 ghost use Rattle.ec_wire.specs.Messages.{is_sound};
 ghost use Rattle.ec_server.specs.Servers.{standing, Does, StandsOn};
 ghost use Rattle.ec_server.specs.Keepers.{Did, Hurts, SpendsNothing};

@@ -6,7 +6,7 @@ ghost use Rattle.ec_durable.specs.Durable.{slot};
 ghost use Rattle.ec_sessions.specs.Slots.{is_open};
 ghost use Rattle.ec_wire.specs.Codes.{said};
 ghost use Rattle.ec_wire.specs.Messages.{is_sound};
-ghost use Rattle.ec_lock.specs.Passes.{first, front, numbers, Same};
+ghost use Rattle.ec_lock.specs.PassViews.{first, front, numbers, Same};
 ghost use Rattle.ec_lock.specs.Steps.{Member, of};
 ghost use Rattle.ec_server.specs.Servers.{StandsOn};
 ghost use Rattle.ec_servernode.specs.declared.fault.ServeFault.TheVariants as fault;
@@ -16,7 +16,7 @@ ghost use Rattle.ec_servernode.specs.Node.{Since, queue_at, state_of};
 ghost use Rattle.ec_servernode.specs.Safe.{StaysSafe};
 ghost use Rattle.ec_servernode.specs.Run.{number_of, sender, put_all, for_clerk, halted, leads};
 ghost use Rattle.ec_servernode.specs.Steps.{told_in, taken_by, told_by};
-ghost use Rattle.ec_servernode.specs.Turns.{IsServerPass, Adds, Looked, peer_of, Hears, TakesMessage, GivesNext, Serves, EndsSession, RunsFrom, Finished};
+ghost use Rattle.ec_servernode.specs.TurnSteps.{IsServerPass, Adds, Looked, peer_of, Hears, TakesMessage, GivesNext, Serves, EndsSession, RunsFrom, Finished};
 
 use crate::caller::{Caller, hello_in};
 use crate::fault::ServeFault;

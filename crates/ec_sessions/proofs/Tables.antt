@@ -7,8 +7,9 @@ use Rattle.std.proofs.lemmas.List.{get_or_default}
 use Rattle.std.specs.Prelude.{Result, Ok, Err}
 use Rattle.std.specs.Result.{OnOk, OnErr}
 use Rattle.ec_sessions.specs.declared.slot.Slot.{Slot}
-use Rattle.ec_sessions.specs.Windows.{times}
-use Rattle.ec_sessions.specs.Slots.{Slots, slot_at, with_slot, unspent_of, all_unspent, open_count, reserved, AreIds, IsTable, granted, ended, spent, batch_marked, with_ids, sixteen, run, without}
+use Rattle.ec_sessions.specs.WindowMarks.{times}
+use Rattle.ec_sessions.specs.Slots.{Slots, slot_at, with_slot, unspent_of, all_unspent, open_count, reserved, granted, ended, spent, batch_marked, with_ids, sixteen, run, without}
+use Rattle.ec_sessions.specs.SlotChecks.{AreIds, IsTable}
 use Rattle.ec_sessions.specs.IdLaws.{times-append, times-with_ids, times-run, times-run_below, times-run_above, times-without, AreIds-append, AreIds-front, AreIds-back, AreIds-run, AreIds-with_ids, AreIds-without}
 use Rattle.ec_sessions.proofs.Rising.{Rises, rises_from, increasing_from, rises-with_ids, rises-without, Misses}
 

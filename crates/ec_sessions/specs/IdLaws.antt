@@ -9,8 +9,9 @@ use Rattle.std.proofs.lemmas.List.{take_rest}
 use Rattle.std.proofs.lemmas.List.Kept.{AllPairs-from_increasing}
 use Rattle.std.proofs.lemmas.List.Sorted.{searched}
 use Rattle.ec_sessions.specs.declared.slot.Slot.{Slot}
-use Rattle.ec_sessions.specs.Slots.{unspent_of, is_reserved, spent, is_in, without, run, sixteen, with_ids, AreIds}
-use Rattle.ec_sessions.specs.Windows.{times}
+use Rattle.ec_sessions.specs.Slots.{unspent_of, is_reserved, spent, is_in, without, run, sixteen, with_ids}
+use Rattle.ec_sessions.specs.SlotChecks.{AreIds}
+use Rattle.ec_sessions.specs.WindowMarks.{times}
 
 without-hit : (id other : ℕ) (ids : List ℕ) → (other == id) ≡ true → without id (other ∷ ids) ≡ ids
 without-hit id other ids h = ap (λ b. if b then ids else other ∷ without id ids) h

@@ -1,15 +1,12 @@
 -- The last session of each of sixteen clerks.
-use Rattle.std.specs.Prelude.{◌≡◌, ◌==◌, ◌+◌, ◌<◌, ◌≤◌, ◌^◌, ℕ, zero, suc, Bool, true, false, ◌&&◌, if◌then◌else◌, nat_lt, List, [], ◌∷◌, ◌++◌, length, Option, None, Some, IsTrue, slice_index_or, slice_set}
+use Rattle.std.specs.Prelude.{◌==◌, ◌+◌, ℕ, zero, suc, Bool, true, false, ◌&&◌, if◌then◌else◌, nat_lt, List, [], ◌∷◌, ◌++◌, length, Option, None, Some, slice_index_or, slice_set}
 use Rattle.std.specs.List.{list_any}
-use Rattle.std.specs.List.Sorted.{IsStrictlyIncreasing}
 use Rattle.ec_base.specs.Ages.{is_older}
 use Rattle.ec_base.specs.declared.ids.Age.{Age}
 use Rattle.ec_sessions.specs.declared.slot.Slot.{Slot}
 use Rattle.ec_sessions.specs.declared.slot.Greeting.{Greeting}
 use Rattle.ec_sessions.specs.declared.slot.Greeting.TheVariants.{Greater, Same, Ended, OldBoot}
-use Rattle.ec_sessions.specs.Windows.{new_window, mark_answer, after_mark, times}
-use Rattle.ec_sessions.specs.declared.window.Marked.{Marked}
-use Rattle.ec_sessions.specs.declared.window.Marked.TheVariants as answer
+use Rattle.ec_sessions.specs.Windows.{new_window, after_mark}
 
 -- by clerk number: None for a clerk that never had a session
 abbrev pub Slots : Type 0
@@ -30,10 +27,6 @@ is_open (Some slot) = slot.is_open
 
 abbrev pub session_if_open : Slot → Option ℕ
 session_if_open slot = if slot.is_open then Some slot.session else None
-
-abbrev pub open_session : Option Slot → Option ℕ
-open_session None = None
-open_session (Some slot) = session_if_open slot
 
 -- an age above the greatest one, or a clerk that never had a session
 abbrev pub is_greater : Option Slot → Age → Bool
@@ -57,19 +50,6 @@ is_in id ids = list_any (λ other. other == id) ids
 abbrev pub is_reserved : Option Slot → ℕ → Bool
 is_reserved None id = false
 is_reserved (Some slot) id = slot.is_open && is_in id slot.unspent
-
-abbrev pub CanMark : Option Slot → Type 0
-CanMark None = ⊥
-CanMark (Some slot) = IsTrue slot.is_open × (slot.window.low < 2 ^ 62)
-
--- what a mark answers; a clerk without a session marks nothing
-abbrev pub batch_answer : Option Slot → ℕ → Marked
-batch_answer None n = answer.Already
-batch_answer (Some slot) n = mark_answer slot.window n
-
-abbrev pub CanReserve : Option Slot → Type 0
-CanReserve None = ⊥
-CanReserve (Some slot) = IsTrue slot.is_open × (slot.grants < 4294967295)
 
 -- What calls make of a slot.
 
@@ -123,19 +103,3 @@ open_count (Some slot) = if slot.is_open then length slot.unspent else 0
 abbrev pub reserved : Slots → ℕ
 reserved [] = 0
 reserved (slot ∷ slots) = open_count slot + reserved slots
-
--- The slots of sixteen clerks: in each the unspent ids rise, and no id stands in two.
-pub record AreSlots (slots : Slots) : Type 0 where
-  pub sixteen : length slots ≡ 16
-  pub rising : (clerk : ℕ) → IsStrictlyIncreasing (unspent_of (slot_at slots clerk))
-  pub once : (id : ℕ) → times id (all_unspent slots) ≤ 1
-
--- ids are u32s from 1
-abbrev pub AreIds : List ℕ → Type 0
-AreIds [] = Unit {0}
-AreIds (id ∷ ids) = (1 ≤ id) × (id < 2 ^ 32) × AreIds ids
-
--- what holds of the slots that sessions keep
-pub record IsTable (table : Slots) : Type 0 where
-  pub slots : AreSlots table
-  pub ids : AreIds (all_unspent table)

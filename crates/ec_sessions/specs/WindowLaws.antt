@@ -6,7 +6,8 @@ use Rattle.std.proofs.lemmas.Nat.{or_lt, pow_below}
 use Rattle.std.proofs.lemmas.Nat.Bits.{bit_at_lowest, bit_at-suc, bit_at_or, bit_at-pow_same, bit_at-pow_other, bit_at-lt, bit_at-zero}
 use Rattle.ec_sessions.specs.declared.window.Window.{Window}
 use Rattle.ec_sessions.specs.declared.window.Marked.TheVariants as answer
-use Rattle.ec_sessions.specs.Windows.{new_window, has, moved_past, marked, mark_answer, is_marked, after_mark, after_marks, newly_marked, times}
+use Rattle.ec_sessions.specs.Windows.{new_window, has, moved_past, marked, mark_answer, is_marked, after_mark}
+use Rattle.ec_sessions.specs.WindowMarks.{after_marks, newly_marked, times}
 
 has_low : (w : Window) (m : ℕ) → m ≤ w.low → has w m ≡ true
 has_low w m h = or_left (nat_le m w.low) (bit_at w.mask (m - w.low - 1) == 1) (le-leb m w.low h)

@@ -1,5 +1,5 @@
 -- Windows: the numbers up to `low` are marked, and of the eight behind it those whose bit is set.
-use Rattle.std.specs.Prelude.{◌==◌, ◌+◌, ◌-◌, ◌/◌, ◌%◌, ◌^◌, ℕ, zero, suc, Bool, true, false, ◌||◌, if◌then◌else◌, nat_lt, nat_le, List, [], ◌∷◌, bit_or}
+use Rattle.std.specs.Prelude.{◌==◌, ◌+◌, ◌-◌, ◌/◌, ◌%◌, ◌^◌, ℕ, zero, suc, Bool, true, false, ◌||◌, if◌then◌else◌, nat_lt, nat_le, bit_or}
 use Rattle.std.specs.Int.{bit_at}
 use Rattle.ec_sessions.specs.declared.window.Window.{Window}
 use Rattle.ec_sessions.specs.declared.window.Marked.{Marked}
@@ -30,18 +30,3 @@ is_marked (answer.Beyond low) = false
 
 abbrev pub after_mark : Window → ℕ → Window
 after_mark w n = if is_marked (mark_answer w n) then marked w n else w
-
--- Over a list of marks: the window after them, and the numbers that were answered `Marked`.
-
-abbrev pub after_marks : Window → List ℕ → Window
-after_marks w [] = w
-after_marks w (n ∷ ns) = after_marks (after_mark w n) ns
-
-abbrev pub newly_marked : Window → List ℕ → List ℕ
-newly_marked w [] = []
-newly_marked w (n ∷ ns) = if is_marked (mark_answer w n) then n ∷ newly_marked (after_mark w n) ns else newly_marked (after_mark w n) ns
-
--- how often a number stands in a list
-abbrev pub times : ℕ → List ℕ → ℕ
-times n [] = 0
-times n (m ∷ ms) = (if m == n then 1 else 0) + times n ms

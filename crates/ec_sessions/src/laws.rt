@@ -3,7 +3,8 @@ ghost use Rattle.std.specs.Prelude.{◌≡◌, ◌==◌, ◌≢◌, ◌&&◌, no
 ghost use Rattle.std.specs.List.Sorted.{IsStrictlyIncreasing};
 ghost use Rattle.ec_sessions.specs.declared.slot.Slot.{Slot};
 ghost use Rattle.ec_sessions.specs.Slots.{Slots, slot_at, with_slot, sixteen, with_ids, unspent_of, is_reserved, spent};
-ghost use Rattle.ec_sessions.specs.Windows.{new_window, has, after_marks, newly_marked, times};
+ghost use Rattle.ec_sessions.specs.Windows.{new_window, has};
+ghost use Rattle.ec_sessions.specs.WindowMarks.{after_marks, newly_marked, times};
 
 /// Over every list of marks each number is answered `Marked` at most once, and a new window then has of the numbers
 /// from 1 on exactly those that were. Its `low` stands before the first one that it doesn't have.

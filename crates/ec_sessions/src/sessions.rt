@@ -1,7 +1,8 @@
 // The sessions of sixteen clerks.
 ghost use Rattle.std.specs.Prelude.{◌≡◌, ◌+◌, ◌<◌, ◌≤◌, ◌^◌, ℕ, List, Option, None, Some, IfOk, IsOk, OnOk, OnErr, IsTrue, replicate, MatchOption};
-ghost use Rattle.ec_sessions.specs.Windows.{times};
-ghost use Rattle.ec_sessions.specs.Slots.{slot_at, with_slot, open_session, is_greater, greeting, is_reserved, CanMark, batch_answer, CanReserve, new_slot, ended, granted, spent, batch_marked, all_unspent, reserved, AreSlots, AreIds};
+ghost use Rattle.ec_sessions.specs.WindowMarks.{times};
+ghost use Rattle.ec_sessions.specs.Slots.{slot_at, with_slot, is_greater, greeting, is_reserved, new_slot, ended, granted, spent, batch_marked, all_unspent, reserved};
+ghost use Rattle.ec_sessions.specs.SlotChecks.{open_session, CanMark, batch_answer, CanReserve, AreSlots, AreIds};
 
 use crate::slot::{self, Greeting, Slot};
 use crate::window::Marked;
@@ -25,7 +26,7 @@ impl Drop for Sessions {
 impl Model for Sessions {
     ghost use Rattle.std.specs.Prelude.{List, Option};
     ghost use Rattle.ec_sessions.specs.declared.slot.Slot.{Slot};
-    ghost use Rattle.ec_sessions.specs.Slots.{IsTable};
+    ghost use Rattle.ec_sessions.specs.SlotChecks.{IsTable};
 
     ghost Value = { List (Option Slot) };
 

@@ -2,7 +2,8 @@
 ghost use Rattle.std.specs.Prelude.{◌≡◌, ◌==◌, ◌+◌, ◌<◌, ◌≤◌, ◌^◌, ℕ, List, [], ◌++◌, length, None, Some, IfOk, OnOk, OnErr};
 ghost use Rattle.std.specs.List.Sorted.{IsStrictlyIncreasing};
 ghost use Rattle.ec_sessions.specs.Windows.{mark_answer};
-ghost use Rattle.ec_sessions.specs.Slots.{is_greater, open_session, greeting, is_in, is_reserved, CanMark, CanReserve, batch_answer, AreIds, unspent_of, new_slot, ended, with_ids, granted, spent, batch_marked, open_count};
+ghost use Rattle.ec_sessions.specs.Slots.{is_greater, greeting, is_in, is_reserved, unspent_of, new_slot, ended, with_ids, granted, spent, batch_marked, open_count};
+ghost use Rattle.ec_sessions.specs.SlotChecks.{open_session, CanMark, CanReserve, batch_answer, AreIds};
 
 use crate::unspent::{is_there, spend_in, with_ids};
 use crate::window::{Marked, Window};

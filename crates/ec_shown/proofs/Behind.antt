@@ -2,9 +2,11 @@
 use Rattle.std.proofs.Common.{◌≡◌, ℕ, suc, List, [], ◌∷◌, Option, Some, None, Result, MatchResult, refl, sym, ap, subst, ◌∙◌}
 use Rattle.ec_words.specs.declared.cursor.Misfit.{Misfit}
 use Rattle.ec_words.specs.declared.cursor.Misfit.TheVariants as misfit
-use Rattle.ec_words.specs.Rows.{Word, Last, ◌⊳◌, Begins, FirstUnfit, Lacks, IsMisfit, Example, joined_len}
+use Rattle.ec_words.specs.Rows.{Word, Last, ◌⊳◌, Begins, FirstUnfit}
+use Rattle.ec_words.specs.RowsLeft.{Lacks, IsMisfit, Example, joined_len}
 use Rattle.ec_words.proofs.Fits.{behind, unfit_none, unfit_first}
-use Rattle.ec_shown.specs.Rows.{Marked, LacksMark, Tail}
+use Rattle.ec_shown.specs.Rows.{Marked, Tail}
+use Rattle.ec_shown.specs.LackedMarks.{LacksMark}
 
 nothing : (w : Word) (ws : List Word) → [] ≡ w ∷ ws → ⊥
 nothing w ws e = cc

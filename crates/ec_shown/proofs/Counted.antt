@@ -3,7 +3,8 @@ use Rattle.std.proofs.Common.{◌≡◌, ℕ, zero, suc, List, [], ◌∷◌, �
 use Rattle.std.proofs.lemmas.List.{append-nil}
 use Rattle.ec_words.specs.declared.cursor.Misfit.{Misfit}
 use Rattle.ec_words.specs.declared.cursor.Misfit.TheVariants as misfit
-use Rattle.ec_words.specs.Rows.{Word, End, Begins, Lacks, IsMisfit, Example}
+use Rattle.ec_words.specs.Rows.{Word, End, Begins}
+use Rattle.ec_words.specs.RowsLeft.{Lacks, IsMisfit, Example}
 use Rattle.ec_words.specs.Spelling.{led_by}
 use Rattle.ec_words.proofs.Fits.{unfit_none, unfit_first}
 use Rattle.ec_words.proofs.Misfits.{same_words, made, begins_last, last_lacks, last_has, last_is}

@@ -5,7 +5,8 @@ use Rattle.std.proofs.lemmas.Fmt.{decimal_by_steps}
 use Rattle.ec_history.specs.declared.shown.Shown.{Shown}
 use Rattle.ec_words.specs.declared.cursor.Misfit.{Misfit}
 use Rattle.ec_words.specs.declared.cursor.Misfit.TheVariants as misfit
-use Rattle.ec_words.specs.Rows.{Word, IsMisfit, joined_len}
+use Rattle.ec_words.specs.Rows.{Word}
+use Rattle.ec_words.specs.RowsLeft.{IsMisfit, joined_len}
 use Rattle.ec_words.specs.Spelling.{IsSmallNumber}
 use Rattle.ec_words.proofs.Misfits.{choice_lacks, choice_has, choice_is}
 use Rattle.ec_words.proofs.OneCall.{small}

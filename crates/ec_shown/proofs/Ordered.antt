@@ -5,7 +5,8 @@ use Rattle.ec_base.specs.Names.{path_fault}
 use Rattle.ec_plain.specs.Walk.{Path}
 use Rattle.ec_words.specs.declared.cursor.Misfit.{Misfit}
 use Rattle.ec_words.specs.declared.cursor.Misfit.TheVariants as misfit
-use Rattle.ec_words.specs.Rows.{Word, ◌⊳◌, FirstUnfit, IsMisfit, joined_len}
+use Rattle.ec_words.specs.Rows.{Word, ◌⊳◌, FirstUnfit}
+use Rattle.ec_words.specs.RowsLeft.{IsMisfit, joined_len}
 use Rattle.ec_words.proofs.Fits.{unfit_none, unfit_first}
 use Rattle.ec_shown.specs.declared.answer.Outcome.{Outcome}
 use Rattle.ec_shown.specs.Spelling.{written_of, IsPathShown, IsSaid}

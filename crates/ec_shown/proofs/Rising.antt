@@ -3,7 +3,8 @@ use Rattle.std.proofs.Common.{◌≡◌, ℕ, ◌+◌, ◌-◌, ◌^◌, List, [
 use Rattle.std.proofs.lemmas.List.{append-nil}
 use Rattle.ec_words.specs.declared.cursor.Misfit.{Misfit}
 use Rattle.ec_words.specs.declared.cursor.Misfit.TheVariants as misfit
-use Rattle.ec_words.specs.Rows.{Word, End, Begins, FirstUnfit, Lacks, joined_len, IsMisfit}
+use Rattle.ec_words.specs.Rows.{Word, End, Begins, FirstUnfit}
+use Rattle.ec_words.specs.RowsLeft.{Lacks, joined_len, IsMisfit}
 use Rattle.ec_words.specs.Spelling.{IsNumber}
 use Rattle.ec_words.proofs.Fits.{unfit_none, unfit_first}
 use Rattle.ec_words.proofs.OneCall.{in_range_once, number}

@@ -8,7 +8,8 @@ use Rattle.ec_plain.specs.declared.call.Call.TheVariants as call
 use Rattle.ec_plain.specs.declared.call.Refusal.TheVariants as refusal
 use Rattle.ec_volume.specs.declared.image.Kind.TheVariants as kind
 use Rattle.ec_words.specs.declared.name.Verb.TheVariants as verb
-use Rattle.ec_words.specs.Rows.{Last, ◌⊳◌, Begins, Example}
+use Rattle.ec_words.specs.Rows.{Last, ◌⊳◌, Begins}
+use Rattle.ec_words.specs.RowsLeft.{Example}
 use Rattle.ec_words.specs.Spelling.{IsSmallNumber, IsNumber, IsMode}
 use Rattle.ec_words.specs.Examples.{a_small_number, a_number, a_mode}
 use Rattle.ec_words.proofs.Misfits.{begins_row, begins_last}

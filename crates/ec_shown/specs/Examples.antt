@@ -6,7 +6,7 @@ use Rattle.std.proofs.lemmas.Fmt.{decimal_digit, IsAscii-decimal}
 use Rattle.std.proofs.lemmas.Str.{IsUtf8-from_ascii, is_utf8-from_IsUtf8}
 use Rattle.ec_base.specs.Names.{IsName}
 use Rattle.ec_base.specs.declared.name.NameFault.TheVariants as fault
-use Rattle.ec_words.specs.Rows.{Example}
+use Rattle.ec_words.specs.RowsLeft.{Example}
 use Rattle.ec_shown.specs.declared.name.Said.TheVariants as said
 use Rattle.ec_shown.specs.declared.name.Why.TheVariants as why
 use Rattle.ec_shown.specs.Spelling.{IsPlace, IsOwner, IsSaid, IsWhy, IsPathShown, IsWritten, IsNameText}

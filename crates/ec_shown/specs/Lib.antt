@@ -1,5 +1,6 @@
 pub mod Spelling
 pub mod Rows
+pub mod LackedMarks
 pub mod Examples
 pub mod Answers
 pub mod Calls

@@ -1,8 +1,6 @@
 -- Rows of words: a mark before others, what may stand at the end, so many words, and lists of operations.
-use Rattle.std.specs.Prelude.{◌≡◌, ℕ, zero, suc, Option, None, Some, List, [], ◌∷◌, codes, ⊤}
-use Rattle.ec_words.specs.declared.cursor.Misfit.{Misfit}
-use Rattle.ec_words.specs.declared.cursor.Misfit.TheVariants as misfit
-use Rattle.ec_words.specs.Rows.{Word, Last, joined_len}
+use Rattle.std.specs.Prelude.{◌≡◌, ℕ, zero, suc, Option, None, Some, List, [], ◌∷◌, codes}
+use Rattle.ec_words.specs.Rows.{Word, Last}
 use Rattle.ec_words.specs.Spelling.{IsNumber}
 use Rattle.ec_shown.specs.Spelling.{IsAbove}
 
@@ -10,11 +8,6 @@ use Rattle.ec_shown.specs.Spelling.{IsAbove}
 abbrev pub Marked : {X : Type 0} → Word → (List Word → X → Type 0) → List Word → X → Type 0
 Marked mark G [] x = ⊥
 Marked mark G (w ∷ ws) x = (w ≡ mark) × G ws x
-
--- the first of these words isn't this mark, or is missing; so many bytes are left from it on
-abbrev pub LacksMark : Word → List Word → Misfit → Type 0
-LacksMark mark ws (misfit.Unfit bytes) = (bytes ≡ joined_len ws) × ((rest : List Word) → ws ≡ mark ∷ rest → ⊥)
-LacksMark mark ws misfit.NoMemory = ⊤
 
 -- no word, or this mark and one word by the test P
 abbrev pub Tail : {V : Type 0} → Word → (Word → V → Type 0) → List Word → Option V → Type 0

@@ -1,6 +1,7 @@
 // What became of a call, by the words behind `->`.
 ghost use Rattle.std.specs.Prelude.{◌≡◌, MatchResult};
-ghost use Rattle.ec_words.specs.Rows.{End, ◌⊳◌, ◌makes◌, IsMisfit, left};
+ghost use Rattle.ec_words.specs.Rows.{End, ◌⊳◌, ◌makes◌};
+ghost use Rattle.ec_words.specs.RowsLeft.{IsMisfit, left};
 ghost use Rattle.ec_words.specs.Spelling.{IsNumber};
 ghost use Rattle.ec_shown.specs.Spelling.{IsNameText, IsSaid, IsWhy};
 ghost use Rattle.ec_shown.specs.Rows.{Times};

@@ -2,7 +2,8 @@
 ghost use Rattle.std.specs.Prelude.{◌≡◌, ◌-◌, ◌∷◌, ◌++◌, List, MatchResult};
 ghost use Rattle.ec_plain.specs.Walk.{Path as PathNames};
 ghost use Rattle.ec_volume.specs.Limits.{max_ordered};
-ghost use Rattle.ec_words.specs.Rows.{◌▸◌, ◌makes◌, IsMisfit, left};
+ghost use Rattle.ec_words.specs.Rows.{◌▸◌, ◌makes◌};
+ghost use Rattle.ec_words.specs.RowsLeft.{IsMisfit, left};
 ghost use Rattle.ec_shown.specs.Spelling.{IsPathShown};
 ghost use Rattle.ec_shown.specs.Answers.{SpellsOutcome};
 ghost use Rattle.ec_shown.specs.Calls.{Paths, Asks, SpellsAsked};

@@ -1,6 +1,7 @@
 // Transcript lines.
 ghost use Rattle.std.specs.Prelude.{◌≡◌, ℕ, MatchResult};
-ghost use Rattle.ec_words.specs.Rows.{◌▸◌, Last, ◌makes◌, IsMisfit, left};
+ghost use Rattle.ec_words.specs.Rows.{◌▸◌, Last, ◌makes◌};
+ghost use Rattle.ec_words.specs.RowsLeft.{IsMisfit, left};
 ghost use Rattle.ec_words.specs.Spelling.{IsClerk, IsSmallNumber, IsNumber};
 ghost use Rattle.std.specs.Prelude.{codes};
 ghost use Rattle.ec_shown.specs.Spelling.{IsLimit, IsCounter};

@@ -1,7 +1,7 @@
 // Lists of operations.
 ghost use Rattle.std.specs.Prelude.{◌≡◌, ◌∷◌, ℕ, MatchOption, MatchResult};
 ghost use Rattle.std.specs.Prelude as prelude;
-ghost use Rattle.ec_words.specs.Rows.{Takes, Lacks, IsMisfit, left};
+ghost use Rattle.ec_words.specs.RowsLeft.{Takes, Lacks, IsMisfit, left};
 ghost use Rattle.ec_shown.specs.Spelling.{IsAbove};
 ghost use Rattle.ec_shown.specs.Rows.{SpellsList, Rises};
 

@@ -3,7 +3,7 @@ ghost use Rattle.std.specs.Prelude.{◌≡◌, MatchOption, MatchResult};
 ghost use Rattle.ec_base.specs.declared.counter.Counter.{Counter as Counters};
 ghost use Rattle.ec_history.specs.declared.shown.LimitName.{LimitName as LimitNames};
 ghost use Rattle.ec_volume.specs.declared.image.Kind.{Kind as Kinds};
-ghost use Rattle.ec_words.specs.Rows.{Takes, Lacks, left};
+ghost use Rattle.ec_words.specs.RowsLeft.{Takes, Lacks, left};
 ghost use Rattle.ec_shown.specs.declared.name.Head.{Head as Heads};
 ghost use Rattle.ec_shown.specs.declared.name.Said.{Said as Saids};
 ghost use Rattle.ec_shown.specs.declared.name.Why.{Why as Whys};

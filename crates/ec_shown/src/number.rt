@@ -1,6 +1,6 @@
 // Clerks and numbers.
 ghost use Rattle.std.specs.Prelude.{ℕ, MatchOption, MatchResult};
-ghost use Rattle.ec_words.specs.Rows.{Takes, Lacks, left};
+ghost use Rattle.ec_words.specs.RowsLeft.{Takes, Lacks, left};
 ghost use Rattle.ec_words.specs.Spelling.{IsMode, IsSmallNumber};
 
 use ec_base::{ClerkId, NoMemory};

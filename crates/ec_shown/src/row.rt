@@ -1,7 +1,8 @@
 // Rows of words: a mark before others, and what may stand at the end.
 ghost use Rattle.std.specs.Prelude.{◌≡◌, ◌∷◌, MatchResult};
-ghost use Rattle.ec_words.specs.Rows.{IsMisfit, left};
-ghost use Rattle.ec_shown.specs.Rows.{LacksMark, Tail};
+ghost use Rattle.ec_words.specs.RowsLeft.{IsMisfit, left};
+ghost use Rattle.ec_shown.specs.Rows.{Tail};
+ghost use Rattle.ec_shown.specs.LackedMarks.{LacksMark};
 
 use ec_words::{Misfit, Spelled, Words, is_word, one};
 use std::alloc::Global;

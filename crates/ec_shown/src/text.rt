@@ -1,7 +1,7 @@
 // Texts, names and paths in their one spelling.
 ghost use Rattle.std.specs.Prelude.{◌≡◌, ◌<◌, ◌≤◌, ℕ, List, length, IfOk, IfSome, MatchResult};
 ghost use Rattle.std.specs.Option.{option_map};
-ghost use Rattle.ec_words.specs.Rows.{Takes, Lacks, left};
+ghost use Rattle.ec_words.specs.RowsLeft.{Takes, Lacks, left};
 ghost use Rattle.ec_words.specs.Spelling.{led_by};
 ghost use Rattle.ec_shown.specs.Spelling.{is_plain, written_of, escape_of, upper_digit, bare_byte, IsTextOf};
 

@@ -3,7 +3,8 @@ use Rattle.std.proofs.Common.{◌≡◌, inl, inr, ℕ, ◌+◌, ◌<◌, ◌≤
 use Rattle.std.specs.Int.{w64, to_be_bytes, from_be_bytes}
 use Rattle.std.proofs.lemmas.Bool.{cases_eq}
 use Rattle.std.proofs.lemmas.Nat.{from_be_bytes-to_be_bytes_8}
-use Rattle.ec_disk.specs.Disk.{View, byte, part, written, Loose, InRange, After, IsSynced, LeavesOnly}
+use Rattle.ec_disk.specs.Disk.{View, byte, part}
+use Rattle.ec_disk.specs.Effects.{written, Loose, InRange, After, IsSynced, LeavesOnly}
 use Rattle.ec_disk.specs.Images.{part-loose, part-written, byte-written, length-written}
 use Rattle.ec_disk.specs.Runs.{Ran, leaves_only, leaves_then, ran_within}
 use Rattle.ec_slots.specs.Contents.{content}

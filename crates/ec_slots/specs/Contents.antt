@@ -2,7 +2,8 @@
 use Rattle.std.specs.Prelude.{◌≡◌, ◌+◌, ◌-◌, ◌≤◌, ℕ, List, ◌++◌, length, take, drop, replicate}
 use Rattle.std.proofs.Common.{inl, inr, arith, ◌∙◌, ap, sym, length-append}
 use Rattle.std.proofs.lemmas.List.{length-drop, get_or-drop, get_or_append_left, ext_get_or, drop-drop, append-nil}
-use Rattle.ec_disk.specs.Disk.{byte, part, written, Loose, InRange}
+use Rattle.ec_disk.specs.Disk.{byte, part}
+use Rattle.ec_disk.specs.Effects.{written, Loose, InRange}
 use Rattle.ec_disk.specs.Images.{in_range_or_not, length-written, byte-written_in, byte-written_out}
 use Rattle.ec_slots.specs.Slots.{header_bytes}
 

@@ -4,7 +4,7 @@ use Rattle.std.proofs.Common.{inl, inr, arith, ◌∙◌, sym}
 use Rattle.std.proofs.lemmas.Bool.{cases_eq}
 use Rattle.std.proofs.lemmas.Bool.Decides.{nat_tests}
 use Rattle.std.proofs.lemmas.List.{ext_get_or}
-use Rattle.ec_disk.specs.Disk.{written}
+use Rattle.ec_disk.specs.Effects.{written}
 use Rattle.ec_disk.specs.Images.{length-written, byte-written_out}
 use Rattle.ec_slots.specs.Contents.{content, length-content, byte-content}
 use Rattle.ec_slots.specs.declared.slot.Slot.{Slot}

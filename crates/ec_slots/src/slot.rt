@@ -1,7 +1,7 @@
 // The two slots of a disk's generation, of which one is written while the other one counts.
 ghost use Rattle.std.specs.Prelude.{◌≡◌, ◌≤◌, ℕ, true, false, length};
 ghost use Rattle.ec_disk.specs.declared.disk.DiskAnswer.TheVariants as said;
-ghost use Rattle.ec_disk.specs.Disk.{InRange, IsSynced, Counted, LeavesOnly};
+ghost use Rattle.ec_disk.specs.Effects.{InRange, IsSynced, Counted, LeavesOnly};
 ghost use Rattle.ec_disk.specs.Runs.{Ran};
 ghost use Rattle.ec_slots.specs.Contents.{content};
 ghost use Rattle.ec_slots.specs.Slots.{AreReady, HoldsEither, place_of, other, header_bytes, slot_bytes};

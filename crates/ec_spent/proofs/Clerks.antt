@@ -27,7 +27,7 @@ use Rattle.ec_protocol.specs.declared.clerk.Waiting.{Waiting}
 use Rattle.ec_coherence.proofs.Settling.{Keeping, settle-keeps}
 use Rattle.ec_coherence.proofs.Try.{OnTried}
 use Rattle.ec_coherence.proofs.TriedList.{same-verdict}
-use Rattle.ec_spent.specs.Spent.{most_lines}
+use Rattle.ec_spent.specs.SpentDrills.{most_lines}
 use Rattle.ec_spent.proofs.Few.{IsGoingCounts, counts, most_steps, unasked}
 use Rattle.ec_spent.proofs.Windows.{begins, has-room, least-begun}
 

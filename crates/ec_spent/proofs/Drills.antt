@@ -18,7 +18,8 @@ use Rattle.ec_protocol.specs.declared.world.Event.TheVariants as event
 use Rattle.ec_protocol.specs.declared.world.World.{World}
 use Rattle.ec_protocol.specs.declared.world.WorldFault.{WorldFault}
 use Rattle.ec_protocol.specs.declared.world.WorldFault.TheVariants as fault
-use Rattle.ec_spent.specs.Spent.{AllSpendFew, DrillsSpendFew, MaySpend, most_lines}
+use Rattle.ec_spent.specs.Spent.{AllSpendFew, MaySpend}
+use Rattle.ec_spent.specs.SpentDrills.{DrillsSpendFew, most_lines}
 use Rattle.ec_spent.proofs.Few.{IsLow, OnSpent, line_steps, most_steps}
 use Rattle.ec_spent.proofs.Servers as servers
 use Rattle.ec_spent.proofs.Worlds.{IsGoing, IsLowWorld, IsTold, OnFault, delivers, goes-later, happens, later, lines-more, restarts-tell}

@@ -18,7 +18,7 @@ use Rattle.ec_protocol.specs.Clerk.{Doing, add_call, add_ids, begin, claim, doin
 use Rattle.ec_protocol.specs.declared.clerk.Clerk.{Clerk}
 use Rattle.ec_protocol.specs.declared.clerk.Out.TheVariants as out
 use Rattle.ec_protocol.specs.declared.clerk.Waiting.{Waiting}
-use Rattle.ec_spent.specs.Spent.{most_lines}
+use Rattle.ec_spent.specs.SpentDrills.{most_lines}
 use Rattle.ec_spent.proofs.Few.{IsFew, IsGoingCounts, OnSpent, counts, most_steps, opened}
 use Rattle.ec_spent.proofs.Windows.{kept, least-within, new-window}
 use Rattle.ec_spent.proofs.Clerks as clerks

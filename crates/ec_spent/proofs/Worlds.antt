@@ -33,7 +33,8 @@ use Rattle.ec_protocol.specs.declared.world.World.{World}
 use Rattle.ec_protocol.specs.declared.world.WorldFault.{WorldFault}
 use Rattle.ec_protocol.specs.declared.world.WorldFault.TheVariants as fault
 use Rattle.ec_coherence.proofs.Tables.{at-put, at-without}
-use Rattle.ec_spent.specs.Spent.{AllSpendFew, MaySpend, SpendsFew, most_lines}
+use Rattle.ec_spent.specs.Spent.{AllSpendFew, MaySpend, SpendsFew}
+use Rattle.ec_spent.specs.SpentDrills.{most_lines}
 use Rattle.ec_spent.proofs.Few.{IsFew, IsGoingCounts, IsLow, OnSpent, counts, ends-few, more-few, most_steps}
 use Rattle.ec_spent.proofs.Messages as clerks
 use Rattle.ec_spent.proofs.Servers as servers

@@ -11,7 +11,8 @@ use Rattle.ec_disk.specs.Images.{part-add}
 use Rattle.ec_journal.specs.Records.{open_gate, records, Front, HasBodies, RunsPast}
 use Rattle.ec_journal.specs.Laws.{part-split, head, fronts, next, bodies-unique, whole-or-past}
 use Rattle.ec_volume.specs.declared.image.Image.{Image}
-use Rattle.ec_codes.specs.Formats.{Format, StandsAt}
+use Rattle.ec_codes.specs.Formats.{Format}
+use Rattle.ec_codes.specs.Spelling.{StandsAt}
 use Rattle.ec_codes.specs.FormatLaws.{IsFormat, ok_is, then_is}
 use Rattle.ec_codes.specs.FieldLaws.{id-is}
 use Rattle.ec_codes.specs.ImageLaws.{image-is, old_image-is}
@@ -32,7 +33,8 @@ use Rattle.ec_table.specs.declared.table.Version.TheVariants.{One, Two}
 use Rattle.ec_layout.specs.Places.{journal_at, table_at, slot_at, side_of, journal_bytes, table_bytes, slot_bytes}
 use Rattle.ec_layout.specs.Layout.{Layout, Lies, HasSlots}
 use Rattle.ec_layout.specs.Head.{first_word, form}
-use Rattle.ec_stands.specs.Stands.{side_in, journal_in, most_in, table_part, slot_part, slot_code, HasGoodHead, HasTable, HasImage, HasImages, state_of, HasCheckpoint, StepsTo, StandsFor, IsBadImage, HasBadImage, IsRefused, GoesOn, HasBadRecord, IsBadAt, AreSlotsIn, IsCheckpointIn, IsCheckpoint, AreSpelled, slots_in, IsReadBack, layout_in}
+use Rattle.ec_stands.specs.Stands.{side_in, journal_in, most_in, table_part, slot_part, slot_code, HasGoodHead, HasTable, HasImage, HasImages, state_of, HasCheckpoint, StepsTo, StandsFor, IsBadImage, HasBadImage, IsRefused, GoesOn, HasBadRecord, IsBadAt}
+use Rattle.ec_stands.specs.Checkpoints.{AreSlotsIn, IsCheckpointIn, IsCheckpoint, AreSpelled, slots_in, IsReadBack, layout_in}
 use Rattle.ec_stands.specs.Stands.{no_image, another_image, no_record, no_step, short_head, other_word, other_most, other_form, bad_table, bad_slot, ill_formed, bad_record}
 
 -- What is read is one thing.

@@ -1,3 +1,4 @@
 pub mod FirstPlace
 pub mod Stands
+pub mod Checkpoints
 pub mod Laws

@@ -5,7 +5,8 @@ ghost use Rattle.ec_durable.specs.declared.state.Durable.{Durable};
 ghost use Rattle.ec_durable.specs.Codes.{said};
 ghost use Rattle.ec_durable.specs.Durable.{step};
 ghost use Rattle.ec_layout.specs.Layout.{Layout, Lies};
-ghost use Rattle.ec_stands.specs.Stands.{StandsFor, IsBadAt, IsCheckpoint, StepsTo};
+ghost use Rattle.ec_stands.specs.Stands.{StandsFor, IsBadAt, StepsTo};
+ghost use Rattle.ec_stands.specs.Checkpoints.{IsCheckpoint};
 
 /// An image stands for at most one state, and for none where it has a bad place. Its first bad place is one.
 pub fn images_stand_for_one_state()

@@ -5,7 +5,8 @@ use Rattle.std.specs.Ordering.{nat_cmp}
 use Rattle.std.specs.FinMap.{is_sorted}
 use Rattle.ec_base.specs.Tables.{keys}
 use Rattle.ec_volume.specs.declared.image.Image.{Image}
-use Rattle.ec_sessions.specs.Slots.{Slots, all_unspent, AreSlots}
+use Rattle.ec_sessions.specs.Slots.{Slots, all_unspent}
+use Rattle.ec_sessions.specs.SlotChecks.{AreSlots}
 use Rattle.ec_durable.specs.WellFormed.{WellFormed}
 use Rattle.ec_durable.proofs.Counts.{once_apart}
 use Rattle.ec_table.specs.Codes.{table_code, ids_in, numbers_in}

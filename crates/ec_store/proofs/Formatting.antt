@@ -2,9 +2,11 @@
 use Rattle.std.proofs.Common.{◌≡◌, ◌⊎◌, ℕ, ◌≤◌, Bool, true, false, List, [], ◌∷◌, length, refl, ap, subst, ◌∙◌, inl, inr, ⊎_elim}
 use Rattle.std.specs.Prelude.{◌==◌}
 use Rattle.std.proofs.lemmas.Bool.{cases_lt, eqb-true, eqb-false}
-use Rattle.ec_disk.specs.Disk.{View, part, LeavesOnly}
+use Rattle.ec_disk.specs.Disk.{View, part}
+use Rattle.ec_disk.specs.Effects.{LeavesOnly}
 use Rattle.ec_durable.specs.declared.state.Durable.{Durable}
-use Rattle.ec_layout.specs.Head.{LiesIfWhole, first_word}
+use Rattle.ec_layout.specs.Head.{first_word}
+use Rattle.ec_layout.specs.Heads.{LiesIfWhole}
 use Rattle.ec_layout.specs.Layout.{Layout, Lies}
 use Rattle.ec_stands.specs.Stands.{StandsFor}
 use Rattle.ec_stands.specs.Stands.{short_head, other_word}

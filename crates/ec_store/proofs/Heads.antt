@@ -7,14 +7,16 @@ use Rattle.std.proofs.lemmas.List.{length-drop, length-take, drop-take, take-tak
 use Rattle.ec_disk.specs.Disk.{part}
 use Rattle.ec_disk.specs.Images.{byte-part}
 use Rattle.ec_volume.specs.declared.image.Image.{Image}
-use Rattle.ec_codes.specs.Formats.{Read, Spells, StandsAt, Fails}
+use Rattle.ec_codes.specs.Formats.{Read}
+use Rattle.ec_codes.specs.Spelling.{Spells, StandsAt, Fails}
 use Rattle.ec_codes.specs.declared.fault.CodeFault.{CodeFault}
 use Rattle.ec_codes.specs.declared.fault.CodeFault.TheVariants.{Short, Field, NoMemory}
 use Rattle.ec_table.specs.declared.table.Version.{Version}
 use Rattle.ec_layout.specs.declared.reading.Head.{Head}
 use Rattle.ec_layout.specs.Reading.{IsHead}
 use Rattle.ec_layout.specs.Places.{slot_at}
-use Rattle.ec_stands.specs.Stands.{slot_code, slot_part, side_in, HasGoodHead, IsSpelled, IsBadImage, IsBadAt}
+use Rattle.ec_stands.specs.Stands.{slot_code, slot_part, side_in, HasGoodHead, IsBadImage, IsBadAt}
+use Rattle.ec_stands.specs.Checkpoints.{IsSpelled}
 use Rattle.ec_stands.specs.Stands.{short_head, other_word, other_most, other_form, no_image, another_image}
 use Rattle.ec_store.specs.Reading.{place_of}
 use Rattle.ec_store.specs.declared.fault.StoreFault.{StoreFault}

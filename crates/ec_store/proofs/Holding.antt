@@ -8,7 +8,8 @@ use Rattle.std.proofs.lemmas.Bool.{leb-true}
 use Rattle.std.proofs.lemmas.Option.{slice_get-get_or}
 use Rattle.ec_base.specs.SortedLaws.{second}
 use Rattle.ec_base.specs.Tables.{at}
-use Rattle.ec_disk.specs.Disk.{View, LeavesOnly}
+use Rattle.ec_disk.specs.Disk.{View}
+use Rattle.ec_disk.specs.Effects.{LeavesOnly}
 use Rattle.ec_volume.specs.Image.{is_gone}
 use Rattle.ec_volume.specs.Update.{member}
 use Rattle.ec_volume.specs.Volume.{images}
@@ -29,7 +30,7 @@ use Rattle.ec_stands.proofs.Volumes.{step_well}
 use Rattle.ec_table.specs.Codes.{table_code, described, numbers_in, place_after}
 use Rattle.ec_table.specs.declared.table.Version.{Version}
 use Rattle.ec_table.specs.declared.table.Version.TheVariants.{Two}
-use Rattle.ec_layout.specs.Places.{other}
+use Rattle.ec_layout.specs.Sides.{other}
 use Rattle.ec_layout.specs.declared.side.Side.{Side}
 use Rattle.ec_layout.specs.declared.side.Side.TheVariants as side
 use Rattle.ec_layout.specs.Layout.{Layout, Lies, Follows, IsAmong}
@@ -40,7 +41,8 @@ use Rattle.ec_layout.specs.Head.{first_word}
 use Rattle.ec_layout.specs.FreeLaws.{free_enough}
 use Rattle.ec_layout.specs.Pieces.{AreApart}
 use Rattle.ec_layout.specs.declared.selected.Selected.{Selected}
-use Rattle.ec_stands.specs.Stands.{slot_code, IsCheckpoint, StepsTo, StandsFor}
+use Rattle.ec_stands.specs.Stands.{slot_code, StepsTo, StandsFor}
+use Rattle.ec_stands.specs.Checkpoints.{IsCheckpoint}
 use Rattle.ec_stands.specs.Laws.{lies_stands, lies_stands_in, steps_more}
 use Rattle.ec_store.specs.Places.{ArePlaces, AreSpare, IsPlaced, placed, pieces, touched}
 use Rattle.ec_store.specs.Store.{Holds, HoldsIn, StandsForEither}

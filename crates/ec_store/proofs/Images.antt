@@ -24,7 +24,8 @@ use Rattle.ec_volume.specs.declared.image.Image.TheVariants.{Gone, File, Dir}
 use Rattle.ec_volume.specs.declared.update.Update.{Update}
 use Rattle.ec_volume.proofs.Held.{images_find, held_live}
 use Rattle.ec_volume.proofs.Changed.{changed_images}
-use Rattle.ec_codes.specs.Images.{is_sound_image, ids_under}
+use Rattle.ec_codes.specs.Images.{ids_under}
+use Rattle.ec_codes.specs.SoundImages.{is_sound_image}
 use Rattle.ec_sessions.specs.Slots as slots
 use Rattle.ec_durable.specs.declared.state.Durable.{Durable}
 use Rattle.ec_durable.specs.declared.record.Record.{Record}

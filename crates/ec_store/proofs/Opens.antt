@@ -2,7 +2,8 @@
 use Rattle.std.proofs.Common.{◌≡◌, ℕ, cond, List, length, None, Result, Ok, Err, sym, subst, ◌∙◌, inl, inr, ⊎_elim}
 use Rattle.std.specs.Prelude.{IfOk}
 use Rattle.ec_base.specs.Tables.{at}
-use Rattle.ec_disk.specs.Disk.{View, Rests, IsSynced, LeavesOnly}
+use Rattle.ec_disk.specs.Disk.{View}
+use Rattle.ec_disk.specs.Effects.{Rests, IsSynced, LeavesOnly}
 use Rattle.ec_disk.specs.Runs.{leaves_then}
 use Rattle.ec_volume.specs.Update.{member}
 use Rattle.ec_durable.specs.declared.state.Durable.{Durable}
@@ -11,7 +12,8 @@ use Rattle.ec_journal.specs.Records.{records}
 use Rattle.ec_table.specs.Codes.{numbers_in}
 use Rattle.ec_table.specs.declared.table.Version.TheVariants.{One, Two}
 use Rattle.ec_layout.specs.Selected.{IsSelected}
-use Rattle.ec_stands.specs.Stands.{StandsFor, IsReadBack}
+use Rattle.ec_stands.specs.Stands.{StandsFor}
+use Rattle.ec_stands.specs.Checkpoints.{IsReadBack}
 use Rattle.ec_store.specs.Opening.{IsOpened, IsOlder, WasLeftOrStands, IsSameOrStands}
 use Rattle.ec_store.specs.declared.fault.StoreFault.{StoreFault}
 use Rattle.ec_store.specs.Store.{Holds, IsHeld, view_of}

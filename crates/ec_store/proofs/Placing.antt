@@ -24,7 +24,8 @@ use Rattle.ec_table.specs.Codes.{last_of, is_behind, is_above, id_above, ids_in,
 use Rattle.ec_table.specs.declared.table.Version.TheVariants.{Two}
 use Rattle.ec_layout.specs.Layout.{IsFree, AreFree, IsAmong, AreAmong}
 use Rattle.ec_layout.specs.Pieces.{AreApart}
-use Rattle.ec_stands.specs.Stands.{slot_code, AreSlots}
+use Rattle.ec_stands.specs.Stands.{slot_code}
+use Rattle.ec_stands.specs.Checkpoints.{AreSlots}
 use Rattle.ec_store.specs.Places.{ArePlaces, AreSpare, IsPlaced, slot_of, rest_of, piece_of, placed, pieces}
 use Rattle.ec_store.proofs.Members.{clash, member_cases, member_none, member_here, member_later, member_push, member_of_push, member_before, distinct_parts, at_cases, at_here, at_later, less_is}
 

@@ -11,20 +11,22 @@ use Rattle.ec_durable.specs.WellFormed.{WellFormed}
 use Rattle.ec_layout.specs.Head.{first_word, form}
 use Rattle.ec_layout.specs.Layout.{IsFree, IsAmong}
 use Rattle.ec_layout.specs.declared.side.Side.TheVariants as side
-use Rattle.ec_stands.specs.Stands.{slot_code, AreSlots, IsCheckpoint, StandsFor}
+use Rattle.ec_stands.specs.Stands.{slot_code, StandsFor}
+use Rattle.ec_stands.specs.Checkpoints.{AreSlots, IsCheckpoint}
 use Rattle.ec_stands.specs.Laws.{lies_stands, lies_stands_in}
 use Rattle.ec_store.proofs.Placing.{slots_of, StandsIn, new_slots, new_numbers, place_stands}
 use Rattle.ec_base.specs.declared.list.NoMemory.{NoMemory}
 use Rattle.ec_volume.specs.Update.{member}
 use Rattle.ec_base.specs.Tables.{at}
-use Rattle.ec_disk.specs.Disk.{View, LeavesOnly}
+use Rattle.ec_disk.specs.Disk.{View}
+use Rattle.ec_disk.specs.Effects.{LeavesOnly}
 use Rattle.ec_durable.specs.declared.state.Durable.{Durable}
 use Rattle.ec_durable.specs.declared.record.Record.{Record}
 use Rattle.ec_durable.specs.WellFormed.{IsInOrder}
 use Rattle.ec_table.specs.Codes.{table_code, described, numbers_in}
 use Rattle.ec_table.specs.declared.table.Version.{Version}
 use Rattle.ec_table.specs.declared.table.Version.TheVariants.{Two}
-use Rattle.ec_layout.specs.Places.{other}
+use Rattle.ec_layout.specs.Sides.{other}
 use Rattle.ec_layout.specs.Layout.{Layout, Lies, Follows}
 use Rattle.ec_layout.specs.Selected.{IsOn, side_now}
 use Rattle.ec_layout.specs.Free.{free_below}

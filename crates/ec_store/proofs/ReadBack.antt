@@ -3,13 +3,14 @@ use Rattle.std.proofs.Common.{◌≡◌, ℕ, ◌+◌, ◌<◌, ◌≤◌, Bool,
 use Rattle.std.specs.Prelude.{unwrap_or}
 use Rattle.std.specs.Int.{w32, to_be_bytes}
 use Rattle.ec_base.specs.Tables.{at}
-use Rattle.ec_disk.specs.Disk.{View, part, IsSynced}
+use Rattle.ec_disk.specs.Disk.{View, part}
+use Rattle.ec_disk.specs.Effects.{IsSynced}
 use Rattle.ec_volume.specs.Update.{member}
 use Rattle.ec_volume.specs.Volume.{images}
 use Rattle.ec_volume.specs.declared.image.Image.{Image}
 use Rattle.ec_volume.specs.declared.image.Image.TheVariants.{Gone}
 use Rattle.ec_volume.proofs.Held.{images_find}
-use Rattle.ec_codes.specs.Formats.{StandsAt}
+use Rattle.ec_codes.specs.Spelling.{StandsAt}
 use Rattle.ec_codes.specs.declared.fault.CodeFault.{CodeFault}
 use Rattle.ec_durable.specs.declared.state.Durable.{Durable}
 use Rattle.ec_durable.specs.WellFormed.{WellFormed}
@@ -27,7 +28,8 @@ use Rattle.ec_layout.specs.Layout.{Lies, IsFree, IsAmong}
 use Rattle.ec_layout.specs.Selected.{IsSelected, IsOn}
 use Rattle.ec_layout.specs.declared.side.Side.{Side}
 use Rattle.ec_layout.specs.declared.selected.Selected.{Selected}
-use Rattle.ec_stands.specs.Stands.{side_in, journal_in, most_in, table_part, slot_code, HasGoodHead, HasTable, HasImages, HasBadImage, state_of, HasCheckpoint, StepsTo, StandsFor, IsBadAt, AreSlotsIn, AreSpelled, IsReadBack, layout_in, fault_at}
+use Rattle.ec_stands.specs.Stands.{side_in, journal_in, most_in, table_part, slot_code, HasGoodHead, HasTable, HasImages, HasBadImage, state_of, HasCheckpoint, StepsTo, StandsFor, IsBadAt, fault_at}
+use Rattle.ec_stands.specs.Checkpoints.{AreSlotsIn, AreSpelled, IsReadBack, layout_in}
 use Rattle.ec_stands.specs.Stands.{bad_table, bad_slot, ill_formed, bad_record}
 use Rattle.ec_stands.specs.Laws.{read_back_lies, behind_journal, lies_stands_in}
 use Rattle.ec_stands.specs.FirstPlace.{front_of}

@@ -6,7 +6,8 @@ use Rattle.ec_durable.specs.declared.state.Durable.{Durable}
 use Rattle.ec_durable.specs.declared.record.Record.{Record}
 use Rattle.ec_durable.specs.declared.record.RecordFault.{RecordFault}
 use Rattle.ec_durable.specs.declared.record.RecordFault.TheVariants as refusal
-use Rattle.ec_durable.specs.Codes.{said, Answers}
+use Rattle.ec_durable.specs.Codes.{said}
+use Rattle.ec_durable.specs.SoundRecords.{Answers}
 use Rattle.ec_durable.specs.Durable.{step}
 use Rattle.ec_durable.specs.Steps.{Refuses}
 use Rattle.ec_stands.specs.Stands.{IsRefused}

@@ -1,13 +1,14 @@
 -- A disk of an older version, that is brought to the one that is written.
 use Rattle.std.proofs.Common.{◌≡◌, ◌⊎◌, ℕ, true, List, [], length, Some, sym, subst}
 use Rattle.ec_base.specs.Tables.{at}
-use Rattle.ec_disk.specs.Disk.{View, IsSynced, LeavesOnly}
+use Rattle.ec_disk.specs.Disk.{View}
+use Rattle.ec_disk.specs.Effects.{IsSynced, LeavesOnly}
 use Rattle.ec_durable.specs.WellFormed.{WellFormed}
 use Rattle.ec_journal.specs.Records.{records}
 use Rattle.ec_table.specs.Codes.{table_code, described, numbers_in}
 use Rattle.ec_table.specs.declared.table.Version.{Version}
 use Rattle.ec_table.specs.declared.table.Version.TheVariants.{One, Two}
-use Rattle.ec_layout.specs.Places.{other}
+use Rattle.ec_layout.specs.Sides.{other}
 use Rattle.ec_layout.specs.Layout.{Layout, Lies, Follows}
 use Rattle.ec_layout.specs.Selected.{IsSelected, IsOn, side_now}
 use Rattle.ec_layout.specs.Pieces.{AreApart, pieces_of}

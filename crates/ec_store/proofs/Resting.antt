@@ -1,6 +1,7 @@
 -- Calls that write nothing, one behind the other.
 use Rattle.std.proofs.Common.{ℕ, ◌≤◌, List, refl, sym, ◌∙◌, arith, inl, inr, ⊎_elim}
-use Rattle.ec_disk.specs.Disk.{View, Rests, IsSynced, LeavesOnly}
+use Rattle.ec_disk.specs.Disk.{View}
+use Rattle.ec_disk.specs.Effects.{Rests, IsSynced, LeavesOnly}
 
 pub rests_same : (now : View) → Rests now now
 rests_same now = record {

@@ -13,9 +13,10 @@ use Rattle.ec_base.specs.Limits.{clerk_count}
 use Rattle.ec_codes.specs.Formats.{rows_fit, is_given, byte}
 use Rattle.ec_codes.specs.Fields.{word, long, id}
 use Rattle.ec_codes.specs.Clerks.{age_field}
-use Rattle.ec_sessions.specs.Windows.{times}
+use Rattle.ec_sessions.specs.WindowMarks.{times}
 use Rattle.ec_sessions.specs.IdLaws.{times-append}
-use Rattle.ec_sessions.specs.Slots.{Slots, slot_at, unspent_of, all_unspent, AreSlots}
+use Rattle.ec_sessions.specs.Slots.{Slots, slot_at, unspent_of, all_unspent}
+use Rattle.ec_sessions.specs.SlotChecks.{AreSlots}
 use Rattle.ec_sessions.specs.declared.slot.Slot.{Slot}
 use Rattle.ec_sessions.proofs.Rising.{Above, Rises, increasing_from}
 use Rattle.ec_table.specs.Codes.{last_of, is_behind, is_above, id_above, ids_field, last_first_field, slot_fields, fields_of, slot_tag, slot_form, slot_code, slots_field, ids_in, place_after, places_field, state_fields, state_code, parts_of, old_table, new_table, table_code}

@@ -2,14 +2,15 @@
 use Rattle.std.specs.Prelude.{◌≡◌, ◌⊎◌, ℕ, true, false, List, length}
 use Rattle.std.specs.Int.{w32, to_be_bytes}
 use Rattle.ec_disk.specs.Disk.{View, part}
-use Rattle.ec_codes.specs.Formats.{StandsAt}
+use Rattle.ec_codes.specs.Spelling.{StandsAt}
 use Rattle.ec_volume.specs.Update.{member}
 use Rattle.ec_durable.specs.declared.state.Durable.{Durable}
 use Rattle.ec_journal.specs.Records.{records}
 use Rattle.ec_table.specs.Codes.{table_code, described}
 use Rattle.ec_table.specs.declared.table.Version.{Version}
 use Rattle.ec_table.specs.declared.table.Version.TheVariants.{One}
-use Rattle.ec_stands.specs.Stands.{side_in, table_part, HasGoodHead, AreSpelled, StepsTo, StandsFor, IsBadAt, IsReadBack}
+use Rattle.ec_stands.specs.Stands.{side_in, table_part, HasGoodHead, StepsTo, StandsFor, IsBadAt}
+use Rattle.ec_stands.specs.Checkpoints.{AreSpelled, IsReadBack}
 use Rattle.ec_store.specs.Replay.{Spares, IsUntouched}
 use Rattle.ec_store.specs.declared.opening.Checkpoint.{Checkpoint}
 use Rattle.ec_store.specs.declared.opening.Opened.{Opened}

@@ -1,7 +1,8 @@
 -- Where each image that a crash might have left stood for one of some states, each one that it might leave since the disk is opened does.
 use Rattle.std.specs.Prelude.{ℕ, List}
 use Rattle.std.proofs.Common.{inl, inr, ⊎_elim, subst}
-use Rattle.ec_disk.specs.Disk.{View, LeavesOnly}
+use Rattle.ec_disk.specs.Disk.{View}
+use Rattle.ec_disk.specs.Effects.{LeavesOnly}
 use Rattle.ec_durable.specs.declared.state.Durable.{Durable}
 use Rattle.ec_stands.specs.Stands.{StandsFor}
 use Rattle.ec_stands.specs.Laws.{one_state}

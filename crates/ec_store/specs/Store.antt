@@ -18,7 +18,8 @@ use Rattle.ec_table.specs.declared.table.Version.TheVariants.{Two}
 use Rattle.ec_layout.specs.Layout.{Layout, IsFree, IsAmong}
 use Rattle.ec_layout.specs.Selected.{IsOn}
 use Rattle.ec_layout.specs.declared.selected.Selected.{Selected}
-use Rattle.ec_stands.specs.Stands.{slot_code, IsCheckpointIn, StepsTo, StandsFor}
+use Rattle.ec_stands.specs.Stands.{slot_code, StepsTo, StandsFor}
+use Rattle.ec_stands.specs.Checkpoints.{IsCheckpointIn}
 use Rattle.ec_store.specs.Replay.{IsUntouched}
 use Rattle.ec_store.specs.declared.store.Store.{Store}
 

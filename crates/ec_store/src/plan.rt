@@ -4,7 +4,7 @@ ghost use Rattle.std.specs.List.{All, flat_map};
 ghost use Rattle.ec_base.specs.Tables.{at};
 ghost use Rattle.ec_volume.specs.Update.{operands};
 ghost use Rattle.ec_volume.specs.Volume.{WellFormed, images};
-ghost use Rattle.ec_codes.specs.Images.{is_sound_image};
+ghost use Rattle.ec_codes.specs.SoundImages.{is_sound_image};
 ghost use Rattle.ec_durable.specs.WellFormed.{IsInOrder};
 ghost use Rattle.ec_table.specs.Codes.{table_code, described, numbers_in};
 ghost use Rattle.ec_table.specs.declared.table.Version.TheVariants as version;
@@ -131,7 +131,7 @@ fn place_all(
 impl Placing {
     ghost use Rattle.std.specs.Prelude.{◌≡◌, ◌≤◌, ◌<◌, ◌+◌, ◌++◌, ◌∷◌, [], true, None, length, vec_len, OnOk};
     ghost use Rattle.ec_codes.specs.Fields.{id};
-    ghost use Rattle.ec_codes.specs.Images.{is_sound_image};
+    ghost use Rattle.ec_codes.specs.SoundImages.{is_sound_image};
     ghost use Rattle.ec_layout.specs.Places as place;
     ghost use Rattle.ec_layout.specs.Pieces.{pieces_of};
     ghost use Rattle.ec_stands.specs.Stands.{slot_code};

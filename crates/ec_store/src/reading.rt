@@ -3,9 +3,10 @@ ghost use Rattle.std.specs.Prelude.{◌≡◌, ◌≤◌, ℕ, true, length, Err
 ghost use Rattle.std.specs.Int.{w32, to_be_bytes};
 ghost use Rattle.std.specs.List.{list_all};
 ghost use Rattle.ec_base.specs.Tables.{keys};
-ghost use Rattle.ec_disk.specs.Disk.{part, Rests, Counted};
-ghost use Rattle.ec_codes.specs.Formats.{Gives, Spells, StandsAt};
-ghost use Rattle.ec_codes.specs.Images.{is_sound_image};
+ghost use Rattle.ec_disk.specs.Disk.{part};
+ghost use Rattle.ec_disk.specs.Effects.{Rests, Counted};
+ghost use Rattle.ec_codes.specs.Spelling.{Gives, Spells, StandsAt};
+ghost use Rattle.ec_codes.specs.SoundImages.{is_sound_image};
 ghost use Rattle.ec_codes.specs.declared.fault.CodeFault.{CodeFault};
 ghost use Rattle.ec_codes.specs.declared.fault.CodeFault.TheVariants as code;
 ghost use Rattle.ec_durable.specs.WellFormed.{least_max_objects, most_max_objects};
@@ -13,7 +14,8 @@ ghost use Rattle.ec_durable.specs.declared.record.RecordFault.{RecordFault};
 ghost use Rattle.ec_table.specs.Codes.{table_code, ids_in};
 ghost use Rattle.ec_layout.specs.Places as place;
 ghost use Rattle.ec_layout.specs.Reading.{IsHead};
-ghost use Rattle.ec_stands.specs.Stands.{slot_code, side_in, HasGoodHead, IsSpelled, AreSpelled, IsBadImage, HasBadImage, IsBadAt, fault_at};
+ghost use Rattle.ec_stands.specs.Stands.{slot_code, side_in, HasGoodHead, IsBadImage, HasBadImage, IsBadAt, fault_at};
+ghost use Rattle.ec_stands.specs.Checkpoints.{IsSpelled, AreSpelled};
 ghost use Rattle.ec_store.specs.Reading.{place_of};
 ghost use Rattle.ec_store.specs.declared.fault.StoreFault.TheVariants as fault;
 

@@ -1,7 +1,8 @@
 // Whole streams: a source read to its end within a limit, a piece of bytes written whole.
 ghost use Rattle.std.specs.Prelude.{◌≡◌, ◌≤◌, ◌<◌, ◌+◌, ◌^◌, ℕ, length, IfOk, IfErr, OnOk};
 ghost use Rattle.std.specs.Io.KnownBytes.{Appends};
-ghost use Rattle.ec_streams.specs.Streams.{ReadWhole, ReadFailed, WrotePart};
+ghost use Rattle.ec_streams.specs.Streams.{ReadWhole, ReadFailed};
+ghost use Rattle.ec_streams.specs.Writes.{WrotePart};
 
 use ec_base::{Gave, Sink, Source, Took};
 use std::alloc::Global;

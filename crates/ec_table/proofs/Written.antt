@@ -7,7 +7,8 @@ use Rattle.std.proofs.lemmas.Bool.{and_from, and_parts, eq-eqb, lt-ltb, le-leb}
 use Rattle.std.proofs.lemmas.List.Kept.{AllPairs-from_increasing}
 use Rattle.ec_sessions.specs.Slots.{Slots, slot_at, unspent_of, all_unspent}
 use Rattle.ec_sessions.specs.declared.slot.Slot.{Slot}
-use Rattle.ec_codes.specs.Formats.{byte, rows_fit, Writes}
+use Rattle.ec_codes.specs.Formats.{byte, rows_fit}
+use Rattle.ec_codes.specs.Spelling.{Writes}
 use Rattle.ec_codes.specs.Fields.{word, long, id}
 use Rattle.ec_codes.specs.Clerks.{age_field}
 use Rattle.ec_codes.proofs.Written.{chain}

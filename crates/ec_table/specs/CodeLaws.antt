@@ -7,7 +7,8 @@ use Rattle.std.proofs.lemmas.List.{append-nil, take_at, take-append-drop, drop-t
 use Rattle.ec_base.specs.Limits.{clerk_count}
 use Rattle.ec_base.specs.declared.ids.Age.{Age}
 use Rattle.ec_sessions.specs.declared.slot.Slot.{Slot}
-use Rattle.ec_codes.specs.Formats.{Format, missing, ◌>>=◌, byte, such, variant, nothing, empty, StandsAt, Spells}
+use Rattle.ec_codes.specs.Formats.{Format, missing, ◌>>=◌, byte, such, variant, nothing, empty}
+use Rattle.ec_codes.specs.Spelling.{StandsAt, Spells}
 use Rattle.ec_codes.specs.FormatLaws.{AreBytes, IsFormat, bind_ok, guard_ok, ok_is, stands_first, stands_second, stand_both, byte-is, such_is, then_is, standing_is, list_is, variant_is, nothing_is, empty-is, choice_is, tagged_is, are_taken}
 use Rattle.ec_codes.specs.Fields.{word, long, id, is_from_one, id_or_none}
 use Rattle.ec_codes.specs.FieldLaws.{word-is, long-is, id-is, victim_back, victim_forth}

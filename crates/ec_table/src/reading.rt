@@ -1,7 +1,8 @@
 // Tables are read.
 ghost use Rattle.std.specs.Prelude.{◌≡◌, ◌≤◌, ◌+◌, ℕ, [], IfOk, Ok, length, take};
 ghost use Rattle.ec_volume.specs.Update.{member};
-ghost use Rattle.ec_codes.specs.Formats.{Gives, Spells, variant, rows_read};
+ghost use Rattle.ec_codes.specs.Formats.{variant, rows_read};
+ghost use Rattle.ec_codes.specs.Spelling.{Gives, Spells};
 ghost use Rattle.ec_codes.specs.Readers.{Reads};
 ghost use Rattle.ec_table.specs.Codes.{last_first_field, is_above, id_above, ids_field, slot_fields, slot_of, held, slot_form, slot_code, slots_field, ids_in, numbers_in, is_free, place_after, places_field, state_code, in_size, old_table, new_table, sized, Versioned, table_code};
 

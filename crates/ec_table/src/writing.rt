@@ -3,7 +3,8 @@ ghost use Rattle.std.specs.Prelude.{◌≡◌, ◌+◌, ◌<◌, ◌≤◌, ◌+
 ghost use Rattle.std.specs.List.{flat_map, list_all};
 ghost use Rattle.std.specs.List.Sorted.{IsStrictlyIncreasing};
 ghost use Rattle.ec_sessions.specs.Slots.{slot_at, all_unspent};
-ghost use Rattle.ec_codes.specs.Formats.{Writes, rows_fit};
+ghost use Rattle.ec_codes.specs.Formats.{rows_fit};
+ghost use Rattle.ec_codes.specs.Spelling.{Writes};
 ghost use Rattle.ec_codes.specs.Fields.{word, id};
 ghost use Rattle.ec_durable.specs.WellFormed.{most_max_objects};
 ghost use Rattle.ec_table.specs.declared.table.Version.TheVariants.{Two};

@@ -1,7 +1,7 @@
 // Stores over disks in memory, and the records that the tests commit, by their bytes.
 ghost use Rattle.std.specs.Prelude.{◌≡◌, [], true, IfOk};
 ghost use Rattle.ec_disk.specs.Memory.{steps_of};
-ghost use Rattle.ec_durable.specs.Codes.{is_sound_record};
+ghost use Rattle.ec_durable.specs.SoundRecords.{is_sound_record};
 
 use ec_base::NoMemory;
 use ec_codes::CodeFault;

@@ -1,18 +1,20 @@
 -- A link that came, and one that comes back.
 use Rattle.std.proofs.Common.{◌≡◌, ℕ, Bool, true, false, Option, List, [], ◌∷◌, sym, ap, ◌∙◌, subst}
 use Rattle.ec_link.specs.Links.{Heard}
-use Rattle.ec_link.specs.Nets.{is_bad, IsEmpty}
+use Rattle.ec_link.specs.NetAnswers.{is_bad, IsEmpty}
 use Rattle.std.specs.declared.snapshot.Snapshot.{Snapshot}
 use Rattle.ec_lock.specs.Steps.{of}
 use Rattle.ec_lock.specs.declared.types.Pass.{Pass}
 use mathlib.Core.List.{IsPrefix}
-use Rattle.ec_lock.specs.Passes.{front, numbers}
+use Rattle.ec_lock.specs.PassViews.{front, numbers}
 use Rattle.ec_servernode.specs.declared.state.Node.{Node}
 use Rattle.ec_servernode.specs.declared.step.Step.{Step}
 use Rattle.ec_servernode.specs.Run.{number_of}
 use Rattle.ec_threads.specs.Goings.{over_later}
-use Rattle.ec_attend.specs.Links.{EndsSo, Carries, own_steps, WasServed, IsSoFar, BeginsSo}
-use Rattle.ec_threads.specs.Moments.{IsOver, back_of}
+use Rattle.ec_attend.specs.Links.{Carries}
+use Rattle.ec_attend.specs.OverLinks.{EndsSo, own_steps, WasServed, IsSoFar, BeginsSo}
+use Rattle.ec_threads.specs.Moments.{IsOver}
+use Rattle.ec_threads.specs.ServingMoments.{back_of}
 use Rattle.ec_attend.proofs.Bodies.{tells_nothing}
 
 module _ {K L : Type 0} (given : L → Option (List Heard)) (got : L → Option (List (List ℕ))) where

@@ -2,16 +2,18 @@
 use Rattle.std.proofs.Common.{◌≡◌, ◌⊎◌, ◌+◌, ◌<◌, ◌≤◌, ℕ, Bool, true, false, List, length, Err, refl, sym, ap, ◌∙◌, subst, inl, inr, ⊎_elim, [], append-nil, arith}
 use Rattle.std.specs.declared.snapshot.Snapshot.{Snapshot}
 use mathlib.Core.List.{IsPrefix}
-use Rattle.ec_link.specs.Nets.{Ended, faulted}
+use Rattle.ec_link.specs.Nets.{Ended}
+use Rattle.ec_link.specs.NetAnswers.{faulted}
 use Rattle.ec_link.specs.declared.net.NetFault.{NetFault}
 use Rattle.ec_link.specs.declared.net.NetFault.TheVariants as fault
-use Rattle.ec_lock.specs.Passes.{front, numbers}
+use Rattle.ec_lock.specs.PassViews.{front, numbers}
 use Rattle.ec_lock.specs.Steps.{Member, of}
 use Rattle.ec_lock.specs.declared.types.Pass.{Pass}
 use Rattle.ec_servernode.specs.declared.state.Node.{Node}
 use Rattle.ec_servernode.specs.declared.step.Step.{Step}
 use Rattle.ec_servernode.specs.Run.{number_of}
-use Rattle.ec_threads.specs.Moments.{Back, Moment, moment, GoesOn}
+use Rattle.ec_threads.specs.Moments.{Back}
+use Rattle.ec_threads.specs.ServingMoments.{Moment, moment, GoesOn}
 use Rattle.ec_threads.specs.Goings.{goes_still, goes_onward}
 
 pub one_le : 1 ≤ 1

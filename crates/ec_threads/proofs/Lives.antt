@@ -4,7 +4,7 @@ use Rattle.std.specs.List.{All}
 use Rattle.std.proofs.lemmas.Bool.{cases_eq}
 use Rattle.std.proofs.lemmas.List.Elements.{All-nil, All-cons}
 use Rattle.slab.specs.Slab.{Slab, get, Updates, entries_from, entries}
-use Rattle.ec_threads.specs.Moments.{AllServe}
+use Rattle.ec_threads.specs.ServingMoments.{AllServe}
 
 module _ {T S : Type 0} (server_of : T → S) (server : S) where
   -- one link more, or one less

@@ -10,7 +10,8 @@ use Rattle.ec_lock.proofs.Numbers.{member_append, member_left, member_right, dis
 use Rattle.ec_servernode.specs.declared.step.Step.{Step}
 use Rattle.ec_servernode.specs.Run.{number_of}
 use Rattle.ec_attend.specs.Links.{Carries}
-use Rattle.ec_threads.specs.Moments.{Back, IsOver, AreServed, Moment, CameBack, GoesOn}
+use Rattle.ec_threads.specs.Moments.{Back, IsOver, AreServed}
+use Rattle.ec_threads.specs.ServingMoments.{Moment, CameBack, GoesOn}
 
 of_none : (n : ℕ) → n ≡ 0 + n
 of_none n = omega arith

@@ -2,14 +2,14 @@
 ghost use Rattle.std.specs.Prelude.{◌≡◌, ◌⊎◌, ◌+◌, ◌<◌, ℕ, [], ◌∷◌, ◌++◌, length, true, false, IfSome, IfNone};
 ghost use Rattle.std.specs.declared.snapshot.Snapshot.{Snapshot as Shot};
 ghost use mathlib.Core.List.{IsPrefix};
-ghost use Rattle.ec_link.specs.Nets.{IsEmpty, is_bad};
-ghost use Rattle.ec_link.specs.Spawns.{taken};
-ghost use Rattle.ec_lock.specs.Passes.{front, numbers};
+ghost use Rattle.ec_link.specs.NetAnswers.{IsEmpty, is_bad};
+ghost use Rattle.ec_link.specs.JobCounts.{taken};
+ghost use Rattle.ec_lock.specs.PassViews.{front, numbers};
 ghost use Rattle.ec_lock.specs.Steps.{Member, of};
 ghost use Rattle.ec_servernode.specs.Run.{number_of};
-ghost use Rattle.ec_servernode.specs.Turns.{IsServerPass};
-ghost use Rattle.ec_attend.specs.Links.{EndsSo, BeginsSo, GoneSo};
-ghost use Rattle.ec_threads.specs.Moments.{back_of, moment, GoesOn};
+ghost use Rattle.ec_servernode.specs.TurnSteps.{IsServerPass};
+ghost use Rattle.ec_attend.specs.OverLinks.{EndsSo, BeginsSo, GoneSo};
+ghost use Rattle.ec_threads.specs.ServingMoments.{back_of, moment, GoesOn};
 
 use ec_attend::{Connection, Ended};
 use ec_bells::{Bells, Watch, give_back, tell_begin};

@@ -3,13 +3,14 @@ ghost use Rattle.std.specs.Prelude.{◌≡◌, ◌⊎◌, ◌+◌, ℕ, length, 
 ghost use mathlib.Core.List.{IsPrefix};
 ghost use Rattle.slab.specs.Slab.{slab_len, HasRoomFor};
 ghost use Rattle.ec_link.specs.declared.spawn.Spawned.TheVariants as spawned;
-ghost use Rattle.ec_link.specs.Spawns.{refused, refused_by, faults_of};
-ghost use Rattle.ec_lock.specs.Passes.{front, numbers};
+ghost use Rattle.ec_link.specs.Spawns.{faults_of};
+ghost use Rattle.ec_link.specs.JobCounts.{refused, refused_by};
+ghost use Rattle.ec_lock.specs.PassViews.{front, numbers};
 ghost use Rattle.ec_lock.specs.Steps.{Member, of};
 ghost use Rattle.ec_servernode.specs.Run.{number_of};
-ghost use Rattle.ec_servernode.specs.Turns.{IsServerPass};
-ghost use Rattle.ec_attend.specs.Links.{EndsSo, BeginsSo, GoneSo};
-ghost use Rattle.ec_threads.specs.Moments.{AllServe, back_of, moment, GoesOn};
+ghost use Rattle.ec_servernode.specs.TurnSteps.{IsServerPass};
+ghost use Rattle.ec_attend.specs.OverLinks.{EndsSo, BeginsSo, GoneSo};
+ghost use Rattle.ec_threads.specs.ServingMoments.{AllServe, back_of, moment, GoesOn};
 
 use crate::connections::Connections;
 use ec_attend::{Connection, Ended, serve_connection, watch_over};
@@ -29,8 +30,8 @@ use std::thread::{Promise, PromisedHandle, Scope};
 struct Kept<K: Keeper + Drop>(Snapshot<SharedServer<K>>);
 
 impl<K: Keeper + Drop, L: Link + Drop> Promise<Ended<K, L>> for Kept<K> {
-    ghost use Rattle.ec_servernode.specs.Turns.{IsServerPass};
-    ghost use Rattle.ec_attend.specs.Links.{EndsSo, GoneSo};
+    ghost use Rattle.ec_servernode.specs.TurnSteps.{IsServerPass};
+    ghost use Rattle.ec_attend.specs.OverLinks.{EndsSo, GoneSo};
 
     ghost kept_by = { λ kept out. IsServerPass K.kept kept.0.value.lock out.pass × EndsSo L.faults L.closes L.given out.is_over out.pass.pass out.link × GoneSo L.given L.got out.is_over out.pass.pass out.link };
 }
@@ -86,7 +87,7 @@ where
 struct KeptPass<K: Keeper + Drop>(Snapshot<SharedServer<K>>);
 
 impl<K: Keeper + Drop> Promise<ServerPass<K>> for KeptPass<K> {
-    ghost use Rattle.ec_servernode.specs.Turns.{IsServerPass};
+    ghost use Rattle.ec_servernode.specs.TurnSteps.{IsServerPass};
 
     ghost kept_by = { λ kept out. IsServerPass K.kept kept.0.value.lock out };
 }

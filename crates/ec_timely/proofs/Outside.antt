@@ -6,7 +6,7 @@ use Rattle.ec_base.specs.Holds.{is_below}
 use Rattle.ec_base.specs.Limits.{last_counter}
 use Rattle.ec_base.specs.declared.counter.Counter.TheVariants as counter
 use Rattle.ec_base.specs.declared.ids.Hold.{Hold}
-use Rattle.ec_plain.specs.Bounds.{is_bounded}
+use Rattle.ec_plain.specs.BoundedCalls.{is_bounded}
 use Rattle.ec_plain.specs.declared.call.Call.{Call}
 use Rattle.ec_plain.specs.declared.call.Outcome.{Outcome}
 use Rattle.ec_volume.specs.declared.update.Update.{Update}

@@ -5,7 +5,7 @@ use Rattle.std.specs.List.{filter, list_any}
 use Rattle.ec_base.specs.Tables.{at, at_or, keys, put, without}
 use Rattle.ec_base.specs.declared.counter.Counter.{Counter}
 use Rattle.ec_volume.specs.Update.{member}
-use Rattle.ec_plain.specs.Bounds.{is_bounded}
+use Rattle.ec_plain.specs.BoundedCalls.{is_bounded}
 use Rattle.ec_plain.specs.declared.call.Call.{Call}
 use Rattle.ec_history.specs.History.{Each, Op}
 use Rattle.ec_history.specs.Placing.{watch}

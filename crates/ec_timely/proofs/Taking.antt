@@ -31,7 +31,7 @@ use Rattle.ec_clerk_steps.proofs.Quiets.{quiet-sent}
 use Rattle.ec_clerk_steps.proofs.Still.{none-still, quiet-then, still-same, still-sent, still-waits}
 use Rattle.ec_lease_laws.proofs.Resting.{resting-quiet}
 use Rattle.ec_printed.specs.Printed.{AreTimely}
-use Rattle.ec_plain.specs.Bounds.{is_bounded}
+use Rattle.ec_plain.specs.BoundedCalls.{is_bounded}
 use Rattle.ec_timely.proofs.Outside.{settles-bare}
 use Rattle.ec_timely.proofs.Lines.{ToldFirst, silent-timely, told-first, told-timely}
 

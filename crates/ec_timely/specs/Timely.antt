@@ -1,7 +1,7 @@
 -- When each answer that a step of a world shows is timely: it stands behind the end of its start's session, before the start is told, only where it
 -- needed nothing, and nothing was lost.
 use Rattle.std.specs.Prelude.{◌≡◌, ℕ, T, not, [], None, Some, ⊤}
-use Rattle.ec_plain.specs.Bounds.{is_bounded}
+use Rattle.ec_plain.specs.BoundedCalls.{is_bounded}
 use Rattle.ec_plain.specs.declared.call.Call.{Call}
 use Rattle.ec_history.specs.Placing.{watch}
 use Rattle.ec_wire.specs.Messages.{same_kind}

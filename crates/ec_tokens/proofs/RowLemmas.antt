@@ -12,7 +12,8 @@ use Rattle.ec_base.specs.SortedLaws.{put-put, put-found, first as front}
 use Rattle.ec_base.specs.declared.ids.Hold.{Hold}
 use Rattle.ec_tokens.specs.declared.token.Token.{Token}
 use Rattle.ec_base.specs.Holds.{clash}
-use Rattle.ec_tokens.specs.Tokens.{Row, Tokens, IsSound, with_row, Holder, holders, held_by, mode, first, first_conflict, is_conflict}
+use Rattle.ec_tokens.specs.Tokens.{Row, Tokens, with_row, Holder, holders, held_by, mode, first, first_conflict, is_conflict}
+use Rattle.ec_tokens.specs.SoundTokens.{IsSound}
 
 -- The first of the rows that are left.
 

@@ -17,7 +17,8 @@ use Rattle.ec_base.specs.Sorted.{without}
 use Rattle.ec_base.specs.SortedLaws.{first as front, second as rest, both, find-without, not_None, same_Some}
 use Rattle.ec_tokens.specs.declared.token.Token.{Token}
 use Rattle.ec_base.specs.Holds.{is_free, is_below, clash}
-use Rattle.ec_tokens.specs.Tokens.{Row, Tokens, is_row, with_row, Holder, held_by, is_conflict, row, row_of, token, mode, IsSound, holders, first, first_conflict, is_clear, granted, fits_back, lowered, claimed_in, claimed, clash_at, first_clash}
+use Rattle.ec_tokens.specs.Tokens.{Row, Tokens, with_row, Holder, held_by, is_conflict, row, row_of, token, mode, holders, first, first_conflict, is_clear, granted, fits_back, lowered, claimed_in, claimed, clash_at, first_clash}
+use Rattle.ec_tokens.specs.SoundTokens.{is_row, IsSound}
 
 -- Maps by number.
 

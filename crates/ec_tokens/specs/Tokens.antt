@@ -1,8 +1,7 @@
 -- The tokens that sessions hold: a map by session of maps by object, each as the list of its pairs with rising keys.
-use Rattle.std.specs.Prelude.{◌≡◌, ◌≢◌, ◌==◌, ℕ, Bool, true, false, not, ◌&&◌, if◌then◌else◌, T, List, [], ◌∷◌, length, filter, is_none, nat_lt, Option, None, Some}
-use Rattle.std.specs.List.{list_all}
+use Rattle.std.specs.Prelude.{◌==◌, ℕ, Bool, false, not, ◌&&◌, if◌then◌else◌, List, [], ◌∷◌, length, filter, is_none, Option, None, Some}
 use Rattle.std.specs.Ordering.{nat_cmp}
-use Rattle.std.specs.FinMap.{find, put, is_sorted}
+use Rattle.std.specs.FinMap.{find, put}
 use Rattle.ec_base.specs.Sorted.{without}
 use Rattle.ec_base.specs.declared.ids.Hold.{Hold}
 use Rattle.ec_base.specs.declared.ids.Hold.TheVariants.{Free}
@@ -29,24 +28,6 @@ token ts s x = find nat_cmp x (row ts s)
 abbrev pub mode : Option Token → Hold
 mode None = Free
 mode (Some t) = t.hold
-
--- No two tokens conflict: of two sessions' tokens on one object none is Write while the other isn't Free.
-abbrev pub AllApart : Tokens → Type 0
-AllApart ts = (s t x : ℕ) → s ≢ t → clash (mode (token ts s x)) (mode (token ts t x)) ≡ false
-
--- A token that is recorded isn't Free.
-abbrev pub NoneFree : Tokens → Type 0
-NoneFree ts = (s x : ℕ) (t : Token) → token ts s x ≡ Some t → is_free t.hold ≡ false
-
--- Each row has a token, and its objects rise.
-abbrev pub is_row : Row → Bool
-is_row r = not (length r == 0) && is_sorted nat_cmp r
-
-pub record IsSound (ts : Tokens) : Type 0 where
-  pub apart : AllApart ts
-  pub held : NoneFree ts
-  pub rising : T (is_sorted nat_cmp ts)
-  pub rows : (s : ℕ) (r : Row) → find nat_cmp s ts ≡ Some r → T (is_row r)
 
 -- Who holds a token on the object, in session order: the session, the mode and the number.
 abbrev pub Holder : Type 0
@@ -113,11 +94,3 @@ clash_at x None later = later
 abbrev pub first_clash : Tokens → ℕ → List (ℕ × Hold) → Option (ℕ × ℕ)
 first_clash ts s [] = None
 first_clash ts s (e ∷ es) = clash_at e.0 (first_conflict ts s e.0 e.1) (first_clash ts s es)
-
--- What may be claimed: the ids rise, from 1, and no mode is Free.
-abbrev pub rises_from : ℕ → List (ℕ × Hold) → Bool
-rises_from x [] = true
-rises_from x (e ∷ es) = nat_lt x e.0 && rises_from e.0 es
-
-abbrev pub is_claim : List (ℕ × Hold) → Bool
-is_claim list = rises_from 0 list && list_all (λ e. not (is_free e.1)) list

@@ -4,6 +4,7 @@ ghost use Rattle.std.specs.Bool.{OnTrue, OnFalse};
 ghost use Rattle.std.specs.Ordering.{nat_cmp};
 ghost use Rattle.std.specs.FinMap.{find, is_sorted};
 ghost use Rattle.ec_tokens.specs.Tokens as tokens;
+ghost use Rattle.ec_tokens.specs.SoundTokens as sound_tokens;
 
 use crate::holds::clash;
 use crate::token::Token;
@@ -52,7 +53,7 @@ pub fn give_back(
     number: u64,
     to: Hold,
 ) -> bool
-    requires { tokens.IsSound rows.old }
+    requires { sound_tokens.IsSound rows.old }
     ensures answer { result ≡ tokens.fits_back (tokens.token rows.old s obj) number to }
     ensures lowered { OnTrue result (rows.new ≡ tokens.lowered s obj to number rows.old) }
     ensures kept { OnFalse result (rows.new ≡ rows.old) }

@@ -7,6 +7,7 @@ ghost use Rattle.std.specs.Ordering.{nat_cmp};
 ghost use Rattle.ec_base.specs.Sorted.{without};
 ghost use Rattle.ec_tokens.specs.Claims.{Shows};
 ghost use Rattle.ec_tokens.specs.Tokens as tokens;
+ghost use Rattle.ec_tokens.specs.SoundTokens as sound_tokens;
 
 use crate::holds::clash;
 use crate::rows::{self, Rows};
@@ -60,7 +61,7 @@ impl Drop for Tokens {
 impl Model for Tokens {
     ghost use Rattle.std.specs.Prelude.{List, ℕ};
     ghost use Rattle.ec_tokens.specs.declared.token.Token.{Token};
-    ghost use Rattle.ec_tokens.specs.Tokens.{IsSound};
+    ghost use Rattle.ec_tokens.specs.SoundTokens.{IsSound};
 
     ghost Value = { List (ℕ × List (ℕ × Token)) };
 
@@ -83,7 +84,7 @@ impl Tokens {
     /// The mode and the number of the session's token on the object, or `None` where it has none.
     pub fn token(&self, s: SessionNo, obj: ObjId) -> Option<(Hold, u64)>
         ensures token { result ≡ option_map (λ t. (t.hold, t.number)) (tokens.token self.now s obj) }
-        ensures sound { tokens.IsSound self.now }
+        ensures sound { sound_tokens.IsSound self.now }
     {
         let token = rows::token(&self.rows, s, obj)?;
         Some((token.hold, token.number))
@@ -92,7 +93,7 @@ impl Tokens {
     /// The sessions that hold a token on the object, in their order, each with its mode and number.
     pub fn holders(&self, obj: ObjId) -> Result<Vec<(SessionNo, Hold, u64)>, NoMemory>
         ensures holders { IfOk result (λ list. list.items ≡ tokens.holders self.now obj) }
-        ensures sound { tokens.IsSound self.now }
+        ensures sound { sound_tokens.IsSound self.now }
     {
         rows::holders(self.alloc, &self.rows, obj)
     }
@@ -105,7 +106,7 @@ impl Tokens {
         hold: Hold,
     ) -> Result<Vec<(SessionNo, Hold, u64)>, NoMemory>
         ensures conflicts { IfOk result (λ list. list.items ≡ tokens.conflicts self.now s obj hold) }
-        ensures sound { tokens.IsSound self.now }
+        ensures sound { sound_tokens.IsSound self.now }
     {
         let mut holders = rows::holders(self.alloc, &self.rows, obj)?;
         holders.retain(|holder| holder.0 != s && clash(holder.1, hold));
@@ -115,7 +116,7 @@ impl Tokens {
     /// Whether no other session's token would conflict with this mode. It takes no memory.
     pub fn is_clear(&self, s: SessionNo, obj: ObjId, hold: Hold) -> bool
         ensures clear { result ≡ tokens.is_clear self.now s obj hold }
-        ensures sound { tokens.IsSound self.now }
+        ensures sound { sound_tokens.IsSound self.now }
     {
         rows::first_conflict(&self.rows, s, obj, hold).is_none()
     }
@@ -132,7 +133,7 @@ impl Tokens {
         requires clear { IsTrue (tokens.is_clear self.old s obj hold) }
         ensures ok { OnOk result (self.new ≡ tokens.granted s obj hold number self.old) }
         ensures err { OnErr result (self.new ≡ self.old) }
-        ensures sound { tokens.IsSound self.new }
+        ensures sound { sound_tokens.IsSound self.new }
     {
         rows::record(self.alloc, &mut self.rows, s, obj, Token { hold, number })
     }
@@ -143,7 +144,7 @@ impl Tokens {
         ensures answer { result ≡ tokens.fits_back (tokens.token self.old s obj) number to }
         ensures lowered { OnTrue result (self.new ≡ tokens.lowered s obj to number self.old) }
         ensures kept { OnFalse result (self.new ≡ self.old) }
-        ensures sound { tokens.IsSound self.new }
+        ensures sound { sound_tokens.IsSound self.new }
     {
         rows::give_back(self.alloc, &mut self.rows, s, obj, number, to)
     }
@@ -156,12 +157,12 @@ impl Tokens {
     /// `Clash` shows the first object of the list where a token would conflict, and the first
     /// session whose token it would conflict with. After an error nothing has changed.
     pub fn claim(&mut self, s: SessionNo, list: &[(ObjId, Hold)]) -> Result<(), ClaimFault>
-        requires { IsTrue (tokens.is_claim list.now) }
+        requires { IsTrue (sound_tokens.is_claim list.now) }
         ensures ok { OnOk result (self.new ≡ tokens.claimed s list.now self.old) }
         ensures clear { OnOk result (tokens.first_clash self.old s list.now ≡ None) }
         ensures clash { IfErr result (λ fault. Shows (tokens.first_clash self.old s list.now) fault) }
         ensures err { OnErr result (self.new ≡ self.old) }
-        ensures sound { tokens.IsSound self.new }
+        ensures sound { sound_tokens.IsSound self.new }
     {
         for (obj, hold) in list {
             if let Some(other) = rows::first_conflict(&self.rows, s, *obj, *hold) {
@@ -175,7 +176,7 @@ impl Tokens {
     /// Removes the tokens of the session. It takes no memory.
     pub fn drop_session(&mut self, s: SessionNo)
         ensures dropped { self.new ≡ without nat_cmp s self.old }
-        ensures sound { tokens.IsSound self.new }
+        ensures sound { sound_tokens.IsSound self.new }
     {
         self.rows.remove(&s);
     }

@@ -8,7 +8,8 @@ use Rattle.ec_laws.proofs.Removed.{both, left, right}
 use Rattle.ec_legal.specs.Bounded.{is_bounded_line}
 use Rattle.ec_script.specs.Lines.{lines_of}
 use Rattle.ec_words.specs.Pieces.{onto}
-use Rattle.ec_transcript.specs.Lines.{AreShown, IsRead, IsBadLine, HasBadLine}
+use Rattle.ec_transcript.specs.Lines.{AreShown, IsBadLine}
+use Rattle.ec_transcript.specs.LinesRead.{IsRead, HasBadLine}
 use Rattle.ec_transcript.specs.declared.lines.ReadFault.{ReadFault}
 use Rattle.ec_transcript.specs.declared.lines.ReadFault.TheVariants as fault
 use Rattle.ec_transcript.proofs.Reading.{same-length}

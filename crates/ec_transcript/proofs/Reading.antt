@@ -8,7 +8,8 @@ use Rattle.ec_base.specs.Limits.{max_path_names}
 use Rattle.ec_volume.specs.Limits.{max_mode, max_write_bytes, max_ordered}
 use Rattle.ec_history.specs.declared.shown.Shown.{Shown}
 use Rattle.ec_history.specs.declared.shown.Shown.TheVariants as shown
-use Rattle.ec_plain.specs.Bounds.{is_bounded, is_short, max_read_bytes}
+use Rattle.ec_plain.specs.Bounds.{max_read_bytes}
+use Rattle.ec_plain.specs.BoundedCalls.{is_bounded, is_short}
 use Rattle.ec_plain.specs.Walk.{Path}
 use Rattle.ec_plain.specs.declared.call.Call.{Call}
 use Rattle.ec_plain.specs.declared.call.Call.TheVariants as call
@@ -20,7 +21,8 @@ use Rattle.ec_shown.specs.Lines.{IsShown, IsUnfit}
 use Rattle.ec_shown.specs.Showable.{IsShowable, ShowableCall, ArePaths, IsPathOf}
 use Rattle.ec_shown.proofs.Ranges.{in_ranges}
 use Rattle.ec_laws.proofs.Removed.{both, left, right}
-use Rattle.ec_transcript.specs.Lines.{AreShown, IsRead, IsBadLine}
+use Rattle.ec_transcript.specs.Lines.{AreShown, IsBadLine}
+use Rattle.ec_transcript.specs.LinesRead.{IsRead}
 
 at_most : (m n : ℕ) → m ≤ n → T (nat_le m n)
 at_most m n l = T_from_true (nat_le m n) (le-leb m n l)

@@ -1,13 +1,9 @@
 -- The lines of a transcript, and the first one outside the grammar.
-use Rattle.std.specs.Prelude.{◌≡◌, ◌≤◌, ◌+◌, ℕ, T, List, [], ◌∷◌, ◌++◌, length, ⊤}
-use Rattle.std.specs.List.{list_all}
-use Rattle.ec_legal.specs.Bounded.{is_bounded_line}
+use Rattle.std.specs.Prelude.{◌≡◌, ◌+◌, ℕ, List, [], ◌∷◌, ◌++◌, length, ⊤}
 use Rattle.ec_history.specs.declared.shown.Shown.{Shown}
 use Rattle.ec_script.specs.Lines.{lines_of}
 use Rattle.ec_script.specs.declared.line.LineFault.TheVariants as unread
 use Rattle.ec_shown.specs.Lines.{IsShown, IsUnfit}
-use Rattle.ec_transcript.specs.declared.lines.ReadFault.{ReadFault}
-use Rattle.ec_transcript.specs.declared.lines.ReadFault.TheVariants as fault
 
 -- each line is read so, and there are as many
 abbrev pub AreShown : List (List ℕ) → List Shown → Type 0
@@ -15,12 +11,6 @@ AreShown [] [] = ⊤
 AreShown [] (s ∷ ss) = ⊥
 AreShown (l ∷ ls) [] = ⊥
 AreShown (l ∷ ls) (s ∷ ss) = IsShown l s × AreShown ls ss
-
--- All lines are read so, each call within its bounds.
-pub record IsRead (bytes : List ℕ) (ss : List Shown) : Type 0 where
-  pub lines : AreShown (lines_of bytes) ss
-  pub bounded : T (list_all is_bounded_line ss)
-  pub few : length ss ≤ length bytes
 
 -- The line of this number, from 1, is the first outside the grammar, and this is its column.
 pub record IsBadLine (bytes : List ℕ) (number column : ℕ) : Type 0 where
@@ -32,27 +22,3 @@ pub record IsBadLine (bytes : List ℕ) (number column : ℕ) : Type 0 where
   pub number_is : number ≡ length above + 1
   pub read : AreShown above shown
   pub unfit : IsUnfit line (unread.At column)
-
-abbrev pub HasBadLine : List ℕ → ReadFault → Type 0
-HasBadLine bytes (fault.BadLine n column) = IsBadLine bytes n column
-HasBadLine bytes fault.NoMemory = ⊤
-
--- Lines that are read piece by piece.
-
--- These lines are read so, and those of the bytes that are left come behind them.
-pub record IsReadTo (bytes rest : List ℕ) (ss : List Shown) : Type 0 where
-  pub heads : List (List ℕ)
-  pub parts : heads ++ lines_of rest ≡ lines_of bytes
-  pub lines : AreShown heads ss
-  pub bounded : T (list_all is_bounded_line ss)
-  pub few : length ss + length rest ≤ length bytes
-
--- the number of the bad line
-abbrev pub line_of : ReadFault → ℕ
-line_of (fault.BadLine n column) = n
-line_of fault.NoMemory = 0
-
--- the same fault of bytes with so many more lines above
-abbrev pub shifted : ℕ → ReadFault → ReadFault
-shifted m (fault.BadLine n column) = fault.BadLine (m + n) column
-shifted m fault.NoMemory = fault.NoMemory

@@ -3,7 +3,7 @@ ghost use Rattle.std.specs.Prelude.{◌≡◌, ◌≤◌, ◌++◌, ◌∷◌, i
 ghost use Rattle.ec_legal.specs.Bounded.{is_bounded_line};
 ghost use Rattle.ec_shown.specs.Lines.{IsShown, IsUnfit};
 ghost use Rattle.ec_transcript.specs.Limits.{max_transcript_bytes};
-ghost use Rattle.ec_transcript.specs.Lines.{IsRead, HasBadLine};
+ghost use Rattle.ec_transcript.specs.LinesRead.{IsRead, HasBadLine};
 
 use ec_base::NoMemory;
 use ec_history::Shown;

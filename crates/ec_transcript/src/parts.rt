@@ -3,7 +3,7 @@ ghost use Rattle.std.specs.Prelude.{◌≡◌, ◌≢◌, ◌≤◌, ◌<◌, �
 ghost use Rattle.std.specs.Thread.{IsSync};
 ghost use Rattle.ec_script.specs.Lines.{lines_of};
 ghost use Rattle.ec_transcript.specs.Limits.{max_transcript_bytes};
-ghost use Rattle.ec_transcript.specs.Lines.{IsRead, HasBadLine};
+ghost use Rattle.ec_transcript.specs.LinesRead.{IsRead, HasBadLine};
 ghost use Rattle.ec_transcript.specs.declared.lines.ReadFault.TheVariants.{NoMemory};
 
 use crate::lines::{ReadFault, count_about, read_lines};

@@ -1,5 +1,5 @@
 -- The list of ids and images that a volume holds, what an update leaves of it, and faults of its changes.
-use Rattle.std.specs.Prelude.{◌≡◌, ◌==◌, ◌&&◌, if◌then◌else◌, ℕ, Bool, false, nat_le, T, List, [], ◌∷◌, length, Option, None, Some}
+use Rattle.std.specs.Prelude.{◌&&◌, if◌then◌else◌, ℕ, Bool, false, nat_le, T, List, [], ◌∷◌, length}
 use Rattle.std.specs.List.{list_all}
 use Rattle.std.specs.Ordering.{nat_cmp}
 use Rattle.std.specs.FinMap.{is_sorted}
@@ -7,13 +7,11 @@ use Rattle.ec_base.specs.Tables.{Table, put, without}
 use Rattle.ec_volume.specs.Limits.{max_file_bytes, max_entries, max_mode}
 use Rattle.ec_volume.specs.Entries.{by_bytes}
 use Rattle.ec_volume.specs.Image.{is_gone}
-use Rattle.ec_volume.specs.Update.{operands, effect, first_unfit}
-use Rattle.ec_volume.specs.Volume.{Images, images}
+use Rattle.ec_volume.specs.Update.{operands, effect}
+use Rattle.ec_volume.specs.Volume.{images}
 use Rattle.ec_volume.specs.declared.image.Image.{Image}
 use Rattle.ec_volume.specs.declared.image.Image.TheVariants.{Gone, File, Dir}
 use Rattle.ec_volume.specs.declared.update.Update.{Update}
-use Rattle.ec_volume.specs.declared.volume.ApplyFault.{ApplyFault}
-use Rattle.ec_volume.specs.declared.volume.ApplyFault.TheVariants as fault
 
 -- live, and within the limits of modes, bytes and entries
 abbrev pub is_held : Image → Bool
@@ -39,8 +37,3 @@ changed_at u (o ∷ os) es = changed_at u os (with_image o (effect u o (images e
 -- the volume behind an update of distinct operands
 abbrev pub changed : Update → Table Image → Table Image
 changed u es = changed_at u (operands u) es
-
--- a fault that names an object names the first operand at which the update doesn't fit
-abbrev pub Unfits : ApplyFault → Update → Images → Type 0
-Unfits (fault.Unfit o) u v = first_unfit u v (operands u) ≡ Some o
-Unfits fault.NoMemory u v = Unit {0}

@@ -2,6 +2,8 @@ pub mod Limits
 pub mod Entries
 pub mod Image
 pub mod Update
+pub mod RoomWanted
 pub mod Volume
 pub mod Held
+pub mod Misfits
 pub mod Carry

@@ -2,7 +2,7 @@
 ghost use Rattle.std.specs.Prelude.{◌≡◌, ◌==◌, ℕ, T, true, false, None, [], ◌∷◌, OnOk, OnErr, IfOk};
 ghost use Rattle.std.specs.Ordering.{nat_cmp};
 ghost use Rattle.std.specs.FinMap.{put};
-ghost use Rattle.ec_base.specs.Sorted.{Stands};
+ghost use Rattle.ec_base.specs.SortedPlaces.{Stands};
 ghost use Rattle.ec_volume.specs.Image.{is_gone, new_object};
 ghost use Rattle.ec_volume.specs.Update.{is_sound, operands, first_unfit, fits, effect};
 ghost use Rattle.ec_volume.specs.Volume.{images, after};

@@ -3,7 +3,8 @@ ghost use Rattle.std.specs.Prelude.{◌≡◌, ◌+◌, ◌-◌, ◌≤◌, ◌+
 ghost use Rattle.ec_volume.specs.Entries.{same_name, with_entry, without_entry};
 ghost use Rattle.ec_volume.specs.Image.{resized, overwritten, with_bytes, with_entries, with_mode, with_stamp, with_owner};
 ghost use Rattle.ec_volume.specs.Limits.{max_file_bytes};
-ghost use Rattle.ec_volume.specs.Update.{is_sound, effect, wants_room};
+ghost use Rattle.ec_volume.specs.Update.{is_sound, effect};
+ghost use Rattle.ec_volume.specs.RoomWanted.{wants_room};
 ghost use Rattle.ec_volume.specs.Carry.{renames};
 
 use crate::image::{Image, is_id};

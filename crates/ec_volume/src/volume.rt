@@ -7,7 +7,8 @@ ghost use Rattle.ec_volume.specs.Update.{root, is_sound, operands, first_unfit, 
 ghost use Rattle.ec_volume.specs.Volume.{images, formatted, after};
 ghost use Rattle.ec_volume.specs.declared.image.Kind.TheVariants as kind;
 ghost use Rattle.ec_volume.specs.Carry.{renames};
-ghost use Rattle.ec_volume.specs.Held.{IsVolume, is_held, changed, Unfits};
+ghost use Rattle.ec_volume.specs.Held.{IsVolume, is_held, changed};
+ghost use Rattle.ec_volume.specs.Misfits.{Unfits};
 
 use crate::carry::{carry_out, change_at};
 use crate::image::{Image, Kind};

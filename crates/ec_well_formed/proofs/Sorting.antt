@@ -14,7 +14,7 @@ use Rattle.ec_base.specs.SortedLaws.{first, second}
 use Rattle.ec_base.specs.Tables.{keys}
 use Rattle.ec_volume.specs.Update.{distinct}
 use Rattle.ec_volume.specs.declared.image.Image.{Image}
-use Rattle.ec_sessions.specs.Windows.{times}
+use Rattle.ec_sessions.specs.WindowMarks.{times}
 use Rattle.ec_durable.proofs.Counts.{told, here, there, more, apart_once, once_apart}
 use Rattle.ec_well_formed.specs.WellFormed.{is_rising, AllFrom, Ascends}
 

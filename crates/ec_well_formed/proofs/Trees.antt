@@ -20,8 +20,9 @@ use Rattle.ec_volume.specs.Volume as volume
 use Rattle.ec_volume.specs.declared.image.Image.{Image}
 use Rattle.ec_volume.specs.declared.image.Image.TheVariants.{Gone, File, Dir}
 use Rattle.ec_volume.proofs.Held.{image_held}
-use Rattle.ec_codes.specs.Images.{ids_under, is_sound_image}
-use Rattle.ec_sessions.specs.Windows.{times}
+use Rattle.ec_codes.specs.Images.{ids_under}
+use Rattle.ec_codes.specs.SoundImages.{is_sound_image}
+use Rattle.ec_sessions.specs.WindowMarks.{times}
 use Rattle.ec_sessions.specs.IdLaws.{times-append}
 use Rattle.ec_durable.proofs.Counts.{as_one, told, is_true, here, there, more, once_apart, apart_once}
 use Rattle.ec_durable.proofs.Live.{live_count}

@@ -9,7 +9,7 @@ use Rattle.ec_volume.specs.Volume.{images}
 use Rattle.ec_volume.specs.declared.image.Image.{Image}
 use Rattle.ec_codes.specs.Images.{ids_under}
 use Rattle.ec_sessions.specs.Slots.{Slots, all_unspent}
-use Rattle.ec_sessions.specs.Windows.{times}
+use Rattle.ec_sessions.specs.WindowMarks.{times}
 use Rattle.ec_durable.specs.declared.state.Durable.{Durable}
 use Rattle.ec_durable.specs.WellFormed.{sessions_of, fits_slot}
 

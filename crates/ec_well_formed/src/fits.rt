@@ -5,7 +5,7 @@ ghost use Rattle.ec_volume.specs.Image.{is_dir};
 ghost use Rattle.ec_volume.specs.Update.{root};
 ghost use Rattle.ec_volume.specs.Volume.{images};
 ghost use Rattle.ec_volume.specs.Held.{is_held};
-ghost use Rattle.ec_codes.specs.Images.{is_sound_image};
+ghost use Rattle.ec_codes.specs.SoundImages.{is_sound_image};
 ghost use Rattle.ec_durable.specs.WellFormed.{fits_slot, last_first_fits};
 
 use ec_base::ObjId;

@@ -1,7 +1,7 @@
 // Lists of numbers: whether one stands twice, and whether two lists have the same ones.
 ghost use Rattle.std.specs.Prelude.{◌≡◌, ℕ, IfOk, MatchBool};
 ghost use Rattle.ec_volume.specs.Update.{distinct};
-ghost use Rattle.ec_sessions.specs.Windows.{times};
+ghost use Rattle.ec_sessions.specs.WindowMarks.{times};
 ghost use Rattle.ec_well_formed.specs.WellFormed.{is_rising, Ascends};
 
 use ec_base::NoMemory;

@@ -3,7 +3,7 @@ ghost use Rattle.std.specs.Prelude.{◌≡◌, ◌≤◌, ℕ, T, true, IfOk, Ma
 ghost use Rattle.std.specs.Ordering.{nat_cmp};
 ghost use Rattle.std.specs.FinMap.{is_sorted};
 ghost use Rattle.std.specs.List.{list_all};
-ghost use Rattle.ec_codes.specs.Images.{is_sound_image};
+ghost use Rattle.ec_codes.specs.SoundImages.{is_sound_image};
 ghost use Rattle.ec_volume.specs.Volume as formed;
 ghost use Rattle.ec_volume.specs.Volume.{images};
 ghost use Rattle.ec_durable.specs.WellFormed.{WellFormed, least_max_objects, most_max_objects};

@@ -9,7 +9,8 @@ use Rattle.ec_base.specs.declared.ids.Hold.{Hold}
 use Rattle.ec_base.specs.declared.ids.Hold.TheVariants as hold
 use Rattle.ec_volume.specs.declared.image.Image.{Image}
 use Rattle.ec_volume.specs.declared.update.Update.{Update}
-use Rattle.ec_codes.specs.Formats.{Read, Format, byte, such, then_by, standing, list, variant, nothing, tagged, StandsAt, Spells}
+use Rattle.ec_codes.specs.Formats.{Read, Format, byte, such, then_by, standing, list, variant, nothing, tagged}
+use Rattle.ec_codes.specs.Spelling.{StandsAt, Spells}
 use Rattle.ec_codes.specs.FormatLaws.{AreBytes, IsFormat, byte-is, such_is, then_is, standing_is, list_is, variant_is, nothing_is, choice_is, tagged_is, ok_is}
 use Rattle.ec_codes.specs.Fields.{word, long, id}
 use Rattle.ec_codes.specs.FieldLaws.{word-is, long-is, id-is, two_of}

@@ -1,5 +1,5 @@
 -- The codes of messages: a byte for the kind, and then the fields in order.
-use Rattle.std.specs.Prelude.{◌≡◌, ◌==◌, ◌+◌, ℕ, Bool, true, false, ◌&&◌, ◌||◌, if◌then◌else◌, nat_lt, nat_le, List, [], ◌∷◌, ◌++◌, length, get_or, Option, None, Some, Result, Ok, Err}
+use Rattle.std.specs.Prelude.{◌==◌, ℕ, Bool, true, ◌&&◌, ◌||◌, if◌then◌else◌, nat_lt, nat_le, List, [], ◌∷◌, ◌++◌, length, get_or, Option, None, Some, Result, Ok, Err}
 use Rattle.ec_base.specs.Limits.{clerk_count}
 use Rattle.ec_base.specs.Holds.{rank}
 use Rattle.ec_base.specs.declared.ids.Age.{Age}
@@ -318,12 +318,3 @@ said bytes =
     if nat_lt 0 (length bytes) then
     (if is_kind_byte (get_or bytes 0 0) then whole (length bytes) ((msg_form (get_or bytes 0 0)).read bytes 1) else Err (fault.Kind (get_or bytes 0 0)))
     else Err (fault.Short 0)
-
--- what a function answered is this, unless memory ran out
-abbrev pub Answers : Result Msg WireFault → Result Msg WireFault → Type 0
-Answers (Err fault.NoMemory) r = Unit {0}
-Answers (Err (fault.Short p)) r = r ≡ Err (fault.Short p)
-Answers (Err (fault.Kind b)) r = r ≡ Err (fault.Kind b)
-Answers (Err (fault.Field p)) r = r ≡ Err (fault.Field p)
-Answers (Err (fault.Trailing p)) r = r ≡ Err (fault.Trailing p)
-Answers (Ok m) r = r ≡ Ok m

@@ -4,12 +4,14 @@ use Rattle.std.specs.Prelude.{nat_lt, nat_le, IfOk, T}
 use Rattle.std.specs.List.{list_all}
 use Rattle.std.proofs.lemmas.List.{append-nil, nil_from_length}
 use Rattle.std.proofs.lemmas.Bool.{ltb-true, ltb-false, lt-ltb, le-ltb, and_parts, and_from}
-use Rattle.ec_codes.specs.Formats.{Read, Format, byte, such, StandsAt, Spells}
+use Rattle.ec_codes.specs.Formats.{Read, Format, byte, such}
+use Rattle.ec_codes.specs.Spelling.{StandsAt, Spells}
 use Rattle.ec_codes.specs.FormatLaws.{AreBytes, IsFormat}
 use Rattle.ec_wire.specs.declared.fault.WireFault.{WireFault}
 use Rattle.ec_wire.specs.declared.fault.WireFault.TheVariants as fault
 use Rattle.ec_wire.specs.declared.msg.Msg.{Msg}
-use Rattle.ec_wire.specs.Codes.{msg_byte, is_kind_byte, msg_form, msg_code, whole, said, Answers}
+use Rattle.ec_wire.specs.Codes.{msg_byte, is_kind_byte, msg_form, msg_code, whole, said}
+use Rattle.ec_wire.specs.CodeAnswers.{Answers}
 use Rattle.ec_wire.specs.CodeLaws.{form_is, msg-is}
 
 pass : (b : Bool) (x : Result Msg WireFault) (f : WireFault) (m : Msg) → cond b x (Err f) ≡ Ok m → (b ≡ true) × (x ≡ Ok m)

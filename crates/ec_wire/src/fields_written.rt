@@ -3,7 +3,8 @@ ghost use Rattle.std.specs.Prelude.{◌≡◌, ◌++◌, [], true, length, OnOk}
 ghost use Rattle.std.specs.List.{flat_map, list_all};
 ghost use Rattle.ec_base.specs.Tables.{keys};
 ghost use Rattle.ec_volume.specs.Update.{is_sound as is_sound_update};
-ghost use Rattle.ec_codes.specs.Formats.{Writes, rows_fit};
+ghost use Rattle.ec_codes.specs.Formats.{rows_fit};
+ghost use Rattle.ec_codes.specs.Spelling.{Writes};
 ghost use Rattle.ec_codes.specs.Fields.{long, id};
 ghost use Rattle.ec_codes.specs.Updates.{update_code};
 ghost use Rattle.ec_wire.specs.Messages.{rises, is_held_mode, is_lowered_mode};

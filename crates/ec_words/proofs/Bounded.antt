@@ -11,7 +11,8 @@ use Rattle.ec_base.specs.declared.name.PathFault.{PathFault}
 use Rattle.ec_base.specs.declared.name.PathFault.TheVariants as unread
 use Rattle.ec_volume.specs.Limits.{max_mode, max_write_bytes, max_ordered}
 use Rattle.ec_plain.specs.Walk.{Path}
-use Rattle.ec_plain.specs.Bounds.{is_bounded, is_short, max_read_bytes}
+use Rattle.ec_plain.specs.Bounds.{max_read_bytes}
+use Rattle.ec_plain.specs.BoundedCalls.{is_bounded, is_short}
 use Rattle.ec_plain.specs.declared.call.Call.{Call}
 use Rattle.ec_plain.specs.declared.call.Call.TheVariants as call
 use Rattle.ec_words.specs.declared.name.Verb.{Verb}

@@ -2,7 +2,8 @@
 use Rattle.std.proofs.Common.{◌≡◌, ◌+◌, ◌-◌, ◌^◌, min, ℕ, List, length, ap, arith}
 use Rattle.ec_words.specs.declared.cursor.Misfit.TheVariants as misfit
 use Rattle.ec_words.specs.Words.{words_of, column_of}
-use Rattle.ec_words.specs.Rows.{Word, FirstUnfit, IsMisfit, column_left, shown_column}
+use Rattle.ec_words.specs.Rows.{Word, FirstUnfit, shown_column}
+use Rattle.ec_words.specs.RowsLeft.{IsMisfit, column_left}
 use Rattle.ec_words.proofs.Left.{column_by_left}
 
 pub placed : {X : Type 0} (G : List Word → X → Type 0) (bytes : List ℕ) (n : ℕ) → IsMisfit G (words_of bytes) (misfit.Unfit n) → (k : ℕ) × (FirstUnfit G (words_of bytes) k × (column_left bytes n ≡ shown_column bytes k))

@@ -3,7 +3,7 @@ use Rattle.std.proofs.Common.{ap, ◌≡◌, ℕ, suc, zero, ◌+◌, ◌<◌, �
 use Rattle.std.specs.Prelude.{nat_lt, if◌then◌else◌}
 use Rattle.std.proofs.lemmas.Bool.{ltb-true, ltb-false}
 use Rattle.ec_words.specs.Words.{words_of, spaced_len, column_of}
-use Rattle.ec_words.specs.Rows.{joined_len}
+use Rattle.ec_words.specs.RowsLeft.{joined_len}
 use Rattle.ec_words.proofs.Splits.{spaced_len-words_of}
 
 -- words have a space less between them than behind each

@@ -5,7 +5,8 @@ use Rattle.std.proofs.lemmas.Result.{err_from_is_err_and}
 use Rattle.ec_words.specs.declared.cursor.Misfit.{Misfit}
 use Rattle.ec_words.specs.declared.cursor.Misfit.TheVariants as misfit
 use Rattle.ec_words.specs.Rows.{Word, ◌▸◌, End, Begins, FirstUnfit}
-use Rattle.ec_words.specs.Rows.{Last, UpTo, ◌⊳◌, ◌makes◌, joined_len, Lacks, IsMisfit, Example}
+use Rattle.ec_words.specs.Rows.{Last, UpTo, ◌⊳◌, ◌makes◌}
+use Rattle.ec_words.specs.RowsLeft.{joined_len, Lacks, IsMisfit, Example}
 use Rattle.ec_words.proofs.Fits.{unfit_none, unfit_first, behind, alike, first_lacks}
 
 -- a `?` at this fault returns it

@@ -2,7 +2,8 @@
 use Rattle.std.proofs.Common.{◌≡◌, ℕ, suc, ◌+◌, ◌<◌, ◌≤◌, List, [], ◌∷◌, zero, length, take, drop, true, false, refl, ap, ◌∙◌, arith}
 use Rattle.std.specs.Prelude.{◌==◌, nat_lt, if◌then◌else◌}
 use Rattle.std.proofs.lemmas.Bool.{ltb-true}
-use Rattle.ec_words.specs.Pieces.{piece_len, onto}
+use Rattle.ec_words.specs.Pieces.{onto}
+use Rattle.ec_words.specs.PieceLengths.{piece_len}
 use Rattle.ec_words.specs.Words.{words_of, spaced_len, column_of}
 
 -- a first piece, by the byte that ends it

@@ -1,11 +1,11 @@
 -- The calls that words spell.
-use Rattle.std.specs.Prelude.{◌-◌, List, [], ◌∷◌, codes, refl}
+use Rattle.std.specs.Prelude.{◌-◌, List, ◌∷◌}
 use Rattle.ec_plain.specs.declared.call.Call.{Call}
 use Rattle.ec_plain.specs.declared.call.Call.TheVariants as call
 use Rattle.ec_volume.specs.Limits.{max_ordered}
 use Rattle.ec_words.specs.declared.name.Verb.{Verb}
 use Rattle.ec_words.specs.declared.name.Verb.TheVariants as verb
-use Rattle.ec_words.specs.Rows.{Word, ◌▸◌, End, Last, UpTo, ◌⊳◌, ◌makes◌, Begins}
+use Rattle.ec_words.specs.Rows.{Word, ◌▸◌, End, Last, UpTo, ◌⊳◌, ◌makes◌}
 use Rattle.ec_words.specs.Spelling.{IsSmallNumber, IsNumber, IsCount, IsMode, IsText, IsPathText, IsVerb}
 
 -- what stands behind a verb, and the call that it makes
@@ -29,7 +29,3 @@ Asks verb.Chown = (IsPathText ▸ Last IsSmallNumber) makes λ x. call.Chown x.0
 
 abbrev pub SpellsCall : List Word → Call → Type 0
 SpellsCall = IsVerb ⊳ Asks
-
--- some words make up a call
-pub a_call : Begins SpellsCall []
-a_call = (codes "sync" ∷ [], (call.Sync, (verb.Sync, (refl, (tt, (refl, refl))))))

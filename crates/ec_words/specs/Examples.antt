@@ -5,7 +5,7 @@ use Rattle.std.proofs.lemmas.Fmt.{decimal_digit}
 use Rattle.ec_disk.specs.declared.disk.Choice.TheVariants as choice
 use Rattle.ec_wire.specs.declared.msg.MsgKind.TheVariants as kind
 use Rattle.ec_words.specs.declared.name.Verb.TheVariants as verb
-use Rattle.ec_words.specs.Rows.{Example}
+use Rattle.ec_words.specs.RowsLeft.{Example}
 use Rattle.ec_words.specs.Spelling.{IsClerk, IsSmallNumber, IsNumber, IsCount, IsArmed, IsLane, IsMode, IsText, IsPathText, IsKind, IsChoice, IsVerb}
 
 pub a_clerk : Example IsClerk

@@ -1,6 +1,9 @@
 pub mod Pieces
+pub mod PieceLengths
 pub mod Words
 pub mod Rows
+pub mod RowsLeft
 pub mod Spelling
 pub mod Examples
 pub mod Calls
+pub mod SomeCall

@@ -1,7 +1,7 @@
 // Calls by their words.
 ghost use Rattle.std.specs.Prelude.{MatchResult};
 ghost use Rattle.ec_words.specs.Calls.{Asks, SpellsCall};
-ghost use Rattle.ec_words.specs.Rows.{IsMisfit, left};
+ghost use Rattle.ec_words.specs.RowsLeft.{IsMisfit, left};
 
 use crate::cursor::{Misfit, Words};
 use crate::name::Verb;

@@ -1,7 +1,7 @@
 // The words of a line, taken off one by one.
 ghost use Rattle.std.specs.Prelude.{◌≡◌, [], ◌∷◌, MatchBool, MatchOption};
 ghost use Rattle.ec_words.specs.Words.{words_of};
-ghost use Rattle.ec_words.specs.Rows.{left, left_in, joined_len, column_left};
+ghost use Rattle.ec_words.specs.RowsLeft.{left, left_in, joined_len, column_left};
 
 use crate::pieces::piece_len;
 use ec_base::NoMemory;

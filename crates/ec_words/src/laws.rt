@@ -1,7 +1,7 @@
 // What holds of all words that spell calls.
 ghost use Rattle.std.specs.Prelude.{◌≡◌, List, T};
 ghost use Rattle.ec_plain.specs.declared.call.Call.{Call};
-ghost use Rattle.ec_plain.specs.Bounds.{is_bounded};
+ghost use Rattle.ec_plain.specs.BoundedCalls.{is_bounded};
 ghost use Rattle.ec_words.specs.Rows.{Word};
 ghost use Rattle.ec_words.specs.Calls.{SpellsCall};
 

@@ -2,7 +2,8 @@
 ghost use Rattle.std.specs.Prelude.{◌≡◌, ◌-◌, ◌∷◌, ◌++◌, List, MatchResult};
 ghost use Rattle.ec_plain.specs.Walk.{Path as PathNames};
 ghost use Rattle.ec_volume.specs.Limits.{max_ordered};
-ghost use Rattle.ec_words.specs.Rows.{◌▸◌, UpTo, ◌makes◌, IsMisfit, left};
+ghost use Rattle.ec_words.specs.Rows.{◌▸◌, UpTo, ◌makes◌};
+ghost use Rattle.ec_words.specs.RowsLeft.{IsMisfit, left};
 ghost use Rattle.ec_words.specs.Spelling.{IsPathText};
 
 use crate::cursor::{Misfit, Words};

@@ -1,6 +1,6 @@
 // Pieces of bytes that end at a certain byte.
 ghost use Rattle.std.specs.Prelude.{◌≡◌};
-ghost use Rattle.ec_words.specs.Pieces.{piece_len};
+ghost use Rattle.ec_words.specs.PieceLengths.{piece_len};
 
 /// The length of the first piece, without the byte at its end.
 pub fn piece_len(bytes: &[u8], mark: u8) -> usize

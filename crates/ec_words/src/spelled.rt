@@ -1,6 +1,7 @@
 // Rows of words that stand for values.
 ghost use Rattle.std.specs.Prelude.{List, ℕ, IfOk, MatchOption, MatchResult};
-ghost use Rattle.ec_words.specs.Rows.{◌▸◌, End, Last, Takes, Lacks, IsMisfit, Example, left};
+ghost use Rattle.ec_words.specs.Rows.{◌▸◌, End, Last};
+ghost use Rattle.ec_words.specs.RowsLeft.{Takes, Lacks, IsMisfit, Example, left};
 
 use crate::cursor::{Misfit, Words};
 use ec_base::NoMemory;

@@ -1,13 +1,15 @@
 -- What steps make of the arm of a disk.
 use Rattle.std.proofs.Common.{◌≡◌, ◌≤◌, ◌-◌, ℕ, Option, None, refl, sym, subst, ◌∙◌, arith}
 use Rattle.ec_base.specs.Outside.{Rose}
-use Rattle.ec_disk.specs.Disk.{Counts, Counted}
+use Rattle.ec_disk.specs.Disk.{Counts}
+use Rattle.ec_disk.specs.Effects.{Counted}
 use Rattle.ec_durable.specs.declared.state.Durable.{Durable}
 use Rattle.ec_protocol.specs.World.{Fate, runs, stops_without, stops_with}
-use Rattle.ec_marking.specs.Runs.{HasRun, Takes}
+use Rattle.ec_marking.specs.Runs.{Takes}
+use Rattle.ec_marking.specs.KeptRuns.{HasRun}
 use Rattle.ec_marking.specs.Keeping.{HasStoppedIn, RunsIn}
 use Rattle.ec_world.specs.Serving.{FateIn, ArmsBehind}
-use Rattle.ec_world.specs.Steps.{FateOf}
+use Rattle.ec_world.specs.StepEnds.{FateOf}
 use Rattle.ec_marking.specs.declared.keeping.Came.{Came}
 use Rattle.ec_marking.specs.declared.keeping.Came.TheVariants as came
 use Rattle.ec_marking.specs.declared.marks.Mark.{Mark}

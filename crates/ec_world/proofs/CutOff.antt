@@ -19,7 +19,7 @@ use Rattle.ec_world.proofs.Fresh.{fresh}
 use Rattle.ec_world.specs.Cutting.{left_of}
 use Rattle.ec_world.specs.Laws.{in_step_keeps}
 use Rattle.ec_world.specs.Serving.{left_in, stopped_in, with_durable}
-use Rattle.ec_world.specs.Steps.{under}
+use Rattle.ec_world.specs.StepEnds.{under}
 use Rattle.ec_world.specs.Worlds.{view_of, server_of, Stands, IsInStep, Keeps}
 use Rattle.ec_world.specs.declared.world.World.{World}
 

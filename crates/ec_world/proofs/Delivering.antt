@@ -3,7 +3,8 @@ use Rattle.std.proofs.Common.{◌≡◌, ◌⊎◌, inl, inr, ⊎_elim, ℕ, Boo
 use Rattle.std.specs.Prelude.{OnOk, IfErr}
 use Rattle.ec_base.specs.Tables.{at}
 use Rattle.ec_base.specs.declared.counter.Counter.{Counter}
-use Rattle.ec_disk.specs.Disk.{View, Counts, Counted}
+use Rattle.ec_disk.specs.Disk.{View, Counts}
+use Rattle.ec_disk.specs.Effects.{Counted}
 use Rattle.ec_durable.specs.Durable.{slot}
 use Rattle.ec_durable.specs.declared.state.Durable.{Durable}
 use Rattle.ec_sessions.specs.Slots.{is_open}
@@ -26,7 +27,7 @@ use Rattle.ec_marking.specs.Keeping.{Unchanged}
 use Rattle.ec_marking.specs.Held.{held_stands}
 use Rattle.ec_world.specs.Laws.{in_step_stands}
 use Rattle.ec_world.specs.Serving.{serves, Breaks}
-use Rattle.ec_world.specs.Steps.{Fated, Refuses, IsLeft, as_before, under}
+use Rattle.ec_world.specs.StepEnds.{Fated, Refuses, IsLeft, as_before, under}
 use Rattle.ec_world.specs.Worlds.{view_of, server_of, Stands, IsInStep, Keeps}
 use Rattle.ec_running.specs.declared.fault.StepFault.{StepFault}
 use Rattle.ec_running.specs.declared.fault.StepFault.TheVariants as step_fault

@@ -3,7 +3,8 @@ use Rattle.std.proofs.Common.{◌≡◌, ◌⊎◌, ◌<◌, ◌≤◌, inl, inr
 use Rattle.std.specs.Prelude.{OnOk, IfOk, IfErr}
 use Rattle.ec_base.specs.declared.counter.Counter.{Counter}
 use Rattle.ec_disk.specs.Counting.{counted_both}
-use Rattle.ec_disk.specs.Disk.{View, Counts, Counted}
+use Rattle.ec_disk.specs.Disk.{View, Counts}
+use Rattle.ec_disk.specs.Effects.{Counted}
 use Rattle.ec_disk.specs.declared.disk.Choice.{Choice}
 use Rattle.ec_disk.specs.declared.disk.Choice.TheVariants as choice
 use Rattle.ec_durable.specs.Durable.{step}
@@ -24,7 +25,7 @@ use Rattle.ec_protocol.specs.World.{Fate, runs, stops_without, stops_with, Movin
 use Rattle.ec_server.specs.Servers.{standing}
 use Rattle.ec_server.specs.declared.server.Server.{Server}
 use Rattle.ec_store.specs.Store.{IsHeld, view_of as state_of}
-use Rattle.ec_marking.specs.Runs.{LeavesEither}
+use Rattle.ec_marking.specs.KeptRuns.{LeavesEither}
 use Rattle.ec_world.specs.Cutting.{TakesBack}
 use Rattle.ec_running.specs.Faults.{of_step}
 use Rattle.ec_marking.specs.Keeping.{IsDone, InDoubt, LeavesSome, HasStoppedIn, IsStop, RunsIn}
@@ -32,7 +33,8 @@ use Rattle.ec_marking.specs.Held.{held_stands}
 use Rattle.ec_world.specs.Laws.{in_step_keeps}
 use Rattle.ec_marking.specs.Marks.{IsMark, gone}
 use Rattle.ec_world.specs.Serving.{serves, IsDoneBy, CameTo, FateIn, Finishes, ArmsBehind, Breaks, FailsSince, stopped_in, with_durable}
-use Rattle.ec_world.specs.Steps.{IsTold, IsShown, Fated, IsLeft, as_before, as_behind, under}
+use Rattle.ec_world.specs.Steps.{IsShown}
+use Rattle.ec_world.specs.StepEnds.{IsTold, Fated, IsLeft, as_before, as_behind, under}
 use Rattle.ec_world.specs.Worlds.{view_of, server_of, Stands, IsInStep, Keeps}
 use Rattle.ec_running.specs.declared.fault.StepFault.{StepFault}
 use Rattle.ec_running.specs.declared.fault.StepFault.TheVariants as step_fault

@@ -27,7 +27,8 @@ use Rattle.ec_marking.specs.Keeping.{IsDone, CameOf, Unchanged, IfDone}
 use Rattle.ec_marking.specs.Held.{held_stands}
 use Rattle.ec_marking.specs.Marks.{Marked, MarkOf}
 use Rattle.ec_world.specs.Opening.{Unread, Starts, Begins, EndsBy, EndsOne, EndsWith, KeptBy, Unstarted, IsOfDisk}
-use Rattle.ec_world.specs.Steps.{Opens, Unopened}
+use Rattle.ec_world.specs.Steps.{Opens}
+use Rattle.ec_world.specs.StepEnds.{Unopened}
 use Rattle.ec_world.specs.Worlds.{view_of as whole, Stands, IsInStep}
 use Rattle.ec_marking.specs.declared.keeping.Came.{Came}
 use Rattle.ec_marking.specs.declared.keeping.Came.TheVariants as came

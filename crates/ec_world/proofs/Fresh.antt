@@ -2,7 +2,7 @@
 use Rattle.std.proofs.Common.{◌≡◌, List, [], None, ap}
 use Rattle.ec_history.specs.declared.shown.Shown.{Shown}
 use Rattle.ec_protocol.specs.World.{Moving, moving}
-use Rattle.ec_world.specs.Steps.{under}
+use Rattle.ec_world.specs.StepEnds.{under}
 use Rattle.ec_world.specs.Worlds.{view_of}
 use Rattle.ec_world.specs.declared.world.World.{World}
 

@@ -13,8 +13,8 @@ use Rattle.ec_server.specs.declared.server.Server.{Server}
 use Rattle.ec_store.specs.Store.{IsHeld, view_of as state_of}
 use Rattle.ec_store.specs.declared.store.Store.{Store}
 use Rattle.ec_running.specs.Faults.{of_step}
-use Rattle.ec_marking.specs.Runs.{HasRun}
-use Rattle.ec_world.specs.Steps.{under, Fated, Refuses, Declines, behind_arm, CountsOf, IsLeft}
+use Rattle.ec_marking.specs.KeptRuns.{HasRun}
+use Rattle.ec_world.specs.StepEnds.{under, Fated, Refuses, Declines, behind_arm, CountsOf, IsLeft}
 use Rattle.ec_world.specs.Worlds.{view_of, Stands, IsInStep}
 use Rattle.ec_running.specs.declared.fault.StepFault.{StepFault}
 use Rattle.ec_running.specs.declared.fault.StepFault.TheVariants as step

@@ -2,7 +2,8 @@
 use Rattle.std.proofs.Common.{◌≡◌, ◌≤◌, inl, inr, ⊎_elim, sym, ◌∙◌, ap, subst, ℕ, true, false, List}
 use Rattle.std.specs.Prelude.{Result, Ok}
 use Rattle.ec_disk.specs.Choices.{cut}
-use Rattle.ec_disk.specs.Disk.{View, Cut, LeavesOnly}
+use Rattle.ec_disk.specs.Disk.{View}
+use Rattle.ec_disk.specs.Effects.{Cut, LeavesOnly}
 use Rattle.ec_disk.specs.declared.disk.Choice.{Choice}
 use Rattle.ec_disk.specs.declared.disk.Choice.TheVariants as choice
 use Rattle.ec_durable.specs.Durable.{step}
@@ -14,7 +15,7 @@ use Rattle.ec_stands.specs.Stands.{StandsFor, IsBadAt}
 use Rattle.ec_store.specs.Opening.{WasLeftOrStands}
 use Rattle.ec_store.specs.Store.{StandsForEither}
 use Rattle.ec_world.proofs.Telling.{signs_tell}
-use Rattle.ec_marking.specs.Runs.{LeavesEither}
+use Rattle.ec_marking.specs.KeptRuns.{LeavesEither}
 use Rattle.ec_world.specs.Cutting.{TakesBack, left_of}
 use Rattle.ec_marking.specs.Signs.{sign_of, is_there}
 use Rattle.ec_marking.specs.declared.signs.Sign.{Sign}

@@ -1,7 +1,8 @@
 -- Steps that make no call of the disk.
 use Rattle.std.proofs.Common.{◌≡◌, ℕ, List, Result, Ok, Err, refl, arith, inl}
 use Rattle.std.specs.Prelude.{IfErr, OnOk}
-use Rattle.ec_disk.specs.Disk.{View, Counts, Counted}
+use Rattle.ec_disk.specs.Disk.{View, Counts}
+use Rattle.ec_disk.specs.Effects.{Counted}
 use Rattle.ec_disk.specs.declared.disk.Choice.{Choice}
 use Rattle.ec_durable.specs.declared.state.Durable.{Durable}
 use Rattle.ec_history.specs.declared.shown.Shown.{Shown}
@@ -12,7 +13,7 @@ use Rattle.ec_protocol.specs.declared.world.WorldFault.{WorldFault}
 use Rattle.ec_protocol.specs.declared.world.WorldFault.TheVariants as world
 use Rattle.ec_running.specs.Faults.{of_step}
 use Rattle.ec_world.specs.Laws.{in_step_keeps, in_step_stands}
-use Rattle.ec_world.specs.Steps.{Fated, Refuses, Declines, IsLeft, as_before}
+use Rattle.ec_world.specs.StepEnds.{Fated, Refuses, Declines, IsLeft, as_before}
 use Rattle.ec_world.specs.Worlds.{view_of, IsInStep, Keeps}
 use Rattle.ec_running.specs.declared.fault.StepFault.{StepFault}
 use Rattle.ec_running.specs.declared.fault.StepFault.TheVariants as step

@@ -11,10 +11,11 @@ use Rattle.ec_protocol.specs.World.{Fate, Moving, forget, happen, open_world}
 use Rattle.ec_protocol.specs.declared.world.Event.{Event}
 use Rattle.ec_protocol.specs.declared.world.World.{World as State}
 use Rattle.ec_protocol.specs.declared.world.WorldFault.{WorldFault}
-use Rattle.ec_lawful.specs.Reached.{Reached, opens, happens, forgets, unsettles}
+use Rattle.ec_lawful.specs.ReachedWorlds.{Reached, opens, happens, forgets, unsettles}
 use Rattle.ec_lawful.proofs.Worlds.{reached-in-order}
 use Rattle.ec_world.specs.Reaching.{IsReached, Leads, LeadsKnown, Stays}
-use Rattle.ec_world.specs.Steps.{FateOf, IsTold, IsShown, IsWhole, Opens}
+use Rattle.ec_world.specs.Steps.{IsShown, IsWhole, Opens}
+use Rattle.ec_world.specs.StepEnds.{FateOf, IsTold}
 use Rattle.ec_world.specs.Worlds.{view_of}
 use Rattle.ec_world.specs.declared.world.World.{World}
 

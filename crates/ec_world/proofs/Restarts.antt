@@ -2,7 +2,8 @@
 use Rattle.std.proofs.Common.{◌≡◌, ◌⊎◌, inl, ℕ, Bool, true, false, List, Option, None, Some, Result, Ok, Err, refl, sym, ap, subst, ◌∙◌}
 use Rattle.std.specs.Prelude.{OnOk, IfErr, is_some}
 use Rattle.ec_base.specs.declared.counter.Counter.{Counter}
-use Rattle.ec_disk.specs.Disk.{View, Counts, Counted}
+use Rattle.ec_disk.specs.Disk.{View, Counts}
+use Rattle.ec_disk.specs.Effects.{Counted}
 use Rattle.ec_durable.specs.declared.state.Durable.{Durable}
 use Rattle.ec_protocol.specs.Server.{Serving}
 use Rattle.ec_protocol.specs.World.{Fate, runs, Moving, nothing, restart, restart_server}
@@ -17,7 +18,7 @@ use Rattle.ec_marking.specs.Keeping.{Unchanged, HasStoppedIn, RunsIn}
 use Rattle.ec_marking.specs.Held.{held_stands}
 use Rattle.ec_world.specs.Laws.{in_step_stands}
 use Rattle.ec_world.specs.Serving.{serves, CameUp, Finishes, ArmsBehind}
-use Rattle.ec_world.specs.Steps.{Fated, IsLeft, under}
+use Rattle.ec_world.specs.StepEnds.{Fated, IsLeft, under}
 use Rattle.ec_world.specs.Worlds.{view_of, server_of, IsInStep}
 use Rattle.ec_running.specs.declared.fault.StepFault.{StepFault}
 use Rattle.ec_running.specs.declared.fault.StepFault.TheVariants as step_fault

@@ -23,13 +23,13 @@ use Rattle.ec_store.specs.Store.{view_of as state_of}
 use Rattle.ec_wire.specs.declared.msg.Msg.{Msg}
 use Rattle.ec_world.proofs.Finish.{chosen_by, fate_of, told_fate, came_fate, sends_keep, IsTaken, left_behind, some_left, either_behind, done_leaves}
 use Rattle.ec_world.proofs.Fresh.{fresh}
-use Rattle.ec_marking.specs.Runs.{LeavesEither}
+use Rattle.ec_marking.specs.KeptRuns.{LeavesEither}
 use Rattle.ec_world.specs.Cutting.{TakesBack}
 use Rattle.ec_marking.specs.Keeping.{IsDone, InDoubt, LeavesSome, HasStoppedIn}
 use Rattle.ec_marking.specs.Marks.{IsMark, MarkOf}
 use Rattle.ec_world.specs.Serving.{serves, with_durable, left_in, CameUp, Finishes}
 use Rattle.ec_marking.specs.Signs.{sign_of}
-use Rattle.ec_world.specs.Steps.{IsLeft, under}
+use Rattle.ec_world.specs.StepEnds.{IsLeft, under}
 use Rattle.ec_world.specs.Worlds.{view_of, server_of}
 use Rattle.ec_running.specs.declared.fault.StepFault.{StepFault}
 use Rattle.ec_running.specs.declared.fault.StepFault.TheVariants as step_fault

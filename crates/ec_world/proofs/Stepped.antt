@@ -1,7 +1,8 @@
 -- What a step answers, by what happened.
 use Rattle.std.proofs.Common.{◌≡◌, ℕ, true, false, List, None, Result, Ok, Err, Vec, refl, sym, ap, subst, ◌∙◌, inr, ⊎_elim, inl}
 use Rattle.std.specs.Prelude.{IfOk, IfErr, OnOk, IsOk, IsErrAnd}
-use Rattle.ec_disk.specs.Disk.{View, Counts, Counted}
+use Rattle.ec_disk.specs.Disk.{View, Counts}
+use Rattle.ec_disk.specs.Effects.{Counted}
 use Rattle.ec_disk.specs.declared.disk.Choice.{Choice}
 use Rattle.ec_durable.specs.declared.state.Durable.{Durable}
 use Rattle.ec_history.specs.declared.shown.Shown.{Shown}
@@ -13,7 +14,8 @@ use Rattle.ec_protocol.specs.declared.world.WorldFault.{WorldFault}
 use Rattle.ec_protocol.specs.declared.world.WorldFault.TheVariants as world
 use Rattle.ec_running.specs.Faults.{of_step}
 use Rattle.ec_world.specs.Laws.{in_step_keeps}
-use Rattle.ec_world.specs.Steps.{under, Fated, FateOf, IsTold, IsShown, Refuses, CountsOf}
+use Rattle.ec_world.specs.Steps.{IsShown}
+use Rattle.ec_world.specs.StepEnds.{under, Fated, FateOf, IsTold, Refuses, CountsOf}
 use Rattle.ec_world.specs.Worlds.{view_of, IsInStep, Keeps}
 use Rattle.ec_running.specs.declared.fault.StepFault.{StepFault}
 use Rattle.ec_running.specs.declared.fault.StepFault.TheVariants as step

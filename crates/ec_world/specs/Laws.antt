@@ -1,6 +1,7 @@
 -- What follows for a world that is in step with its disk.
 use Rattle.std.proofs.Common.{sym, subst, ℕ, List, Option}
-use Rattle.ec_disk.specs.Disk.{View, Rests}
+use Rattle.ec_disk.specs.Disk.{View}
+use Rattle.ec_disk.specs.Effects.{Rests}
 use Rattle.ec_stands.specs.Stands.{StandsFor}
 use Rattle.ec_server.specs.declared.server.Server.{Server}
 use Rattle.ec_store.specs.Store.{IsHeld, Holds, view_of as state_of}

@@ -7,4 +7,5 @@ pub mod Reaching
 pub mod Sending
 pub mod Serving
 pub mod Steps
+pub mod StepEnds
 pub mod Worlds

@@ -6,8 +6,10 @@ use Rattle.ec_protocol.specs.World.{Fate}
 use Rattle.ec_protocol.specs.declared.world.Event.{Event}
 use Rattle.ec_protocol.specs.declared.world.World.{World as State}
 use Rattle.ec_lawful.specs.Steps.{MayHappen}
-use Rattle.ec_lawful.specs.Reached.{IsInOrder, Reached}
-use Rattle.ec_world.specs.Steps.{FateOf, IsTold, IsWhole}
+use Rattle.ec_lawful.specs.Reached.{IsInOrder}
+use Rattle.ec_lawful.specs.ReachedWorlds.{Reached}
+use Rattle.ec_world.specs.Steps.{IsWhole}
+use Rattle.ec_world.specs.StepEnds.{FateOf, IsTold}
 
 -- The world is one of a run over the state: so its lines are lawful, it's coherent, and what is kept fits.
 pub record IsReached (d : Durable) (w : State) : Type 0 where

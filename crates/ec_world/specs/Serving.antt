@@ -15,7 +15,8 @@ use Rattle.ec_protocol.specs.World.{Fate, runs, stops_without, stops_with, Movin
 use Rattle.ec_server.specs.declared.server.Server.{Server}
 use Rattle.ec_store.specs.declared.store.Store.{Store}
 use Rattle.ec_marking.specs.Keeping.{IsDone, CameOf}
-use Rattle.ec_world.specs.Steps.{IsTold, IsShown}
+use Rattle.ec_world.specs.Steps.{IsShown}
+use Rattle.ec_world.specs.StepEnds.{IsTold}
 use Rattle.ec_running.specs.declared.fault.StepFault.{StepFault}
 use Rattle.ec_running.specs.declared.fault.StepFault.TheVariants as step
 use Rattle.ec_marking.specs.declared.keeping.Came.{Came}

@@ -2,7 +2,7 @@
 ghost use Rattle.std.specs.Prelude.{◌≡◌, ◌∷◌, [], OnOk};
 ghost use Rattle.ec_protocol.specs.World as machine;
 ghost use Rattle.ec_world.specs.Worlds.{Keeps};
-ghost use Rattle.ec_world.specs.Steps.{under};
+ghost use Rattle.ec_world.specs.StepEnds.{under};
 
 use crate::world::World;
 use ec_base::{ClerkId, NoMemory, OpNo};

@@ -6,7 +6,7 @@ ghost use Rattle.ec_protocol.specs.Clerk as clerk_machine;
 ghost use Rattle.ec_protocol.specs.World as machine;
 ghost use Rattle.ec_world.specs.Worlds.{view_of, Keeps};
 ghost use Rattle.ec_world.specs.Calls.{begun};
-ghost use Rattle.ec_world.specs.Steps.{under, Declines};
+ghost use Rattle.ec_world.specs.StepEnds.{under, Declines};
 
 use crate::world::World;
 use ec_base::{ClerkId, Counter, Duplicate, NoMemory, OpNo, next};

@@ -1,6 +1,6 @@
 // Power cuts: what one leaves of a record under way.
 ghost use Rattle.std.specs.Prelude.{◌≡◌, ◌⊎◌, ℕ, List, None, Ok, IfOk, OnOk, IsErrOf};
-ghost use Rattle.ec_disk.specs.Disk.{Counted};
+ghost use Rattle.ec_disk.specs.Effects.{Counted};
 ghost use Rattle.ec_durable.specs.Durable.{step};
 ghost use Rattle.ec_durable.specs.declared.record.Record.{Record as Change};
 ghost use Rattle.ec_durable.specs.declared.record.RecordFault.{RecordFault};
@@ -8,7 +8,7 @@ ghost use Rattle.ec_durable.specs.declared.state.Durable.{Durable};
 ghost use Rattle.ec_stands.specs.Stands.{StandsFor};
 ghost use Rattle.ec_store.specs.Store.{IsHeld, view_of};
 ghost use Rattle.ec_store.specs.declared.fault.StoreFault.TheVariants as store_fault;
-ghost use Rattle.ec_marking.specs.Runs.{LeavesEither};
+ghost use Rattle.ec_marking.specs.KeptRuns.{LeavesEither};
 ghost use Rattle.ec_world.specs.Cutting.{TakesBack, left_of};
 ghost use Rattle.ec_marking.specs.Signs.{sign_of};
 ghost use Rattle.ec_running.specs.declared.fault.StepFault.TheVariants as fault;

@@ -3,7 +3,7 @@ ghost use Rattle.std.specs.Prelude.{◌≡◌, [], false, IfErr, OnOk};
 ghost use Rattle.ec_protocol.specs.World as machine;
 ghost use Rattle.ec_world.specs.Worlds.{view_of, Keeps};
 ghost use Rattle.ec_world.specs.Sending.{IsFor};
-ghost use Rattle.ec_world.specs.Steps.{under, Declines};
+ghost use Rattle.ec_world.specs.StepEnds.{under, Declines};
 
 use crate::world::World;
 use ec_base::{ClerkId, Duplicate, NoMemory};

@@ -1,7 +1,7 @@
 // The opening of a disk.
 ghost use Rattle.std.specs.Prelude.{◌≡◌, ◌<◌, ◌≤◌, ◌∷◌, ◌++◌, [], ℕ, Some, None, Ok, Err, IfOk, IfErr, OnOk, IsErrOf, IsSome, length};
 ghost use Rattle.ec_base.specs.Limits.{clerk_count};
-ghost use Rattle.ec_disk.specs.Disk.{Counted};
+ghost use Rattle.ec_disk.specs.Effects.{Counted};
 ghost use Rattle.ec_durable.specs.Durable.{slot, formatted as formatted_state};
 ghost use Rattle.ec_sessions.specs.Slots as slots;
 ghost use Rattle.ec_stands.specs.Stands.{StandsFor};

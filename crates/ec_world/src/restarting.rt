@@ -1,6 +1,6 @@
 // Restarts of the server.
 ghost use Rattle.std.specs.Prelude.{◌≡◌, ℕ, List, [], None, Err, IfErr, OnOk};
-ghost use Rattle.ec_disk.specs.Disk.{Counted};
+ghost use Rattle.ec_disk.specs.Effects.{Counted};
 ghost use Rattle.ec_durable.specs.declared.state.Durable.{Durable};
 ghost use Rattle.ec_history.specs.declared.shown.Shown.TheVariants as show;
 ghost use Rattle.ec_protocol.specs.World as machine;
@@ -10,7 +10,7 @@ ghost use Rattle.ec_running.specs.Faults.{of_step};
 ghost use Rattle.ec_marking.specs.Keeping.{HasStoppedIn, IfDone, IsMarked};
 ghost use Rattle.ec_world.specs.Serving.{CameUp, Finishes, ArmsBehind, Breaks, FailsSince, serves};
 ghost use Rattle.ec_world.specs.Worlds.{view_of, IsInStep, Keeps};
-ghost use Rattle.ec_world.specs.Steps.{under, Fated, Refuses, IsLeft};
+ghost use Rattle.ec_world.specs.StepEnds.{under, Fated, Refuses, IsLeft};
 ghost use Rattle.ec_running.specs.declared.fault.StepFault.TheVariants as fault;
 
 use crate::world::World;

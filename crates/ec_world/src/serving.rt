@@ -1,6 +1,6 @@
 // Steps of the server: messages that are delivered to it, ends of sessions, and stops.
 ghost use Rattle.std.specs.Prelude.{◌≡◌, ℕ, List, [], true, None, Err, IfErr, OnOk, Option};
-ghost use Rattle.ec_disk.specs.Disk.{Counted};
+ghost use Rattle.ec_disk.specs.Effects.{Counted};
 ghost use Rattle.ec_durable.specs.Durable.{slot};
 ghost use Rattle.ec_durable.specs.declared.state.Durable.{Durable};
 ghost use Rattle.ec_sessions.specs.Slots.{is_open};
@@ -13,7 +13,7 @@ ghost use Rattle.ec_marking.specs.Marks.{gone};
 ghost use Rattle.ec_world.specs.Worlds.{view_of, IsInStep, Keeps, Stands};
 ghost use Rattle.ec_marking.specs.Keeping.{HasStoppedIn};
 ghost use Rattle.ec_world.specs.Serving.{CameTo, Finishes, ArmsBehind, Breaks, FailsSince, serves};
-ghost use Rattle.ec_world.specs.Steps.{under, Fated, Refuses, IsLeft};
+ghost use Rattle.ec_world.specs.StepEnds.{under, Fated, Refuses, IsLeft};
 ghost use Rattle.ec_world.specs.Sending.{IsFor};
 ghost use Rattle.ec_running.specs.declared.fault.StepFault.TheVariants as fault;
 

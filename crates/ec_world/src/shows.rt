@@ -3,7 +3,7 @@ ghost use Rattle.std.specs.Prelude.{◌≡◌, [], IfOk, OnOk};
 ghost use Rattle.ec_protocol.specs.World as machine;
 ghost use Rattle.ec_history.specs.declared.shown.Shown.TheVariants as show;
 ghost use Rattle.ec_world.specs.Worlds.{view_of, Keeps};
-ghost use Rattle.ec_world.specs.Steps.{under};
+ghost use Rattle.ec_world.specs.StepEnds.{under};
 
 use crate::world::World;
 use ec_base::{ClerkId, Duplicate, NoMemory};

@@ -1,10 +1,10 @@
 // One step, by its event.
 ghost use Rattle.std.specs.Prelude.{◌≡◌, ℕ, List, [], Err, IsOk, IfOk, IfErr, IsErrAnd, OnOk};
-ghost use Rattle.ec_disk.specs.Disk.{Counted};
+ghost use Rattle.ec_disk.specs.Effects.{Counted};
 ghost use Rattle.ec_protocol.specs.World as machine;
 ghost use Rattle.ec_running.specs.Faults.{of_step};
 ghost use Rattle.ec_world.specs.Worlds.{view_of, IsInStep, Keeps};
-ghost use Rattle.ec_world.specs.Steps.{under, Fated, Refuses, IsLeft, behind_arm, CountsOf};
+ghost use Rattle.ec_world.specs.StepEnds.{under, Fated, Refuses, IsLeft, behind_arm, CountsOf};
 ghost use Rattle.ec_running.specs.declared.fault.StepFault.TheVariants as fault;
 
 use crate::world::World;

@@ -1,18 +1,18 @@
 // Stops of the disk in a server's step: the power is cut, and what is left is read back.
 ghost use Rattle.std.specs.Prelude.{◌≡◌, ◌++◌, ◌∷◌, [], Bool, List, None, Ok, Err, IfOk, IfErr, OnOk};
-ghost use Rattle.ec_disk.specs.Disk.{Counted};
+ghost use Rattle.ec_disk.specs.Effects.{Counted};
 ghost use Rattle.ec_durable.specs.Durable.{step};
 ghost use Rattle.ec_durable.specs.declared.record.Record.{Record as Change};
 ghost use Rattle.ec_durable.specs.declared.state.Durable.{Durable};
 ghost use Rattle.ec_history.specs.declared.shown.Shown.TheVariants as show;
 ghost use Rattle.ec_protocol.specs.World as machine;
 ghost use Rattle.ec_store.specs.Store.{IsHeld};
-ghost use Rattle.ec_marking.specs.Runs.{LeavesEither};
+ghost use Rattle.ec_marking.specs.KeptRuns.{LeavesEither};
 ghost use Rattle.ec_world.specs.Cutting.{TakesBack};
 ghost use Rattle.ec_marking.specs.Marks.{IsMark};
 ghost use Rattle.ec_world.specs.Serving.{Breaks, left_in, stopped_in, with_durable};
 ghost use Rattle.ec_marking.specs.Signs.{sign_of};
-ghost use Rattle.ec_world.specs.Steps.{under};
+ghost use Rattle.ec_world.specs.StepEnds.{under};
 ghost use Rattle.ec_world.specs.Worlds.{view_of, IsInStep};
 ghost use Rattle.ec_running.specs.declared.fault.StepFault.TheVariants as fault;
 

@@ -1,6 +1,6 @@
 // The world, as others call it.
 ghost use Rattle.std.specs.Prelude.{◌≡◌, ◌≤◌, ℕ, List, None, Ok, is_none, IfOk, IfErr, OnOk, IsErrOf};
-ghost use Rattle.ec_disk.specs.Disk.{Counted};
+ghost use Rattle.ec_disk.specs.Effects.{Counted};
 ghost use Rattle.ec_durable.specs.WellFormed.{least_max_objects, most_max_objects};
 ghost use Rattle.ec_durable.specs.declared.state.Durable.{Durable};
 ghost use Rattle.ec_history.specs.declared.shown.Shown.TheVariants as shown;
@@ -8,7 +8,8 @@ ghost use Rattle.ec_protocol.specs.World as machine;
 ghost use Rattle.ec_protocol.specs.declared.world.WorldFault.TheVariants as fault;
 ghost use Rattle.ec_world.specs.Worlds.{view_of, IsInStep, Keeps};
 ghost use Rattle.ec_world.specs.Reaching.{IsReached, LeadsKnown, Stays};
-ghost use Rattle.ec_world.specs.Steps.{Opens, Unopened, FateOf, IsTold, Refuses, behind_arm, IsShown, CountsOf, IsLeft};
+ghost use Rattle.ec_world.specs.Steps.{Opens, IsShown};
+ghost use Rattle.ec_world.specs.StepEnds.{Unopened, FateOf, IsTold, Refuses, behind_arm, CountsOf, IsLeft};
 
 use crate::lines::Lines;
 use crate::opening::{store_on, world_on};

@@ -1,9 +1,9 @@
 use Rattle.std.proofs.Common.{◌≤◌, ℕ, Err, refl, ◌∙◌, arith, rules}
-use Rattle.ec_lock.specs.Passes.{first}
+use Rattle.ec_lock.specs.PassViews.{first}
 use Rattle.ec_servernode.specs.Node.{queue_at}
 use Rattle.ec_servernode.specs.declared.shared.Turned.TheVariants as turned
 use Rattle.ec_attend.proofs.Bodies.{turned_pass, turned_as, ends_anyhow, ends_there}
-use Rattle.ec_attend.specs.Links.{own_steps}
+use Rattle.ec_attend.specs.OverLinks.{own_steps}
 use Rattle.ec_attend.proofs.connection.take_rest.Goals as goal
 
 still_failed : (before after : ℕ) → before ≤ after → 1 ≤ before → 1 ≤ after

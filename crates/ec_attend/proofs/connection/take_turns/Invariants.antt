@@ -1,6 +1,6 @@
-use Rattle.ec_lock.specs.Passes.{Same}
-use Rattle.ec_servernode.specs.Turns.{IsServerPass}
-use Rattle.ec_attend.specs.Links.{IsServed}
+use Rattle.ec_lock.specs.PassViews.{Same}
+use Rattle.ec_servernode.specs.TurnSteps.{IsServerPass}
+use Rattle.ec_attend.specs.OverLinks.{IsServed}
 use Rattle.ec_attend.proofs.connection.take_turns.Given as goal
 
 abbrev pub invariant-loop : goal.invariant-loop

@@ -1,5 +1,5 @@
 use Rattle.std.proofs.Common.{Err, rules}
-use Rattle.ec_lock.specs.Passes.{first}
+use Rattle.ec_lock.specs.PassViews.{first}
 use Rattle.ec_servernode.specs.Node.{queue_at}
 use Rattle.ec_servernode.specs.declared.shared.Turned.TheVariants as turned
 use Rattle.ec_attend.proofs.Bodies.{turned_pass, turned_as, failed_as, replaced_as}

@@ -1,4 +1,4 @@
-use Rattle.ec_servernode.specs.Turns.{IsServerPass}
+use Rattle.ec_servernode.specs.TurnSteps.{IsServerPass}
 use Rattle.ec_attend.proofs.warden.look.Given as goal
 
 abbrev pub invariant-loop-place : goal.invariant-loop-place

@@ -3,7 +3,7 @@ use Rattle.std.specs.List.{list_all}
 use Rattle.std.proofs.lemmas.List.{reverse-append}
 use Rattle.ec_base.specs.SortedLaws.{second}
 use Rattle.ec_cache.specs.declared.state.Held.{Held}
-use Rattle.ec_cache.specs.Cache.{numbers}
+use Rattle.ec_cache.specs.Numbers.{numbers}
 use Rattle.ec_cache.specs.Held.{is_token, unpinned}
 use Rattle.ec_cache.proofs.Lists.{looked-on, one-looked, first-looked}
 use Rattle.ec_cache.proofs.tokens.least_used.Goals as goal

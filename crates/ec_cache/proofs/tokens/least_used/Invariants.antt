@@ -1,6 +1,6 @@
 use Rattle.std.proofs.Common.{◌≡◌, ◌++◌, ◌-◌, T, length, reverse, take}
 use Rattle.std.specs.List.{list_all}
-use Rattle.ec_cache.specs.Cache.{numbers}
+use Rattle.ec_cache.specs.Numbers.{numbers}
 use Rattle.ec_cache.specs.Held.{is_token, unpinned}
 use Rattle.ec_cache.proofs.tokens.least_used.Given as goal
 

@@ -2,7 +2,8 @@ use Rattle.std.proofs.Common.{◌≡◌, [], refl, sym, subst, rules, append-nil
 use Rattle.ec_script.specs.Lines.{lines_of}
 use Rattle.ec_legal.specs.Tried.{Stops}
 use Rattle.ec_legal.proofs.Tried.{stops-more}
-use Rattle.ec_check.specs.Verdicts.{IsVerdict, IsJudged}
+use Rattle.ec_check.specs.Verdicts.{IsVerdict}
+use Rattle.ec_check.specs.Judged.{IsJudged}
 use Rattle.ec_transcript.proofs.Halves.{if-ok}
 use Rattle.ec_check.proofs.Pieces.{piece-fits, taken, taken-fault, behind-ss, read-all, taken-ok}
 use Rattle.ec_check.proofs.judged.stopped.Goals as goal

@@ -3,7 +3,7 @@ use Rattle.std.specs.List.{All}
 use Rattle.std.specs.Vec.Iter.{into_iter_items, into_iter_len}
 use Rattle.std.proofs.lemmas.List.Elements.{All-nil, All-push}
 use Rattle.ec_plain.specs.declared.call.Call.{Call}
-use Rattle.ec_lock.specs.Passes.{front}
+use Rattle.ec_lock.specs.PassViews.{front}
 use Rattle.ec_clerknode.specs.Jobs.{IsNewPass}
 use Rattle.ec_clerknode.specs.declared.jobs.Job.{Job}
 use Rattle.ec_clerknode.proofs.LaneCalls.{none_left}

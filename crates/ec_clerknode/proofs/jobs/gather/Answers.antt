@@ -1,7 +1,7 @@
 use Rattle.std.proofs.Common.{◌++◌, [], ◌∷◌, length, sym, ap, ◌∙◌, subst, arith, append_assoc, append-nil}
 use Rattle.std.specs.Vec.Iter.{into_iter_items, into_iter_len}
 use Rattle.ec_clerknode.specs.Jobs.{AreBack}
-use Rattle.ec_clerknode.specs.Lanes.{lists_of}
+use Rattle.ec_clerknode.specs.LaneRuns.{lists_of}
 use Rattle.ec_clerknode.proofs.LaneCalls.{none_left}
 use Rattle.ec_clerknode.proofs.LanePasses.{none_back, no_lists, same_passes, next_pass, rest_passes, gathered}
 use Rattle.ec_clerknode.proofs.jobs.gather.Goals as goal

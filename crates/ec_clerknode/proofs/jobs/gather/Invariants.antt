@@ -2,9 +2,9 @@ use Rattle.std.proofs.Common.{◌≡◌, ◌++◌, List, length}
 use Rattle.std.specs.List.{All}
 use Rattle.std.specs.Vec.Iter.{into_iter_items, into_iter_len}
 use Rattle.ec_plain.specs.declared.call.Call.{Call}
-use Rattle.ec_lock.specs.Passes.{IsPassOf}
+use Rattle.ec_lock.specs.PassViews.{IsPassOf}
 use Rattle.ec_clerknode.specs.declared.step.Step.{Step}
-use Rattle.ec_clerknode.specs.Lanes.{LanesCame, lists_of}
+use Rattle.ec_clerknode.specs.LaneRuns.{LanesCame, lists_of}
 use Rattle.ec_clerknode.specs.Jobs.{AreBack}
 use Rattle.ec_clerknode.proofs.jobs.gather.Given as goal
 

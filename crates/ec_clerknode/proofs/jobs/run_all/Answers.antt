@@ -1,5 +1,5 @@
 use Rattle.std.proofs.Common.{◌<◌, slice_index_or, sym, subst}
-use Rattle.ec_clerknode.specs.Lanes.{LaneRan}
+use Rattle.ec_clerknode.specs.LaneRuns.{LaneRan}
 use Rattle.ec_clerknode.specs.declared.jobs.Job.{Job}
 use Rattle.ec_clerknode.proofs.LanePasses.{if_ok}
 use Rattle.ec_clerknode.proofs.jobs.run_all.Goals as goal

@@ -1,13 +1,13 @@
 use Rattle.std.proofs.Common.{◌<◌, List, sym, refl, ◌∙◌, subst, inl, rules}
 use Rattle.ec_plain.specs.declared.call.Call.{Call}
-use Rattle.ec_lock.specs.Passes.{front}
+use Rattle.ec_lock.specs.PassViews.{front}
 use Rattle.ec_lock.specs.declared.types.Pass.{Pass}
 use Rattle.ec_clerknode.specs.declared.fault.NodeFault.TheVariants as fault
 use Rattle.ec_clerknode.specs.declared.jobs.Job.{Job}
 use Rattle.ec_clerknode.specs.declared.state.Node.{Node}
 use Rattle.ec_clerknode.specs.declared.step.Step.{Step}
 use Rattle.ec_clerknode.specs.Jobs.{AreBack}
-use Rattle.ec_clerknode.specs.Lanes.{lists_of}
+use Rattle.ec_clerknode.specs.LaneRuns.{lists_of}
 use Rattle.ec_clerknode.proofs.LanePasses.{not_run, drawn, all_new, are_back, back_passes}
 use Rattle.ec_clerknode.proofs.jobs.run_apart.Goals as goal
 use Rattle.ec_clerknode.proofs.jobs.run_apart.Goals.{In-Ok-run_all}

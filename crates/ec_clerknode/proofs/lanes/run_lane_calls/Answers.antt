@@ -1,6 +1,6 @@
 use Rattle.std.proofs.Common.{sym, ◌∙◌}
-use Rattle.ec_lock.specs.Passes.{front}
-use Rattle.ec_clerknode.specs.Lanes.{lists_of}
+use Rattle.ec_lock.specs.PassViews.{front}
+use Rattle.ec_clerknode.specs.LaneRuns.{lists_of}
 use Rattle.ec_clerknode.specs.Run.{old_boot}
 use Rattle.ec_clerknode.proofs.LanePasses.{looked, looks, told_old, tells, same_boot}
 use Rattle.ec_clerknode.proofs.lanes.run_lane_calls.Goals as goal

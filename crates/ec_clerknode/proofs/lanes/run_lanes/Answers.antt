@@ -1,9 +1,9 @@
 use Rattle.std.proofs.Common.{Vec, map, sym, ap, ◌∙◌, subst, rules}
 use Rattle.std.specs.declared.alloc.Global.{Global}
-use Rattle.ec_lock.specs.Passes.{front}
+use Rattle.ec_lock.specs.PassViews.{front}
 use Rattle.ec_outs.specs.Outs.{Reply}
 use Rattle.ec_clerknode.specs.declared.fault.NodeFault.TheVariants as fault
-use Rattle.ec_clerknode.specs.Lanes.{LanesRan, all_items}
+use Rattle.ec_clerknode.specs.LaneRuns.{LanesRan, all_items}
 use Rattle.ec_clerknode.specs.Run.{old_boot}
 use Rattle.ec_clerknode.proofs.LanePasses.{wants, plain_fails, plain_done, no_boot, map_twice}
 use Rattle.ec_clerknode.proofs.lanes.run_lanes.Goals as goal

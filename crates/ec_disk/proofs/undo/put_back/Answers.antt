@@ -1,6 +1,6 @@
 use Rattle.std.proofs.Common.{◌≡◌, ◌+◌, ◌-◌, ◌<◌, ◌≤◌, ◌∷◌, [], ◌++◌, ◌∙◌, ap, sym, subst, arith, List, ℕ, length, take, get_or}
 use Rattle.std.proofs.lemmas.List.{take_more}
-use Rattle.ec_disk.specs.Disk.{written}
+use Rattle.ec_disk.specs.Effects.{written}
 use Rattle.ec_disk.specs.Undo.{undone}
 use Rattle.ec_disk.specs.declared.undo.Undo.{Undo}
 use Rattle.ec_disk.proofs.UndoLaws.{undone-push, last_inside, rest_inside}

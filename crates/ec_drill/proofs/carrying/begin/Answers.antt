@@ -3,7 +3,8 @@ use Rattle.ec_protocol.specs.World.{runs}
 use Rattle.ec_protocol.specs.declared.world.Event.{Event}
 use Rattle.ec_world.specs.Laws.{in_step_stands}
 use Rattle.ec_world.specs.Worlds.{view_of}
-use Rattle.ec_drill.specs.Arms.{armed_at, armed_for}
+use Rattle.ec_drill.specs.Arms.{armed_at}
+use Rattle.ec_drill.specs.ArmedSteps.{armed_for}
 use Rattle.ec_drill.specs.Lines.{happens}
 use Rattle.ec_drill.specs.Script.{machine_line}
 use Rattle.ec_drill.proofs.Carried.{begun_by, begun_not}

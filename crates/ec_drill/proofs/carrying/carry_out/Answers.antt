@@ -1,6 +1,6 @@
 use Rattle.std.proofs.Common.{refl}
 use Rattle.ec_world.specs.Worlds.{view_of}
-use Rattle.ec_drill.specs.Arms.{heard}
+use Rattle.ec_drill.specs.ArmedSteps.{heard}
 use Rattle.ec_drill.specs.Script.{machine_line}
 use Rattle.ec_drill.proofs.Carried.{line_settles, line_stops}
 use Rattle.ec_drill.proofs.Heard.{heard_fate, heard_later, still_none}

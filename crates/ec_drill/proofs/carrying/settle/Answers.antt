@@ -1,7 +1,7 @@
 use Rattle.std.proofs.Common.{refl, sym, ◌∙◌}
 use Rattle.ec_world.specs.Worlds.{view_of}
 use Rattle.ec_world.specs.Laws.{in_step_keeps, in_step_stands}
-use Rattle.ec_drill.specs.Arms.{heard}
+use Rattle.ec_drill.specs.ArmedSteps.{heard}
 use Rattle.ec_drill.proofs.Carried.{settling, settled, settles_on, settles_not, rested, stays, later_same, later_two, later_still}
 use Rattle.ec_drill.proofs.Heard.{heard_fate, heard_later, still_none}
 use Rattle.ec_drill.proofs.carrying.settle.Goals as goal

@@ -1,7 +1,7 @@
 use Rattle.std.proofs.Common.{Bool, false}
 use Rattle.std.specs.Prelude.{IsSome}
 use Rattle.ec_world.specs.Worlds.{view_of, IsInStep}
-use Rattle.ec_drill.specs.Arms.{IsCalm, heard}
+use Rattle.ec_drill.specs.ArmedSteps.{IsCalm, heard}
 use Rattle.ec_drill.specs.Steps.{IsLater}
 use Rattle.ec_drill.proofs.Carried.{Settling}
 use Rattle.ec_drill.proofs.carrying.settle.Given as goal

@@ -3,7 +3,7 @@ use Rattle.std.proofs.lemmas.List.{map-id}
 use Rattle.std.proofs.lemmas.Iterator.Adapters.{YieldsList-from_vec}
 use Rattle.std.proofs.lemmas.Iterator.Consumers.{YieldsList-end}
 use Rattle.ec_protocol.specs.World.{runs, happen}
-use Rattle.ec_world.specs.Steps.{behind_arm}
+use Rattle.ec_world.specs.StepEnds.{behind_arm}
 use Rattle.ec_world.specs.Worlds.{view_of, IsInStep}
 use Rattle.ec_world.specs.Laws.{in_step_stands}
 use Rattle.ec_drill.proofs.Carried.{step_left, told_by}

@@ -1,6 +1,6 @@
 use Rattle.std.proofs.Common.{sym, subst, Some}
 use Rattle.ec_world.specs.Worlds.{view_of}
-use Rattle.ec_drill.specs.Arms.{heard}
+use Rattle.ec_drill.specs.ArmedSteps.{heard}
 use Rattle.ec_drill.specs.Lines.{read_of}
 use Rattle.ec_drill.specs.Steps.{LineDone}
 use Rattle.ec_drill.specs.declared.running.Ending.TheVariants.{BadLine}

@@ -1,7 +1,8 @@
 use Rattle.std.proofs.Common.{◌+◌, ◌≤◌, arith, refl, sym, ap, subst, List, length, map, Option}
 use Rattle.std.specs.Vec.Iter.{into_iter_items, into_iter_len}
 use Rattle.ec_world.specs.Worlds.{view_of}
-use Rattle.ec_drill.specs.Arms.{IsCalm, any_arm, heard, is_arm_read}
+use Rattle.ec_drill.specs.Arms.{any_arm, is_arm_read}
+use Rattle.ec_drill.specs.ArmedSteps.{IsCalm, heard}
 use Rattle.ec_drill.specs.Lines.{read_of}
 use Rattle.ec_drill.specs.Steps.{Sofar, LineDone}
 use Rattle.ec_drill.specs.declared.running.Ending.{Ending}

@@ -1,7 +1,8 @@
 use Rattle.std.proofs.Common.{◌+◌, ◌≤◌, Bool, length, map}
 use Rattle.std.specs.Vec.Iter.{into_iter_items, into_iter_len}
 use Rattle.ec_world.specs.Worlds.{view_of, IsInStep}
-use Rattle.ec_drill.specs.Arms.{IsCalm, any_arm, heard}
+use Rattle.ec_drill.specs.Arms.{any_arm}
+use Rattle.ec_drill.specs.ArmedSteps.{IsCalm, heard}
 use Rattle.ec_drill.specs.Lines.{read_of}
 use Rattle.ec_drill.specs.Limits.{most_lines}
 use Rattle.ec_drill.specs.Steps.{Sofar, IsLater}

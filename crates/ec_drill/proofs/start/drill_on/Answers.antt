@@ -1,6 +1,6 @@
 use Rattle.std.proofs.Common.{refl, map, Ok, Err}
 use Rattle.ec_world.specs.Worlds.{view_of}
-use Rattle.ec_drill.specs.Arms.{heard}
+use Rattle.ec_drill.specs.ArmedSteps.{heard}
 use Rattle.ec_drill.specs.Lines.{read_of}
 use Rattle.ec_drill.specs.Steps.{ending_of}
 use Rattle.ec_drill.proofs.Ends.{closes_with, cut_short, holds_state}

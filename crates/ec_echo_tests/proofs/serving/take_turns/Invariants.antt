@@ -1,4 +1,4 @@
-use Rattle.ec_servernode.specs.Turns.{IsServerPass}
+use Rattle.ec_servernode.specs.TurnSteps.{IsServerPass}
 use Rattle.ec_echo_tests.proofs.serving.take_turns.Given as goal
 
 abbrev pub invariant-loop : goal.invariant-loop

@@ -1,4 +1,4 @@
-use Rattle.ec_lock.specs.Passes.{IsPassOf}
+use Rattle.ec_lock.specs.PassViews.{IsPassOf}
 use Rattle.ec_echo_tests.proofs.settling.is_settled.Given as goal
 
 abbrev pub invariant-loop : goal.invariant-loop

@@ -2,7 +2,7 @@ use Rattle.std.proofs.Common.{rules, ◌≡◌, length, IsOk, IsErrOf}
 use Rattle.std.proofs.lemmas.Result.{err_from_is_err_and}
 use Rattle.ec_disk.specs.Calls.{Write, Sync}
 use Rattle.ec_disk.specs.declared.disk.DiskAnswer.TheVariants as said
-use Rattle.ec_disk.specs.Disk.{InRange}
+use Rattle.ec_disk.specs.Effects.{InRange}
 use Rattle.ec_disk.specs.Counting.{called_both}
 use Rattle.ec_disk.specs.Runs.{begun, and_wrote, and_rests}
 use Rattle.ec_journal.specs.Ends.{answer_of, did_one, did_both, ends_at_once, ends_later, turns_later, turns_for, one_turn}

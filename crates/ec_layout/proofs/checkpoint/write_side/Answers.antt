@@ -1,6 +1,6 @@
 use Rattle.std.proofs.Common.{rules, arith, ◌≡◌, ◌+◌, ℕ, [], ◌∷◌, length, ap, ◌∙◌, subst, refl}
 use Rattle.ec_disk.specs.declared.disk.DiskAnswer.TheVariants as said
-use Rattle.ec_disk.specs.Disk.{InRange, Wrote, written}
+use Rattle.ec_disk.specs.Effects.{InRange, Wrote, written}
 use Rattle.ec_layout.specs.Pieces.{pieces_of}
 use Rattle.ec_disk.specs.Calls.{Write}
 use Rattle.ec_layout.specs.Traces.{no_sync_more}

@@ -1,7 +1,7 @@
 use Rattle.std.proofs.Common.{ℕ, List, length, ap, subst, refl, ◌∙◌}
-use Rattle.ec_disk.specs.Disk.{InRange, written}
+use Rattle.ec_disk.specs.Effects.{InRange, written}
 use Rattle.ec_disk.specs.Runs.{Ran}
-use Rattle.ec_layout.specs.Head.{second_word_leaves, head_leaves, head_done}
+use Rattle.ec_layout.specs.Heads.{second_word_leaves, head_leaves, head_done}
 use Rattle.ec_layout.proofs.Calls.{both_called}
 use Rattle.ec_layout.proofs.head.write_head.Goals as goal
 

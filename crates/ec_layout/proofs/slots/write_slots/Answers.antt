@@ -1,5 +1,6 @@
 use Rattle.std.proofs.Common.{rules, ◌≡◌, ◌+◌, ◌*◌, arith, length, List, ℕ, ap, ◌∙◌, subst, refl}
-use Rattle.ec_disk.specs.Disk.{InRange, Wrote, Called, written, byte}
+use Rattle.ec_disk.specs.Disk.{byte}
+use Rattle.ec_disk.specs.Effects.{InRange, Wrote, Called, written}
 use Rattle.ec_disk.specs.Images.{byte-written_out}
 use Rattle.ec_disk.specs.declared.disk.DiskAnswer.TheVariants as said
 use Rattle.ec_layout.specs.PieceLaws.{ran-more, has-more}

@@ -1,5 +1,6 @@
 use Rattle.std.proofs.Common.{◌≡◌, ◌<◌, take, ℕ}
-use Rattle.ec_disk.specs.Disk.{byte, Counted, Called}
+use Rattle.ec_disk.specs.Disk.{byte}
+use Rattle.ec_disk.specs.Effects.{Counted, Called}
 use Rattle.ec_disk.specs.Runs.{Ran}
 use Rattle.ec_journal.specs.Ends.{DidAll, TurnedUpTo}
 use Rattle.ec_layout.specs.Places.{slot_at}

@@ -1,7 +1,7 @@
 use Rattle.std.proofs.Common.{◌≡◌, ◌+◌, length}
 use Rattle.std.specs.List.{All}
 use Rattle.std.specs.Vec.Iter.{into_iter_items}
-use Rattle.ec_link.specs.Spawns.{IsPromised}
+use Rattle.ec_link.specs.JobCounts.{IsPromised}
 use Rattle.ec_link.proofs.spawn.finish_all.Given as goal
 
 abbrev pub invariant-loop-started : goal.invariant-loop-started

@@ -1,6 +1,6 @@
 use Rattle.std.proofs.Common.{sym, subst}
 use Rattle.std.specs.List.{All}
-use Rattle.ec_link.specs.Spawns.{IsPromised}
+use Rattle.ec_link.specs.JobCounts.{IsPromised}
 use Rattle.ec_link.proofs.Promised.{still_owned}
 use Rattle.ec_link.proofs.spawn.start_all.Goals as goal
 

@@ -1,6 +1,6 @@
 use Rattle.std.proofs.Common.{◌≡◌, ◌+◌, vec_len}
 use Rattle.std.specs.List.{All}
-use Rattle.ec_link.specs.Spawns.{IsPromised}
+use Rattle.ec_link.specs.JobCounts.{IsPromised}
 use Rattle.ec_link.proofs.spawn.start_all.Given as goal
 
 abbrev pub invariant-loop : goal.invariant-loop

@@ -2,7 +2,8 @@ use Rattle.std.proofs.Common.{ap, ◌∙◌, sym}
 use Rattle.std.specs.Prelude.{◌||◌}
 use Rattle.std.specs.List.{list_any}
 use Rattle.ec_volume.specs.Update.{member}
-use Rattle.ec_log.specs.Choice.{is_met, numbers_asked}
+use Rattle.ec_log.specs.Choice.{numbers_asked}
+use Rattle.ec_log.specs.Chosen.{is_met}
 use Rattle.ec_log.proofs.Fronts.{met_here, met_after}
 use Rattle.ec_log.proofs.choice.+first_met.Goals as goal
 

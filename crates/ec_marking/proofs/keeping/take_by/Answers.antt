@@ -1,6 +1,6 @@
 use Rattle.std.proofs.Common.{◌≡◌, ℕ, List, Option, None, Some, Ok, Err, Bool, false, length, refl, sym, ap, subst}
 use Rattle.std.specs.Prelude.{IfErr}
-use Rattle.ec_disk.specs.Disk.{Counted}
+use Rattle.ec_disk.specs.Effects.{Counted}
 use Rattle.ec_durable.specs.declared.record.Record.{Record}
 use Rattle.ec_protocol.specs.Server as machine
 use Rattle.ec_protocol.specs.declared.server.Served.{Served}

@@ -1,4 +1,4 @@
-use Rattle.ec_clerknode.specs.Lanes.{lists_of}
+use Rattle.ec_clerknode.specs.LaneRuns.{lists_of}
 use Rattle.ec_mount.proofs.Passing.{called_failed, called_ended}
 use Rattle.ec_mount.proofs.calls.make_calls.Goals as goal
 use Rattle.ec_mount.proofs.calls.make_calls.Goals.{in-Ok, in-Err}

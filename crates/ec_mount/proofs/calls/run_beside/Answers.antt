@@ -1,4 +1,4 @@
-use Rattle.ec_clerknode.specs.Lanes.{lists_of}
+use Rattle.ec_clerknode.specs.LaneRuns.{lists_of}
 use Rattle.ec_mount.proofs.Passing.{ran_beside}
 use Rattle.ec_mount.proofs.calls.run_beside.Goals as goal
 

@@ -1,6 +1,6 @@
 use Rattle.std.proofs.Common.{◌≡◌, ◌+◌, [], rules}
-use Rattle.ec_lock.specs.Passes.{first}
-use Rattle.ec_clerknode.specs.Lanes.{lists_of}
+use Rattle.ec_lock.specs.PassViews.{first}
+use Rattle.ec_clerknode.specs.LaneRuns.{lists_of}
 use Rattle.ec_mount.proofs.Passing.{drew_one}
 use Rattle.ec_mount.proofs.Joined.{called_joined}
 use Rattle.ec_mount.proofs.Linking.{has_linked}

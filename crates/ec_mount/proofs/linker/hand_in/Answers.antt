@@ -1,5 +1,5 @@
 use Rattle.std.proofs.Common.{◌+◌, refl, sym}
-use Rattle.ec_lock.specs.Passes.{first, front}
+use Rattle.ec_lock.specs.PassViews.{first, front}
 use Rattle.ec_mount.proofs.Linking.{linked_self, linked_turned, handed_later, handed_more}
 use Rattle.ec_mount.proofs.linker.hand_in.Goals as goal
 

@@ -1,5 +1,5 @@
 use Rattle.std.proofs.Common.{◌+◌, ◌≤◌, refl, ◌∙◌, arith, rules}
-use Rattle.ec_lock.specs.Passes.{first}
+use Rattle.ec_lock.specs.PassViews.{first}
 use Rattle.ec_mount.proofs.Linking.{linked_self, linked_both, more_both, more_still}
 use Rattle.ec_mount.proofs.linker.keep_linked.Goals as goal
 

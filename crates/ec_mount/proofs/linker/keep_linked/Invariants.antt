@@ -1,5 +1,5 @@
 use Rattle.std.proofs.Common.{◌≡◌, ◌+◌, ◌≤◌}
-use Rattle.ec_lock.specs.Passes.{first}
+use Rattle.ec_lock.specs.PassViews.{first}
 use Rattle.ec_mount.specs.Linking.{Linked, LinkedMore}
 use Rattle.ec_mount.proofs.linker.keep_linked.Given as goal
 

@@ -1,5 +1,5 @@
 use Rattle.std.proofs.Common.{◌+◌}
-use Rattle.ec_lock.specs.Passes.{first}
+use Rattle.ec_lock.specs.PassViews.{first}
 use Rattle.ec_mount.proofs.Linking.{linked_turned, linked_both, more_around}
 use Rattle.ec_mount.proofs.linker.link_again.Goals as goal
 

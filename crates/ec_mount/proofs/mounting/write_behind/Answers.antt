@@ -1,4 +1,4 @@
-use Rattle.ec_clerknode.specs.Lanes.{lists_of}
+use Rattle.ec_clerknode.specs.LaneRuns.{lists_of}
 use Rattle.ec_mount.specs.Shown.{came_text}
 use Rattle.ec_mount.proofs.Texts.{behind_ends}
 use Rattle.ec_mount.proofs.mounting.write_behind.Goals as goal

@@ -1,7 +1,7 @@
 use Rattle.std.proofs.Common.{◌+◌, Some, subst}
-use Rattle.ec_clerknode.specs.Lanes.{lists_of}
-use Rattle.ec_clerknode.specs.Parts.{LinksBy}
-use Rattle.ec_lock.specs.Passes.{first, front}
+use Rattle.ec_clerknode.specs.LaneRuns.{lists_of}
+use Rattle.ec_clerknode.specs.PresentLink.{LinksBy}
+use Rattle.ec_lock.specs.PassViews.{first, front}
 use Rattle.ec_mount.specs.Run.{NetSeen}
 use Rattle.ec_mount.specs.Work as work
 use Rattle.ec_mount.proofs.Running.{runs_over, runs_left}

@@ -1,7 +1,7 @@
 use Rattle.std.proofs.Common.{◌≡◌, ◌++◌, map, vec_len}
 use Rattle.std.specs.Prelude.{reverse}
 use Rattle.ec_outs.specs.Outs.{answers, told}
-use Rattle.ec_outs.specs.Outs.{kept_at}
+use Rattle.ec_outs.specs.KeptAnswers.{kept_at}
 use Rattle.ec_outs.proofs.kept.keep_all.Given as goal
 
 abbrev pub invariant-outs : goal.invariant-outs

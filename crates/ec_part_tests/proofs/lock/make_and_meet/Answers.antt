@@ -1,6 +1,6 @@
 use Rattle.std.proofs.Common.{[], ◌∷◌, ◌++◌, ap, ◌∙◌, ⊎_elim, inl, inr}
 use Rattle.ec_lock.specs.Laws.{steps_of}
-use Rattle.ec_lock.specs.Passes.{front}
+use Rattle.ec_lock.specs.PassViews.{front}
 use Rattle.ec_part_tests.proofs.Rows.{known_by}
 use Rattle.ec_part_tests.proofs.lock.make_and_meet.Goals as goal
 

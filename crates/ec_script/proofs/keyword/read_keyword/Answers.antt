@@ -1,6 +1,7 @@
 use Rattle.std.proofs.Common.{refl, sym, ap}
 use Rattle.ec_words.specs.declared.name.Keyword.TheVariants as keyword
-use Rattle.ec_words.specs.Rows.{◌▸◌, End, Last, left}
+use Rattle.ec_words.specs.Rows.{◌▸◌, End, Last}
+use Rattle.ec_words.specs.RowsLeft.{left}
 use Rattle.ec_words.specs.Spelling.{IsClerk, IsSmallNumber, IsNumber, IsArmed, IsKind, IsChoice}
 use Rattle.ec_words.proofs.Misfits.{asked, asked_is, made}
 use Rattle.ec_script.specs.declared.line.Line.TheVariants as line

@@ -1,4 +1,4 @@
-use Rattle.ec_words.specs.Rows.{left}
+use Rattle.ec_words.specs.RowsLeft.{left}
 use Rattle.ec_script.specs.Grammar.{SpellsLane}
 use Rattle.ec_script.proofs.Outside.{outside}
 use Rattle.ec_script.proofs.line.read_lane.Goals as goal

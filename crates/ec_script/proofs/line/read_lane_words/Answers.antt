@@ -1,7 +1,7 @@
-use Rattle.ec_words.specs.Rows.{left}
+use Rattle.ec_words.specs.RowsLeft.{left}
 use Rattle.ec_words.specs.Spelling.{IsLane}
 use Rattle.ec_words.specs.Examples.{a_lane}
-use Rattle.ec_words.specs.Calls.{a_call}
+use Rattle.ec_words.specs.SomeCall.{a_call}
 use Rattle.ec_words.specs.Calls.{SpellsCall}
 use Rattle.ec_script.specs.Grammar.{SpellsLane}
 use Rattle.ec_words.proofs.Misfits.{returned, row_lacks, row_has, begins_row}

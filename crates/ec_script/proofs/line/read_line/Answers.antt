@@ -1,4 +1,4 @@
-use Rattle.ec_words.specs.Rows.{left}
+use Rattle.ec_words.specs.RowsLeft.{left}
 use Rattle.ec_script.proofs.Outside.{faulty}
 use Rattle.ec_script.proofs.line.read_line.Goals as goal
 

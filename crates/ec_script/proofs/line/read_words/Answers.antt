@@ -1,4 +1,4 @@
-use Rattle.ec_words.specs.Rows.{left}
+use Rattle.ec_words.specs.RowsLeft.{left}
 use Rattle.ec_script.specs.Grammar.{Spells}
 use Rattle.ec_words.proofs.Misfits.{returned}
 use Rattle.ec_script.proofs.Heads.{missing, unknown, behind_clerk, called, behind_keyword}

@@ -1,5 +1,5 @@
 use Rattle.std.proofs.Common.{ap, ◌∙◌}
-use Rattle.ec_words.specs.Rows.{column_left}
+use Rattle.ec_words.specs.RowsLeft.{column_left}
 use Rattle.ec_script.specs.Last.{last_len}
 use Rattle.ec_script.proofs.Lasts.{last_placed}
 use Rattle.ec_script.proofs.place.last_column.Goals as goal

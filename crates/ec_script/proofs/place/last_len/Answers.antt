@@ -1,5 +1,5 @@
 use Rattle.std.proofs.Common.{sym, ◌∙◌}
-use Rattle.ec_words.specs.Rows.{left}
+use Rattle.ec_words.specs.RowsLeft.{left}
 use Rattle.ec_script.proofs.Lasts.{last_none, last_one, last_more}
 use Rattle.ec_script.proofs.place.last_len.Goals as goal
 

@@ -1,6 +1,6 @@
 use Rattle.std.proofs.Common.{◌<◌, ◌≤◌, length, arith, add-one}
 use Rattle.std.proofs.lemmas.List.{take_rest}
-use Rattle.ec_words.specs.Pieces.{piece_len}
+use Rattle.ec_words.specs.PieceLengths.{piece_len}
 use Rattle.ec_script.proofs.Splits.{with_end, without_end}
 use Rattle.ec_script.proofs.script.split_line.Goals as goal
 

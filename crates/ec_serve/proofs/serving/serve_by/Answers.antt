@@ -1,7 +1,8 @@
 use Rattle.std.proofs.Common.{sym, subst}
 use Rattle.ec_link.specs.Spawns.{faults_of}
 use Rattle.ec_protocol.specs.Server.{start}
-use Rattle.ec_serve.specs.Serve.{Outer, EndsBy}
+use Rattle.ec_serve.specs.Serve.{Outer}
+use Rattle.ec_serve.specs.ServerRuns.{EndsBy}
 use Rattle.ec_serve.proofs.Endings.{started, not_started}
 use Rattle.ec_serve.proofs.serving.serve_by.Goals as goal
 

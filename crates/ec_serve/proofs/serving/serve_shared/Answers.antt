@@ -1,8 +1,9 @@
 use Rattle.std.proofs.Common.{sym, subst}
 use Rattle.ec_link.specs.Spawns.{faults_of}
-use Rattle.ec_lock.specs.Passes.{first, front, numbers}
+use Rattle.ec_lock.specs.PassViews.{first, front, numbers}
 use Rattle.ec_servernode.specs.Node.{state_of, queue_at}
-use Rattle.ec_serve.specs.Serve.{Outer, Ran}
+use Rattle.ec_serve.specs.Serve.{Outer}
+use Rattle.ec_serve.specs.ServerRuns.{Ran}
 use Rattle.ec_serve.proofs.Endings.{ends, has_some}
 use Rattle.ec_serve.proofs.serving.serve_shared.Goals as goal
 

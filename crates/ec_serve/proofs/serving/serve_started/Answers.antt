@@ -1,7 +1,7 @@
 use Rattle.std.proofs.Common.{sym, subst}
 use Rattle.ec_link.specs.Spawns.{faults_of}
-use Rattle.ec_lock.specs.Passes.{first}
-use Rattle.ec_serve.specs.Serve.{KeeperEnds}
+use Rattle.ec_lock.specs.PassViews.{first}
+use Rattle.ec_serve.specs.ServerRuns.{KeeperEnds}
 use Rattle.ec_serve.proofs.Endings.{from_shared, keeper_same}
 use Rattle.ec_serve.proofs.serving.serve_started.Goals as goal
 

@@ -2,7 +2,8 @@ use Rattle.std.proofs.Common.{rules, ◌≤◌}
 use Rattle.ec_link.specs.Spawns.{faults_of}
 use Rattle.ec_store.specs.Store.{view_of}
 use Rattle.ec_store.specs.declared.store.Store.{Store}
-use Rattle.ec_serve.specs.Serve.{Outer, ServesOn}
+use Rattle.ec_serve.specs.Serve.{Outer}
+use Rattle.ec_serve.specs.ServerRuns.{ServesOn}
 use Rattle.ec_serve.proofs.Kept.{moved}
 use Rattle.ec_serve.proofs.serving.serve_store.Goals as goal
 

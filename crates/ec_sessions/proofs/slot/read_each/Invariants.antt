@@ -1,5 +1,5 @@
 use Rattle.std.proofs.Common.{drop}
-use Rattle.ec_sessions.specs.Slots.{AreIds}
+use Rattle.ec_sessions.specs.SlotChecks.{AreIds}
 use Rattle.ec_sessions.proofs.slot.read_each.Given as goal
 
 abbrev pub invariant-loop-id : goal.invariant-loop-id

@@ -1,4 +1,4 @@
-use Rattle.ec_words.specs.Rows.{left}
+use Rattle.ec_words.specs.RowsLeft.{left}
 use Rattle.ec_words.specs.Rows.{End, ◌makes◌}
 use Rattle.ec_words.proofs.Misfits.{returned, made}
 use Rattle.ec_shown.proofs.answer.alone.Goals as goal

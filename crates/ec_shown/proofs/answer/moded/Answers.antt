@@ -1,4 +1,4 @@
-use Rattle.ec_words.specs.Rows.{left}
+use Rattle.ec_words.specs.RowsLeft.{left}
 use Rattle.ec_words.proofs.Misfits.{returned, row_lacks, row_has}
 use Rattle.ec_words.specs.Spelling.{IsMode}
 use Rattle.ec_shown.specs.Answers.{Stamped, Moded}

@@ -1,4 +1,5 @@
-use Rattle.ec_words.specs.Rows.{◌⊳◌, left}
+use Rattle.ec_words.specs.Rows.{◌⊳◌}
+use Rattle.ec_words.specs.RowsLeft.{left}
 use Rattle.ec_words.proofs.Misfits.{returned, choice_lacks, choice_has, choice_is}
 use Rattle.ec_shown.specs.Spelling.{IsSaid}
 use Rattle.ec_shown.specs.Answers.{Tells}

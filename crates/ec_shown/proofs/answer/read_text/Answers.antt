@@ -1,4 +1,4 @@
-use Rattle.ec_words.specs.Rows.{left}
+use Rattle.ec_words.specs.RowsLeft.{left}
 use Rattle.std.proofs.Common.{◌-◌, sym, subst, arith}
 use Rattle.ec_words.proofs.Misfits.{returned}
 use Rattle.ec_shown.specs.Answers.{TextOf}

@@ -3,7 +3,8 @@ use Rattle.ec_words.proofs.Misfits.{asked, asked_is, made}
 use Rattle.std.specs.Prelude.{codes, None}
 use Rattle.ec_history.specs.declared.entry.Answer.TheVariants as answer
 use Rattle.ec_plain.specs.declared.call.Reply.TheVariants as reply
-use Rattle.ec_words.specs.Rows.{◌▸◌, End, Last, ◌⊳◌, left}
+use Rattle.ec_words.specs.Rows.{◌▸◌, End, Last, ◌⊳◌}
+use Rattle.ec_words.specs.RowsLeft.{left}
 use Rattle.ec_words.specs.Spelling.{IsSmallNumber, IsNumber}
 use Rattle.ec_shown.specs.declared.answer.Outcome.TheVariants as outcome
 use Rattle.ec_shown.specs.declared.name.Said.TheVariants as said

@@ -1,4 +1,4 @@
-use Rattle.ec_words.specs.Rows.{left}
+use Rattle.ec_words.specs.RowsLeft.{left}
 use Rattle.ec_plain.specs.declared.call.Refusal.TheVariants as refusal
 use Rattle.ec_words.specs.Rows.{Last}
 use Rattle.ec_words.proofs.Misfits.{asked, made}

@@ -1,6 +1,6 @@
-use Rattle.ec_words.specs.Rows.{left}
+use Rattle.ec_words.specs.RowsLeft.{left}
 use Rattle.std.proofs.Common.{◌-◌, ◌++◌, ◌∷◌, [], ◌∙◌, ap, arith}
-use Rattle.ec_words.specs.Rows.{IsMisfit}
+use Rattle.ec_words.specs.RowsLeft.{IsMisfit}
 use Rattle.ec_words.proofs.Misfits.{failed}
 use Rattle.ec_shown.specs.Spelling.{IsNameText}
 use Rattle.ec_shown.specs.Examples.{a_name}

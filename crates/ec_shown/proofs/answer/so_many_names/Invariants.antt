@@ -1,4 +1,4 @@
-use Rattle.ec_words.specs.Rows.{left}
+use Rattle.ec_words.specs.RowsLeft.{left}
 use Rattle.ec_shown.specs.Spelling.{IsNameText}
 use Rattle.ec_shown.proofs.Counted.{Read}
 use Rattle.ec_shown.proofs.answer.so_many_names.Given as goal

@@ -1,5 +1,5 @@
 use Rattle.std.proofs.Common.{◌-◌, ◌∷◌, ◌++◌, [], subst, ap, ◌∙◌, arith, append_assoc}
-use Rattle.ec_words.specs.Rows.{IsMisfit, left}
+use Rattle.ec_words.specs.RowsLeft.{IsMisfit, left}
 use Rattle.ec_words.proofs.Misfits.{failed}
 use Rattle.ec_shown.specs.Calls.{Paths}
 use Rattle.ec_shown.proofs.Ordered.{FoundPath, paths_missing, paths_end, paths_over, paths_other, paths_has, paths_is}

@@ -4,7 +4,8 @@ use Rattle.std.specs.Prelude.{◌-◌, ◌∷◌}
 use Rattle.ec_plain.specs.declared.call.Call.TheVariants as call
 use Rattle.ec_volume.specs.Limits.{max_ordered}
 use Rattle.ec_words.specs.declared.name.Verb.TheVariants as verb
-use Rattle.ec_words.specs.Rows.{◌▸◌, left}
+use Rattle.ec_words.specs.Rows.{◌▸◌}
+use Rattle.ec_words.specs.RowsLeft.{left}
 use Rattle.ec_words.specs.Spelling.{IsSmallNumber, IsNumber, IsCount, IsMode}
 use Rattle.ec_shown.specs.Spelling.{IsPathShown, IsWritten}
 use Rattle.ec_shown.specs.Answers.{SpellsOutcome}

@@ -1,6 +1,7 @@
 use Rattle.std.proofs.Common.{◌-◌, ◌∷◌, ◌++◌, [], sym, ap, ◌∙◌}
 use Rattle.ec_volume.specs.Limits.{max_ordered}
-use Rattle.ec_words.specs.Rows.{◌▸◌, IsMisfit, left}
+use Rattle.ec_words.specs.Rows.{◌▸◌}
+use Rattle.ec_words.specs.RowsLeft.{IsMisfit, left}
 use Rattle.ec_words.proofs.Misfits.{failed, row_lacks, row_has, row_is, begins_row}
 use Rattle.ec_shown.specs.Spelling.{IsPathShown}
 use Rattle.ec_shown.specs.Examples.{a_path}

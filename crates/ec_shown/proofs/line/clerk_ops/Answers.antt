@@ -1,4 +1,5 @@
-use Rattle.ec_words.specs.Rows.{◌▸◌, left}
+use Rattle.ec_words.specs.Rows.{◌▸◌}
+use Rattle.ec_words.specs.RowsLeft.{left}
 use Rattle.ec_words.proofs.Misfits.{returned, row_lacks, row_has, begins_row}
 use Rattle.ec_words.specs.Spelling.{IsClerk}
 use Rattle.ec_words.specs.Examples.{a_clerk}

@@ -1,4 +1,4 @@
-use Rattle.ec_words.specs.Rows.{left}
+use Rattle.ec_words.specs.RowsLeft.{left}
 use Rattle.ec_words.specs.Rows.{Last}
 use Rattle.ec_words.proofs.Misfits.{returned, last_lacks, last_has}
 use Rattle.ec_shown.specs.Spelling.{IsCounter}

@@ -1,4 +1,4 @@
-use Rattle.ec_words.specs.Rows.{left}
+use Rattle.ec_words.specs.RowsLeft.{left}
 use Rattle.ec_script.proofs.Outside.{outside}
 use Rattle.ec_shown.specs.Lines.{SpellsShown}
 use Rattle.ec_shown.proofs.line.read.Goals as goal

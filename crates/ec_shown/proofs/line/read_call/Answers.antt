@@ -1,5 +1,6 @@
 use Rattle.std.proofs.Common.{inl, sym, ap, ◌∙◌}
-use Rattle.ec_words.specs.Rows.{◌▸◌, left}
+use Rattle.ec_words.specs.Rows.{◌▸◌}
+use Rattle.ec_words.specs.RowsLeft.{left}
 use Rattle.ec_words.specs.Spelling.{IsClerk}
 use Rattle.ec_words.specs.Examples.{a_clerk}
 use Rattle.ec_words.proofs.Misfits.{returned, made, row_lacks, row_has, row_is, begins_row}

@@ -2,7 +2,8 @@ use Rattle.std.proofs.Common.{refl}
 use Rattle.ec_words.proofs.Misfits.{asked, asked_is, made}
 use Rattle.std.specs.Prelude.{codes}
 use Rattle.ec_history.specs.declared.shown.Shown.TheVariants as shown
-use Rattle.ec_words.specs.Rows.{◌▸◌, End, Last, left}
+use Rattle.ec_words.specs.Rows.{◌▸◌, End, Last}
+use Rattle.ec_words.specs.RowsLeft.{left}
 use Rattle.ec_words.specs.Spelling.{IsClerk, IsSmallNumber, IsNumber}
 use Rattle.ec_shown.specs.declared.name.Head.TheVariants as head
 use Rattle.ec_shown.specs.Spelling.{IsLimit, IsCounter}

@@ -1,4 +1,4 @@
-use Rattle.ec_words.specs.Rows.{left}
+use Rattle.ec_words.specs.RowsLeft.{left}
 use Rattle.std.proofs.Common.{inl, inr}
 use Rattle.ec_shown.proofs.Firsts.{missing, unknown, behind_first}
 use Rattle.ec_shown.proofs.line.read_words.Goals as goal

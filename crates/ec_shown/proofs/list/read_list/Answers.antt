@@ -1,4 +1,4 @@
-use Rattle.ec_words.specs.Rows.{left}
+use Rattle.ec_words.specs.RowsLeft.{left}
 use Rattle.ec_words.proofs.Misfits.{returned}
 use Rattle.ec_shown.specs.Rows.{SpellsList}
 use Rattle.ec_shown.proofs.Rising.{list_missing, list_stop, behind_number, behind_mark}

@@ -1,5 +1,5 @@
-use Rattle.ec_words.specs.Rows.{left}
-use Rattle.ec_words.specs.Rows.{IsMisfit}
+use Rattle.ec_words.specs.RowsLeft.{left}
+use Rattle.ec_words.specs.RowsLeft.{IsMisfit}
 use Rattle.ec_words.proofs.Misfits.{failed}
 use Rattle.ec_shown.specs.Rows.{Rises}
 use Rattle.ec_shown.proofs.Rising.{read_one, read_all, rises_lacks}

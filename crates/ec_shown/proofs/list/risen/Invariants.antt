@@ -1,5 +1,5 @@
 use Rattle.std.proofs.Common.{length}
-use Rattle.ec_words.specs.Rows.{left}
+use Rattle.ec_words.specs.RowsLeft.{left}
 use Rattle.ec_shown.proofs.Rising.{Read}
 use Rattle.ec_shown.proofs.list.risen.Given as goal
 

@@ -1,6 +1,6 @@
-use Rattle.ec_words.specs.Rows.{left}
+use Rattle.ec_words.specs.RowsLeft.{left}
 use Rattle.ec_words.proofs.Misfits.{failed}
-use Rattle.ec_words.specs.Rows.{IsMisfit}
+use Rattle.ec_words.specs.RowsLeft.{IsMisfit}
 use Rattle.ec_shown.specs.Rows.{Tail}
 use Rattle.ec_shown.proofs.Behind.{tail_has}
 use Rattle.ec_shown.proofs.row.tail.Goals as goal

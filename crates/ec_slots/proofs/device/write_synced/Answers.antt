@@ -1,5 +1,5 @@
 use Rattle.std.proofs.Common.{length}
-use Rattle.ec_disk.specs.Disk.{InRange}
+use Rattle.ec_disk.specs.Effects.{InRange}
 use Rattle.ec_disk.specs.Runs.{begun, and_wrote, and_rests}
 use Rattle.ec_slots.proofs.device.write_synced.Goals as goal
 

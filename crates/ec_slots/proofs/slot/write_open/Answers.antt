@@ -1,6 +1,6 @@
 use Rattle.std.proofs.Common.{rules, arith, ◌≡◌, ◌∙◌, [], ◌∷◌}
 use Rattle.ec_disk.specs.declared.disk.DiskAnswer.TheVariants as said
-use Rattle.ec_disk.specs.Disk.{InRange}
+use Rattle.ec_disk.specs.Effects.{InRange}
 use Rattle.ec_disk.specs.Runs.{ran_then, leaves_then}
 use Rattle.ec_slots.specs.Slots.{place_of, HoldsEither}
 use Rattle.ec_slots.proofs.Raising.{gate_ran, gate_there, gate_written, shutting_leaves, is_shut, gate_leaves, written_long}

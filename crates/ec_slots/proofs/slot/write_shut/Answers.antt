@@ -1,7 +1,7 @@
 use Rattle.std.proofs.Common.{rules, arith, ◌≡◌, ◌∙◌, ◌+◌, ◌<◌, ◌^◌, [], ◌∷◌}
 use Rattle.std.specs.Int.{w64, to_be_bytes}
 use Rattle.ec_disk.specs.declared.disk.DiskAnswer.TheVariants as said
-use Rattle.ec_disk.specs.Disk.{InRange}
+use Rattle.ec_disk.specs.Effects.{InRange}
 use Rattle.ec_disk.specs.Runs.{ran_then}
 use Rattle.ec_slots.specs.Slots.{place_of}
 use Rattle.ec_slots.proofs.Raising.{number_ran, gate_ran, number_there, gate_there, number_written, gate_written, numbering_leaves, opening_leaves, is_raised, gate_leaves, number_leaves, written_long}

@@ -2,7 +2,7 @@ use Rattle.std.proofs.Common.{rules, ℕ, List, T, sym, subst}
 use Rattle.std.specs.Ordering.{nat_cmp}
 use Rattle.std.specs.FinMap.{is_sorted}
 use Rattle.ec_volume.specs.declared.image.Image.{Image}
-use Rattle.ec_sessions.specs.Slots.{AreSlots}
+use Rattle.ec_sessions.specs.SlotChecks.{AreSlots}
 use Rattle.ec_table.specs.Codes.{numbers_in}
 use Rattle.ec_store.specs.Places.{ArePlaces}
 use Rattle.ec_store.proofs.Assembling.{rising, images_rise, slots_are, places_are, formed_state}

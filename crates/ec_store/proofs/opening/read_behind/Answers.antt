@@ -1,11 +1,12 @@
 use Rattle.std.proofs.Common.{rules, ℕ, List, length, ap, sym, subst, ◌∙◌}
 use Rattle.std.specs.Prelude.{IsErrOf}
 use Rattle.ec_disk.specs.Disk.{part}
-use Rattle.ec_codes.specs.Formats.{StandsAt}
+use Rattle.ec_codes.specs.Spelling.{StandsAt}
 use Rattle.ec_table.specs.Codes.{table_code, ids_in}
 use Rattle.ec_layout.specs.Places.{table_at}
 use Rattle.ec_layout.specs.declared.side.Side.{Side}
-use Rattle.ec_stands.specs.Stands.{IsBadAt, AreSpelled, HasBadImage}
+use Rattle.ec_stands.specs.Stands.{IsBadAt, HasBadImage}
+use Rattle.ec_stands.specs.Checkpoints.{AreSpelled}
 use Rattle.ec_store.specs.declared.fault.StoreFault.TheVariants.{BadDisk}
 use Rattle.ec_store.proofs.Resting.{rests_then}
 use Rattle.ec_store.proofs.ReadBack.{table_bad, slots_bad, state_bad, is_read}

@@ -3,7 +3,8 @@ use Rattle.std.proofs.lemmas.List.{take_all}
 use Rattle.std.specs.Prelude.{IsErrOf}
 use Rattle.ec_store.specs.declared.fault.StoreFault.TheVariants.{BadDisk}
 use Rattle.ec_table.specs.Codes.{ids_in}
-use Rattle.ec_stands.specs.Stands.{AreSpelled, IsSpelled, IsBadImage}
+use Rattle.ec_stands.specs.Stands.{IsBadImage}
+use Rattle.ec_stands.specs.Checkpoints.{AreSpelled, IsSpelled}
 use Rattle.ec_store.proofs.Resting.{rests_then}
 use Rattle.ec_store.proofs.Parts.{spelled_more, ids_more, sound_more, bad_at}
 use Rattle.ec_store.proofs.reading.read_objects.Goals as goal

@@ -1,10 +1,10 @@
 use Rattle.std.proofs.Common.{◌≡◌, true, take}
 use Rattle.std.specs.List.{list_all}
 use Rattle.ec_base.specs.Tables.{keys}
-use Rattle.ec_codes.specs.Images.{is_sound_image}
-use Rattle.ec_disk.specs.Disk.{Rests, Counted}
+use Rattle.ec_codes.specs.SoundImages.{is_sound_image}
+use Rattle.ec_disk.specs.Effects.{Rests, Counted}
 use Rattle.ec_table.specs.Codes.{ids_in}
-use Rattle.ec_stands.specs.Stands.{AreSpelled}
+use Rattle.ec_stands.specs.Checkpoints.{AreSpelled}
 use Rattle.ec_store.proofs.reading.read_objects.Given as goal
 
 abbrev pub invariant-places : goal.invariant-places

@@ -1,6 +1,6 @@
 use Rattle.std.proofs.Common.{ℕ, List, ap, subst, ◌∙◌}
 use Rattle.ec_disk.specs.Disk.{part}
-use Rattle.ec_codes.specs.Formats.{StandsAt}
+use Rattle.ec_codes.specs.Spelling.{StandsAt}
 use Rattle.ec_table.specs.Codes.{table_code}
 use Rattle.ec_store.proofs.reading.read_table.Goals as goal
 

@@ -1,7 +1,8 @@
 use Rattle.std.proofs.Common.{List, ℕ, subst}
 use Rattle.std.proofs.lemmas.Result.{on_ok_weaker}
 use Rattle.ec_sessions.specs.declared.slot.Slot.{Slot}
-use Rattle.ec_codes.specs.Formats.{Writes, byte}
+use Rattle.ec_codes.specs.Formats.{byte}
+use Rattle.ec_codes.specs.Spelling.{Writes}
 use Rattle.ec_codes.specs.Fields.{word, long}
 use Rattle.ec_codes.specs.Clerks.{age_field}
 use Rattle.ec_table.specs.Codes.{last_first_field, ids_field}

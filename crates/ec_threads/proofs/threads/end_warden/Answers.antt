@@ -1,8 +1,8 @@
 use Rattle.std.proofs.Common.{◌≡◌, IfSome, refl, sym, subst}
-use Rattle.ec_lock.specs.Passes.{front, numbers}
+use Rattle.ec_lock.specs.PassViews.{front, numbers}
 use Rattle.ec_lock.specs.Steps.{Member}
 use Rattle.ec_lock.proofs.Numbers.{member_left}
-use Rattle.ec_servernode.specs.Turns.{IsServerPass}
+use Rattle.ec_servernode.specs.TurnSteps.{IsServerPass}
 use Rattle.ec_servernode.proofs.Lists.{prefix_self}
 use Rattle.ec_threads.proofs.threads.end_warden.Goals as goal
 

@@ -2,8 +2,8 @@ use Rattle.std.proofs.Common.{refl, ◌≡◌, length, sym, ap, ◌∙◌, subst
 use Rattle.std.specs.List.{All}
 use Rattle.std.proofs.lemmas.List.Elements.{All-head, All-rest}
 use Rattle.slab.proofs.SlabLemmas.{length-entries}
-use Rattle.ec_servernode.specs.Turns.{IsServerPass}
-use Rattle.ec_threads.specs.Moments.{back_of}
+use Rattle.ec_servernode.specs.TurnSteps.{IsServerPass}
+use Rattle.ec_threads.specs.ServingMoments.{back_of}
 use Rattle.ec_threads.specs.Goings.{goes_onward, goes_same}
 use Rattle.ec_threads.proofs.Lives.{all_entries}
 use Rattle.ec_threads.proofs.threads.finish_all.Goals as goal

@@ -1,8 +1,8 @@
 use Rattle.std.proofs.Common.{◌≡◌, ◌+◌, length, true}
 use Rattle.std.specs.List.{All}
 use Rattle.slab.specs.Slab.{slab_len}
-use Rattle.ec_servernode.specs.Turns.{IsServerPass}
-use Rattle.ec_threads.specs.Moments.{back_of, moment, GoesOn}
+use Rattle.ec_servernode.specs.TurnSteps.{IsServerPass}
+use Rattle.ec_threads.specs.ServingMoments.{back_of, moment, GoesOn}
 use Rattle.ec_threads.proofs.threads.finish_all.Given as goal
 
 abbrev pub invariant-loop-entry : goal.invariant-loop-entry

@@ -1,4 +1,4 @@
-use Rattle.ec_threads.specs.Moments.{back_of}
+use Rattle.ec_threads.specs.ServingMoments.{back_of}
 use Rattle.ec_threads.specs.Goings.{goes_same}
 use Rattle.ec_threads.proofs.threads.give_back.Goals as goal
 

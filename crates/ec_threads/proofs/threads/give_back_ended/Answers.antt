@@ -1,5 +1,5 @@
 use Rattle.std.proofs.Common.{◌≡◌, refl, ap, ◌∙◌, subst}
-use Rattle.ec_threads.specs.Moments.{AllServe, back_of}
+use Rattle.ec_threads.specs.ServingMoments.{AllServe, back_of}
 use Rattle.ec_threads.specs.Goings.{goes_same, goes_onward}
 use Rattle.ec_threads.proofs.threads.give_back_ended.Goals as goal
 

@@ -1,7 +1,7 @@
 use Rattle.std.proofs.Common.{◌≡◌, ◌+◌, length}
 use Rattle.slab.specs.Slab.{slab_len}
-use Rattle.ec_servernode.specs.Turns.{IsServerPass}
-use Rattle.ec_threads.specs.Moments.{AllServe, back_of, moment, GoesOn}
+use Rattle.ec_servernode.specs.TurnSteps.{IsServerPass}
+use Rattle.ec_threads.specs.ServingMoments.{AllServe, back_of, moment, GoesOn}
 use Rattle.ec_threads.proofs.threads.give_back_ended.Given as goal
 
 abbrev pub invariant-loop : goal.invariant-loop

@@ -1,4 +1,4 @@
-use Rattle.ec_threads.specs.Moments.{back_of}
+use Rattle.ec_threads.specs.ServingMoments.{back_of}
 use Rattle.ec_threads.specs.Goings.{goes_onward}
 use Rattle.ec_threads.proofs.Goes.{goes_joined}
 use Rattle.ec_threads.proofs.threads.run_in.Goals as goal

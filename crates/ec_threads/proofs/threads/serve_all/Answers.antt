@@ -1,6 +1,7 @@
 use Rattle.std.proofs.Common.{◌≡◌, ◌+◌, add-zero, refl, ap, sym, ◌∙◌, subst, length, IfSome, arith}
-use Rattle.ec_link.specs.Spawns.{refused_by, faults_of}
-use Rattle.ec_threads.specs.Moments.{AllServe, back_of, moment, GoesOn}
+use Rattle.ec_link.specs.Spawns.{faults_of}
+use Rattle.ec_link.specs.JobCounts.{refused_by}
+use Rattle.ec_threads.specs.ServingMoments.{AllServe, back_of, moment, GoesOn}
 use Rattle.ec_threads.specs.Goings.{goes_onward, goes_same}
 use Rattle.ec_threads.proofs.Goes.{goes_watched}
 use Rattle.ec_threads.proofs.threads.serve_all.Goals as goal

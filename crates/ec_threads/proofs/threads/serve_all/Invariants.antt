@@ -1,8 +1,8 @@
 use Rattle.std.proofs.Common.{◌≡◌, ◌+◌, length, IfSome}
 use Rattle.slab.specs.Slab.{slab_len}
 use Rattle.ec_link.specs.Spawns.{faults_of}
-use Rattle.ec_servernode.specs.Turns.{IsServerPass}
-use Rattle.ec_threads.specs.Moments.{AllServe, back_of, moment, GoesOn}
+use Rattle.ec_servernode.specs.TurnSteps.{IsServerPass}
+use Rattle.ec_threads.specs.ServingMoments.{AllServe, back_of, moment, GoesOn}
 use Rattle.ec_threads.proofs.threads.serve_all.Given as goal
 
 abbrev pub invariant-loop : goal.invariant-loop

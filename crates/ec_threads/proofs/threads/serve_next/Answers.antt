@@ -1,5 +1,5 @@
 use Rattle.std.proofs.Common.{ap}
-use Rattle.ec_threads.specs.Moments.{back_of}
+use Rattle.ec_threads.specs.ServingMoments.{back_of}
 use Rattle.ec_threads.specs.Goings.{goes_onward}
 use Rattle.ec_threads.proofs.Goes.{goes_looked}
 use Rattle.ec_threads.proofs.threads.serve_next.Goals as goal

@@ -1,4 +1,4 @@
-use Rattle.ec_lock.specs.Passes.{front}
+use Rattle.ec_lock.specs.PassViews.{front}
 use Rattle.ec_servernode.proofs.Lists.{prefix_self}
 use Rattle.ec_threads.proofs.threads.start_warden.Goals as goal
 

@@ -2,7 +2,7 @@ use Rattle.std.proofs.Common.{◌≡◌, ◌+◌, ◌++◌, sym, ap, subst, ◌�
 use Rattle.std.specs.Prelude.{Err}
 use Rattle.std.proofs.lemmas.Result.{err_from_is_err_and}
 use Rattle.ec_transcript.specs.declared.lines.ReadFault.TheVariants as fault
-use Rattle.ec_transcript.specs.Lines.{IsRead, HasBadLine}
+use Rattle.ec_transcript.specs.LinesRead.{IsRead, HasBadLine}
 use Rattle.ec_transcript.proofs.Halves.{read-both, above-fault, bad-below, bad-few, if-ok, ok-of, err-of}
 use Rattle.ec_transcript.proofs.parts.+parts.Goals as goal
 

@@ -1,7 +1,7 @@
 use Rattle.std.proofs.Common.{◌≡◌, ◌∙◌, ℕ, List, sym, ap}
 use Rattle.std.proofs.lemmas.Bool.Decides.{Decides-eqb}
 use Rattle.std.proofs.lemmas.Slice.Eq.{slice_eq-Decides}
-use Rattle.ec_sessions.specs.Windows.{times}
+use Rattle.ec_sessions.specs.WindowMarks.{times}
 use Rattle.ec_well_formed.proofs.Sorting.{same_ascending}
 use Rattle.ec_well_formed.proofs.Deciding.{tells}
 use Rattle.ec_well_formed.proofs.numbers.are_these.Goals as goal

@@ -2,7 +2,8 @@ use Rattle.std.proofs.Common.{◌-◌, ◌∷◌, refl, sym, ap}
 use Rattle.ec_plain.specs.declared.call.Call.TheVariants as call
 use Rattle.ec_volume.specs.Limits.{max_ordered}
 use Rattle.ec_words.specs.declared.name.Verb.TheVariants as verb
-use Rattle.ec_words.specs.Rows.{◌▸◌, End, Last, UpTo, left}
+use Rattle.ec_words.specs.Rows.{◌▸◌, End, Last, UpTo}
+use Rattle.ec_words.specs.RowsLeft.{left}
 use Rattle.ec_words.specs.Spelling.{IsSmallNumber, IsNumber, IsCount, IsMode, IsText, IsPathText}
 use Rattle.ec_words.specs.Calls.{Asks}
 use Rattle.ec_words.proofs.Misfits.{asked, asked_is, made}

@@ -1,6 +1,6 @@
-use Rattle.ec_words.specs.Rows.{left}
+use Rattle.ec_words.specs.RowsLeft.{left}
 use Rattle.ec_words.specs.Spelling.{IsVerb}
-use Rattle.ec_words.specs.Calls.{a_call}
+use Rattle.ec_words.specs.SomeCall.{a_call}
 use Rattle.ec_words.specs.Calls.{Asks, SpellsCall}
 use Rattle.ec_words.proofs.Misfits.{returned, choice_lacks, choice_has, choice_is}
 use Rattle.ec_words.proofs.Named.{verb_once}

@@ -1,6 +1,7 @@
 use Rattle.std.proofs.Common.{◌-◌, ◌∷◌, ◌++◌, [], sym, ap, ◌∙◌, arith, append_assoc}
 use Rattle.std.proofs.lemmas.List.{append-nil}
-use Rattle.ec_words.specs.Rows.{UpTo, IsMisfit, left}
+use Rattle.ec_words.specs.Rows.{UpTo}
+use Rattle.ec_words.specs.RowsLeft.{IsMisfit, left}
 use Rattle.ec_words.specs.Spelling.{IsPathText}
 use Rattle.ec_words.proofs.Misfits.{failed, up_to_none, up_to_lacks, up_to_has, up_to_is}
 use Rattle.ec_words.proofs.paths.+more_paths.Goals as goal

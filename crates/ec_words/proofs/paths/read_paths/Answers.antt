@@ -1,6 +1,7 @@
 use Rattle.std.proofs.Common.{◌-◌, ◌∷◌, ◌++◌, [], sym, ap, ◌∙◌}
 use Rattle.ec_volume.specs.Limits.{max_ordered}
-use Rattle.ec_words.specs.Rows.{◌▸◌, UpTo, IsMisfit, left}
+use Rattle.ec_words.specs.Rows.{◌▸◌, UpTo}
+use Rattle.ec_words.specs.RowsLeft.{IsMisfit, left}
 use Rattle.ec_words.specs.Spelling.{IsPathText}
 use Rattle.ec_words.specs.Examples.{a_path}
 use Rattle.ec_words.proofs.Misfits.{failed, row_lacks, row_has, row_is, begins_row, begins_up_to}

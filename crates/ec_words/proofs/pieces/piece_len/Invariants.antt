@@ -1,5 +1,5 @@
 use Rattle.std.proofs.Common.{◌≡◌, ◌+◌, drop}
-use Rattle.ec_words.specs.Pieces.{piece_len}
+use Rattle.ec_words.specs.PieceLengths.{piece_len}
 use Rattle.ec_words.proofs.pieces.piece_len.Given as goal
 
 abbrev pub invariant-loop-byte : goal.invariant-loop-byte

@@ -1,4 +1,5 @@
-use Rattle.ec_words.specs.Rows.{Last, left}
+use Rattle.ec_words.specs.Rows.{Last}
+use Rattle.ec_words.specs.RowsLeft.{left}
 use Rattle.ec_words.proofs.Misfits.{returned, last_lacks, last_has}
 use Rattle.ec_words.proofs.spelled.one.Goals as goal
 

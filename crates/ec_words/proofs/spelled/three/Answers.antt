@@ -1,5 +1,6 @@
 use Rattle.ec_words.specs.Rows.{◌▸◌}
-use Rattle.ec_words.specs.Rows.{Last, left}
+use Rattle.ec_words.specs.Rows.{Last}
+use Rattle.ec_words.specs.RowsLeft.{left}
 use Rattle.ec_words.proofs.Misfits.{returned, row_lacks, row_has, begins_row, begins_last}
 use Rattle.ec_words.proofs.spelled.three.Goals as goal
 

@@ -3,7 +3,8 @@ use Rattle.std.proofs.lemmas.List.{take-map, length-reverse}
 use Rattle.ec_base.specs.Tables.{keys}
 use Rattle.ec_volume.specs.Update.{member}
 use Rattle.ec_cache.specs.declared.state.CacheState.{CacheState}
-use Rattle.ec_cache.specs.Cache.{numbers, evicted, evict}
+use Rattle.ec_cache.specs.Cache.{evicted, evict}
+use Rattle.ec_cache.specs.Numbers.{numbers}
 use Rattle.ec_cache.specs.Held.{unpinned, apart_from}
 use Rattle.ec_cache.specs.Marks.{marks}
 use Rattle.ec_cache.proofs.Marks.{marks-filter}

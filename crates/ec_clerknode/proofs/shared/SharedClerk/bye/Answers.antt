@@ -1,5 +1,5 @@
 use Rattle.std.proofs.Common.{◌+◌, rules}
-use Rattle.ec_lock.specs.Passes.{front}
+use Rattle.ec_lock.specs.PassViews.{front}
 use Rattle.ec_clerknode.proofs.Turns.{turned_both, parting_none, parted_ok, parted_bye, parted_failed}
 use Rattle.ec_clerknode.proofs.shared.SharedClerk.bye.Goals as goal
 

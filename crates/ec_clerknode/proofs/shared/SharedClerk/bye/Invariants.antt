@@ -1,6 +1,7 @@
 use Rattle.std.proofs.Common.{◌≡◌}
-use Rattle.ec_lock.specs.Passes.{front}
-use Rattle.ec_clerknode.specs.Turns.{Turned, calls_by}
+use Rattle.ec_lock.specs.PassViews.{front}
+use Rattle.ec_clerknode.specs.Turns.{calls_by}
+use Rattle.ec_clerknode.specs.PassTurns.{Turned}
 use Rattle.ec_clerknode.proofs.shared.SharedClerk.bye.Given as goal
 
 abbrev pub invariant-loop : goal.invariant-loop

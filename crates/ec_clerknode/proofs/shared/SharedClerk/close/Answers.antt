@@ -1,8 +1,8 @@
 use Rattle.std.proofs.Common.{◌+◌, sym, ap, ◌∙◌, subst}
 use mathlib.Core.List.{IsPrefix}
-use Rattle.ec_lock.specs.Passes.{first, front}
+use Rattle.ec_lock.specs.PassViews.{first, front}
 use Rattle.ec_lock.specs.Steps.{of}
-use Rattle.ec_clerknode.specs.Node.{Since}
+use Rattle.ec_clerknode.specs.NodeSteps.{Since}
 use Rattle.ec_clerknode.specs.Run.{old_boot}
 use Rattle.ec_clerknode.specs.Turns.{number_of}
 use Rattle.ec_clerknode.proofs.Turns.{finished, finished_alone, told_then, said_then, wanted_then, came_all, came_one, links_are}

@@ -1,5 +1,5 @@
 use Rattle.std.proofs.Common.{◌∙◌, ap, arith}
-use Rattle.ec_clerknode.specs.Run.{highest}
+use Rattle.ec_clerknode.specs.RunEnds.{highest}
 use Rattle.ec_clerknode.proofs.shared.SharedClerk.end.Goals as goal
 
 pub raise-requires-clause-low : goal.raise-requires-clause-low

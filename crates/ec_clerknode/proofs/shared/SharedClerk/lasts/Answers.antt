@@ -1,6 +1,6 @@
 use Rattle.std.proofs.Common.{◌+◌, sym, ap, ◌∙◌, subst}
 use mathlib.Core.List.{IsPrefix}
-use Rattle.ec_lock.specs.Passes.{first, front}
+use Rattle.ec_lock.specs.PassViews.{first, front}
 use Rattle.ec_lock.specs.Steps.{of}
 use Rattle.ec_clerknode.specs.Turns.{number_of}
 use Rattle.ec_clerknode.proofs.Lists.{prefix_self}

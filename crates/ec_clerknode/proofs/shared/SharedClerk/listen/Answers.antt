@@ -1,5 +1,5 @@
 use Rattle.std.proofs.Common.{◌+◌, sym, ◌∙◌, subst}
-use Rattle.ec_lock.specs.Passes.{first, front}
+use Rattle.ec_lock.specs.PassViews.{first, front}
 use Rattle.ec_clerknode.specs.Closed.{Works}
 use Rattle.ec_clerknode.proofs.Turns.{own_only, grown, later_front, works_more, turned, works, said_if}
 use Rattle.ec_clerknode.proofs.shared.SharedClerk.listen.Goals as goal

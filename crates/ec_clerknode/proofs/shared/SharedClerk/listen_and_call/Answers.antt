@@ -1,7 +1,7 @@
 use Rattle.std.proofs.Common.{◌≡◌, ◌+◌, Err, IfSome, subst}
-use Rattle.ec_lock.specs.Passes.{front}
+use Rattle.ec_lock.specs.PassViews.{front}
 use Rattle.ec_clerknode.specs.declared.fault.NodeFault.TheVariants as fault
-use Rattle.ec_clerknode.specs.Turns.{Worked}
+use Rattle.ec_clerknode.specs.PassTurns.{Worked}
 use Rattle.ec_clerknode.proofs.Turns.{turned_both, called_later, none_begun, failed_first}
 use Rattle.ec_clerknode.proofs.shared.SharedClerk.listen_and_call.Goals as goal
 

@@ -1,6 +1,6 @@
 use Rattle.std.proofs.Common.{◌+◌, Ok, subst, rules}
-use Rattle.ec_lock.specs.Passes.{front}
-use Rattle.ec_clerknode.specs.Turns.{Waits}
+use Rattle.ec_lock.specs.PassViews.{front}
+use Rattle.ec_clerknode.specs.PassTurns.{Waits}
 use Rattle.ec_clerknode.proofs.Turns.{turned_both, pending_ok, replied, failed_later}
 use Rattle.ec_clerknode.proofs.shared.SharedClerk.make_call.Goals as goal
 

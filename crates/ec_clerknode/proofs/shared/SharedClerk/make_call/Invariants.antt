@@ -1,5 +1,5 @@
-use Rattle.ec_lock.specs.Passes.{front}
-use Rattle.ec_clerknode.specs.Turns.{Turned, Pending}
+use Rattle.ec_lock.specs.PassViews.{front}
+use Rattle.ec_clerknode.specs.PassTurns.{Turned, Pending}
 use Rattle.ec_clerknode.proofs.shared.SharedClerk.make_call.Given as goal
 
 abbrev pub invariant-loop : goal.invariant-loop

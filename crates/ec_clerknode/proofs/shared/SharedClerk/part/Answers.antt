@@ -1,5 +1,5 @@
 use Rattle.std.proofs.Common.{◌+◌, sym, ◌∙◌, subst}
-use Rattle.ec_lock.specs.Passes.{first, front}
+use Rattle.ec_lock.specs.PassViews.{first, front}
 use Rattle.ec_clerknode.specs.Closed.{PartsBehind}
 use Rattle.ec_clerknode.proofs.Turns.{own_only, grown, later_front, parts_more, turned, partings, said_if}
 use Rattle.ec_clerknode.proofs.shared.SharedClerk.part.Goals as goal

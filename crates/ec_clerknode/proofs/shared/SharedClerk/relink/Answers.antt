@@ -1,5 +1,5 @@
 use Rattle.std.proofs.Common.{◌≡◌, ◌+◌, IfOk, sym, ◌∙◌, subst}
-use Rattle.ec_lock.specs.Passes.{first, front}
+use Rattle.ec_lock.specs.PassViews.{first, front}
 use Rattle.ec_clerknode.specs.Closed.{Links}
 use Rattle.ec_clerknode.proofs.Turns.{own_only, grown, later_front, relinks_more, turned, relinked_if, kept_if}
 use Rattle.ec_clerknode.proofs.shared.SharedClerk.relink.Goals as goal

@@ -3,7 +3,8 @@ use Rattle.std.proofs.Common.{◌≡◌, ◌+◌, true, [], append-nil, IfSome, 
 use Rattle.ec_outs.specs.Outs.{sends}
 use Rattle.ec_outs.proofs.Told.{added-nil}
 use Rattle.ec_clerknode.specs.Closed.{Fails}
-use Rattle.ec_clerknode.specs.Folded.{parted, Comes}
+use Rattle.ec_clerknode.specs.Folded.{parted}
+use Rattle.ec_clerknode.specs.FoldedAnswers.{Comes}
 use Rattle.ec_clerknode.specs.Run.{says_bye}
 use Rattle.ec_clerknode.proofs.Acts.{left}
 use Rattle.ec_clerknode.proofs.Nodes.{follows_alone, read_none, falls, nothing_came}

@@ -1,5 +1,6 @@
 use Rattle.std.proofs.Common.{◌+◌, None, Some, ◌∙◌, ap, subst, sym, refl, []}
-use Rattle.ec_link.specs.Links.{added, heard}
+use Rattle.ec_link.specs.Links.{added}
+use Rattle.ec_link.specs.LinkAnswers.{heard}
 use Rattle.ec_clerknode.specs.Closed.{Fails, Hears}
 use Rattle.ec_clerknode.proofs.Nodes.{follows, read_none, falls, heard_short, counts_more, counts_up}
 use Rattle.ec_clerknode.proofs.Turns.{fell_fails}

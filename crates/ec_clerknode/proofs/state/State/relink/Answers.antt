@@ -1,5 +1,5 @@
 use Rattle.std.proofs.Common.{◌+◌, refl, sym, ◌∙◌, subst}
-use Rattle.ec_link.specs.Nets.{IsEmpty}
+use Rattle.ec_link.specs.NetAnswers.{IsEmpty}
 use Rattle.ec_clerknode.proofs.Nodes.{greets}
 use Rattle.ec_clerknode.proofs.state.State.relink.Goals as goal
 

@@ -1,5 +1,5 @@
 use Rattle.std.proofs.Common.{sym, subst, ap, ◌∙◌}
-use Rattle.ec_disk.specs.Disk.{Cut, IsSynced}
+use Rattle.ec_disk.specs.Effects.{Cut, IsSynced}
 use Rattle.ec_disk.specs.Past.{Shot, shot_of, view_of}
 use Rattle.ec_disk.specs.PastLaws.{cuts, leaves, cut-synced}
 use Rattle.ec_disk.proofs.memory.MemDiskCrashDisk.power_cut.Goals as goal

@@ -1,5 +1,5 @@
 use Rattle.std.proofs.Common.{sym, subst, ap, ◌∙◌, length}
-use Rattle.ec_disk.specs.Disk.{Wrote, InRange}
+use Rattle.ec_disk.specs.Effects.{Wrote, InRange}
 use Rattle.ec_disk.specs.Past.{Shot, shot_of, view_of}
 use Rattle.ec_disk.specs.PastLaws.{wrote, gives-written, synced-written}
 use Rattle.ec_disk.proofs.memory.MemDiskDisk.write_at.Goals as goal

@@ -1,7 +1,7 @@
 use Rattle.std.proofs.Common.{◌≤◌, ◌∙◌, ap, sym, subst}
 use Rattle.std.specs.Prelude.{IsSome}
 use Rattle.ec_disk.specs.declared.turns.Turns.{Turns}
-use Rattle.ec_disk.specs.Disk.{IsOver}
+use Rattle.ec_disk.specs.Effects.{IsOver}
 use Rattle.ec_disk.specs.Turns.{faults_after, stops_after}
 use Rattle.ec_disk.proofs.TurnLaws.{counted, stops_where_due, due_armed, due_over, less_armed, less_over}
 use Rattle.ec_disk.proofs.turns.Turns.next.Goals as goal

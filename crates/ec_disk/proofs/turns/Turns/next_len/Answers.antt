@@ -1,6 +1,6 @@
 use Rattle.std.proofs.Common.{◌∙◌, sym, subst}
 use Rattle.std.specs.Prelude.{IsSome}
-use Rattle.ec_disk.specs.Disk.{IsOver}
+use Rattle.ec_disk.specs.Effects.{IsOver}
 use Rattle.ec_disk.proofs.TurnLaws.{counted, stops_where_due, stopped_armed, stopped_over}
 use Rattle.ec_disk.proofs.turns.Turns.next_len.Goals as goal
 

@@ -1,5 +1,5 @@
 use Rattle.std.proofs.Common.{◌≡◌, drop}
-use Rattle.ec_sessions.specs.Slots.{CanMark}
+use Rattle.ec_sessions.specs.SlotChecks.{CanMark}
 use Rattle.ec_durable.specs.Durable.{operations, slot}
 use Rattle.ec_durable.proofs.state.Durable.operations.Given as goal
 

@@ -1,6 +1,6 @@
 use Rattle.std.proofs.Common.{rules, ◌≡◌, ◌+◌, length, sym, subst}
 use Rattle.ec_disk.specs.declared.disk.DiskAnswer.TheVariants as said
-use Rattle.ec_disk.specs.Disk.{InRange}
+use Rattle.ec_disk.specs.Effects.{InRange}
 use Rattle.ec_half.specs.Contents.{Loosened, behind, loosened-same}
 use Rattle.ec_half.proofs.Halves.{half-grown, some_is, written-behind, header-stays, loosened-behind}
 use Rattle.ec_half.proofs.half.Half.write.Goals as goal

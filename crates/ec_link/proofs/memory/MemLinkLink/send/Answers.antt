@@ -1,6 +1,6 @@
 use Rattle.std.proofs.Common.{◌++◌, Some, drop, ap, ◌∙◌}
-use Rattle.ec_link.specs.Links.{carried}
-use Rattle.ec_link.specs.Happenings.{got_in}
+use Rattle.ec_link.specs.LinkAnswers.{carried}
+use Rattle.ec_link.specs.HappeningBodies.{got_in}
 use Rattle.ec_link.proofs.Framed.{body_of_frame}
 use Rattle.ec_link.proofs.memory.MemLinkLink.send.Goals as goal
 

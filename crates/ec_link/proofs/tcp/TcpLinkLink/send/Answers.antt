@@ -1,5 +1,5 @@
 use Rattle.std.proofs.Common.{◌++◌, Some, ap, ◌∙◌}
-use Rattle.ec_link.specs.Happenings.{got_in}
+use Rattle.ec_link.specs.HappeningBodies.{got_in}
 use Rattle.ec_link.proofs.Framed.{body_of_frame}
 use Rattle.ec_link.proofs.tcp.TcpLinkLink.send.Goals as goal
 

@@ -1,6 +1,7 @@
 use Rattle.std.proofs.Common.{◌+◌, ap, ◌∙◌}
-use Rattle.ec_link.specs.Happenings.{faults_in, closes_in, total}
-use Rattle.ec_link.specs.Nets.{is_bad}
+use Rattle.ec_link.specs.Happenings.{faults_in, total}
+use Rattle.ec_link.specs.HappeningBodies.{closes_in}
+use Rattle.ec_link.specs.NetAnswers.{is_bad}
 use Rattle.ec_link.proofs.Pushed.{total-push}
 use Rattle.ec_link.proofs.tcp_net.TcpNetNet.back.Goals as goal
 

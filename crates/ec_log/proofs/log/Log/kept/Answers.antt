@@ -2,8 +2,9 @@ use Rattle.std.proofs.Common.{not, ap, sym, ◌∙◌, ℕ}
 use Rattle.ec_volume.specs.Update.{member}
 use Rattle.ec_volume.specs.declared.update.Update.{Update}
 use Rattle.ec_chains.specs.Held.{is_behind}
-use Rattle.ec_log.specs.Log.{is_from, kept}
-use Rattle.ec_log.specs.Choice.{all_rise}
+use Rattle.ec_log.specs.Log.{kept}
+use Rattle.ec_log.specs.LogOrder.{is_from}
+use Rattle.ec_log.specs.Chosen.{all_rise}
 use Rattle.ec_log.proofs.Logs.{behind_part, from_part, kept_none}
 use Rattle.ec_log.proofs.Members.{all_rise_without}
 use Rattle.ec_log.proofs.log.Log.kept.Goals as goal

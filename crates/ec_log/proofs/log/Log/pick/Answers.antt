@@ -1,6 +1,7 @@
 use Rattle.std.proofs.Common.{ap, refl, sym, rules, ◌∙◌}
-use Rattle.ec_log.specs.Log.{is_new, pick}
-use Rattle.ec_log.specs.Choice.{all_rise}
+use Rattle.ec_log.specs.Log.{pick}
+use Rattle.ec_log.specs.LogOrder.{is_new}
+use Rattle.ec_log.specs.Chosen.{all_rise}
 use Rattle.ec_log.proofs.Fronts.{pick-front}
 use Rattle.ec_log.proofs.Members.{all_rise_put, batch_rises}
 use Rattle.ec_log.proofs.log.Log.pick.Goals as goal

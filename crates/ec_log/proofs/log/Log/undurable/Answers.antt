@@ -1,5 +1,5 @@
 use Rattle.std.proofs.Common.{subst}
-use Rattle.ec_log.specs.Log.{AreOwn}
+use Rattle.ec_log.specs.LogOrder.{AreOwn}
 use Rattle.ec_log.specs.declared.state.LogState.{LogState}
 use Rattle.ec_log.proofs.log.Log.undurable.Goals as goal
 

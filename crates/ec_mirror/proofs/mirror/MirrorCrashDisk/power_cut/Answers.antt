@@ -1,6 +1,6 @@
 use Rattle.std.proofs.Common.{◌≡◌, ◌∙◌, ap, sym, subst}
 use Rattle.ec_disk.specs.declared.disk.DiskAnswer.TheVariants as said
-use Rattle.ec_disk.specs.Disk.{Counted}
+use Rattle.ec_disk.specs.Effects.{Counted}
 use Rattle.ec_mirror.specs.Tally.{counts_of}
 use Rattle.ec_mirror.specs.declared.tally.Tally.{Tally}
 use Rattle.ec_mirror.proofs.Tallies.{cut_counts, cut_calls}

@@ -3,7 +3,7 @@ use Rattle.std.specs.Map.{values_of}
 use Rattle.indexmap.proofs.CallerLemmas.{filter-RetainsPairs}
 use Rattle.ec_recall.specs.declared.want.Want.{Want}
 use Rattle.ec_recall.specs.Keys.{IsKeyed}
-use Rattle.ec_recall.specs.Wants.{NoneFree}
+use Rattle.ec_recall.specs.HeldWants.{NoneFree}
 use Rattle.ec_recall.proofs.KeyLemmas.{held_filter, values-filter, keyed_filter}
 use Rattle.ec_recall.proofs.recalls.Recalls.drop_session.Goals as goal
 

@@ -5,7 +5,7 @@ use Rattle.ec_recall.specs.Due.{actions, wants_after}
 use Rattle.ec_recall.specs.Keys.{AreApart}
 use Rattle.ec_recall.specs.Laws.{go_in}
 use Rattle.ec_recall.specs.Rounds.{GrantsGoIn}
-use Rattle.ec_recall.specs.Wants.{NoneFree}
+use Rattle.ec_recall.specs.HeldWants.{NoneFree}
 use Rattle.ec_recall.proofs.KeyLemmas.{apart_stays, apart_from_unique, held_stays}
 use Rattle.ec_recall.proofs.recalls.Recalls.due.Goals as goal
 

@@ -4,7 +4,8 @@ use Rattle.indexmap.specs.IndexMap.{insert_entry}
 use Rattle.indexmap.proofs.CallerLemmas.{insert_entry-new}
 use Rattle.ec_recall.specs.declared.want.Want.{Want}
 use Rattle.ec_recall.specs.Keys.{IsKeyed, same_key}
-use Rattle.ec_recall.specs.Wants.{noted, NoneFree}
+use Rattle.ec_recall.specs.Wants.{noted}
+use Rattle.ec_recall.specs.HeldWants.{NoneFree}
 use Rattle.ec_recall.proofs.KeyLemmas.{held_free, held_noted, again, fresh, noted_found, noted_absent, keyed_again, keyed_push, values-push}
 use Rattle.ec_recall.proofs.recalls.Recalls.want.Goals as goal
 

@@ -1,6 +1,7 @@
 use Rattle.std.proofs.Common.{◌≡◌, drop, true}
 use Rattle.ec_report.specs.Index.{Agrees}
-use Rattle.ec_report.specs.Report.{pairs_of, owe, come_behind}
+use Rattle.ec_report.specs.Report.{pairs_of, owe}
+use Rattle.ec_report.specs.OwedOrder.{come_behind}
 use Rattle.ec_report.proofs.report.Report.owe.Given as goal
 
 abbrev pub invariant-loop-op : goal.invariant-loop-op

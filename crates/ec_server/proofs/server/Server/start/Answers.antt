@@ -1,6 +1,6 @@
 use Rattle.std.proofs.Common.{subst}
 use Rattle.ec_protocol.specs.Server as machine
-use Rattle.ec_once.specs.Safe.{IsSafe}
+use Rattle.ec_once.specs.SafeServers.{IsSafe}
 use Rattle.ec_once.proofs.Steps.{start-safe}
 use Rattle.ec_server.specs.CallLaws.{answered, record_by, once_by}
 use Rattle.ec_server.specs.Clerks.{HaveClerks}

@@ -1,10 +1,10 @@
 use Rattle.std.proofs.Common.{sym, ap, ◌∙◌, subst, refl}
 use mathlib.Core.List.{IsPrefix}
-use Rattle.ec_lock.specs.Passes.{first, front}
+use Rattle.ec_lock.specs.PassViews.{first, front}
 use Rattle.ec_lock.specs.Steps.{of}
 use Rattle.ec_servernode.specs.Run.{number_of}
 use Rattle.ec_servernode.specs.Node.{Since}
-use Rattle.ec_servernode.specs.Turns.{RunsFrom, Finished}
+use Rattle.ec_servernode.specs.TurnSteps.{RunsFrom, Finished}
 use Rattle.ec_servernode.proofs.Fronts.{finished}
 use Rattle.ec_servernode.proofs.shared.SharedServer.close.Goals as goal
 

@@ -1,7 +1,7 @@
 use Rattle.std.proofs.Common.{sym, ap, ◌∙◌, subst}
-use Rattle.ec_lock.specs.Passes.{first, front}
+use Rattle.ec_lock.specs.PassViews.{first, front}
 use Rattle.ec_servernode.specs.Run.{caller_by}
-use Rattle.ec_servernode.specs.Turns.{Ends, RunsFrom}
+use Rattle.ec_servernode.specs.TurnSteps.{Ends, RunsFrom}
 use Rattle.ec_servernode.proofs.Served.{ends_more, own_only, grown, ends, pass_is, since_of}
 use Rattle.ec_servernode.proofs.Fronts.{goes, same_both}
 use Rattle.ec_servernode.proofs.Safe.{runs-safe}

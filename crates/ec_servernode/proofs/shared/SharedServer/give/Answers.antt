@@ -1,8 +1,8 @@
 use Rattle.std.proofs.Common.{sym, ap, ◌∙◌, subst}
-use Rattle.ec_lock.specs.Passes.{first, front}
+use Rattle.ec_lock.specs.PassViews.{first, front}
 use Rattle.ec_servernode.specs.Run.{caller_by}
 use Rattle.ec_servernode.specs.Node.{queue_at}
-use Rattle.ec_servernode.specs.Turns.{Gives}
+use Rattle.ec_servernode.specs.TurnSteps.{Gives}
 use Rattle.ec_servernode.proofs.Served.{gives_more, own_only, grown, gives, pass_is, since_of, caller_of}
 use Rattle.ec_servernode.proofs.Fronts.{goes, same_both}
 use Rattle.ec_servernode.proofs.shared.SharedServer.give.Goals as goal

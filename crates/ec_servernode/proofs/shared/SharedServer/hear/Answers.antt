@@ -1,9 +1,10 @@
 use Rattle.std.proofs.Common.{Ok, Err, sym, ap, ◌∙◌, subst, rules}
-use Rattle.ec_lock.specs.Passes.{front}
-use Rattle.ec_wire.specs.Codes.{said, Answers}
+use Rattle.ec_lock.specs.PassViews.{front}
+use Rattle.ec_wire.specs.Codes.{said}
+use Rattle.ec_wire.specs.CodeAnswers.{Answers}
 use Rattle.ec_servernode.specs.declared.fault.ServeFault.{ServeFault}
 use Rattle.ec_servernode.specs.declared.shared.Turned.{Turned}
-use Rattle.ec_servernode.specs.Turns.{HearFails, TakesMessage, Looked}
+use Rattle.ec_servernode.specs.TurnSteps.{HearFails, TakesMessage, Looked}
 use Rattle.ec_servernode.proofs.Served.{refused}
 use Rattle.ec_servernode.proofs.shared.SharedServer.hear.Goals as goal
 

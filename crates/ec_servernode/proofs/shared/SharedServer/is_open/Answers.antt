@@ -1,7 +1,7 @@
 use Rattle.std.proofs.Common.{◌≡◌, ◌⊎◌, Option, Some, [], refl, sym, ap, ◌∙◌, subst}
 use Rattle.std.specs.Prelude.{IfErr}
 use mathlib.Core.List.{IsPrefix}
-use Rattle.ec_lock.specs.Passes.{first, front}
+use Rattle.ec_lock.specs.PassViews.{first, front}
 use Rattle.ec_lock.specs.Steps.{of}
 use Rattle.ec_servernode.specs.Run.{number_of, halted}
 use Rattle.ec_servernode.specs.declared.fault.ServeFault.TheVariants as fault

@@ -1,10 +1,11 @@
 use Rattle.std.proofs.Common.{◌≡◌, ◌⊎◌, ℕ, ◌++◌, refl, sym, subst}
 use Rattle.std.specs.Prelude.{max}
 use mathlib.Core.List.{IsPrefix}
-use Rattle.ec_lock.specs.Passes.{first, front, numbers, raised, answered, IsPassOf}
+use Rattle.ec_lock.specs.Passes.{answered}
+use Rattle.ec_lock.specs.PassViews.{first, front, numbers, raised, IsPassOf}
 use Rattle.ec_lock.specs.Steps.{Member, of}
 use Rattle.ec_servernode.specs.Run.{number_of}
-use Rattle.ec_servernode.specs.Turns.{RunsFrom}
+use Rattle.ec_servernode.specs.TurnSteps.{RunsFrom}
 use Rattle.ec_servernode.proofs.Fronts.{still, either}
 use Rattle.ec_servernode.proofs.shared.SharedServer.join.Goals as goal
 

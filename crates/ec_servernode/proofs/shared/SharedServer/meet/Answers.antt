@@ -1,6 +1,6 @@
 use Rattle.std.proofs.Common.{refl}
-use Rattle.ec_lock.specs.Passes.{first, front, note_view}
-use Rattle.ec_servernode.specs.Turns.{RunsFrom}
+use Rattle.ec_lock.specs.PassViews.{first, front, note_view}
+use Rattle.ec_servernode.specs.TurnSteps.{RunsFrom}
 use Rattle.ec_servernode.proofs.Fronts.{still, either}
 use Rattle.ec_servernode.proofs.shared.SharedServer.meet.Goals as goal
 

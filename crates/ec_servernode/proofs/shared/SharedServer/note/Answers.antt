@@ -1,8 +1,8 @@
 use Rattle.std.proofs.Common.{refl, sym, ap, subst}
-use Rattle.ec_lock.specs.Passes.{first}
+use Rattle.ec_lock.specs.PassViews.{first}
 use Rattle.ec_lock.specs.Steps.{of}
 use Rattle.ec_servernode.specs.Run.{number_of}
-use Rattle.ec_servernode.specs.Turns.{RunsFrom}
+use Rattle.ec_servernode.specs.TurnSteps.{RunsFrom}
 use Rattle.ec_servernode.proofs.Fronts.{still}
 use Rattle.ec_servernode.proofs.shared.SharedServer.note.Goals as goal
 

@@ -1,5 +1,5 @@
 use Rattle.std.proofs.Common.{[], refl, ap}
-use Rattle.ec_lock.specs.Passes.{first}
+use Rattle.ec_lock.specs.PassViews.{first}
 use Rattle.ec_servernode.specs.Run.{put_all, for_clerk}
 use Rattle.ec_servernode.specs.Node.{queue_at, state_of}
 use Rattle.ec_servernode.proofs.Runs.{no_run}

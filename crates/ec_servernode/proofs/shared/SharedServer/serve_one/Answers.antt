@@ -1,5 +1,5 @@
 use Rattle.std.proofs.Common.{Ok, Err, inl, sym, ◌∙◌}
-use Rattle.ec_lock.specs.Passes.{first, front}
+use Rattle.ec_lock.specs.PassViews.{first, front}
 use Rattle.ec_servernode.specs.Node.{queue_at}
 use Rattle.ec_servernode.specs.declared.fault.ServeFault.TheVariants as fault
 use Rattle.ec_servernode.specs.declared.shared.Turned.TheVariants as turned

@@ -1,5 +1,5 @@
 use Rattle.std.proofs.Common.{refl}
-use Rattle.ec_lock.specs.Passes.{first, front}
+use Rattle.ec_lock.specs.PassViews.{first, front}
 use Rattle.ec_servernode.proofs.Fronts.{still, begins_as, reached_run}
 use Rattle.ec_servernode.proofs.shared.SharedServer.split.Goals as goal
 

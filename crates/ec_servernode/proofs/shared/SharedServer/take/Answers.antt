@@ -1,9 +1,9 @@
 use Rattle.std.proofs.Common.{sym, ap, ◌∙◌, subst}
-use Rattle.ec_lock.specs.Passes.{first, front}
+use Rattle.ec_lock.specs.PassViews.{first, front}
 use Rattle.ec_servernode.specs.declared.caller.Caller.{Caller}
 use Rattle.ec_servernode.specs.Run.{caller_by, sender}
 use Rattle.ec_servernode.specs.Steps.{taken_by, told_in}
-use Rattle.ec_servernode.specs.Turns.{Takes, TakesMessage}
+use Rattle.ec_servernode.specs.TurnSteps.{Takes, TakesMessage}
 use Rattle.ec_servernode.proofs.Served.{takes_more, own_only, grown, takes, pass_is, since_of, caller_of}
 use Rattle.ec_servernode.proofs.Fronts.{goes, same_both}
 use Rattle.ec_servernode.proofs.shared.SharedServer.take.Goals as goal

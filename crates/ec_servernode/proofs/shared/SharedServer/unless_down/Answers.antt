@@ -1,6 +1,6 @@
 use Rattle.std.proofs.Common.{refl, sym, ap, ◌∙◌, subst}
 use mathlib.Core.List.{IsPrefix}
-use Rattle.ec_lock.specs.Passes.{front}
+use Rattle.ec_lock.specs.PassViews.{front}
 use Rattle.ec_lock.specs.Steps.{of}
 use Rattle.ec_servernode.specs.Run.{number_of}
 use Rattle.ec_servernode.proofs.Lists.{prefix_self}

@@ -1,7 +1,7 @@
 use Rattle.std.proofs.Common.{◌≡◌, ◌<◌, ◌∙◌, ap, subst, arith}
 use Rattle.std.specs.Result.{OnOk, OnErr}
 use Rattle.ec_sessions.specs.Slots.{all_unspent, granted}
-use Rattle.ec_sessions.specs.Windows.{times}
+use Rattle.ec_sessions.specs.WindowMarks.{times}
 use Rattle.ec_sessions.proofs.Tables.{grant_keeps, slot_found}
 use Rattle.ec_sessions.proofs.sessions.Sessions.reserve.Goals as goal
 

@@ -5,7 +5,8 @@ use Rattle.ec_durable.specs.declared.state.Durable.{Durable}
 use Rattle.ec_durable.specs.WellFormed.{WellFormed, IsInOrder}
 use Rattle.ec_stands.proofs.Volumes.{formatted_well}
 use Rattle.ec_durable.specs.Durable.{formatted}
-use Rattle.ec_layout.specs.Head.{first_word, empty_awaits}
+use Rattle.ec_layout.specs.Head.{first_word}
+use Rattle.ec_layout.specs.Heads.{empty_awaits}
 use Rattle.ec_layout.specs.Traces.{no_sync_yet}
 use Rattle.ec_layout.specs.Layout.{HasSide, HasSlots}
 use Rattle.ec_layout.specs.Pieces.{AreApart, pieces_of}

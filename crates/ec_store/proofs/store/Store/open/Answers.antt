@@ -1,5 +1,5 @@
 use Rattle.std.proofs.Common.{ℕ, List, subst, refl, ◌∙◌}
-use Rattle.ec_disk.specs.Disk.{LeavesOnly}
+use Rattle.ec_disk.specs.Effects.{LeavesOnly}
 use Rattle.ec_stands.specs.Stands.{IsBadAt}
 use Rattle.ec_store.specs.Opening.{IsOlder, IsSameOrStands}
 use Rattle.ec_store.proofs.Resting.{rests_then}

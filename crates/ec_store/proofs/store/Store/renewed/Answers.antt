@@ -1,5 +1,5 @@
 use Rattle.std.proofs.Common.{ℕ, List, [], refl, sym, subst}
-use Rattle.ec_layout.specs.Places.{other}
+use Rattle.ec_layout.specs.Sides.{other}
 use Rattle.ec_layout.specs.Layout.{Follows}
 use Rattle.ec_layout.specs.Pieces.{AreApart, pieces_of}
 use Rattle.ec_layout.specs.Selected.{side_now}

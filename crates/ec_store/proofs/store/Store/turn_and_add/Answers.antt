@@ -13,7 +13,7 @@ use Rattle.ec_table.specs.declared.table.Version.TheVariants.{Two}
 use Rattle.ec_layout.specs.Free.{free_below}
 use Rattle.ec_layout.specs.Layout.{Follows}
 use Rattle.ec_layout.specs.Pieces.{AreApart, pieces_of}
-use Rattle.ec_layout.specs.Places.{other}
+use Rattle.ec_layout.specs.Sides.{other}
 use Rattle.ec_layout.specs.Selected.{side_now}
 use Rattle.ec_store.specs.Places.{ArePlaces}
 use Rattle.ec_store.specs.Store.{Holds, StandsForEither}

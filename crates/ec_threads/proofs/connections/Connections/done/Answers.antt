@@ -1,8 +1,8 @@
 use Rattle.std.proofs.Common.{◌≡◌, ◌+◌, [], ◌∷◌, ◌++◌, length, inl, refl, sym, ap, ◌∙◌, subst}
-use Rattle.ec_link.specs.Nets.{is_bad}
-use Rattle.ec_lock.specs.Passes.{front, numbers}
+use Rattle.ec_link.specs.NetAnswers.{is_bad}
+use Rattle.ec_lock.specs.PassViews.{front, numbers}
 use Rattle.ec_lock.specs.Steps.{Member}
-use Rattle.ec_threads.specs.Moments.{back_of, moment}
+use Rattle.ec_threads.specs.ServingMoments.{back_of, moment}
 use Rattle.ec_threads.specs.Goings.{goes_back}
 use Rattle.ec_threads.proofs.Backs.{gone_back}
 use Rattle.ec_threads.proofs.connections.Connections.done.Goals as goal

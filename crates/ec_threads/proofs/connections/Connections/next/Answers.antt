@@ -1,7 +1,7 @@
 use Rattle.std.proofs.Common.{rules, true, refl, ap, inl, inr, Option}
-use Rattle.ec_lock.specs.Passes.{front}
+use Rattle.ec_lock.specs.PassViews.{front}
 use Rattle.ec_servernode.proofs.Lists.{prefix_self}
-use Rattle.ec_threads.specs.Moments.{back_of}
+use Rattle.ec_threads.specs.ServingMoments.{back_of}
 use Rattle.ec_threads.specs.Goings.{goes_same}
 use Rattle.ec_threads.proofs.Goes.{goes_on, one_le, faults_one, was_so}
 use Rattle.ec_threads.proofs.connections.Connections.next.Goals as goal

@@ -1,7 +1,8 @@
 use Rattle.std.proofs.Common.{ap, sym, subst, ◌∙◌}
 use Rattle.std.proofs.lemmas.Bool.{and_parts}
 use Rattle.std.proofs.lemmas.List.{drop_all}
-use Rattle.ec_tokens.specs.Tokens.{IsSound, first_clash}
+use Rattle.ec_tokens.specs.Tokens.{first_clash}
+use Rattle.ec_tokens.specs.SoundTokens.{IsSound}
 use Rattle.ec_tokens.specs.Laws.{sound_claimed}
 use Rattle.ec_tokens.proofs.tokens.Tokens.claim.Goals as goal
 

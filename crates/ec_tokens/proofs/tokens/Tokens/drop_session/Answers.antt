@@ -1,7 +1,7 @@
 use Rattle.std.proofs.Common.{sym, subst, ap, ◌∙◌}
 use Rattle.std.specs.Ordering.{nat_cmp}
 use Rattle.ec_base.specs.Sorted.{without}
-use Rattle.ec_tokens.specs.Tokens.{IsSound}
+use Rattle.ec_tokens.specs.SoundTokens.{IsSound}
 use Rattle.ec_tokens.specs.Laws.{sound_without}
 use Rattle.ec_tokens.proofs.tokens.Tokens.drop_session.Goals as goal
 

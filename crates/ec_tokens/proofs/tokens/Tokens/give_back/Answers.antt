@@ -1,6 +1,6 @@
 use Rattle.std.proofs.Common.{◌≡◌, sym, subst, ◌∙◌, Bool, true, false, refl}
 use Rattle.std.proofs.lemmas.Bool.{OnTrue_at, OnFalse_at}
-use Rattle.ec_tokens.specs.Tokens.{IsSound}
+use Rattle.ec_tokens.specs.SoundTokens.{IsSound}
 use Rattle.ec_tokens.specs.Laws.{sound_lowered}
 use Rattle.ec_tokens.proofs.tokens.Tokens.give_back.Goals as goal
 

@@ -1,5 +1,6 @@
 use Rattle.std.proofs.Common.{◌≡◌, ap, sym, subst, ◌∙◌, Result, Ok, Err, OnOk, OnErr}
-use Rattle.ec_tokens.specs.Tokens.{Tokens, IsSound, is_clear}
+use Rattle.ec_tokens.specs.Tokens.{Tokens, is_clear}
+use Rattle.ec_tokens.specs.SoundTokens.{IsSound}
 use Rattle.ec_tokens.specs.Laws.{sound_granted, not_free}
 use Rattle.ec_tokens.proofs.tokens.Tokens.grant.Goals as goal
 

@@ -1,5 +1,5 @@
 use Rattle.std.proofs.Common.{sym, ap, ◌∙◌}
-use Rattle.ec_words.specs.Rows.{left_in}
+use Rattle.ec_words.specs.RowsLeft.{left_in}
 use Rattle.ec_words.proofs.Left.{no_words}
 use Rattle.ec_words.proofs.cursor.Words.is_empty.Goals as goal
 

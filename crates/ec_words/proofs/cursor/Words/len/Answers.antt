@@ -1,5 +1,5 @@
 use Rattle.std.proofs.Common.{sym, ap, ◌∙◌}
-use Rattle.ec_words.specs.Rows.{left_in, joined_len}
+use Rattle.ec_words.specs.RowsLeft.{left_in, joined_len}
 use Rattle.ec_words.proofs.Left.{joined_len-words_of}
 use Rattle.ec_words.proofs.cursor.Words.len.Goals as goal
 

@@ -4,7 +4,7 @@ use Rattle.ec_protocol.specs.World.{Fate}
 use Rattle.ec_store.specs.Store.{view_of as state_of}
 use Rattle.ec_world.specs.Laws.{in_step_keeps, in_step_stands}
 use Rattle.ec_world.specs.Worlds.{view_of}
-use Rattle.ec_world.specs.Steps.{as_before, under}
+use Rattle.ec_world.specs.StepEnds.{as_before, under}
 use Rattle.ec_world.proofs.Pooled.{deliver_none}
 use Rattle.ec_world.proofs.Quiet.{fated, in_step, refuses, not_failed, uncounted, left_as_was}
 use Rattle.ec_world.proofs.world.World.deliver.Goals as goal

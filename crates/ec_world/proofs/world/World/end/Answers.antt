@@ -5,7 +5,7 @@ use Rattle.ec_server.specs.Servers.{standing}
 use Rattle.ec_store.specs.Store.{view_of as state_of}
 use Rattle.ec_running.specs.Faults.{of_step}
 use Rattle.ec_world.specs.Serving.{serves}
-use Rattle.ec_world.specs.Steps.{IsLeft, under}
+use Rattle.ec_world.specs.StepEnds.{IsLeft, under}
 use Rattle.ec_world.specs.Worlds.{view_of}
 use Rattle.ec_world.proofs.Delivering.{behind_end, end_is, end_stopped, end_closed, runs_to_nothing, runs_to_nothing_on, spends, nothing_left, spent_left, breaks_refuse}
 use Rattle.ec_world.proofs.Finish.{finished, counts_on, on_ok, on_both, if_err}

@@ -6,7 +6,7 @@ use Rattle.ec_protocol.specs.declared.world.Event.TheVariants as event
 use Rattle.ec_store.specs.Store.{view_of as state_of}
 use Rattle.ec_world.specs.Laws.{in_step_rests, in_step_keeps}
 use Rattle.ec_world.specs.Worlds.{view_of}
-use Rattle.ec_world.specs.Steps.{under}
+use Rattle.ec_world.specs.StepEnds.{under}
 use Rattle.ec_world.proofs.Quiet.{in_step, not_failed, left_as_was, uncounted}
 use Rattle.ec_world.proofs.Happens.{acted, acts, acts_not, happens, leaves, out_of_memory, refuses_nothing, not_failed_there, stopped_in_step, armed, arm_counts, still_counts}
 use Rattle.ec_world.proofs.world.World.happen.Goals as goal

@@ -1,7 +1,7 @@
 use Rattle.std.proofs.Common.{◌≡◌, vec_len}
 use Rattle.std.specs.Prelude.{reverse}
 use Rattle.ec_protocol.specs.World as machine
-use Rattle.ec_world.specs.Steps.{under}
+use Rattle.ec_world.specs.StepEnds.{under}
 use Rattle.ec_world.specs.Worlds.{Keeps}
 use Rattle.ec_world.proofs.world.World.send_all.Given as goal
 

@@ -1,5 +1,5 @@
 use Rattle.std.proofs.Common.{refl}
-use Rattle.ec_world.specs.Steps.{under}
+use Rattle.ec_world.specs.StepEnds.{under}
 use Rattle.ec_world.specs.Worlds.{view_of}
 use Rattle.ec_world.proofs.Outs.{begun_shown}
 use Rattle.ec_world.proofs.world.World.show_begun.Goals as goal

@@ -4,7 +4,7 @@ use Rattle.ec_protocol.specs.World as machine
 use Rattle.ec_protocol.specs.declared.world.World.{World as State}
 use Rattle.ec_running.specs.Faults.{of_step}
 use Rattle.ec_world.specs.Laws.{in_step_stands}
-use Rattle.ec_world.specs.Steps.{under, behind_arm, Fated, Refuses, IsLeft, as_before}
+use Rattle.ec_world.specs.StepEnds.{under, behind_arm, Fated, Refuses, IsLeft, as_before}
 use Rattle.ec_world.specs.Worlds.{view_of, IsInStep}
 use Rattle.ec_world.proofs.Reaching.{leads_known}
 use Rattle.ec_world.proofs.Stepped.{answer_ok, answer_in_step, answer_err, answer_counts, answer_left, counts_same}

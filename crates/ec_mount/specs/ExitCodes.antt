@@ -1,0 +1,18 @@
+-- The numbers that the process answers.
+use Rattle.std.specs.Prelude.{ℕ}
+use Rattle.ec_mount.specs.declared.status.Status.{Status}
+use Rattle.ec_mount.specs.declared.status.Status.TheVariants as status
+
+-- the number that the process answers
+abbrev pub code : Status → ℕ
+code status.Done = 0
+code status.BadLine = 3
+code status.SourceFault = 4
+code status.SinkFault = 5
+code status.NetFault = 8
+code status.NoMemory = 9
+code status.StartFault = 10
+code status.Limit = 11
+code status.OldBoot = 13
+code status.PeerFault = 14
+code status.Spent = 15
