@@ -1,6 +1,6 @@
 -- A call of a clerk that runs begins where all is idle.
 use Rattle.std.proofs.Common.{◌≡◌, refl, sym, ap, ◌∙◌, subst, arith, ◌≤◌, ℕ, true, false, [], ◌∷◌, inl, length}
-use Rattle.std.specs.Prelude.{Option, Some, nat_le}
+use Rattle.std.specs.Prelude.{Some, nat_le}
 use Rattle.ec_base.specs.Limits.{last_counter}
 use Rattle.ec_base.specs.Tables.{at}
 use Rattle.ec_base.specs.declared.counter.Counter.TheVariants as counter
@@ -22,12 +22,10 @@ use Rattle.ec_quiet.specs.Takings.{IsReady, with_clerk_at}
 use Rattle.ec_quiet.proofs.Beside.{own-at}
 use Rattle.ec_quiet.proofs.Going.{goes}
 use Rattle.ec_quiet.proofs.Taking.{each-map}
-use Rattle.ec_quiet.proofs.Used.{no-more}
-use Rattle.ec_agreed_lines.proofs.OldTokens.{found-once}
 use Rattle.ec_agreed_lines.specs.Lines.{HasBegun, IsAt}
-
-same-slot : (a b : Slot) → ◌≡◌ {A = Option Slot} (Some a) (Some b) → a ≡ b
-same-slot a b e = cc
+use Rattle.ec_deliveries.proofs.Holding.{same-slot}
+use Rattle.ec_base.proofs.Lists.{no-more}
+use Rattle.ec_quiet.proofs.Once.{found-once}
 
 no-length : (ms : Mail) → length ms ≡ 0 → ms ≡ []
 no-length [] e = refl

@@ -29,6 +29,8 @@ use Rattle.ec_quiet.specs.Goes.{MayGo}
 use Rattle.ec_agreed_lines.specs.Room.{IsRoomy, fresh_in}
 use Rattle.ec_agreed_lines.proofs.Crowded.{crowded}
 use Rattle.ec_agreed_lines.specs.Shown.{IsCalling, IsShown, next_id}
+use Rattle.ec_chains.proofs.Chained.{member-left}
+use Rattle.ec_base.proofs.Bools.{is-true}
 
 -- Holding for writing is holding in any mode.
 
@@ -38,10 +40,6 @@ any-mode Read h t = absurd t
 any-mode Write Free t = tt
 any-mode Write Read t = tt
 any-mode Write Write t = tt
-
-is-true : (b : Bool) → T b → b ≡ true
-is-true true t = refl
-is-true false t = absurd t
 
 -- Lists.
 
@@ -66,14 +64,6 @@ all-of p (x ∷ xs) f = both (p x) (list_all p xs) (f x here) (all-of p xs (λ y
         go : (b : Bool) → T (b || member y xs)
         go true = tt
         go false = t
-
-in-front : (x : ℕ) (xs ys : List ℕ) → T (member x xs) → T (member x (xs ++ ys))
-in-front x [] ys t = absurd t
-in-front x (y ∷ xs) ys t = go (x == y) t (in-front x xs ys)
-  where
-    go : (b : Bool) → T (b || member x xs) → (T (member x xs) → T (member x (xs ++ ys))) → T (b || member x (xs ++ ys))
-    go true t r = tt
-    go false t r = r t
 
 behind : (x : ℕ) (xs ys : List ℕ) → T (member x ys) → T (member x (xs ++ ys))
 behind x [] ys t = t
@@ -115,7 +105,7 @@ module _ (j : Work) (w : Waiting) (k : Clerk) (v : Images) (i : IsCalling j w k)
     same = done-says k.cache k.owed w.call (first_id k.ids) o done v s.shows id own-id
 
     of-line : (x : ℕ) → T (member x there.touched) → T (member x (fresh_in j k))
-    of-line x t = elim (s.touched x t) [ inl m ↦ in-front x j.touched k.ids m | inr f ↦ behind x j.touched k.ids (first-in x k.ids f.0) ]
+    of-line x t = elim (s.touched x t) [ inl m ↦ member-left x j.touched k.ids m | inr f ↦ behind x j.touched k.ids (first-in x k.ids f.0) ]
 
     pub uses : (x : ℕ) → T (member x o.touched) → T (member x (fresh_in j k))
     uses x t = of-line x (subst (λ z. T (member x z.touched)) (sym same) t)

@@ -15,5 +15,5 @@ pub mod Beginning
 pub mod CallsGo
 pub mod Steps
 pub mod Worlds
-mod Showing
+pub mod Showing
 pub mod Reaching

@@ -1,9 +1,8 @@
 -- Of tokens in the order of use the old ones go.
-use Rattle.std.proofs.Common.{◌≡◌, refl, sym, ap, ◌∙◌, subst, arith, ◌≤◌, ◌+◌, ◌-◌, ◌*◌, ℕ, zero, suc, T, Bool, true, false, not, ◌&&◌, ◌||◌, cond, List, [], ◌∷◌, ◌++◌, length, length-append, map}
+use Rattle.std.proofs.Common.{◌≡◌, refl, sym, ap, ◌∙◌, subst, arith, ◌≤◌, ◌+◌, ◌-◌, ◌*◌, ℕ, zero, suc, T, Bool, true, false, not, ◌||◌, cond, List, [], ◌∷◌, ◌++◌, length, length-append, map}
 use Rattle.std.specs.Prelude.{None, Some, ◌==◌, filter, nat_le, take}
 use Rattle.std.specs.Ordering.{nat_cmp, eq_by_cmp}
-use Rattle.std.specs.Cmp.{unsigned_ties}
-use Rattle.std.proofs.lemmas.Bool.{eq-eqb, eqb-true}
+use Rattle.std.proofs.lemmas.Bool.{eqb-true}
 use Rattle.ec_base.specs.Tables.{Table, at, keys}
 use Rattle.ec_base.specs.declared.ids.Hold.TheVariants.{Free}
 use Rattle.ec_history.specs.History.{Each}
@@ -22,7 +21,10 @@ use Rattle.ec_protocol.specs.declared.clerk.Out.TheVariants as out
 use Rattle.ec_quiet.specs.Facts.{token_of}
 use Rattle.ec_quiet.specs.Evictions.{Evicts, IsOld, back_out, less_tokens}
 use Rattle.ec_quiet.proofs.Taking.{each-map, each-of, regroup}
-use Rattle.ec_quiet.proofs.Used.{no-more, roomy}
+use Rattle.ec_quiet.proofs.Used.{roomy}
+use Rattle.ec_base.proofs.Bools.{left, and-both, right}
+use Rattle.ec_base.proofs.Lists.{no-more}
+use Rattle.ec_quiet.proofs.Once.{found-once}
 
 -- The tokens stand in the order of use: those of old numbers, and then those on fresh objects.
 pub record AreAged (n : ℕ) (fresh : List ℕ) (es : Table Held) : Type 0 where
@@ -33,22 +35,6 @@ pub record AreAged (n : ℕ) (fresh : List ℕ) (es : Table Held) : Type 0 where
   pub own : Each {A = ℕ × Held} (λ e. T (member e.0 fresh)) news
 
 -- Keys that stand once.
-
-left : (a b : Bool) → T (a && b) → T a
-left true b t = tt
-left false b t = absurd t
-
-right : (a b : Bool) → T (a && b) → T b
-right true b t = t
-right false b t = absurd t
-
-both : (a b : Bool) → T a → T b → T (a && b)
-both true b t u = u
-both false b t u = absurd t
-
-no-longer : (b : Bool) → T (not b) → b ≡ false
-no-longer true t = absurd t
-no-longer false t = refl
 
 front-absent : (x : ℕ) (es fs : Table Held) → T (not (member x (keys (es ++ fs)))) → T (not (member x (keys es)))
 front-absent x [] fs t = tt
@@ -61,36 +47,12 @@ front-absent x (e ∷ es) fs t = go (x == e.0) t (front-absent x es fs)
 front-once : (es fs : Table Held) → T (distinct (keys (es ++ fs))) → T (distinct (keys es))
 front-once [] fs t = tt
 front-once (e ∷ es) fs t =
-    both (not (member e.0 (keys es))) (distinct (keys es)) (front-absent e.0 es fs (left (not (member e.0 (keys (es ++ fs)))) (distinct (keys (es ++ fs))) t))
+    and-both (not (member e.0 (keys es))) (distinct (keys es)) (front-absent e.0 es fs (left (not (member e.0 (keys (es ++ fs)))) (distinct (keys (es ++ fs))) t))
     (front-once es fs (right (not (member e.0 (keys (es ++ fs)))) (distinct (keys (es ++ fs))) t))
 
 back-once : (es fs : Table Held) → T (distinct (keys (es ++ fs))) → T (distinct (keys fs))
 back-once [] fs t = t
 back-once (e ∷ es) fs t = back-once es fs (right (not (member e.0 (keys (es ++ fs)))) (distinct (keys (es ++ fs))) t)
-
--- each token is found at its object
-pub found-once : (es : Table Held) → T (distinct (keys es)) → Each {A = ℕ × Held} (λ e. at e.0 es ≡ Some e.1) es
-found-once [] t = tt
-found-once (e ∷ es) t = (here, later es (no-longer (member e.0 (keys es)) (left (not (member e.0 (keys es))) (distinct (keys es)) t)) (found-once es (right (not (member e.0 (keys es))) (distinct (keys es)) t)))
-  where
-    here : at e.0 (e ∷ es) ≡ Some e.1
-    here = ap (λ b. cond b (Some e.1) (at e.0 es)) (sym (unsigned_ties e.0 e.0) ∙ eq-eqb e.0 e.0 refl)
-
-    apart : (x : ℕ) (b : Bool) → (e.0 == x) ≡ b → b ≡ false → (x == e.0) ≡ false
-    apart x b q f = turned e.0 x (q ∙ f)
-      where
-        turned : (a c : ℕ) → (a == c) ≡ false → (c == a) ≡ false
-        turned a c q = grind (arith, q)
-
-    neither : (a b : Bool) → (a || b) ≡ false → (a ≡ false) × (b ≡ false)
-    neither true b f = absurd (grind (arith, f))
-    neither false b f = (refl, f)
-
-    later : (fs : Table Held) → member e.0 (keys fs) ≡ false → Each {A = ℕ × Held} (λ f. at f.0 es ≡ Some f.1) fs → Each {A = ℕ × Held} (λ f. at f.0 (e ∷ es) ≡ Some f.1) fs
-    later [] m a = tt
-    later (f ∷ fs) m a =
-        let n = neither (e.0 == f.0) (member e.0 (keys fs)) m in
-        (ap (λ b. cond b (Some e.1) (at f.0 es)) (sym (unsigned_ties f.0 e.0) ∙ apart f.0 (e.0 == f.0) refl n.0) ∙ a.0, later fs n.1 a.1)
 
 -- Counts.
 

@@ -28,13 +28,13 @@ use Rattle.ec_coherence.specs.System as system
 use Rattle.ec_coherence.specs.Tokens.{TablesAgree, WhileUp, eff, eff_of, tables_in, tables_of, view}
 use Rattle.ec_coherence.proofs.Committing.{commits, committed}
 use Rattle.ec_coherence.proofs.Flushed.{may}
-use Rattle.ec_coherence.proofs.Tables.{is-true}
 use Rattle.ec_quiet.specs.Scenes.{IsScene, Scene}
 use Rattle.ec_machine_laws.specs.Holding.{AreOwn}
-use Rattle.ec_machine_laws.proofs.Rows.{same-self}
 use Rattle.ec_deliveries.specs.Coming.{IsTaken}
 use Rattle.ec_agreed_lines.specs.Worlds.{IsSeen}
 use Rattle.ec_protocol.specs.Clerk.{is_session}
+use Rattle.ec_base.proofs.Numbers.{same-self}
+use Rattle.ec_base.proofs.Bools.{is-true}
 
 pub scenes-seen : (w : World) (g : System) (sc : Scene) → Stands w g → IsScene w sc → IsSeen g sc
 scenes-seen w g sc st s = record {

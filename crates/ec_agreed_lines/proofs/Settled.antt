@@ -31,12 +31,12 @@ use Rattle.ec_quiet.specs.SettlingScenes.{Reaches, here, on}
 use Rattle.ec_quiet.proofs.Delivering as delivering
 use Rattle.ec_quiet.proofs.Delivering.{due-is, none-due, scene-then}
 use Rattle.ec_deliveries.specs.PhasesBehind.{IsBehind, MaySee}
-use Rattle.ec_deliveries.proofs.Picked.{each-turn}
 use Rattle.ec_deliveries.proofs.StayingBehind.{stays-behind}
 use Rattle.ec_agreed_lines.specs.Closures.{IsBaseOf, IsKnown, StaysWithin}
 use Rattle.ec_deliveries.specs.WithinClosures.{IsWithin, kept_operations}
 use Rattle.ec_agreed_lines.proofs.Lines.{Along, IsOther, along-within, both-along, delivery-step, other-within, step-along}
 use Rattle.ec_agreed_lines.proofs.Within.{lines-within}
+use Rattle.ec_laws.proofs.BasesAlike.{each-map as each-turn}
 
 -- Other ids for new objects at later places.
 module _ (base : Base) (g : System) (ss : List Shown) (of : IsBaseOf base g ss) (v : Images) (j : Work) where

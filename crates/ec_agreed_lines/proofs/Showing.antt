@@ -29,18 +29,11 @@ use Rattle.ec_protocol.specs.declared.world.WorldFault.TheVariants as fault
 use Rattle.ec_quiet.specs.SettlingScenes.{Reaches, here, on}
 use Rattle.ec_machine_laws.specs.Answers.{Asking}
 use Rattle.ec_machine_laws.specs.PlainLines.{answered_in, asked_in}
+use Rattle.ec_base.proofs.Lists.{regroup, no-more}
 
 -- Lists.
 
-pub no-more : {A : Type 0} (xs : List A) → xs ++ [] ≡ xs
-no-more [] = refl
-no-more (x ∷ xs) = ap (λ l. x ∷ l) (no-more xs)
-
-regroup : {A : Type 0} (xs ys zs : List A) → (xs ++ ys) ++ zs ≡ xs ++ (ys ++ zs)
-regroup [] ys zs = refl
-regroup (x ∷ xs) ys zs = ap (λ l. x ∷ l) (regroup xs ys zs)
-
-asked-both : (ss ts : List Shown) → asked_in (ss ++ ts) ≡ asked_in ss ++ asked_in ts
+pub asked-both : (ss ts : List Shown) → asked_in (ss ++ ts) ≡ asked_in ss ++ asked_in ts
 asked-both [] ts = refl
 asked-both (s ∷ ss) ts = ap (λ l. answered_in s ++ l) (asked-both ss ts) ∙ sym (regroup (answered_in s) (asked_in ss) (asked_in ts))
 

@@ -32,12 +32,12 @@ use Rattle.ec_quiet.proofs.Delivering as delivering
 use Rattle.ec_quiet.proofs.Delivering.{due-is, none-due}
 use Rattle.ec_agreed_lines.proofs.Seen.{clerk-there, scenes-seen}
 use Rattle.ec_deliveries.specs.PhasesBehind.{IsBehind, IsLineBehind}
-use Rattle.ec_deliveries.proofs.Picked.{each-turn}
 use Rattle.ec_deliveries.proofs.Shown.{lines-behind}
 use Rattle.ec_deliveries.specs.Closures.{IsInClosureOf}
 use Rattle.ec_deliveries.specs.WithinClosures.{IsWithin, kept_operations}
 use Rattle.ec_agreed_lines.proofs.Parts.{shown-part}
 use Rattle.ec_deliveries.proofs.Parts.{asked-of, closure-grows}
+use Rattle.ec_laws.proofs.BasesAlike.{each-map as each-turn}
 
 -- The message that is due is the first one of the scene.
 module _ (w : World) (sc : Scene) (scene : IsScene w sc) (i : ℕ) (d : due w ≡ Some i) where

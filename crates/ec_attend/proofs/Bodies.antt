@@ -24,10 +24,12 @@ use Rattle.ec_servernode.specs.Callers.{nobody}
 use Rattle.ec_servernode.specs.Run.{number_of, caller_from, caller_by}
 use Rattle.ec_servernode.specs.Turns.{IsReplaced}
 use Rattle.ec_servernode.specs.TurnSteps.{Adds, IsTaking, IsGiving, Serves, ServeFails, IsServerPass}
-use Rattle.ec_servernode.proofs.Lists.{of-append, of_own, each-append}
+use Rattle.ec_servernode.proofs.Lists.{of_own}
 use Rattle.ec_attend.specs.Links.{WasReplaced, IsNoEnd, HasNoEnd, IsRest, Carries}
 use Rattle.ec_attend.specs.OverLinks.{is_over, IsSoFar, CarriesSo, own_steps, IsServed, WasServed}
 use Rattle.ec_base.specs.Lists.{Tells}
+use Rattle.ec_lock.proofs.StepsLemmas.{of-append}
+use Rattle.ec_link.proofs.HappeningsLemmas.{each-append}
 
 tells_added : {A : Type 0} (o p : Option (List A)) (xs ys : List A) → p ≡ added o ys → Tells o xs → Tells p (xs ++ ys)
 tells_added {A} o p xs ys is t = subst (λ (q : Option (List A)). Tells q (xs ++ ys)) (sym is) (by o t)

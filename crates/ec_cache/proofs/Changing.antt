@@ -24,6 +24,7 @@ use Rattle.ec_cache.specs.declared.state.CacheState.{CacheState}
 use Rattle.ec_cache.specs.Cache.{change, change_at, held_image}
 use Rattle.ec_cache.specs.Held.{IsCache, is_token, is_within, used_in, imaged, changed_at, changed_in, are_spare, is_shift}
 use Rattle.ec_cache.proofs.Kept.{Slots, same, same-turned, same-itself, key-same, at-renewed, has-renewed, has-again, all-at, all-renewed, found-within, held-live}
+use Rattle.ec_base.proofs.Numbers.{one-less}
 
 -- One value of a table.
 module _ (x : ℕ) (g : Held → Held) where
@@ -230,9 +231,6 @@ shift_behind (Owner obj owner) x y xs s is e = absurd (let t : false ≡ true = 
 all-taken : (xs : List ℕ) → xs ≡ take (length xs) xs
 all-taken [] = refl
 all-taken (x ∷ xs) = ap (λ ys. x ∷ ys) (all-taken xs)
-
-one-less : (n : ℕ) → n ≡ suc n - 1
-one-less n = grind (arith)
 
 two-less : (n : ℕ) → n ≡ suc (suc n) - 2
 two-less n = grind (arith)

@@ -13,8 +13,9 @@ use Rattle.ec_cache.specs.Cache.{numberless}
 use Rattle.ec_cache.specs.Numbers.{numbers}
 use Rattle.ec_cache.specs.Marks.{with_mark, marks, joined, emptied}
 use Rattle.ec_cache.specs.Held.{IsCache, unpinned, apart_from, hold_of, holds_by, unnumbered, unnumbered_at}
-use Rattle.ec_cache.proofs.Marks.{tied, below-marks, marks-at}
+use Rattle.ec_cache.proofs.Marks.{below-marks, marks-at}
 use Rattle.ec_cache.proofs.Kept.{same, same-turned, same-itself, key-same}
+use Rattle.ec_base.proofs.Numbers.{tied}
 
 -- Tokens that are looked at one by one.
 

@@ -1,23 +1,16 @@
 -- What slots that change show.
-use Rattle.std.proofs.Common.{◌≡◌, ◌∙◌, ℕ, T, [], ◌∷◌, Option, None, Some, Bool, true, false, filter, refl, sym, ap, arith}
+use Rattle.std.proofs.Common.{◌≡◌, ◌∙◌, ℕ, T, [], ◌∷◌, Option, None, Some, Bool, true, false, filter, refl, sym, ap}
 use Rattle.std.specs.declared.cmp.Ordering.{Ordering}
 use Rattle.std.specs.declared.cmp.Ordering.TheVariants.{Less, Equal, Greater}
-use Rattle.std.specs.Ordering.{nat_cmp, is_lt}
+use Rattle.std.specs.Ordering.{nat_cmp}
 use Rattle.std.specs.Cmp.{nat_cmp_total}
 use Rattle.std.specs.FinMap.Entries.{is_sorted, below_all}
-use Rattle.std.proofs.lemmas.Bool.Decides.{nat_tests}
 use Rattle.ec_base.specs.Tables.{Table, at, put, without}
 use Rattle.ec_base.specs.SortedLaws.{first, second, both, none_below, kept_below, below_tied, below_first}
 use Rattle.ec_cache.specs.Marks.{with_mark, marks, joined}
 use Rattle.ec_cache.proofs.Order.{without-none}
-
-lower : (r : Ordering) → T (is_lt r) → r ≡ Less
-lower Less p = refl
-lower Equal p = absurd p
-lower Greater p = absurd p
-
-pub tied : (k j : ℕ) → nat_cmp k j ≡ Equal → k ≡ j
-tied k j p = grind (arith, nat_tests, p)
+use Rattle.ec_base.proofs.Bools.{lower}
+use Rattle.ec_base.proofs.Numbers.{tied}
 
 module _ {Y : Type 0} where
   pub below-marks : (k : ℕ) (es : Table (Option Y)) → T (below_all nat_cmp k es) → T (below_all nat_cmp k (marks es))

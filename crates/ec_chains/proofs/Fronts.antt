@@ -1,6 +1,6 @@
 -- The first operations of a closure, and how far they reach.
 use Rattle.std.proofs.Common.{◌≡◌, ◌⊎◌, ◌≤◌, ◌<◌, ◌∙◌, inl, inr, refl, sym, ap, subst, arith, ℕ, zero, suc, T, Bool, true, false, cond, List, [], ◌∷◌, ◌++◌, length, take, drop, append-nil, Some}
-use Rattle.std.specs.Prelude.{nat_lt, ◌==◌, ◌&&◌, ◌||◌, ◌+◌}
+use Rattle.std.specs.Prelude.{nat_lt, ◌==◌, ◌||◌, ◌+◌}
 use Rattle.std.specs.Ordering.{nat_cmp}
 use Rattle.std.specs.FinMap.{is_sorted}
 use Rattle.std.specs.FinMap.Entries.{below_all}
@@ -17,17 +17,11 @@ use Rattle.ec_chains.specs.ClosureLaws.{walk-passing}
 use Rattle.ec_chains.specs.Front.{closure_for, IsFront, is_alone, Covers, IsBound}
 use Rattle.ec_chains.specs.Held.{is_behind}
 use Rattle.ec_chains.specs.Walk.{passes, walk}
-use Rattle.ec_needed.proofs.Maps.{at-put}
 use Rattle.ec_needed.proofs.Needs.{look, plain_needs, range_needs, ranges_need}
 use Rattle.ec_chains.specs.declared.closure.Ask.{Ask}
 use Rattle.ec_chains.specs.declared.closure.Ask.TheVariants.{Object}
-
-is-true : (b : Bool) → b ≡ true → T b
-is-true b e = subst T (sym e) tt
-
-from-true : (b : Bool) → T b → b ≡ true
-from-true true t = refl
-from-true false t = absurd t
+use Rattle.ec_base.proofs.Bools.{left, is-true as from-true, holds-true}
+use Rattle.ec_objmap.proofs.Entries.{at-put}
 
 -- Lists in two parts.
 
@@ -102,7 +96,7 @@ module _ (p : ℕ × Update → Bool) where
       go : (b : Bool) → p y ≡ b → (c : Bool) → needs x.1 y.1 ≡ c → list_any (λ z. needs x.1 z.1) (filter p ys) ≡ false → list_any (λ z. needs x.1 z.1) (cond b (y ∷ filter p ys) (filter p ys)) ≡ false
       go false q c i r = r
       go true q false i r = ap (λ t. t || list_any (λ z. needs x.1 z.1) (filter p ys)) i ∙ r
-      go true q true i r = absurd (true≢false (sym (from-true (p x) (a y.0 y.1 (inl (refl, refl)) (is-true (p y) q) x (is-true (needs x.1 y.1) i))) ∙ e))
+      go true q true i r = absurd (true≢false (sym (from-true (p x) (a y.0 y.1 (inl (refl, refl)) (holds-true (p y) q) x (holds-true (needs x.1 y.1) i))) ∙ e))
 
   -- so the walk over them finds those that pass
   walk-asked : (ys : Issued) → NeedsAsked p ys → walk p ys ≡ filter p ys
@@ -225,10 +219,6 @@ one-operand (Move dir from to obj k victim) e = absurd (true≢false (sym e))
 one-operand (Order objs) e = absurd (true≢false (sym e))
 one-operand (Shift dir from into to obj k victim up) e = absurd (true≢false (sym e))
 
-and-first : (a b : Bool) → T (a && b) → T a
-and-first true b t = tt
-and-first false b t = absurd t
-
 or-none : (b : Bool) → T (b || false) → T b
 or-none true t = tt
 or-none false t = absurd t
@@ -245,7 +235,7 @@ needs-shares x u t = elim (look x) [
     | inr p ↦ subst (λ z. T (share z u)) (sym r.is) (to-or (member r.obj (operands u)) (subst T (range_needs r.obj r.place r.bytes u p) (subst (λ z. T (needs z u)) r.is t)))
     | inl q ↦
         subst (λ z. T (share z u)) (sym r.is) (subst (λ z. T (share (Put r.obj r.place r.bytes true) z)) (sym q.is)
-        (to-or ((r.obj == q.obj) || false) (to-or (r.obj == q.obj) (and-first (r.obj == q.obj) (meet r.place (length r.bytes) q.place (length q.bytes))
+        (to-or ((r.obj == q.obj) || false) (to-or (r.obj == q.obj) (left (r.obj == q.obj) (meet r.place (length r.bytes) q.place (length q.bytes))
         (subst T (ranges_need r.obj r.place q.obj q.place r.bytes q.bytes) (subst (λ z. T (needs (Put r.obj r.place r.bytes true) z)) q.is (subst (λ z. T (needs z u)) r.is t)))))))
   ]
 ]

@@ -10,7 +10,8 @@ use Rattle.ec_order.specs.Order.{Issued, Holds}
 use Rattle.ec_chains.specs.Chains.{AreLinked, AreKept}
 use Rattle.ec_chains.specs.Held.{is_behind, settle}
 use Rattle.ec_chains.proofs.Fronts.{holds-last, holds-part}
-use Rattle.ec_needed.proofs.Maps.{at-put}
+use Rattle.ec_base.proofs.Numbers.{itself}
+use Rattle.ec_objmap.proofs.Entries.{at-put}
 
 pub held-below : (op : ℕ) (xs : Issued) → is_behind op xs ≡ true → (n : ℕ) (u : Update) → Holds xs n u → n < op
 held-below op [] b n u h = absurd h
@@ -62,9 +63,6 @@ stays-at obj o n was now old new is new_is f t = subst (λ l. T (member n l)) (s
     go : (c : Bool) → (o == obj) ≡ c → T (member n (or_else [] (cond c (Some now) (at o old))))
     go true e = f (subst (λ l. T (member n l)) (ap (λ p. at_or [] p old) (same e) ∙ ap (or_else []) is) t)
     go false e = t
-
-itself : (n : ℕ) → (n == n) ≡ true
-itself n = grind (arith, nat_tests)
 
 pub put-there : (k : ℕ) (x : List ℕ) (old new : Table (List ℕ)) → new ≡ put k x old → is_some (at k new) ≡ true
 put-there k x old new e = ap (λ es. is_some (at k es)) e ∙ ap is_some (at-put k k x old ∙ ap (λ b. cond b (Some x) (at k old)) (itself k))

@@ -6,21 +6,11 @@ use Rattle.std.specs.List.Sorted.{IsNonDecreasing}
 use Rattle.std.proofs.lemmas.Bool.{true≢false, cases_Bool, ltb-true}
 use Rattle.std.proofs.lemmas.Bool.Decides.{nat_tests}
 use Rattle.ec_volume.specs.Update.{member}
-
-is-true : (b : Bool) → b ≡ true → T b
-is-true b e = subst T (sym e) tt
-
-from-true : (b : Bool) → T b → b ≡ true
-from-true true t = refl
-from-true false t = absurd t
+use Rattle.ec_base.proofs.Bools.{or-right, is-true as from-true, holds-true}
 
 or-left : (a b : Bool) → a ≡ true → T (a || b)
 or-left true b e = tt
 or-left false b e = absurd (true≢false (sym e))
-
-or-right : (a b : Bool) → T b → T (a || b)
-or-right true b t = tt
-or-right false b t = t
 
 pub same-number : (m n : ℕ) → T (m == n) → m ≡ n
 same-number m n t = grind (arith, nat_tests, from-true (m == n) t)
@@ -32,7 +22,7 @@ pub member-first : (n m : ℕ) (ns : List ℕ) → T (member n (m ∷ ns)) → (
 member-first n m ns t = go (n == m) refl t
   where
     go : (b : Bool) → (n == m) ≡ b → T (b || member n ns) → (n ≡ m) ⊎ T (member n ns)
-    go true e t = inl (same-number n m (is-true (n == m) e))
+    go true e t = inl (same-number n m (holds-true (n == m) e))
     go false e t = inr t
 
 pub member-at : (n : ℕ) (ns : List ℕ) → T (member n ns) → (i : ℕ) × (i < length ns) × ((d : ℕ) → get_or ns i d ≡ n)

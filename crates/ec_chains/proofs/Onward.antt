@@ -22,13 +22,7 @@ use Rattle.ec_chains.proofs.Fronts.{sorted-front}
 use Rattle.ec_needed.proofs.Needs.{Plain, look, plain_needs}
 use Rattle.ec_chains.proofs.Places.{same-item, item-at, rise, get-front, front-get, front-within, linked-front}
 use Rattle.ec_chains.proofs.Walks.{Walked, walk_begins, walk_takes, walk_passes, walk_ends}
-
-is-true : (b : Bool) → b ≡ true → T b
-is-true b e = subst T (sym e) tt
-
-from-true : (b : Bool) → T b → b ≡ true
-from-true true t = refl
-from-true false t = absurd t
+use Rattle.ec_base.proofs.Bools.{is-true as from-true, holds-true}
 
 -- What is needed is on an object that is met.
 
@@ -48,7 +42,7 @@ any-where p (o ∷ os) e = go (p o) refl e (any-where p os)
     or-right false b t = t
 
     go : (b : Bool) → p o ≡ b → (b || list_any p os) ≡ true → (list_any p os ≡ true → (n : ℕ) × T (member n os) × T (p n)) → (n : ℕ) × T (member n (o ∷ os)) × T (p n)
-    go true q e r = (o, or-left (o == o) (member o os) (itself o), is-true (p o) q)
+    go true q e r = (o, or-left (o == o) (member o os) (itself o), holds-true (p o) q)
     go false q e r = let s = r e in (s.0, or-right (s.0 == o) (member s.0 os) s.1, s.2)
 
 pub needed-on : (others : Others) (ranges : Ranges) (u : Update) → is_needed others ranges u ≡ true → (o : ℕ) × T (has_operand o u) × T (is_on o others ranges)
@@ -62,7 +56,7 @@ needed-on others ranges u e = elim (look u) [
 ]
   where
     self : (o : ℕ) → T ((o == o) || false)
-    self o = is-true ((o == o) || false) (ap (λ b. b || false) same)
+    self o = holds-true ((o == o) || false) (ap (λ b. b || false) same)
       where
         same : (o == o) ≡ true
         same = grind (arith, nat_tests)
@@ -118,7 +112,7 @@ module _ (ask : Ask) (held : Issued) where
         both false false f g = refl
 
         by-ask : q x ≡ true → ⊥
-        by-ask t = let a = w.asked i x e (is-true (q x) t) in let far = before a.0 a.2 in let near = a.3 in omega (arith, far, near)
+        by-ask t = let a = w.asked i x e (holds-true (q x) t) in let far = before a.0 a.2 in let near = a.3 in omega (arith, far, near)
 
         by-need : is_needed others ranges x.1 ≡ true → ⊥
         by-need t =
@@ -192,7 +186,7 @@ module _ (ask : Ask) (held : Issued) where
 
       -- what was ahead is still ahead, where it is so of what the operation itself passes
       goes-on : (p : ℕ × Update → Bool) → Ahead p rest places → (T (p x) → Ahead p rest' places') → Ahead p rest' places'
-      goes-on p ahead again = elim (cases_Bool (p x)) [ inl t ↦ again (is-true (p x) t) | inr f ↦ others-stay f ]
+      goes-on p ahead again = elim (cases_Bool (p x)) [ inl t ↦ again (holds-true (p x) t) | inr f ↦ others-stay f ]
         where
           others-stay : p x ≡ false → Ahead p rest' places'
           others-stay f i y e t =

@@ -1,26 +1,16 @@
 -- Held operations, with one more behind them and without some.
-use Rattle.std.proofs.Common.{◌≡◌, sym, subst, arith, ◌<◌, ℕ, Bool, true, false, cond, [], ◌∷◌, ◌++◌}
+use Rattle.std.proofs.Common.{◌≡◌, ℕ, Bool, true, false, cond, [], ◌∷◌, ◌++◌}
 use Rattle.std.specs.Prelude.{T, nat_lt}
-use Rattle.std.specs.Ordering.{nat_cmp, is_lt}
+use Rattle.std.specs.Ordering.{nat_cmp}
 use Rattle.std.specs.FinMap.{is_sorted}
 use Rattle.std.specs.FinMap.Entries.{below_all}
 use Rattle.std.specs.List.{filter}
 use Rattle.std.proofs.lemmas.Bool.{and_parts, ltb-true}
-use Rattle.std.proofs.lemmas.Bool.Decides.{nat_tests}
 use Rattle.ec_base.specs.SortedLaws.{first, second, both}
 use Rattle.ec_volume.specs.declared.update.Update.{Update}
 use Rattle.ec_order.specs.Order.{Issued}
 use Rattle.ec_chains.specs.Held.{is_behind}
-
-is_lower : (m n : ℕ) → m < n → T (is_lt (nat_cmp m n))
-is_lower m n l = subst T (sym here) tt
-  where
-    here : is_lt (nat_cmp m n) ≡ true
-    here = grind (arith, nat_tests)
-
-below_more : (m : ℕ) (xs : Issued) (y : ℕ × Update) → T (below_all nat_cmp m xs) → m < y.0 → T (below_all nat_cmp m (xs ++ y ∷ []))
-below_more m [] y h l = both _ _ (is_lower m y.0 l) tt
-below_more m (x ∷ xs) y h l = both _ _ (first _ _ h) (below_more m xs y (second _ _ h) l)
+use Rattle.ec_order.proofs.OrderLemmas.{below_more}
 
 pub sorted_more : (xs : Issued) (n : ℕ) (u : Update) → T (is_sorted nat_cmp xs) → is_behind n xs ≡ true → T (is_sorted nat_cmp (xs ++ (n, u) ∷ []))
 sorted_more [] n u s h = tt

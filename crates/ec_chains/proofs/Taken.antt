@@ -18,9 +18,9 @@ use Rattle.ec_chains.specs.Chains.{IsAt, IsPlaceOn, touches, NonePass, IsLatest,
 use Rattle.ec_chains.specs.Walk.{passes}
 use Rattle.ec_chains.specs.declared.closure.Ask.{Ask}
 use Rattle.ec_chains.specs.declared.closure.Ask.TheVariants.{Op}
-use Rattle.ec_needed.proofs.Maps.{at-put}
 use Rattle.ec_chains.proofs.Numbers.{member-first, member-next, most-of-front, same-number}
 use Rattle.ec_chains.proofs.Places.{same-item, item-at, at-holds, holds-at, rise, not-behind, held-once, within-list}
+use Rattle.ec_objmap.proofs.Entries.{at-put}
 
 -- The last key.
 

@@ -4,13 +4,14 @@ use Rattle.std.proofs.lemmas.Bool.{false≢true}
 use Rattle.std.proofs.lemmas.Bool.Decides.{nat_tests}
 use Rattle.ec_history.specs.declared.shown.Shown.{Shown}
 use Rattle.ec_script.specs.Lines.{lines_of}
-use Rattle.std.specs.Prelude.{true, eqb, Result, Ok, Err, IsOk, IfOk, OnOk, IfErr, IsErrAnd}
+use Rattle.std.specs.Prelude.{true, eqb, Result, Ok, Err, IsOk, IfOk, IfErr, IsErrAnd}
 use Rattle.ec_transcript.specs.Lines.{AreShown, IsBadLine}
 use Rattle.ec_transcript.specs.LinesRead.{IsRead, IsReadTo, HasBadLine, line_of, shifted}
 use Rattle.ec_transcript.specs.declared.lines.ReadFault.{ReadFault}
 use Rattle.ec_transcript.specs.declared.lines.ReadFault.TheVariants as fault
-use Rattle.ec_transcript.proofs.Halves.{shown-append, bounded-append, bad-few, if-err}
+use Rattle.ec_transcript.proofs.Halves.{shown-append, bounded-append, bad-few}
 use Rattle.ec_transcript.proofs.Reading.{same-length}
+use Rattle.ec_base.proofs.Results.{if-err}
 
 pub read-none : (bytes : List ℕ) → IsReadTo bytes bytes []
 read-none bytes = record {
@@ -76,10 +77,6 @@ pub taken : {V : Type 0} (items : V → List Shown) (bytes rest piece behind : L
     → IfOk r (λ v. IsRead piece (items v)) → IsOk r → IfOk r (λ v. new ≡ ss ++ items v) → IsReadTo bytes behind new
 taken items bytes rest piece behind ss new (Ok v) e b h k t q = subst (IsReadTo bytes behind) (sym q) (read-piece bytes rest piece behind ss (items v) e b h k)
 taken items bytes rest piece behind ss new (Err f) e b h k t q = absurd (false≢true t)
-
-pub taken-ok : {A B X : Type 0} (r : Result A B) → ((f : B) → r ≡ Err f → ⊥) → OnOk r X → X
-taken-ok (Ok x) n h = h
-taken-ok (Err f) n h = absurd (n f refl)
 
 pub behind-ss : {V : Type 0} (items : V → List Shown) (ss new : List Shown) (r : Result V ReadFault) → IsOk r → IfOk r (λ v. new ≡ ss ++ items v) → (ts : List Shown) × (new ≡ ss ++ ts)
 behind-ss items ss new (Ok v) t q = (items v, q)

@@ -1,11 +1,11 @@
 -- Modes of tokens, as a clerk holds them.
 use Rattle.std.proofs.Common.{◌≡◌, refl, sym, ap, subst, ◌∙◌, arith, ◌≤◌, ℕ, Bool, true, false, cond, ◌==◌, List, [], ◌∷◌, Option, Some, None}
 use Rattle.std.proofs.lemmas.Bool.{lt-ltb, ltb-true}
-use Rattle.ec_base.specs.Holds.{is_below, is_free, rank, weaker}
+use Rattle.ec_base.specs.Holds.{is_below, is_free, rank}
 use Rattle.ec_base.specs.Tables.{at, keys, put, renewed, without}
 use Rattle.ec_base.specs.declared.ids.Hold.{Hold}
-use Rattle.ec_base.specs.declared.ids.Hold.TheVariants.{Free, Read, Write}
-use Rattle.ec_volume.specs.Update.{effect, member, operands}
+use Rattle.ec_base.specs.declared.ids.Hold.TheVariants.{Write}
+use Rattle.ec_volume.specs.Update.{member, operands}
 use Rattle.ec_volume.specs.declared.image.Image.{Image}
 use Rattle.ec_volume.specs.declared.image.Image.TheVariants.{Gone}
 use Rattle.ec_volume.specs.declared.update.Update.{Update}
@@ -14,29 +14,19 @@ use Rattle.ec_cache.specs.Cache.{held_mode, mode}
 use Rattle.ec_cache.specs.declared.state.CacheState.{CacheState}
 use Rattle.ec_cache.specs.declared.state.Held.{Held}
 use Rattle.ec_protocol.specs.Clerk.{lower_held, mark_recall, take_each}
-use Rattle.ec_coherence.proofs.CacheChange.{at-used}
-use Rattle.ec_coherence.proofs.Caches.{at-kept, at-lowered, at-numberless, at-renewed, at_most, bare}
-use Rattle.ec_coherence.proofs.Tables.{at-without, equal}
-
-pub le-same : (n : ℕ) → n ≤ n
-le-same n = omega arith
+use Rattle.ec_coherence.proofs.CacheChange.{at-used, at-renewed}
+use Rattle.ec_coherence.proofs.Caches.{at-kept, at-lowered, at-numberless, at_most, bare}
+use Rattle.ec_coherence.proofs.Tables.{at-without}
+use Rattle.ec_base.proofs.Numbers.{le-same}
+use Rattle.ec_clerk_steps.proofs.Resting.{mode-changed}
+use Rattle.ec_coherence.proofs.GiveBack.{weaker-right}
+use Rattle.ec_base.proofs.HoldsLemmas.{rank-most}
 
 pub le-then : (a b c : ℕ) → b ≤ a → c ≤ b → c ≤ a
 le-then a b c p q = omega (arith, p, q)
 
 pub le-zero : (n : ℕ) → 0 ≤ n
 le-zero n = omega arith
-
-weaker-le : (a b : Hold) → rank (weaker a b) ≤ rank b
-weaker-le Free Free = omega arith
-weaker-le Free Read = omega arith
-weaker-le Free Write = omega arith
-weaker-le Read Free = omega arith
-weaker-le Read Read = omega arith
-weaker-le Read Write = omega arith
-weaker-le Write Free = omega arith
-weaker-le Write Read = omega arith
-weaker-le Write Write = omega arith
 
 pub below-lower : (a b h : Hold) → rank b ≤ rank a → is_below a h ≡ true → is_below b h ≡ true
 below-lower a b h l t = let m = ltb-true (rank a) (rank h) t in lt-ltb (rank b) (rank h) (omega (arith, l, m))
@@ -58,7 +48,7 @@ lowers y to (Some h) k x = go (is_free to)
 
     most : (z : Bool) (o : Option Held) → rank (held_mode (cond z (at_most to o) o)) ≤ rank (held_mode o)
     most true None = le-same 0
-    most true (Some d) = weaker-le to d.hold
+    most true (Some d) = weaker-right to d.hold
     most false o = le-same (rank (held_mode o))
 
     go : (z : Bool) → rank (held_mode (at x (cond z (without y k.held) (cache.lowered y to k.held)))) ≤ rank (mode x k)
@@ -72,21 +62,8 @@ evicted-falls pinned k x = subst (λ o. rank (held_mode o) ≤ rank (mode x k)) 
     go true = le-zero (rank (mode x k))
     go false = le-same (rank (mode x k))
 
--- an update changes images alone
-pub changed-mode : (u : Update) (xs : List ℕ) (y : ℕ) (k : CacheState) → mode y (cache.change u xs k) ≡ mode y k
-changed-mode u [] y k = refl
-changed-mode u (x ∷ xs) y k = changed-mode u xs y (cache.change_at u x k) ∙ go (at x k.held) refl
-  where
-    go : (o : Option Held) → at x k.held ≡ o → mode y (elim o as (λ z. CacheState) [ None ↦ k | Some h ↦ record k { held = renewed x (record h { image = effect u x h.image }) k.held } ]) ≡ mode y k
-    go None e = refl
-    go (Some h) e = ap held_mode (at-renewed y x (record h { image = effect u x h.image }) k.held) ∙ by (y == x) refl
-      where
-        by : (z : Bool) → (y == x) ≡ z → held_mode (cond z (Some (record h { image = effect u x h.image })) (at y k.held)) ≡ mode y k
-        by true i = sym (ap held_mode (ap (λ j. at j k.held) (equal y x i) ∙ e))
-        by false i = refl
-
 pub changed-falls : (u : Update) (k : CacheState) → Falls k (cache.change u (operands u) k)
-changed-falls u k x = subst (λ m. rank m ≤ rank (mode x k)) (sym (changed-mode u (operands u) x k)) (le-same (rank (mode x k)))
+changed-falls u k x = subst (λ m. rank m ≤ rank (mode x k)) (sym (mode-changed u (operands u) x k)) (le-same (rank (mode x k)))
 
 pub used-falls : (xs : List ℕ) (k : CacheState) → Falls k (cache.all_used xs k)
 used-falls xs k = falls-same k (cache.all_used xs k) (λ x. at-used xs x k)
@@ -123,11 +100,6 @@ taken-mode y h n i x k e = go (cache.is_new y n k)
     go : (z : Bool) → mode x (elim z as (λ q. CacheState) [ false ↦ k | true ↦ record k { held = renewed y (record { hold = h; number = n; image = i }) k.held; lasts = put y n k.lasts; limits = without y k.limits } ]) ≡ mode x k
     go false = refl
     go true = ap held_mode (at-renewed x y (record { hold = h; number = n; image = i }) k.held ∙ ap (λ z. cond z (Some (record { hold = h; number = n; image = i })) (at x k.held)) e)
-
-rank-most : (h : Hold) → rank h ≤ 2
-rank-most Free = omega arith
-rank-most Read = omega arith
-rank-most Write = omega arith
 
 -- tokens for writing lower nothing
 written-rises : (y n : ℕ) (i : Image) (x : ℕ) (k : CacheState) → rank (mode x k) ≤ rank (mode x (cache.take y Write n i k))

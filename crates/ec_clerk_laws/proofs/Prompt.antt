@@ -26,14 +26,11 @@ use Rattle.ec_clerk_steps.proofs.Still.{begins-still, still-then, still-waits, t
 use Rattle.ec_clerk_laws.specs.Prompt.{HeldCallsArePrompt, IsAmong, IsResting, is_durable, may_end, op_of}
 use Rattle.ec_clerk_laws.proofs.Grows.{Grows, among, grows}
 use Rattle.ec_clerk_laws.proofs.Walk.{each-round}
+use Rattle.ec_base.proofs.Bools.{is-true}
 
 not_true : (b : Bool) → not b ≡ true → b ≡ false
 not_true true h = absurd (cc h)
 not_true false h = refl
-
-is_true : (b : Bool) → T b → b ≡ true
-is_true true t = refl
-is_true false t = absurd t
 
 module _ (k : Clerk) (c : Call) (o : Outcome) (resting : IsResting k) (done : verdict c k ≡ Done o) (ends : may_end c o o.update k ≡ true) where
   abbrev own : Waiting
@@ -109,7 +106,7 @@ module _ (k : Clerk) (c : Call) (o : Outcome) (resting : IsResting k) (done : ve
   each before (w ∷ ws) d s h = go (try w d) (tries-answer w d) (λ e z. each (before ++ w ∷ []) ws e z h.1)
     where
       waits : does_wait w d.clerk ≡ true
-      waits = still-waits begun d s w ∙ is_true (does_wait w k) h.0
+      waits = still-waits begun d s w ∙ is-true (does_wait w k) h.0
 
       go : (t : Tried) → (is_answer t ≡ not (does_wait w d.clerk)) × IsStillIf d t → ((e : Doing) → IsStill begun e → IsTold (op_of o.update k) (try_each (before ++ w ∷ []) (ws ++ own ∷ []) e)) → IsTold (op_of o.update k) (elim t as (λ q. Tried) [
         | Waits e ↦ try_each (before ++ w ∷ []) (ws ++ own ∷ []) e

@@ -25,8 +25,10 @@ use Rattle.ec_protocol.specs.declared.clerk.Recalled.{Recalled}
 use Rattle.ec_coherence.proofs.CacheChange.{at-used}
 use Rattle.ec_coherence.proofs.Caches.{at-kept}
 use Rattle.ec_clerk_laws.specs.Tokens.{TokensStay, TokensStayBehind, is_back, is_end, is_granted}
-use Rattle.ec_clerk_laws.proofs.Modes.{changed-mode, ids-rise, le-same, le-then, lowered-other, marked-mode, numberless-mode, taken-mode}
+use Rattle.ec_clerk_laws.proofs.Modes.{ids-rise, le-then, lowered-other, marked-mode, numberless-mode, taken-mode}
 use Rattle.ec_clerk_laws.proofs.Walk.{IsWalk, claims-all, greets, no-room, settled}
+use Rattle.ec_base.proofs.Numbers.{le-same}
+use Rattle.ec_clerk_steps.proofs.Resting.{mode-changed as changed-mode}
 
 -- Some message in a list gives a token back.
 

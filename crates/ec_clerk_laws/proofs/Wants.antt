@@ -14,7 +14,6 @@ use Rattle.ec_history.specs.declared.entry.Answer.{Answer}
 use Rattle.ec_cache.specs.Cache as cache
 use Rattle.ec_cache.specs.Cache.{mode}
 use Rattle.ec_cache.specs.declared.state.Held.{Held}
-use Rattle.ec_laws.proofs.Numbers.{each-map}
 use Rattle.ec_sessions.specs.Limits.{last_grants, last_round}
 use Rattle.ec_sessions.specs.declared.window.Window.{Window}
 use Rattle.ec_wire.specs.declared.msg.Msg.{Msg}
@@ -27,8 +26,10 @@ use Rattle.ec_protocol.specs.declared.clerk.Out.TheVariants as out
 use Rattle.ec_protocol.specs.declared.clerk.Recalled.{Recalled}
 use Rattle.ec_coherence.proofs.Lists.{each-more}
 use Rattle.ec_clerk_laws.specs.Wants.{WantsRightly}
-use Rattle.ec_clerk_laws.proofs.Modes.{Falls, below-lower, changed-falls, evicted-falls, falls-same, le-same, le-then, lowers, used-falls}
+use Rattle.ec_clerk_laws.proofs.Modes.{Falls, below-lower, changed-falls, evicted-falls, falls-same, le-then, lowers, used-falls}
 use Rattle.ec_clerk_laws.proofs.Walk.{IsOther, IsWalk, claims-all, greets, no-room, settled}
+use Rattle.ec_base.proofs.Numbers.{le-same}
+use Rattle.ec_laws.proofs.BasesAlike.{each-map}
 
 -- A step goes on.
 

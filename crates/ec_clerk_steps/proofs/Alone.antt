@@ -31,17 +31,19 @@ use Rattle.ec_coherence.specs.System.{System, with_start}
 use Rattle.ec_coherence.specs.Sessions.{HasNone}
 use Rattle.ec_coherence.specs.Tokens.{IsWrite}
 use Rattle.ec_coherence.proofs.Needs.{holds-write}
-use Rattle.ec_coherence.proofs.Tables.{by-session, is-true, same}
+use Rattle.ec_coherence.proofs.Tables.{by-session}
 use Rattle.ec_coherence.specs.Watches.{WatchAgrees, WatchesAgree, still_in}
 use Rattle.ec_coherence.specs.Answers.{Gives}
 use Rattle.ec_clerk_steps.specs.Answering.{Suits}
 use Rattle.ec_clerk_steps.specs.AnswerLaws.{IsBegun}
 use Rattle.ec_clerk_steps.proofs.OutsideAnswers.{holds-none, no-update, reads-none}
 use Rattle.ec_clerk_steps.proofs.Rootless.{touches-nothing}
+use Rattle.ec_base.proofs.Numbers.{same-self as same}
+use Rattle.ec_base.proofs.Bools.{is-true}
 
 -- A clerk that holds nothing shows no session.
 
-no-members : (xs : List ℕ) → ((x : ℕ) → T (member x xs) → ⊥) → xs ≡ []
+pub no-members : (xs : List ℕ) → ((x : ℕ) → T (member x xs) → ⊥) → xs ≡ []
 no-members [] f = refl
 no-members (y ∷ ys) f = absurd (f y (subst (λ b. T (b || member y ys)) (sym (same y)) tt))
 

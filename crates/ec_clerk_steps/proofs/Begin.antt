@@ -11,7 +11,7 @@ use Rattle.ec_history.specs.History.{Each}
 use Rattle.ec_history.specs.Placing.{Agrees, EachLine, Unanswered, is_numbered}
 use Rattle.ec_history.specs.declared.shown.Shown.{Shown}
 use Rattle.ec_history.specs.declared.shown.Shown.TheVariants as show
-use Rattle.ec_laws.proofs.Numbers.{each-append, each-map}
+use Rattle.ec_laws.proofs.Numbers.{each-append}
 use Rattle.ec_protocol.specs.Clerk.{add_call}
 use Rattle.ec_protocol.specs.declared.clerk.Clerk.{Clerk}
 use Rattle.ec_protocol.specs.declared.clerk.Waiting.{Waiting}
@@ -20,12 +20,14 @@ use Rattle.ec_coherence.specs.Events.{EventsAgree}
 use Rattle.ec_coherence.specs.ChangeLaws.{Calls}
 use Rattle.ec_coherence.specs.Steps.{call_of}
 use Rattle.ec_coherence.proofs.ClerkIn.{start-same}
-use Rattle.ec_coherence.proofs.Lists.{or_first, or_next}
-use Rattle.ec_coherence.proofs.Tables.{at-put, equal, holds, same, same_some}
+use Rattle.ec_coherence.proofs.Tables.{at-put, same_some}
 use Rattle.ec_clerk_steps.specs.Calls.{AreApart, Began, CallsAgree, IsOpenCall, StartCalls, has_number}
 use Rattle.ec_clerk_steps.specs.Waits.{AreAtRest, AreInTurn, HasLine, does_wait}
 use Rattle.ec_clerk_steps.specs.CallLaws.{IsNewLine, called}
 use Rattle.ec_clerk_steps.proofs.Quiet.{other-start, split-start}
+use Rattle.ec_base.proofs.Numbers.{same-self as same, equal}
+use Rattle.ec_base.proofs.Bools.{or-right as or_next, or_first, holds-true as holds}
+use Rattle.ec_laws.proofs.BasesAlike.{each-map}
 
 -- The calls of a table of tables.
 pub call-put : (c n f m : ℕ) (x : ℕ × Call) (calls : Calls) → call_of f m (put c (put n x (at_or [] c calls)) calls) ≡ cond ((f == c) && (m == n)) (Some x) (call_of f m calls)

@@ -10,7 +10,7 @@ use Rattle.ec_laws.proofs.Late.{place-no_call}
 use Rattle.ec_laws.proofs.More.{watch-step}
 use Rattle.ec_coherence.specs.System.{System}
 use Rattle.ec_coherence.specs.ChangeLaws.{Calls}
-use Rattle.ec_coherence.proofs.Tables.{by-session, same}
+use Rattle.ec_coherence.proofs.Tables.{by-session}
 use Rattle.ec_coherence.specs.CommitLaws.{AllAgree}
 use Rattle.ec_coherence.specs.Watches.{WatchAgrees, WatchesAgree}
 use Rattle.ec_coherence.specs.StandLaws.{lined}
@@ -18,6 +18,7 @@ use Rattle.ec_clerk_steps.specs.Counts.{CountsAgree}
 use Rattle.ec_clerk_steps.specs.Cuts.{CutsAgree}
 use Rattle.ec_clerk_steps.specs.JoinLaws.{IsFresh, started}
 use Rattle.ec_clerk_steps.proofs.Start as start
+use Rattle.ec_base.proofs.Numbers.{same-self as same}
 
 abbrev beginning : Watch → Watch
 beginning w = record w { starts = w.starts + 1; running = true }

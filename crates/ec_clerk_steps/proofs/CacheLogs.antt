@@ -20,8 +20,10 @@ use Rattle.ec_coherence.specs.Log.{HasWrites, IdsAgree, InSession, IsNumbered, K
 use Rattle.ec_coherence.specs.Images.{ImagesAgree}
 use Rattle.ec_coherence.specs.ChangeLaws.{Calls, IsInIt, LogsAndImages, with_clerk}
 use Rattle.ec_coherence.proofs.ClerkIn.{now-in, other-in, was-in}
-use Rattle.ec_coherence.proofs.Lists.{and_first, and_next, each-both, each-more, each-turn}
-use Rattle.ec_coherence.proofs.Tables.{equal, holds, is-true, same_some}
+use Rattle.ec_coherence.proofs.Lists.{each-both, each-more, each-turn}
+use Rattle.ec_coherence.proofs.Tables.{same_some}
+use Rattle.ec_base.proofs.Bools.{left as and_first, right as and_next, is-true, holds-true as holds}
+use Rattle.ec_base.proofs.Numbers.{equal}
 
 module _ (g : System) (lo : LogsAgree g) (im : ImagesAgree g) (c s : ℕ) (age : Age) (k now : Clerk) (in-it : IsInIt g c s age k) (same_session : now.session ≡ k.session) (same_log : now.log ≡ k.log) (same_ids : now.ids ≡ k.ids) (same_got : now.got ≡ k.got) (calls : Calls) (ms : List (ℕ × Msg)) where
   abbrev pub h : System

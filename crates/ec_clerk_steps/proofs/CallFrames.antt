@@ -1,5 +1,5 @@
 -- Calls under way behind lines that are no calls, and behind the steps of a server.
-use Rattle.std.proofs.Common.{◌≡◌, refl, sym, ap, subst, ◌∙◌, ℕ, T, Bool, true, false, ◌||◌, List, [], ◌∷◌, ◌++◌, Option, Some, None, is_some}
+use Rattle.std.proofs.Common.{◌≡◌, sym, ap, subst, ◌∙◌, ℕ, T, Bool, true, false, ◌||◌, List, [], ◌∷◌, ◌++◌, Option, Some, None, is_some}
 use Rattle.std.specs.List.{list_any, list_all}
 use Rattle.std.proofs.lemmas.List.Folds.{list_any-append}
 use Rattle.ec_plain.specs.declared.call.Call.{Call}
@@ -8,7 +8,6 @@ use Rattle.ec_history.specs.Placing.{Agrees, ArePlaceable, EachLine, Unanswered,
 use Rattle.ec_history.specs.declared.shown.Shown.{Shown}
 use Rattle.ec_history.specs.declared.shown.Shown.TheVariants as show
 use Rattle.ec_laws.proofs.Cuts.{placeable-split}
-use Rattle.ec_laws.proofs.Numbers.{each-map}
 use Rattle.ec_sessions.specs.declared.slot.Slot.{Slot}
 use Rattle.ec_wire.specs.declared.msg.Msg.{Msg}
 use Rattle.ec_durable.specs.Durable.{slot}
@@ -27,7 +26,9 @@ use Rattle.ec_coherence.specs.Comes.{begun_at}
 use Rattle.ec_clerk_steps.specs.Calls.{Began, CallsAgree, IsBefore, IsOpenCall, LosesBelow, StartCalls, is_shown, told_to}
 use Rattle.ec_clerk_steps.specs.Waits.{AreAtRest, HasLine, does_wait}
 use Rattle.ec_clerk_steps.specs.CallLaws.{behind_server, is_quiet}
-use Rattle.ec_clerk_steps.proofs.Known.{both, entries-kept, first-line, knows-kept, unnumbered}
+use Rattle.ec_clerk_steps.proofs.Known.{entries-kept, first-line, knows-kept, unnumbered}
+use Rattle.ec_laws.proofs.BasesAlike.{each-map}
+use Rattle.ec_base.proofs.Bools.{and_parts-T as both, or_false}
 
 -- Lists of lines.
 
@@ -49,10 +50,6 @@ all-agree l c cl (s ∷ ls) q =
     let one = quiet-agrees l c cl s t.0 in
     let more = all-agree l c cl ls t.1 in
     ((one.0, more.0), (one.1, more.1))
-
-or_false : (x : Bool) → (x || false) ≡ x
-or_false true = refl
-or_false false = refl
 
 module _ (g : System) (d : Durable) (v : Option Server) (r : Option Record) (p : List (ℕ × Msg)) (γ : Ghost) (old : EventsAgree g) (now : EventsAgree (behind_server g d v r p γ)) (ls : List Shown) (shown : γ.shown ≡ g.ghost.shown ++ ls) (quiet : T (list_all is_quiet ls)) where
   abbrev h : System

@@ -15,7 +15,7 @@ use Rattle.ec_coherence.specs.Opening.{opening}
 use Rattle.ec_coherence.specs.Tokens.{Names, view}
 use Rattle.ec_coherence.specs.Steps.{doing_in}
 use Rattle.ec_coherence.proofs.KeyedSteps.{keyed-flush, keyed-resend, keyed-settle, keyed-taken}
-use Rattle.ec_coherence.proofs.Tables.{equal, none_some, same_some}
+use Rattle.ec_coherence.proofs.Tables.{same_some}
 use Rattle.ec_coherence.specs.CommitLaws.{AllAgree}
 use Rattle.ec_coherence.proofs.Doings.{begins-stand}
 use Rattle.ec_coherence.specs.StandLaws.{IsUnderWay}
@@ -28,6 +28,8 @@ use Rattle.ec_clerk_steps.proofs.Logs.{empty-order}
 use Rattle.ec_clerk_steps.proofs.Order.{IsTrim, trim-ask, trim-outstanding, trim-settle, trim-taken}
 use Rattle.ec_clerk_steps.proofs.Restarting.{resends}
 use Rattle.std.proofs.lemmas.Bool.{and_parts}
+use Rattle.ec_base.proofs.Options.{none_some}
+use Rattle.ec_base.proofs.Numbers.{equal}
 
 -- A step begins.
 module _ (g : System) (all : AllAgree g) (orderly : OrderlyAgree g) (names : NamesAgree g) (c b s : ℕ) (k : Clerk) (runs : g.running c ≡ Some b) (there : g.clerks c b ≡ Some k) (session : k.session ≡ Some s) where

@@ -11,7 +11,6 @@ use Rattle.ec_history.specs.History.{Each}
 use Rattle.ec_history.specs.Placing.{Agrees, EachLine, Unanswered, before_line, begun, is_numbered, last_place, place, unwatched, watch}
 use Rattle.ec_history.specs.declared.shown.Shown.{Shown}
 use Rattle.ec_history.specs.declared.shown.Shown.TheVariants as show
-use Rattle.ec_laws.proofs.Numbers.{each-map}
 use Rattle.ec_log.specs.LogOrder.{is_from}
 use Rattle.ec_wire.specs.declared.msg.Msg.{Msg}
 use Rattle.ec_protocol.specs.declared.clerk.Clerk.{Clerk}
@@ -21,21 +20,19 @@ use Rattle.ec_coherence.specs.Events.{EventsAgree, shown_boot}
 use Rattle.ec_coherence.specs.ChangeLaws.{Calls}
 use Rattle.ec_coherence.specs.Steps.{call_of, less_call}
 use Rattle.ec_coherence.proofs.ClerkIn.{start-same}
-use Rattle.ec_coherence.proofs.Tables.{at-put, at-without, equal, same_some}
+use Rattle.ec_coherence.proofs.Tables.{at-put, at-without, same_some}
 use Rattle.ec_coherence.specs.Comes.{begun_at}
 use Rattle.ec_clerk_steps.specs.Calls.{AreApart, Began, CallsAgree, IsBefore, IsOpenCall, LosesBelow, StartCalls, has_number, is_shown, told_to}
 use Rattle.ec_clerk_steps.specs.Waits.{HasLine}
 use Rattle.ec_clerk_steps.specs.CallLaws.{with_change}
 use Rattle.ec_clerk_steps.proofs.CallFrames.{lines-append}
-use Rattle.ec_clerk_steps.proofs.Known.{Knows, first-line, none_some, same}
+use Rattle.ec_clerk_steps.proofs.Known.{Knows, first-line}
 use Rattle.ec_clerk_steps.proofs.Leave.{answer-entries, answer-knows, answer-knows-other, begun-within, new_entry}
 use Rattle.ec_clerk_steps.proofs.Quiet.{other-start, split-start}
-
-apart-two : false ≡ true → ⊥
-apart-two e = cc
-
-flip : (m n : ℕ) → (m == n) ≡ false → (n == m) ≡ false
-flip m n e = grind (arith, e)
+use Rattle.ec_base.proofs.Numbers.{same-self as same, flip, equal}
+use Rattle.ec_base.proofs.Equalities.{apart-two}
+use Rattle.ec_base.proofs.Options.{none_some}
+use Rattle.ec_laws.proofs.BasesAlike.{each-map}
 
 -- without one call
 pub call-less : (c n f m : ℕ) (calls : Calls) → call_of f m (less_call c n calls) ≡ cond ((f == c) && (m == n)) None (call_of f m calls)

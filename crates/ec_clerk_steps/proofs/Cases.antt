@@ -14,8 +14,9 @@ use Rattle.ec_protocol.specs.declared.clerk.Clerk.{Clerk}
 use Rattle.ec_protocol.specs.Clerk.{Doing, doing, emit, epoch, has_session, hello, in_session, is_session, or_hello, refuse_makes, same_age, send, take_ended, take_ids, take_recall, take_restarted, taken, with_cache, with_clerk, with_log}
 use Rattle.ec_coherence.specs.System.{Ghost}
 use Rattle.ec_coherence.specs.Clerks.{take_session}
-use Rattle.ec_coherence.proofs.Tables.{differ, equal}
+use Rattle.ec_coherence.proofs.Tables.{differ}
 use Rattle.ec_clerk_steps.specs.JoinLaws.{IsBeside, IsOfSession, joined, tell_loss}
+use Rattle.ec_base.proofs.Numbers.{equal}
 
 same-ages : (a b : Age) → same_age a b ≡ true → a ≡ b
 same-ages a b e = let q = and_parts (a.boot == b.boot) (a.round == b.round) e in λ j. record { boot = equal a.boot b.boot q.0 j; round = equal a.round b.round q.1 j }

@@ -13,12 +13,12 @@ use Rattle.ec_protocol.specs.Clerk.{less_id, suits}
 use Rattle.ec_protocol.specs.declared.clerk.Clerk.{Clerk}
 use Rattle.ec_coherence.specs.ChangeLaws.{with_answer}
 use Rattle.ec_coherence.proofs.Keyed.{keyed-all-changed, keyed-all-used}
-use Rattle.ec_coherence.proofs.Lists.{and_first}
 use Rattle.ec_clerk_steps.specs.Orderly.{IsOrderly}
 use Rattle.ec_clerk_steps.proofs.Hand.{order-of, trim-of}
 use Rattle.ec_clerk_steps.proofs.Logs.{issue-order}
 use Rattle.ec_clerk_steps.specs.Answering.{Suits, answered_clerk, done_clerk}
 use Rattle.ec_clerk_steps.proofs.SameStores.{in-left, once-left}
+use Rattle.ec_base.proofs.Bools.{left as and_first}
 
 -- What stays.
 

@@ -17,9 +17,10 @@ use Rattle.ec_history.specs.declared.watch.Watch.{Watch}
 use Rattle.ec_laws.proofs.Held.{place-late}
 use Rattle.ec_laws.proofs.Late.{place-answer, place-ended, place-no_call}
 use Rattle.ec_laws.proofs.More.{watch-step}
-use Rattle.ec_laws.proofs.Watching.{before_session, from_front, in_session, open-counted, other_end, own_end, showing}
+use Rattle.ec_laws.proofs.Watching.{before_session, from_front, in_session, open-counted, other_end, own_end}
 use Rattle.ec_coherence.proofs.Lists.{each-back, each-front, each-more, each-turn}
 use Rattle.ec_base.specs.Options.{or_zero}
+use Rattle.ec_history.proofs.PlacingLemmas.{showing}
 
 -- the entry is of no start of this clerk with a greater number
 abbrev pub IsCounted : ℕ → ℕ → ℕ × Entry → Type 0

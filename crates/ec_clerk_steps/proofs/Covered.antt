@@ -41,8 +41,8 @@ use Rattle.ec_coherence.specs.Answers.{Gives}
 use Rattle.ec_clerk_steps.specs.Calls.{IsBefore, LosesBelow}
 use Rattle.ec_clerk_steps.specs.Waits.{does_wait, waits_with}
 use Rattle.ec_laws.proofs.Walked.{walked, walked-split}
-use Rattle.ec_clerk_steps.proofs.Known.{none_some}
 use Rattle.ec_clerk_steps.proofs.Rests.{rest-issued}
+use Rattle.ec_base.proofs.Options.{none_some}
 
 -- what stands behind a list is the last of both
 last-behind : (os : List ℕ) (x : ℕ) → last_of (os ++ x ∷ []) ≡ Some x

@@ -8,13 +8,15 @@ use Rattle.ec_history.specs.declared.shown.Shown.TheVariants as show
 use Rattle.ec_laws.proofs.More.{watch-step}
 use Rattle.ec_coherence.specs.System.{System}
 use Rattle.ec_coherence.specs.Events.{shown_boot}
-use Rattle.ec_coherence.proofs.Tables.{by-session, equal, none_some, same}
+use Rattle.ec_coherence.proofs.Tables.{by-session}
 use Rattle.ec_coherence.specs.CommitLaws.{AllAgree}
 use Rattle.ec_coherence.specs.StandLaws.{crashed, lined, stopped}
 use Rattle.ec_clerk_steps.specs.Counts.{CountsAgree}
 use Rattle.ec_clerk_steps.specs.Cuts.{CutsAgree}
 use Rattle.ec_clerk_steps.specs.Frames.{SameCuts}
 use Rattle.ec_clerk_steps.proofs.Keeping.{keeps-knowing}
+use Rattle.ec_base.proofs.Numbers.{same-self as same, equal}
+use Rattle.ec_base.proofs.Options.{none_some}
 
 pub same-cuts : (g h : System) → SameCuts g h → CutsAgree g → CutsAgree h
 same-cuts g h e f c b s k ks r p o z = keeps-knowing g h c s k k ks (λ sl p os dur kn. kn) (e.slots c) (ap (λ x. x s) e.owner) (λ j t. ap (λ x. x j) e.is_durable) (e.untold c)

@@ -24,8 +24,8 @@ use Rattle.ec_coherence.specs.ChangeLaws.{LogsAndImages, with_clerk}
 use Rattle.ec_coherence.proofs.Caches.{at-kept}
 use Rattle.ec_coherence.proofs.Evict.{goes-evict-unpinned}
 use Rattle.ec_coherence.proofs.Keyed.{keyed-evicted}
-use Rattle.ec_coherence.proofs.Lists.{each-always, each-at, each-member, each-turn, either_way, no_both}
-use Rattle.ec_coherence.proofs.Tables.{fails, is-false}
+use Rattle.ec_coherence.proofs.Lists.{each-always, each-at, each-member, each-turn, either_way}
+use Rattle.ec_coherence.proofs.Tables.{fails}
 use Rattle.ec_coherence.specs.StandLaws.{AreSent, IsUnderWay, sending}
 use Rattle.ec_coherence.specs.CommitLaws.{AllAgree}
 use Rattle.ec_clerk_steps.specs.DoingLaws.{IsInHand}
@@ -33,6 +33,7 @@ use Rattle.ec_clerk_steps.proofs.CacheLogs as kept
 use Rattle.ec_clerk_steps.proofs.Hand as hand
 use Rattle.ec_clerk_steps.proofs.Moving as moving
 use Rattle.ec_clerk_steps.proofs.Undurable.{held-pinned, left-held}
+use Rattle.ec_base.proofs.Bools.{not-both as no_both, no-longer as is-false}
 
 -- what is said of a token that goes back
 abbrev back : ℕ → ℕ → ℕ × Held → Msg
@@ -55,7 +56,7 @@ pinned-stays pinned k x m = front (length k.held - k.capacity) (filter (λ e. no
           where
             by : (z : Bool) → (x == e.0) ≡ z → z ≡ false
             by false p = refl
-            by true p = absurd (no_both (member e.0 pinned) (subst (λ y. T (member y pinned)) (Rattle.ec_coherence.proofs.Tables.equal x e.0 p) m) (fails (member e.0 pinned) q))
+            by true p = absurd (no_both (member e.0 pinned) (subst (λ y. T (member y pinned)) (Rattle.ec_base.proofs.Numbers.equal x e.0 p) m) (fails (member e.0 pinned) q))
 
         go : (b : Bool) → member e.0 pinned ≡ b → member x (keys (filter (λ e. not (member e.0 pinned)) es)) ≡ false → member x (keys (cond (not b) (e ∷ filter (λ e. not (member e.0 pinned)) es) (filter (λ e. not (member e.0 pinned)) es))) ≡ false
         go true q r = r
@@ -109,7 +110,7 @@ module _ (g : System) (c b s : ℕ) (d : Doing) (γ : Ghost) (h : IsInHand g c b
   image x o e = go (member x (keys gone)) refl
     where
       go : (z : Bool) → member x (keys gone) ≡ z → at x k.held ≡ Some o
-      go true q = absurd (Rattle.ec_coherence.proofs.Tables.none_some (sym (held-after x ∙ ap (λ z. cond z None (at x k.held)) q) ∙ e))
+      go true q = absurd (Rattle.ec_base.proofs.Options.none_some (sym (held-after x ∙ ap (λ z. cond z None (at x k.held)) q) ∙ e))
       go false q = sym (held-after x ∙ ap (λ z. cond z None (at x k.held)) q) ∙ e
 
   are-sent : (es : List (ℕ × Held)) → AreSent here (map (λ m. (c, m)) (map (back (session d) (epoch d)) es))

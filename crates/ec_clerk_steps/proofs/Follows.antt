@@ -1,5 +1,5 @@
 -- The line of an answer may follow.
-use Rattle.std.proofs.Common.{◌≡◌, refl, sym, ap, subst, ◌∙◌, inl, inr, ◌⊎◌, ◌+◌, ℕ, T, Bool, true, false, not, ◌==◌, ◌||◌, List, Option, Some, None, is_some, is_none}
+use Rattle.std.proofs.Common.{◌≡◌, refl, sym, ap, subst, ◌∙◌, inl, inr, ◌⊎◌, ◌+◌, ℕ, T, true, false, not, ◌==◌, ◌||◌, List, Option, Some, None, is_some, is_none}
 use Rattle.std.proofs.lemmas.Bool.{cond_both}
 use Rattle.ec_volume.specs.Image.{is_id}
 use Rattle.ec_plain.specs.declared.call.Call.{Call}
@@ -12,19 +12,17 @@ use Rattle.ec_protocol.specs.declared.clerk.Clerk.{Clerk}
 use Rattle.ec_coherence.specs.System.{System, is_open}
 use Rattle.ec_coherence.specs.Events.{shown_boot}
 use Rattle.ec_coherence.specs.Steps.{call_of}
-use Rattle.ec_coherence.proofs.Tables.{same, same_some, some-of}
+use Rattle.ec_coherence.proofs.Tables.{same_some, some-of}
 use Rattle.ec_coherence.specs.CommitLaws.{AllAgree}
 use Rattle.ec_clerk_steps.specs.Calls.{CallsAgree}
+use Rattle.ec_base.proofs.Numbers.{same-self as same}
+use Rattle.ec_base.proofs.Bools.{or_true}
 
 begun-untold : (w : Watch) → (begun w).untold ≡ w.untold
 begun-untold w = cond_both w.running w (record w { starts = w.starts + 1; running = true }) (λ v. v.untold ≡ w.untold) (λ e. refl) (λ e. refl)
 
 begun-open : (w : Watch) → (begun w).open_start ≡ w.open_start
 begun-open w = cond_both w.running w (record w { starts = w.starts + 1; running = true }) (λ v. v.open_start ≡ w.open_start) (λ e. refl) (λ e. refl)
-
-or_true : (z : Bool) → (z || true) ≡ true
-or_true true = refl
-or_true false = refl
 
 -- where something is untold it may show a session
 untold-may : (w : Watch) (ns : List ℕ) → w.untold ≡ Some ns → may_show (begun w) ≡ true

@@ -22,9 +22,10 @@ use Rattle.ec_coherence.specs.Images.{ImagesAgree}
 use Rattle.ec_coherence.specs.Stops.{StopsAgree}
 use Rattle.ec_coherence.specs.ChangeLaws.{Calls}
 use Rattle.ec_coherence.proofs.Lists.{each-more, each-turn}
-use Rattle.ec_coherence.proofs.Tables.{equal, same_some}
+use Rattle.ec_coherence.proofs.Tables.{same_some}
 use Rattle.ec_coherence.specs.Starts.{Greets, StartsAgree}
 use Rattle.ec_clerk_steps.specs.Zeros.{HasNoZero, LeaveOut, ZerosAgree}
+use Rattle.ec_base.proofs.Numbers.{equal}
 
 -- Logs and images read none of what is shown.
 module _ (g : System) (sh : List Shown) (hi : History) (fr : Table ℕ) where

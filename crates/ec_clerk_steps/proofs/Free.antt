@@ -16,10 +16,11 @@ use Rattle.ec_coherence.specs.Images.{ImagesAgree}
 use Rattle.ec_coherence.proofs.Carried.{gone-is}
 use Rattle.ec_coherence.proofs.Ending.{untouched-after}
 use Rattle.ec_coherence.proofs.Ids.{in-back, in-front}
-use Rattle.ec_coherence.proofs.Lists.{and_both, and_first, and_next, each-at, filter-no, filter-yes, no_both, or_else}
+use Rattle.ec_coherence.proofs.Lists.{each-at, filter-no, filter-yes, or_else}
 use Rattle.ec_coherence.proofs.OpenSlots.{open-at}
-use Rattle.ec_coherence.proofs.Tables.{equal, is-true}
 use Rattle.ec_clerk_steps.proofs.Unmade.{IsMadeIn, Leaves, unmade}
+use Rattle.ec_base.proofs.Bools.{left as and_first, not-both as no_both, and-both as and_both, right as and_next, is-true}
+use Rattle.ec_base.proofs.Numbers.{equal}
 
 -- what one of these operations makes, which passes the test
 in-makes : (test : Op → Bool) (x : ℕ) (front back : List Op) (o : Op) → T (test o) → T (member x (listed (made o.update))) → T (member x (makes (updates (filter test (front ++ o ∷ back)))))

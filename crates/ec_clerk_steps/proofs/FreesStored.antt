@@ -22,12 +22,14 @@ use Rattle.ec_coherence.specs.Tokens.{in_sixteen, is_hidden, is_untaken, side, s
 use Rattle.ec_coherence.specs.Steps.{calls_after, doing_in, sends}
 use Rattle.ec_coherence.specs.ChangeLaws.{Calls}
 use Rattle.ec_coherence.proofs.ClerkIn.{start-same}
-use Rattle.ec_coherence.proofs.Lists.{and_first, no_both}
-use Rattle.ec_coherence.proofs.Tables.{equal, holds, none_some, same, same_some}
+use Rattle.ec_coherence.proofs.Tables.{same_some}
 use Rattle.ec_coherence.specs.CommitLaws.{AllAgree}
 use Rattle.ec_clerk_steps.specs.Moves.{IsStill}
 use Rattle.ec_clerk_steps.specs.Frees.{FreesAgree}
 use Rattle.ec_clerk_steps.specs.Zeros.{LeaveOut}
+use Rattle.ec_base.proofs.Bools.{left as and_first, not-both as no_both, holds-true as holds}
+use Rattle.ec_base.proofs.Numbers.{same-self as same, equal}
+use Rattle.ec_base.proofs.Options.{none_some}
 
 -- Nothing that they read changes.
 module _ (g h : System) (fa : FreesAgree g) (origin : h.origin ≡ g.origin) (clerks : h.clerks ≡ g.clerks) (kept : h.ghost.kept ≡ g.ghost.kept) (frozen : h.ghost.frozen ≡ g.ghost.frozen) (owner : h.ghost.owner ≡ g.ghost.owner)
@@ -58,7 +60,7 @@ frees-begin g clerks = record { unused = λ s x k e w. absurd (none_some (sym (n
 
 -- One start changes.
 
-if-some : (s : ℕ) (k m : Clerk) → if_in s (Some k) ≡ Some m → (k ≡ m) × (k.session ≡ Some s)
+pub if-some : (s : ℕ) (k m : Clerk) → if_in s (Some k) ≡ Some m → (k ≡ m) × (k.session ≡ Some s)
 if-some s k m p = go (is_session s k.session) refl p
   where
     session : (o : Option ℕ) → is_session s o ≡ true → o ≡ Some s
@@ -69,7 +71,7 @@ if-some s k m p = go (is_session s k.session) refl p
     go true e q = (same_some q, session k.session e)
     go false e q = absurd (none_some q)
 
-some-if : (s : ℕ) (k : Clerk) → k.session ≡ Some s → if_in s (Some k) ≡ Some k
+pub some-if : (s : ℕ) (k : Clerk) → k.session ≡ Some s → if_in s (Some k) ≡ Some k
 some-if s k e = ap (λ o. elim (is_session s o) as (λ y. Option Clerk) [ true ↦ Some k | false ↦ None ]) e ∙ ap (λ z. elim z as (λ y. Option Clerk) [ true ↦ Some k | false ↦ None ]) (same s)
 
 -- it's in the session with these ids, as before; or it has none at all
@@ -133,7 +135,7 @@ module _ (g : System) (fa : FreesAgree g) (c b : ℕ) (now : Clerk) (running : �
   fresh-keeps none apart = one-keeps (λ s m e session q path. inr (ap (λ z. z.ids) (sym e) ∙ none, λ x t. hidden s x m e session (subst (λ o. T (is_untaken (γ.grants s) (γ.first s) (side_in o) x)) q t)))
     where
       hidden : (s x : ℕ) (m : Clerk) → now ≡ m → now.session ≡ Some s → T (is_untaken (γ.grants s) (γ.first s) (Some (side m)) x) → ⊥
-      hidden s x m e session t = apart s session (ap (λ z. z.got + 1) e ∙ equal (m.got + 1) (γ.grants s) (Rattle.ec_coherence.proofs.Tables.is-true (m.got + 1 == γ.grants s) (and_first (m.got + 1 == γ.grants s) (in_sixteen (γ.first s) x) t)) ∙ ap (λ f. f s) grants)
+      hidden s x m e session t = apart s session (ap (λ z. z.got + 1) e ∙ equal (m.got + 1) (γ.grants s) (Rattle.ec_base.proofs.Bools.is-true (m.got + 1 == γ.grants s) (and_first (m.got + 1 == γ.grants s) (in_sixteen (γ.first s) x) t)) ∙ ap (λ f. f s) grants)
 
 -- A step under way.
 

@@ -1,7 +1,6 @@
 -- Tries of calls, where the step stands behind each answer.
 use Rattle.std.proofs.Common.{◌≡◌, refl, sym, ap, subst, ◌∙◌, inl, inr, ◌⊎◌, ℕ, Bool, true, false, not, T, List, [], ◌∷◌, ◌++◌, Option, Some, None}
-use Rattle.std.specs.Prelude.{is_some, ⊤}
-use Rattle.ec_base.specs.declared.counter.Counter.{Counter}
+use Rattle.std.specs.Prelude.{⊤}
 use Rattle.ec_base.specs.declared.counter.Counter.TheVariants as counter
 use Rattle.ec_volume.specs.declared.update.Update.{Update}
 use Rattle.ec_plain.specs.declared.call.Outcome.{Outcome}
@@ -13,7 +12,6 @@ use Rattle.ec_log.specs.declared.state.Asked.{Asked}
 use Rattle.ec_log.specs.declared.state.Asked.TheVariants.{All}
 use Rattle.ec_resolve.specs.declared.verdict.Verdict.{Verdict}
 use Rattle.ec_resolve.specs.declared.verdict.Verdict.TheVariants.{Need, Lost, NeedIds, Done}
-use Rattle.ec_protocol.specs.Server.{first_spent}
 use Rattle.ec_protocol.specs.Clerk.{Doing, Tried, Waits, Answered, answer_with, ask_for, await, awaited, is_owing, issue_if_room, settle_outcome, spend, suits, try, try_all, try_verdict, verdict, with_clerk, with_update}
 use Rattle.ec_protocol.specs.declared.clerk.Clerk.{Clerk}
 use Rattle.ec_protocol.specs.declared.clerk.Out.TheVariants as out
@@ -27,7 +25,7 @@ use Rattle.ec_coherence.proofs.TriedList.{same-verdict}
 use Rattle.ec_clerk_steps.specs.CallLaws.{Passes, is_answer}
 use Rattle.ec_clerk_steps.specs.Waits.{HasLine, does_wait}
 use Rattle.ec_clerk_steps.proofs.Still.{tries-answer}
-use Rattle.ec_clerk_steps.proofs.Spent.{spent-stays}
+use Rattle.ec_clerk_steps.proofs.Spent.{spent-stays, IsSpent, again}
 use Rattle.ec_coherence.specs.Answers.{Gives, op_given}
 use Rattle.ec_clerk_steps.specs.Answering.{Suits, answered_clerk, done_clerk}
 use Rattle.ec_clerk_steps.specs.AnswerLaws.{AllTriesStand, IsTried, TriesStand}
@@ -134,16 +132,6 @@ module _ (singles : SinglesStand) where
 
 -- A spent counter stays so.
 
-abbrev IsSpent : Doing → Type 0
-IsSpent e = T (is_some e.spent)
-
-spend-spent : (n : Counter) (e : Doing) → IsSpent (spend n e)
-spend-spent n e = go e.spent
-  where
-    go : (o : Option Counter) → T (is_some (first_spent o n))
-    go None = tt
-    go (Some m) = tt
-
 spent-await : (p : Waiting) (o : Outcome) (a : Option Asked) (e : Doing) → IsSpent e → OnTried IsSpent (await p o a e)
 spent-await p o None e h = h
 spent-await p o (Some a) e h = go (is_owing p.begun (first a e.clerk.log))
@@ -168,7 +156,7 @@ spent-outcome p o (Some u) e h = go (suits u e.clerk.cache) (is_full e.clerk.log
     ])
     go false y z = h
     go true true z = spent-stays.ask_for All e h
-    go true false true = spend-spent counter.Op e
+    go true false true = again counter.Op e
     go true false false = h
 
 pub spent-verdict : (p : Waiting) (v : Verdict) (e : Doing) → IsSpent e → OnTried IsSpent (try_verdict p v e)

@@ -35,9 +35,9 @@ use Rattle.ec_coherence.specs.Log.{Knows, next_of, numbered}
 use Rattle.ec_coherence.specs.Steps.{UnderClerk, call_of, doing_in, less_call, out_lines}
 use Rattle.ec_coherence.specs.ChangeLaws.{next_op}
 use Rattle.ec_coherence.proofs.ClerkIn.{start-same}
-use Rattle.ec_coherence.proofs.Lists.{each-more, filter-more, filter-yes, map-more}
+use Rattle.ec_coherence.proofs.Lists.{each-more, filter-more, filter-yes}
 use Rattle.ec_coherence.proofs.LogChange.{kept-knows}
-use Rattle.ec_coherence.proofs.Tables.{equal, holds, is-true, none_some, same, same_some}
+use Rattle.ec_coherence.proofs.Tables.{same_some}
 use Rattle.ec_coherence.specs.CommitLaws.{AllAgree}
 use Rattle.ec_coherence.specs.StandLaws.{IsUnderWay}
 use Rattle.ec_clerk_steps.specs.Counts.{CountsAgree}
@@ -46,6 +46,10 @@ use Rattle.ec_clerk_steps.specs.Frames.{AnswersAs, IsCalm}
 use Rattle.ec_clerk_steps.proofs.Keeping.{keeps-knowing}
 use Rattle.ec_clerk_steps.proofs.Outs.{Calls}
 use Rattle.ec_clerk_steps.proofs.Slots.{its-slot}
+use Rattle.ec_base.proofs.Numbers.{same-self as same, equal}
+use Rattle.ec_base.proofs.Options.{none_some}
+use Rattle.ec_base.proofs.Lists.{map-more}
+use Rattle.ec_base.proofs.Bools.{is-true, holds-true as holds}
 
 -- One start goes on at its age.
 module _ (g : System) (c b : ℕ) (d e : Doing) (γ : Ghost) (same_age : e.clerk.age ≡ d.clerk.age) where

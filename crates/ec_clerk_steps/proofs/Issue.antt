@@ -22,10 +22,10 @@ use Rattle.ec_coherence.specs.ChangeLaws.{IsInIt}
 use Rattle.ec_coherence.proofs.CacheChange.{suits-held}
 use Rattle.ec_coherence.proofs.ClerkIn.{owned}
 use Rattle.ec_coherence.proofs.Ids.{in-front}
-use Rattle.ec_coherence.proofs.Lists.{and_first, each-at, each-member, either_way, no_both}
+use Rattle.ec_coherence.proofs.Lists.{each-at, each-member, either_way}
 use Rattle.ec_coherence.proofs.OpenSlots.{open-at}
 use Rattle.ec_coherence.proofs.SendClaim.{held-names}
-use Rattle.ec_coherence.proofs.Tables.{equal, is-true, none_some, same, same_some}
+use Rattle.ec_coherence.proofs.Tables.{same_some}
 use Rattle.ec_coherence.specs.CommitLaws.{AllAgree}
 use Rattle.ec_clerk_steps.specs.Frees.{FreesAgree}
 use Rattle.ec_clerk_steps.specs.Zeros.{LeaveOut}
@@ -34,6 +34,9 @@ use Rattle.ec_clerk_steps.proofs.SameStores.{in-left}
 use Rattle.ec_clerk_steps.proofs.Turned.{makes-first, writes-all}
 use Rattle.ec_clerk_steps.proofs.Unmade.{fits-gone}
 use Rattle.ec_clerk_steps.proofs.Zeroless.{left-out}
+use Rattle.ec_base.proofs.Bools.{left as and_first, not-both as no_both, is-true}
+use Rattle.ec_base.proofs.Numbers.{same-self as same, equal}
+use Rattle.ec_base.proofs.Options.{none_some}
 
 made-is : (x : ℕ) (o : Option ℕ) → T (member x (listed o)) → o ≡ Some x
 made-is x None m = absurd m
@@ -56,15 +59,15 @@ makes-one (Shift dir from into to obj k victim up) x e = absurd (none_some e)
 makes-one (Owner obj owner) x e = absurd (none_some e)
 
 -- the first of distinct ids isn't left
-first-gone : (x : ℕ) (ids : List ℕ) → first_id ids ≡ Some x → T (distinct ids) → T (member x (drop 1 ids)) → ⊥
+pub first-gone : (x : ℕ) (ids : List ℕ) → first_id ids ≡ Some x → T (distinct ids) → T (member x (drop 1 ids)) → ⊥
 first-gone x [] e d m = m
 first-gone x (y ∷ ys) e d m = no_both (member y ys) (subst (λ z. T (member z ys)) (sym (same_some e)) m) (and_first (not (member y ys)) (distinct ys) d)
 
-first-in : (x : ℕ) (ids : List ℕ) → first_id ids ≡ Some x → T (member x ids)
+pub first-in : (x : ℕ) (ids : List ℕ) → first_id ids ≡ Some x → T (member x ids)
 first-in x [] e = absurd (none_some e)
 first-in x (y ∷ ys) e = subst (λ z. T ((z == y) || member z ys)) (same_some e) (subst (λ b. T (b || member y ys)) (sym (same y)) tt)
 
-held-of : (o : Option Held) → IsWrite o → (h : Held) × (o ≡ Some h)
+pub held-of : (o : Option Held) → IsWrite o → (h : Held) × (o ≡ Some h)
 held-of None w = absurd w
 held-of (Some h) w = (h, refl)
 

@@ -2,7 +2,6 @@
 use Rattle.std.proofs.Common.{◌≡◌, refl, sym, ap, subst, ◌∙◌, arith, ◌≤◌, ◌<◌, ◌+◌, ℕ, T, Bool, true, false, not, ◌==◌, ◌&&◌, ◌||◌, cond, map, List, [], ◌∷◌, ◌++◌, length, Some, None, append-nil, append_assoc}
 use Rattle.std.specs.List.{filter, list_any, list_all}
 use Rattle.std.proofs.lemmas.Bool.{and_parts, eqb-true}
-use Rattle.std.proofs.lemmas.Bool.Decides.{nat_tests}
 use Rattle.ec_volume.specs.Update.{member}
 use Rattle.ec_volume.specs.declared.update.Update.{Update}
 use Rattle.ec_history.specs.History.{Base, History, Op, Throughout, Each, same_start, of_start, is_one_of, of_issue, kept, issued, issued_by, is_lost, names}
@@ -11,28 +10,13 @@ use Rattle.ec_history.specs.declared.entry.Entry.{Entry}
 use Rattle.ec_history.specs.declared.entry.Entry.TheVariants as entry
 use Rattle.ec_laws.proofs.Cuts.{legal-step}
 use Rattle.ec_laws.proofs.More.{kept-step, issued-step, is_lost-append, count-step}
-use Rattle.ec_laws.proofs.Numbers.{IsUpTo, count, each-append, each-back, each-map, kept-up_to}
+use Rattle.ec_laws.proofs.Numbers.{IsUpTo, count, each-append, each-back, kept-up_to}
 use Rattle.ec_coherence.proofs.Lists.{filter-alike, filter-more, filter-two}
 use Rattle.ec_laws.proofs.Unlost.{kept-unlost}
 use Rattle.ec_clerk_steps.specs.Calls.{IsBefore, LosesBelow}
-
-equals : (m n : ℕ) → (m == n) ≡ true → m ≡ n
-equals m n e = grind arith
-
-flip : (x y : ℕ) → (x == y) ≡ (y == x)
-flip x y = grind (arith, nat_tests)
-
-first : (a b : Bool) → T (a && b) → T a
-first true b t = tt
-first false b t = absurd t
-
-next : (a b : Bool) → T (a && b) → T b
-next true b t = t
-next false b t = absurd t
-
-truth : (a : Bool) → T a → a ≡ true
-truth true t = refl
-truth false t = absurd t
+use Rattle.ec_base.proofs.Bools.{left, right, is-true}
+use Rattle.ec_base.proofs.Numbers.{equal, flip_too}
+use Rattle.ec_laws.proofs.BasesAlike.{each-map}
 
 -- an operation of the start that's among these has their greatest number at most
 among : (c b m n : ℕ) (ks : List Op) → Each (IsUpTo c b m) ks → T (list_any (is_one_of c b (n ∷ [])) ks) → n ≤ m
@@ -40,7 +24,7 @@ among c b m n [] u t = absurd t
 among c b m n (k ∷ ks) u t = go (of_start c b k) (k.number == n) refl refl t (among c b m n ks u.1)
   where
     go : (x y : Bool) → of_start c b k ≡ x → (k.number == n) ≡ y → T ((x && (y || false)) || list_any (is_one_of c b (n ∷ [])) ks) → (T (list_any (is_one_of c b (n ∷ [])) ks) → n ≤ m) → n ≤ m
-    go true true e f r more = at-most k.number n (u.0 e) (equals k.number n f)
+    go true true e f r more = at-most k.number n (u.0 e) (equal k.number n f)
       where
         at-most : (j i : ℕ) → j ≤ m → j ≡ i → i ≤ m
         at-most j i l q = omega (arith, l, q)
@@ -74,7 +58,7 @@ module _ (base : Base) (most : ℕ) where
       before-next : (past : History) (e : ℕ × Entry) → IsLegalNext base most past e → IsBefore c b place (count c b (past ++ e ∷ [])) e
       before-next past (p, entry.Loss d f ns) n = tt
       before-next past (p, entry.Call d f i begun cl a None) n = tt
-      before-next past (p, entry.Call d f i begun cl a (Some m)) n = λ t q. own (truth (same_start c b d f) t)
+      before-next past (p, entry.Call d f i begun cl a (Some m)) n = λ t q. own (is-true (same_start c b d f) t)
         where
           own : same_start c b d f ≡ true → m ≤ count c b (past ++ (p, entry.Call d f i begun cl a (Some m)) ∷ [])
           own y =
@@ -97,7 +81,7 @@ module _ (base : Base) (most : ℕ) where
 
     loses-next : (past : History) (e : ℕ × Entry) → IsLegal base most past → IsLegalNext base most past e → LosesBelow c b (count c b past + 1) e
     loses-next past (p, entry.Call d f i begun cl a op) l n = tt
-    loses-next past (p, entry.Loss d f ns) l n = λ t. all ns (own (truth (same_start c b d f) t) n.kept_so_far)
+    loses-next past (p, entry.Loss d f ns) l n = λ t. all ns (own (is-true (same_start c b d f) t) n.kept_so_far)
       where
         own : same_start c b d f ≡ true → T (list_all (λ n. list_any (is_one_of d f (n ∷ [])) (kept base past)) ns) → T (list_all (λ n. list_any (is_one_of c b (n ∷ [])) (kept base past)) ns)
         own y k =
@@ -106,7 +90,7 @@ module _ (base : Base) (most : ℕ) where
 
         all : (ms : List ℕ) → T (list_all (λ n. list_any (is_one_of c b (n ∷ [])) (kept base past)) ms) → Each (λ j. j < count c b past + 1) ms
         all [] k = tt
-        all (m ∷ ms) k = (below m (among c b (count c b past) m (kept base past) (kept-up_to base most c b past l) (first _ _ k)), all ms (next (list_any (is_one_of c b (m ∷ [])) (kept base past)) _ k))
+        all (m ∷ ms) k = (below m (among c b (count c b past) m (kept base past) (kept-up_to base most c b past l) (left _ _ k)), all ms (right (list_any (is_one_of c b (m ∷ [])) (kept base past)) _ k))
           where
             below : (m : ℕ) → m ≤ count c b past → m < count c b past + 1
             below m q = omega (arith, q)
@@ -132,7 +116,7 @@ module _ (base : Base) (most : ℕ) where
   refuted false n = refl
 
   named-is : (k : Op) (d f : ℕ) (ns : List ℕ) → names k.clerk k.boot k.number (entry.Loss d f ns) ≡ is_one_of d f ns k
-  named-is k d f ns = ap (λ x. (x && (k.boot == f)) && member k.number ns) (flip k.clerk d) ∙ ap (λ x. ((d == k.clerk) && x) && member k.number ns) (flip k.boot f)
+  named-is k d f ns = ap (λ x. (x && (k.boot == f)) && member k.number ns) (flip_too k.clerk d) ∙ ap (λ x. ((d == k.clerk) && x) && member k.number ns) (flip_too k.boot f)
 
   all-such : (p : Op → Bool) (ks : List Op) → Each (λ k. p k ≡ true) ks → filter p ks ≡ ks
   all-such p [] h = refl

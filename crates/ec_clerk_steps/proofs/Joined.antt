@@ -24,13 +24,15 @@ use Rattle.ec_coherence.proofs.ClerkIn.{start-same}
 use Rattle.ec_coherence.proofs.Lists.{each-more, each-turn}
 use Rattle.ec_coherence.proofs.OnSystem.{takes-session}
 use Rattle.ec_coherence.proofs.OpenedSession.{opened-images, opened-logs}
-use Rattle.ec_coherence.proofs.Tables.{by-session, equal, none_some, same, same_some}
+use Rattle.ec_coherence.proofs.Tables.{by-session, same_some}
 use Rattle.ec_coherence.specs.CommitLaws.{AllAgree}
 use Rattle.ec_coherence.specs.StandLaws.{ClerkStands, IsUnderWay}
 use Rattle.ec_clerk_steps.specs.Cuts.{CutsAgree}
 use Rattle.ec_clerk_steps.proofs.Kept as kept
 use Rattle.ec_clerk_steps.proofs.Outs.{goes-on, lines-on}
 use Rattle.ec_clerk_steps.proofs.Slots.{its-slot}
+use Rattle.ec_base.proofs.Numbers.{same-self as same, equal}
+use Rattle.ec_base.proofs.Options.{none_some}
 
 -- The system in which its clerk took it and claimed nothing.
 module _ (g : System) (all : AllAgree g) (c b : ℕ) (k : Clerk) (runs : g.running c ≡ Some b) (at-start : g.clerks c b ≡ Some k) (without : k.session ≡ None) (s e : ℕ) (owns : g.ghost.owner s ≡ Some (c, k.age)) where

@@ -17,11 +17,12 @@ use Rattle.ec_coherence.specs.Log.{Knows}
 use Rattle.ec_coherence.specs.Stops.{StopsAgree}
 use Rattle.ec_coherence.specs.ChangeLaws.{Calls}
 use Rattle.ec_coherence.proofs.Lists.{each-more}
-use Rattle.ec_coherence.proofs.Tables.{equal, same_some}
+use Rattle.ec_coherence.proofs.Tables.{same_some}
 use Rattle.ec_coherence.specs.CommitLaws.{AllAgree}
 use Rattle.ec_coherence.specs.Starts.{Greets, StartsAgree}
 use Rattle.ec_coherence.specs.Watches.{WatchesAgree}
 use Rattle.ec_clerk_steps.specs.Cuts.{CutKnows, CutsAgree}
+use Rattle.ec_base.proofs.Numbers.{equal}
 
 module _ (g : System) (all : AllAgree g) (c b : ℕ) (k now : Clerk) (at-start : g.clerks c b ≡ Some k) (same_age : now.age ≡ k.age) (same_owed : now.owed ≡ k.owed) (same_next : now.log.next ≡ k.log.next)
     (tk : ℕ → Bool) (calls : Calls) (ms : List (ℕ × Msg)) where

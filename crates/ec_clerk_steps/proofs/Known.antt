@@ -19,23 +19,9 @@ use Rattle.ec_laws.proofs.Watching.{running-owner, running-told, sound}
 use Rattle.ec_clerk_steps.specs.Calls.{LosesBelow, before_last, told_to}
 use Rattle.ec_clerk_steps.specs.CallLaws.{is_quiet}
 use Rattle.ec_base.specs.Options.{or_zero}
-
-pub same : (k : ℕ) → (k == k) ≡ true
-same k = grind arith
-
-pub differ : (j k : ℕ) → (j ≡ k → ⊥) → (j == k) ≡ false
-differ j k d = grind arith
-
-pub none_some : {A : Type 0} {x : A} → None ≡ Some x → ⊥
-none_some e = absurd (cc)
-
-and_false : (x : Bool) → (x && false) ≡ false
-and_false true = refl
-and_false false = refl
-
-pub both : (a b : Bool) → T (a && b) → T a × T b
-both true b t = (tt, t)
-both false b t = absurd t
+use Rattle.ec_base.proofs.Numbers.{same-self, differ}
+use Rattle.ec_base.proofs.Options.{none_some}
+use Rattle.ec_base.proofs.Bools.{and_parts-T, and-none}
 
 -- The entries before the last one of a start.
 
@@ -130,7 +116,7 @@ module _ (c sb first : ℕ) where
     loss = (length ss + 1, entry.Loss c (or_zero (owner w)) ns)
 
     watched : watch c now ≡ ended w ns
-    watched = watch-step c ss (show.Ended c ns) ∙ cond-true (c == c) (ended w ns) w (same c)
+    watched = watch-step c ss (show.Ended c ns) ∙ cond-true (c == c) (ended w ns) w (same-self c)
 
     -- the end of an earlier start leaves what is untold
     aside : same_start c sb c (or_zero (owner w)) ≡ false → (watch c now).untold ≡ w.untold → Knows now
@@ -149,7 +135,7 @@ module _ (c sb first : ℕ) where
         number = ap or_zero (running-owner w r) ∙ sym (ap (λ z. z.starts) (cond-true w.running w (record w { starts = w.starts + 1; running = true }) runs)) ∙ starts
 
         its : is_entry_of c sb loss.1 ≡ true
-        its = ap (λ z. same_start c sb c z) number ∙ ap (λ z. z && (sb == sb)) (same c) ∙ same sb
+        its = ap (λ z. same_start c sb c z) number ∙ ap (λ z. z && (sb == sb)) (same-self c) ∙ same-self sb
 
         untold : (watch c now).untold ≡ Some ns
         untold = ap (λ z. z.untold) (watched ∙ cond-true (is_running w (owner w)) (record w { open_start = None; undurable = []; early = []; untold = Some ns }) (record w { open_start = None; undurable = [] }) r)
@@ -187,7 +173,7 @@ module _ (c sb first : ℕ) where
                     not-same m n p l = differ m n (λ q. omega (arith, p, l, q))
 
             go : (o : Option ℕ) → owner w ≡ o → T (is_some o) → same_start c sb c (or_zero o) ≡ false
-            go (Some b) o t = ap (λ z. (c == c) && z) (differs b o) ∙ and_false (c == c)
+            go (Some b) o t = ap (λ z. (c == c) && z) (differs b o) ∙ and-none (c == c)
             go None o t = absurd t
 
   -- of any clerk
@@ -252,22 +238,22 @@ quiet-starts c w s q = refl
 
 pub unnumbered : (l : ℕ) (ls : List Shown) → T (list_all is_quiet ls) → list_any (is_numbered l) ls ≡ false
 unnumbered l [] q = refl
-unnumbered l (s ∷ ls) q = let t = both (is_quiet s) (list_all is_quiet ls) q in ap (λ z. z || list_any (is_numbered l) ls) (quiet-unnumbered l s t.0) ∙ unnumbered l ls t.1
+unnumbered l (s ∷ ls) q = let t = and_parts-T (is_quiet s) (list_all is_quiet ls) q in ap (λ z. z || list_any (is_numbered l) ls) (quiet-unnumbered l s t.0) ∙ unnumbered l ls t.1
 
 pub entries-kept : (P : ℕ × Entry → Type 0) → ((p d b : ℕ) (ns : List ℕ) → P (p, entry.Loss d b ns)) → (ss ls : List Shown) → T (list_all is_quiet ls) → Each P (place ss) → Each P (place (ss ++ ls))
 entries-kept P any ss [] q h = subst (λ z. Each P (place z)) (sym (append-nil ss)) h
-entries-kept P any ss (s ∷ ls) q h = let t = both (is_quiet s) (list_all is_quiet ls) q in subst (λ z. Each P (place z)) (append_assoc ss (s ∷ []) ls) (entries-kept P any (ss ++ s ∷ []) ls t.1 (quiet-entries P any ss s t.0 h))
+entries-kept P any ss (s ∷ ls) q h = let t = and_parts-T (is_quiet s) (list_all is_quiet ls) q in subst (λ z. Each P (place z)) (append_assoc ss (s ∷ []) ls) (entries-kept P any (ss ++ s ∷ []) ls t.1 (quiet-entries P any ss s t.0 h))
 
 pub starts-kept : (c : ℕ) (ss ls : List Shown) → T (list_all is_quiet ls) → (begun (watch c (ss ++ ls))).starts ≡ (begun (watch c ss)).starts
 starts-kept c ss [] q = ap (λ z. (begun (watch c z)).starts) (append-nil ss)
 starts-kept c ss (s ∷ ls) q =
-    let t = both (is_quiet s) (list_all is_quiet ls) q in
+    let t = and_parts-T (is_quiet s) (list_all is_quiet ls) q in
     ap (λ z. (begun (watch c z)).starts) (sym (append_assoc ss (s ∷ []) ls)) ∙ starts-kept c (ss ++ s ∷ []) ls t.1 ∙ ap (λ z. (begun z).starts) (watch-step c ss s) ∙ quiet-starts c (watch c ss) s t.0
 
 pub knows-kept : (c sb first : ℕ) (ss ls : List Shown) → T (list_all is_quiet ls) → ArePlaceable ss ls → (begun (watch c ss)).starts ≡ sb → Knows c sb first ss → Knows c sb first (ss ++ ls)
 knows-kept c sb first ss [] q a n k = subst (Knows c sb first) (sym (append-nil ss)) k
 knows-kept c sb first ss (s ∷ ls) q a n k =
-    let t = both (is_quiet s) (list_all is_quiet ls) q in
+    let t = and_parts-T (is_quiet s) (list_all is_quiet ls) q in
     let next : (begun (watch c (ss ++ s ∷ []))).starts ≡ sb = ap (λ z. (begun z).starts) (watch-step c ss s) ∙ quiet-starts c (watch c ss) s t.0 ∙ n in
     subst (Knows c sb first) (append_assoc ss (s ∷ []) ls) (knows-kept c sb first (ss ++ s ∷ []) ls t.1 a.1 next (quiet-knows c sb first ss s t.0 a.0 n k))
 

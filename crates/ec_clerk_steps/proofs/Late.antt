@@ -31,7 +31,7 @@ use Rattle.ec_protocol.specs.declared.clerk.Clerk.{Clerk}
 use Rattle.ec_coherence.specs.System.{System, at_session, base_of, is_of, is_open, undurable, with_start}
 use Rattle.ec_coherence.specs.Events.{CutAgrees, EventsAgree, Frees, IsUncut, same_op, shown_boot, shown_op}
 use Rattle.ec_coherence.specs.ChangeLaws.{Calls}
-use Rattle.ec_coherence.proofs.Tables.{equal, none_some, same, same_some}
+use Rattle.ec_coherence.proofs.Tables.{same_some}
 use Rattle.ec_coherence.specs.Answers.{IsAnswered, based, fresh_of}
 use Rattle.ec_coherence.specs.Comes.{begun_at, entry_next}
 use Rattle.ec_coherence.proofs.Answering.{alike, kept-now, new_fresh, old_fresh}
@@ -39,6 +39,8 @@ use Rattle.ec_coherence.proofs.Appended.{begun-answered, still-lost}
 use Rattle.ec_coherence.proofs.Rebased.{Alike, alike-back, covers-same as covers-based, kept-same, leaves-same, legal-same, owed_from-same, throughout-map}
 use Rattle.ec_clerk_steps.proofs.Earlier as earlier
 use Rattle.ec_clerk_steps.proofs.Split.{apart-splits, last-same}
+use Rattle.ec_base.proofs.Numbers.{same-self as same, equal}
+use Rattle.ec_base.proofs.Options.{none_some}
 
 -- Small things.
 

@@ -24,7 +24,7 @@ use Rattle.ec_coherence.specs.Log.{IsNumbered, next_of}
 use Rattle.ec_coherence.specs.Steps.{calls_after, doing_in}
 use Rattle.ec_coherence.specs.Events.{CutAgrees}
 use Rattle.ec_coherence.specs.ChangeLaws.{Calls}
-use Rattle.ec_coherence.proofs.Tables.{by-session, each-append, each-map, equal, none_some, same, same_some}
+use Rattle.ec_coherence.proofs.Tables.{by-session, each-map, same_some}
 use Rattle.ec_coherence.specs.CommitLaws.{AllAgree}
 use Rattle.ec_coherence.specs.Watches.{WatchAgrees, WatchesAgree}
 use Rattle.ec_coherence.specs.Answers.{Gives, fresh_of, op_given}
@@ -38,6 +38,9 @@ use Rattle.ec_clerk_steps.proofs.Late.{IsLate}
 use Rattle.ec_clerk_steps.proofs.LateBase as base
 use Rattle.ec_clerk_steps.proofs.Turned.{same-age, same-id, same-session}
 use Rattle.ec_clerk_steps.proofs.Zeroless.{ops-left-out, still-no-zero}
+use Rattle.ec_base.proofs.Numbers.{same-self as same, equal}
+use Rattle.ec_base.proofs.Options.{none_some}
+use Rattle.ec_history.proofs.HistoryLemmas.{each-more as each-append}
 
 module _ (g : System) (all : AllAgree g) (zeros : ZerosAgree g) (c b s : ℕ) (k : Clerk) (r : g.running c ≡ Some b) (at-start : g.clerks c b ≡ Some k) (own : g.ghost.owner s ≡ Some (c, k.age)) (ks : List Op) (fz : g.ghost.frozen s ≡ Some ks)
     (n l : ℕ) (cl : Call) (a : Answer) (op : Option ℕ) (gives : Gives g.durable.max_objects k (verdict cl k) a op (answered_clerk (verdict cl k) k).owed) (suit : Suits (verdict cl k) k) (line : MayFollow g.ghost.shown (Answered l c cl a op)) where

@@ -25,7 +25,6 @@ use Rattle.ec_protocol.specs.declared.clerk.Clerk.{Clerk}
 use Rattle.ec_coherence.specs.System.{System, at_session, is_of, is_open, undurable}
 use Rattle.ec_coherence.specs.Events.{CutAgrees, shown_boot, shown_op}
 use Rattle.ec_coherence.specs.Log.{numbered}
-use Rattle.ec_coherence.proofs.Tables.{equal}
 use Rattle.ec_coherence.specs.CommitLaws.{AllAgree}
 use Rattle.ec_clerk_steps.proofs.Issued.{kept-of}
 use Rattle.ec_clerk_steps.proofs.Settled.{shown-issue, shown-start}
@@ -36,10 +35,8 @@ use Rattle.ec_coherence.proofs.Rebased.{Alike, kept-same, legal-same}
 use Rattle.ec_clerk_steps.specs.Answering.{answered_clerk}
 use Rattle.ec_clerk_steps.proofs.Late.{IsLate, loss_in}
 use Rattle.ec_clerk_steps.proofs.Turned.{named-is, next-is, same-age}
-
-truth : (a : Bool) → T a → a ≡ true
-truth true t = refl
-truth false t = absurd t
+use Rattle.ec_base.proofs.Numbers.{equal}
+use Rattle.ec_base.proofs.Bools.{is-true}
 
 -- a history without an entry of the start has no operation of it
 pub no-count : (c b : ℕ) (h : History) → list_any (λ e. is_entry_of c b e.1) h ≡ false → length (filter (is_op_of c b) h) ≡ 0
@@ -154,7 +151,7 @@ module _ (g : System) (all : AllAgree g) (c b s : ℕ) (k : Clerk) (r : g.runnin
         let held = closure-held (of_issue c sb (issued B cut.before)) _ o.number w.closed_in in
         let j = held-op Sure (filter (of_start c b) ks) o.number held.0 sure
         (subst (λ z. Holds z o.number held.0) (sym (kept-of B most c sb cut.before legal-before) ∙ ap (of_issue c sb) kept-before ∙ shown-issue g c b above-first ks)
-        (holds-kept (λ y. not (is_lost c sb y.0 cut.before)) (of_issue c sb (issued B cut.before)) o.number held.0 held.1 (truth (not (is_lost c sb o.number cut.before)) w.not_lost))) in
+        (holds-kept (λ y. not (is_lost c sb y.0 cut.before)) (of_issue c sb (issued B cut.before)) o.number held.0 held.1 (is-true (not (is_lost c sb o.number cut.before)) w.not_lost))) in
         let two = and_parts (c == (j.0).clerk) (b == (j.0).boot) (j.2).0 in
         subst T (sym ((all.3).alike o (j.0) (oc ∙ equal c (j.0).clerk two.0) (ob ∙ equal b (j.0).boot two.1) (sym j.1))) (by (g.ghost.is_durable (j.0)) refl (j.2).1 (subst (Covers B cut.before e c sb) (sym j.1) w))
       where

@@ -1,11 +1,9 @@
 -- An answer of a clerk that is cut off may stand before its loss.
-use Rattle.std.proofs.Common.{◌≡◌, refl, sym, ap, subst, ◌∙◌, inl, inr, arith, ◌<◌, ◌≤◌, ◌+◌, ◌-◌, ℕ, T, Bool, true, false, not, ◌==◌, ◌&&◌, ◌||◌, cond, map, List, [], ◌∷◌, ◌++◌, length, Option, Some, append_assoc}
+use Rattle.std.proofs.Common.{◌≡◌, refl, sym, ap, subst, ◌∙◌, inl, inr, arith, ◌<◌, ◌+◌, ◌-◌, ℕ, T, Bool, true, false, not, ◌==◌, ◌&&◌, ◌||◌, cond, map, List, [], ◌∷◌, ◌++◌, length, Option, Some, append_assoc}
 use Rattle.std.specs.List.{filter, list_any, list_all}
 use Rattle.std.proofs.lemmas.Bool.{and_parts, cases_eq}
-use Rattle.ec_base.specs.Holds.{is_free, rank}
+use Rattle.ec_base.specs.Holds.{is_free}
 use Rattle.ec_base.specs.declared.ids.Age.{Age}
-use Rattle.ec_base.specs.declared.ids.Hold.{Hold}
-use Rattle.ec_base.specs.declared.ids.Hold.TheVariants.{Free, Read, Write}
 use Rattle.ec_volume.specs.Update.{has_operand, listed, member, operands}
 use Rattle.ec_volume.specs.Volume.{after}
 use Rattle.ec_volume.specs.declared.update.Update.{Update}
@@ -21,24 +19,22 @@ use Rattle.ec_laws.proofs.Issues.{issue-sorted}
 use Rattle.ec_laws.proofs.More.{issued-append}
 use Rattle.ec_machine_laws.proofs.Holding.{holds-front, one-update}
 use Rattle.ec_resolve.specs.declared.verdict.Verdict.{Verdict}
-use Rattle.ec_wire.specs.Messages.{is_held_mode}
 use Rattle.ec_protocol.specs.Clerk.{first_id, verdict}
 use Rattle.ec_protocol.specs.declared.clerk.Clerk.{Clerk}
 use Rattle.ec_coherence.specs.System.{System, base_of, is_of, is_open, seen_ops, undurable}
 use Rattle.ec_coherence.specs.Events.{CutAgrees, Frees, cut_in, same_op, shown_boot, shown_op}
 use Rattle.ec_coherence.specs.ChangeLaws.{IsInIt}
 use Rattle.ec_coherence.specs.Tokens.{eff, eff_hold, side, side_in, view}
-use Rattle.ec_coherence.proofs.Lists.{no_both}
 use Rattle.ec_coherence.proofs.Settled.{each-member}
-use Rattle.ec_coherence.proofs.Tables.{each-map, equal, same}
+use Rattle.ec_coherence.proofs.Tables.{each-map}
 use Rattle.ec_coherence.specs.CommitLaws.{AllAgree}
 use Rattle.ec_clerk_steps.proofs.Issued.{kept-of}
 use Rattle.ec_coherence.specs.Answers.{Gives, Sees, based, fresh_of, id_of, op_given, seen_by}
 use Rattle.ec_coherence.specs.Comes.{entry_next}
 use Rattle.ec_coherence.proofs.Answering.{fresh-here, kept-now}
 use Rattle.ec_coherence.proofs.Judged.{held-token}
-use Rattle.ec_coherence.proofs.Late.{is-at-cut, late-legal}
-use Rattle.ec_coherence.proofs.Touching.{each-holds, each-passing, none-such, or-right, token-of, touched-held}
+use Rattle.ec_coherence.proofs.Late.{is-at-cut, late-legal, free-low}
+use Rattle.ec_coherence.proofs.Touching.{each-holds, each-passing, none-such, token-of, touched-held}
 use Rattle.ec_clerk_steps.specs.Answering.{answered_clerk}
 use Rattle.ec_clerk_steps.specs.Frees.{FreesAgree}
 use Rattle.ec_clerk_steps.specs.Zeros.{LeaveOut, ZerosAgree}
@@ -46,6 +42,8 @@ use Rattle.ec_clerk_steps.proofs.Late.{IsLate, loss_in}
 use Rattle.ec_clerk_steps.proofs.LateBase as base
 use Rattle.ec_clerk_steps.proofs.Live.{own-age, owns, stands, there}
 use Rattle.ec_clerk_steps.proofs.Zeroless.{left-out}
+use Rattle.ec_base.proofs.Numbers.{same-self as same, equal}
+use Rattle.ec_base.proofs.Bools.{not-both as no_both, or-right}
 
 -- Lists.
 
@@ -102,13 +100,6 @@ of-number Q n (x ∷ xs) h m = go (n == x.number) refl m (of-number Q n xs h.1)
     go : (b : Bool) → (n == x.number) ≡ b → T (b || member n (numbers xs)) → (T (member n (numbers xs)) → (j : Op) × Q j × (n ≡ j.number)) → (j : Op) × Q j × (n ≡ j.number)
     go true e t r = (x, h.0, equal n x.number e)
     go false e t r = r t
-
-free-low : (a f : Hold) → T (is_held_mode a) → rank a ≤ rank f → T (is_free f) → ⊥
-free-low Free f m l t = m
-free-low Read Free m l t = absurd (omega (arith, l))
-free-low Write Free m l t = absurd (omega (arith, l))
-free-low a Read m l t = t
-free-low a Write m l t = t
 
 same-boot : (f x y : ℕ) → f < y → x - f ≡ y - f → x ≡ y
 same-boot f x y l e = omega (arith, l, e)

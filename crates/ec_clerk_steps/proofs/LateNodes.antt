@@ -29,9 +29,8 @@ use Rattle.ec_coherence.proofs.ClerkIn.{not-in-it, now-in}
 use Rattle.ec_coherence.proofs.CutOff as off
 use Rattle.ec_coherence.proofs.Goes.{Goes}
 use Rattle.ec_coherence.proofs.Issued.{image-one}
-use Rattle.ec_coherence.proofs.Lists.{and_first, map-more}
 use Rattle.ec_coherence.proofs.OnSystem.{begins, ends}
-use Rattle.ec_coherence.proofs.Tables.{differs, equal}
+use Rattle.ec_coherence.proofs.Tables.{differs}
 use Rattle.ec_coherence.specs.CommitLaws.{AllAgree}
 use Rattle.ec_coherence.proofs.Doings.{begins-stand}
 use Rattle.ec_coherence.specs.Answers.{Gives, op_given}
@@ -42,6 +41,9 @@ use Rattle.ec_clerk_steps.proofs.Framed.{images-told, logs-told}
 use Rattle.ec_clerk_steps.proofs.LateSeen.{late-seen-agrees}
 use Rattle.ec_clerk_steps.proofs.Live.{owns, stands}
 use Rattle.ec_clerk_steps.proofs.Turned.{writes-all}
+use Rattle.ec_base.proofs.Bools.{left as and_first}
+use Rattle.ec_base.proofs.Numbers.{equal}
+use Rattle.ec_base.proofs.Lists.{map-more}
 
 module _ (g : System) (all : AllAgree g) (c s : ℕ) (age : Age) (k : Clerk) (in-it : IsInIt g c s age k) (r : g.running c ≡ Some age.boot) (ks : List Op) (fz : g.ghost.frozen s ≡ Some ks) (n : ℕ) (a : Answer) (op : Option ℕ)
     (sh : List Shown) (hi : History) (fr : Table ℕ) (calls : Calls) where

@@ -16,7 +16,6 @@ use Rattle.ec_protocol.specs.declared.clerk.Clerk.{Clerk}
 use Rattle.ec_coherence.specs.System.{System, is_of, seen_ops}
 use Rattle.ec_coherence.specs.Events.{CutAgrees, shown_boot}
 use Rattle.ec_coherence.specs.ChangeLaws.{IsInIt}
-use Rattle.ec_coherence.proofs.Tables.{none_some}
 use Rattle.ec_coherence.specs.CommitLaws.{AllAgree}
 use Rattle.ec_coherence.specs.Answers.{Gives, based, fresh_of}
 use Rattle.ec_coherence.specs.Comes.{entry_next}
@@ -28,6 +27,7 @@ use Rattle.ec_clerk_steps.proofs.LateFits as fits
 use Rattle.ec_clerk_steps.proofs.LateNodes.{late-nodes}
 use Rattle.ec_clerk_steps.proofs.Live.{there}
 use Rattle.ec_clerk_steps.proofs.Zeroless.{left-out}
+use Rattle.ec_base.proofs.Options.{none_some}
 
 module _ (g : System) (all : AllAgree g) (zeros : ZerosAgree g) (frees : FreesAgree g) (c s : ℕ) (age : Age) (k : Clerk) (in-it : IsInIt g c s age k) (r : g.running c ≡ Some age.boot) (ks : List Op) (fz : g.ghost.frozen s ≡ Some ks)
     (n l : ℕ) (cl : Call) (a : Answer) (op : Option ℕ) (gives : Gives g.durable.max_objects k (verdict cl k) a op (answered_clerk (verdict cl k) k).owed) (suit : Suits (verdict cl k) k) (line : MayFollow g.ghost.shown (Answered l c cl a op)) where

@@ -21,7 +21,7 @@ use Rattle.ec_coherence.specs.Steps.{doing_in, less_call}
 use Rattle.ec_coherence.specs.Events.{cut_in}
 use Rattle.ec_coherence.specs.ChangeLaws.{IsInIt, with_clerk}
 use Rattle.ec_coherence.proofs.ClerkIn.{now-in, start-same}
-use Rattle.ec_coherence.proofs.Tables.{each-append, equal, none_some, same_some}
+use Rattle.ec_coherence.proofs.Tables.{same_some}
 use Rattle.ec_coherence.specs.CommitLaws.{AllAgree}
 use Rattle.ec_coherence.proofs.Rests.{rests-stand}
 use Rattle.ec_clerk_steps.specs.CallLaws.{Passes}
@@ -49,6 +49,9 @@ use Rattle.ec_clerk_steps.proofs.Single.{IsIssued, gives-same, issued-or}
 use Rattle.ec_clerk_steps.proofs.SameStores.{SameStore, frees-stay, names-stay, session-store}
 use Rattle.ec_clerk_steps.proofs.Target as target
 use Rattle.ec_clerk_steps.proofs.Turned.{named-is, same-age, same-session}
+use Rattle.ec_base.proofs.Options.{none_some}
+use Rattle.ec_base.proofs.Numbers.{equal}
+use Rattle.ec_history.proofs.HistoryLemmas.{each-more as each-append}
 
 -- Other waiting calls change nothing of what an answer does.
 

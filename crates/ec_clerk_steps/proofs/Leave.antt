@@ -17,10 +17,12 @@ use Rattle.ec_laws.proofs.Held.{place-late}
 use Rattle.ec_laws.proofs.Late.{place-answer}
 use Rattle.ec_laws.proofs.More.{watch-step}
 use Rattle.ec_laws.proofs.Numbers.{each-append, each-back, each-front}
-use Rattle.ec_laws.proofs.Watching.{answered_as, before_session, in_session, showing, untold-runs}
+use Rattle.ec_laws.proofs.Watching.{answered_as, before_session, in_session, untold-runs}
 use Rattle.ec_volume.specs.Image.{is_id}
 use Rattle.ec_clerk_steps.specs.Calls.{LosesBelow, before_last, told_to}
-use Rattle.ec_clerk_steps.proofs.Known.{Knows, last-is, loses-other, other-last, same}
+use Rattle.ec_clerk_steps.proofs.Known.{Knows, last-is, loses-other, other-last}
+use Rattle.ec_base.proofs.Numbers.{same-self as same}
+use Rattle.ec_history.proofs.PlacingLemmas.{showing}
 
 -- The place of a start's last entry among these lines is one of them.
 last-within : (c b : ℕ) (w : Watch) (p found m : ℕ) (ss : List Shown) → found ≤ m → p + length ss ≤ m + 1 → last_place c b w p found ss ≤ m

@@ -27,9 +27,9 @@ use Rattle.ec_resolve.proofs.Verdicts.{done-ready, done-says, lost-says}
 use Rattle.ec_protocol.specs.Clerk.{awaited, first_id, is_owing, suits, verdict}
 use Rattle.ec_protocol.specs.declared.clerk.Clerk.{Clerk}
 use Rattle.ec_protocol.specs.declared.clerk.Waiting.{Waiting}
-use Rattle.ec_coherence.proofs.Lists.{or_first, or_next}
-use Rattle.ec_coherence.proofs.Tables.{same}
 use Rattle.ec_clerk_steps.specs.Waits.{does_wait, waits_by, waits_with}
+use Rattle.ec_base.proofs.Numbers.{same-self as same}
+use Rattle.ec_base.proofs.Bools.{or-right as or_next, or_first, holds-true}
 
 -- It holds no more than before, with the same images; and the first free id has the same image.
 pub record HoldsLess (k now : Clerk) : Type 0 where
@@ -39,9 +39,6 @@ pub record HoldsLess (k now : Clerk) : Type 0 where
   pub read : (x : ℕ) → T (holds x Read now.cache) → T (holds x Read k.cache) × (images_held k.cache x ≡ images_held now.cache x)
   pub write : (x : ℕ) → T (holds x Write now.cache) → T (holds x Write k.cache) × (images_held k.cache x ≡ images_held now.cache x)
   pub fresh : (x : ℕ) → first_id k.ids ≡ Some x → images_held k.cache x ≡ images_held now.cache x
-
-holds-true : (b : Bool) → b ≡ true → T b
-holds-true b e = subst T (sym e) tt
 
 first-nothing : (p : ℕ → Bool) (xs : List ℕ) → ((x : ℕ) → T (member x xs) → p x ≡ false) → first p xs ≡ None
 first-nothing p [] h = refl

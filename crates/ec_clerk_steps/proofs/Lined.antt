@@ -6,17 +6,16 @@ use Rattle.std.proofs.lemmas.List.Folds.{list_any-append}
 use Rattle.ec_plain.specs.declared.call.Call.{Call}
 use Rattle.ec_history.specs.History.{Each}
 use Rattle.ec_history.specs.Placing.{Agrees, Unanswered, begun, is_numbered, last_place, unwatched, watch}
-use Rattle.ec_history.specs.declared.watch.Watch.{Watch}
 use Rattle.ec_history.specs.declared.shown.Shown.{Shown}
 use Rattle.ec_history.specs.declared.shown.Shown.TheVariants as show
 use Rattle.ec_laws.proofs.More.{watch-step}
-use Rattle.ec_laws.proofs.Numbers.{count, each-append, each-map}
+use Rattle.ec_laws.proofs.Numbers.{count, each-append}
 use Rattle.ec_protocol.specs.declared.clerk.Clerk.{Clerk}
 use Rattle.ec_protocol.specs.declared.clerk.Waiting.{Waiting}
 use Rattle.ec_coherence.specs.System.{System, base_of}
 use Rattle.ec_coherence.specs.Events.{EventsAgree, shown_boot}
 use Rattle.ec_coherence.specs.Steps.{call_of}
-use Rattle.ec_coherence.proofs.Tables.{equal, same, same_some}
+use Rattle.ec_coherence.proofs.Tables.{same_some}
 use Rattle.ec_coherence.specs.StandLaws.{lined}
 use Rattle.ec_coherence.specs.Comes.{begun_at}
 use Rattle.ec_clerk_steps.specs.Calls.{Began, CallsAgree, IsBefore, IsOpenCall, LosesBelow, StartCalls, is_shown, told_to}
@@ -24,9 +23,9 @@ use Rattle.ec_clerk_steps.specs.Waits.{HasLine}
 use Rattle.ec_clerk_steps.proofs.CallFrames.{lines-append}
 use Rattle.ec_clerk_steps.proofs.Issued.{before-all}
 use Rattle.ec_clerk_steps.proofs.Known.{first-line}
-
-two : false ≡ true → ⊥
-two e = cc
+use Rattle.ec_base.proofs.Numbers.{same-self as same, equal}
+use Rattle.ec_laws.proofs.BasesAlike.{each-map}
+use Rattle.ec_laws.proofs.Late.{begun-untold}
 
 -- A call whose line wasn't shown began behind all operations of its start.
 pub began-last : (g : System) → EventsAgree g → (c b : ℕ) (k : Clerk) → g.running c ≡ Some b → g.clerks c b ≡ Some k → (before : ℕ) → before + 1 ≡ k.log.next → (place : ℕ) → Each (IsBefore c (shown_boot g c b) place before) g.ghost.history
@@ -35,9 +34,6 @@ began-last g events c b k run there before last place =
   where
     one : (m : ℕ) → m + 1 ≡ k.log.next → m ≡ before
     one m e = omega (arith, e, last)
-
-begun-untold : (w : Watch) → (begun w).untold ≡ w.untold
-begun-untold w = cond_both w.running w (record w { starts = w.starts + 1; running = true }) (λ v. v.untold ≡ w.untold) (λ e. refl) (λ e. refl)
 
 module _ (g : System) (events : EventsAgree g) (c n l : ℕ) (cl : Call) (x : call_of c n g.calls ≡ Some (l, cl)) where
   abbrev h : System

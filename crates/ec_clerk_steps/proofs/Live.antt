@@ -12,15 +12,16 @@ use Rattle.ec_coherence.specs.System.{System, clerk_in, is_open, seen_ops}
 use Rattle.ec_coherence.specs.Events.{IsUncut, cut_in}
 use Rattle.ec_coherence.specs.ChangeLaws.{IsInIt}
 use Rattle.ec_coherence.proofs.ClerkIn.{was-in}
-use Rattle.ec_coherence.proofs.Lists.{no_both}
 use Rattle.ec_coherence.proofs.OpenSlots.{open-at}
-use Rattle.ec_coherence.proofs.Tables.{each-map, same, same_some}
+use Rattle.ec_coherence.proofs.Tables.{each-map, same_some}
 use Rattle.ec_coherence.specs.CommitLaws.{AllAgree}
 use Rattle.ec_coherence.specs.Answers.{IsLive, Sees, id_of}
 use Rattle.ec_coherence.specs.Comes.{Marked}
 use Rattle.ec_clerk_steps.specs.Zeros.{ZerosAgree}
 use Rattle.ec_clerk_steps.proofs.Free.{free-gone, free-unused}
 use Rattle.ec_clerk_steps.proofs.Unmade.{Leaves}
+use Rattle.ec_base.proofs.Numbers.{same-self as same}
+use Rattle.ec_base.proofs.Bools.{not-both as no_both}
 
 -- the session is open in the clerk's slot
 pub record IsSlot (g : System) (c s : ℕ) (age : Age) : Type 0 where

@@ -16,7 +16,7 @@ use Rattle.ec_coherence.specs.Tokens.{Names, is_hidden, view}
 use Rattle.ec_coherence.specs.Steps.{doing_in, less_call}
 use Rattle.ec_coherence.specs.ChangeLaws.{IsInIt, with_clerk}
 use Rattle.ec_coherence.proofs.ClerkIn.{now-in, start-same}
-use Rattle.ec_coherence.proofs.Tables.{each-append, none_some, same_some}
+use Rattle.ec_coherence.proofs.Tables.{same_some}
 use Rattle.ec_coherence.specs.CommitLaws.{AllAgree}
 use Rattle.ec_coherence.proofs.Rests.{rests-stand}
 use Rattle.ec_clerk_steps.specs.CallLaws.{Passes}
@@ -40,6 +40,8 @@ use Rattle.ec_clerk_steps.proofs.Single.{IsIssued, gives-same, issued-or}
 use Rattle.ec_clerk_steps.proofs.SameStores.{SameStore, frees-stay, names-stay, session-store}
 use Rattle.ec_clerk_steps.proofs.Target as target
 use Rattle.ec_clerk_steps.proofs.Turned.{same-age, same-session}
+use Rattle.ec_base.proofs.Options.{none_some}
+use Rattle.ec_history.proofs.HistoryLemmas.{each-more as each-append}
 
 module _ (g : System) (c s : ℕ) (age : Age) (d : Doing) (γ : Ghost) (t : IsTrying g c age.boot d γ) (owns : γ.owner s ≡ Some (c, age)) (in_it : d.clerk.session ≡ Some s) (before rest : List Waiting) (w : Waiting) (split : d.clerk.waiting ≡ before ++ w ∷ rest)
     (a : Answer) (op : Option ℕ) (gives : Gives g.durable.max_objects (single.left g c age.boot d γ t before rest w split) (single.v g c age.boot d γ t before rest w split) a op (single.now g c age.boot d γ t before rest w split).owed)

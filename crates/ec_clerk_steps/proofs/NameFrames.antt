@@ -9,10 +9,11 @@ use Rattle.ec_protocol.specs.declared.clerk.Clerk.{Clerk}
 use Rattle.ec_coherence.specs.System.{System, clerk_in, clerk_of}
 use Rattle.ec_coherence.specs.Tokens.{Names, in_sixteen, is_hidden, is_untaken, side, side_in, view}
 use Rattle.ec_coherence.proofs.Lists.{each-turn}
-use Rattle.ec_coherence.proofs.Tables.{differ, none_some}
+use Rattle.ec_coherence.proofs.Tables.{differ}
 use Rattle.ec_clerk_steps.specs.Names.{AreOnNamed, NamesAgree}
 use Rattle.ec_clerk_steps.specs.Orderly.{OrderlyAgree}
 use Rattle.ec_clerk_steps.specs.Follows.{Follows}
+use Rattle.ec_base.proofs.Options.{none_some}
 
 not-and : (a b : Bool) → a ≡ false → T (not (a && b))
 not-and a b e = go a b e

@@ -21,7 +21,7 @@ use Rattle.ec_resolve.specs.declared.verdict.Verdict.{Verdict}
 use Rattle.ec_resolve.specs.declared.verdict.Verdict.TheVariants.{Need, Lost, NeedIds, Done}
 use Rattle.ec_wire.specs.declared.msg.Msg.{Msg}
 use Rattle.ec_wire.specs.declared.msg.Msg.TheVariants.{Claim}
-use Rattle.ec_protocol.specs.Clerk.{Doing, emit, has_session, hello, lose, same_age, send, spend, take_ended, take_opened, verdict, with_clerk, is_session}
+use Rattle.ec_protocol.specs.Clerk.{Doing, emit, has_session, hello, lose, same_age, send, spend, take_ended, take_opened, verdict, with_clerk}
 use Rattle.ec_protocol.specs.declared.clerk.Clerk.{Clerk}
 use Rattle.ec_protocol.specs.declared.clerk.Out.{Out}
 use Rattle.ec_protocol.specs.declared.clerk.Out.TheVariants as out
@@ -32,9 +32,9 @@ use Rattle.ec_coherence.specs.Images.{ImagesAgree}
 use Rattle.ec_coherence.specs.Steps.{calls_after, doing_in, sends}
 use Rattle.ec_coherence.specs.ChangeLaws.{Calls}
 use Rattle.ec_coherence.proofs.ClerkIn.{start-same}
-use Rattle.ec_coherence.proofs.Lists.{each-at, each-member, each-more, no_both}
+use Rattle.ec_coherence.proofs.Lists.{each-at, each-member, each-more}
 use Rattle.ec_coherence.proofs.SendClaim.{held-names}
-use Rattle.ec_coherence.proofs.Tables.{equal, none_some, same, same_some}
+use Rattle.ec_coherence.proofs.Tables.{same_some}
 use Rattle.ec_coherence.specs.CommitLaws.{AllAgree}
 use Rattle.ec_coherence.specs.Answers.{op_given}
 use Rattle.ec_coherence.specs.Comes.{after_answer, ops_next}
@@ -43,6 +43,10 @@ use Rattle.ec_clerk_steps.proofs.Entries.{Of}
 use Rattle.ec_clerk_steps.proofs.Naming.{done-named, held-named}
 use Rattle.ec_clerk_steps.specs.Follows.{IsPlaced, WasIn}
 use Rattle.ec_clerk_steps.proofs.NameFrames.{names-follow, names-read}
+use Rattle.ec_base.proofs.Numbers.{equal}
+use Rattle.ec_base.proofs.Options.{none_some}
+use Rattle.ec_clerk_steps.proofs.FreesStored.{if-some, some-if}
+use Rattle.ec_base.proofs.Bools.{not-both as no_both}
 
 -- What is held, and what is issued.
 
@@ -67,20 +71,6 @@ pub ops-named : (g : System) → NamesAgree g → ImagesAgree g → (s : ℕ) (k
 ops-named g na im s k there c b p cl = given-named g k cl na.root (held-named g na im s k there) (na.ids s k there) c b p
 
 -- One start changes.
-
-if-some : (s : ℕ) (k m : Clerk) → if_in s (Some k) ≡ Some m → (k ≡ m) × (k.session ≡ Some s)
-if-some s k m p = go (is_session s k.session) refl p
-  where
-    session : (o : Option ℕ) → is_session s o ≡ true → o ≡ Some s
-    session None e = absurd (cc)
-    session (Some t) e = ap Some (sym (equal s t e))
-
-    go : (z : Bool) → is_session s k.session ≡ z → elim z as (λ y. Option Clerk) [ true ↦ Some k | false ↦ None ] ≡ Some m → (k ≡ m) × (k.session ≡ Some s)
-    go true e q = (same_some q, session k.session e)
-    go false e q = absurd (none_some q)
-
-some-if : (s : ℕ) (k : Clerk) → k.session ≡ Some s → if_in s (Some k) ≡ Some k
-some-if s k e = ap (λ o. elim (is_session s o) as (λ y. Option Clerk) [ true ↦ Some k | false ↦ None ]) e ∙ ap (λ z. elim z as (λ y. Option Clerk) [ true ↦ Some k | false ↦ None ]) (same s)
 
 module _ (g : System) (na : NamesAgree g) (c b : ℕ) (now : Clerk) (placed : IsPlaced g c b now) (running : ℕ → Option ℕ) (boots : ℕ → ℕ) (calls : Calls) (p : List (ℕ × Msg)) (γ : Ghost)
     (owner : γ.owner ≡ g.ghost.owner) (grants : γ.grants ≡ g.ghost.grants) (first : γ.first ≡ g.ghost.first) where

@@ -27,10 +27,11 @@ use Rattle.ec_coherence.proofs.Acting.{IsIn, view-is}
 use Rattle.ec_coherence.proofs.Goes.{names-act}
 use Rattle.ec_coherence.proofs.Lists.{each-at, each-back, each-both, each-member, each-turn}
 use Rattle.ec_coherence.proofs.Needs.{asks-held}
-use Rattle.ec_coherence.proofs.Tables.{equal, same, same_some}
+use Rattle.ec_coherence.proofs.Tables.{same_some}
 use Rattle.ec_clerk_steps.specs.Names.{AreOnNamed, NamesAgree}
 use Rattle.ec_clerk_steps.proofs.Entries.{Of, after-in}
 use Rattle.ec_clerk_steps.proofs.Touched.{touched-on}
+use Rattle.ec_base.proofs.Numbers.{same-self as same, equal}
 
 -- What a verdict needs.
 

@@ -27,7 +27,6 @@ use Rattle.ec_coherence.proofs.CacheChange.{at-used, behind-writes}
 use Rattle.ec_coherence.proofs.ClerkIn.{not-in-it}
 use Rattle.ec_coherence.proofs.Goes.{Goes, goes-rest}
 use Rattle.ec_coherence.proofs.HeldChange as held
-use Rattle.ec_coherence.proofs.Lists.{and_first}
 use Rattle.ec_coherence.proofs.OnSystem.{begins, ends}
 use Rattle.ec_coherence.proofs.Tables.{differs}
 use Rattle.ec_coherence.proofs.Try.{issued-goes}
@@ -36,6 +35,7 @@ use Rattle.ec_coherence.proofs.Doings.{begins-stand}
 use Rattle.ec_clerk_steps.specs.Answering.{answering}
 use Rattle.ec_clerk_steps.proofs.Framed.{images-told, logs-told}
 use Rattle.ec_clerk_steps.proofs.Live.{owns, stands, there}
+use Rattle.ec_base.proofs.Bools.{left as and_first}
 
 -- tokens, logs and images
 abbrev pub NodesAgree : System → Type 0

@@ -1,5 +1,5 @@
 -- Each line number is answered at most once, by the clerk and with the call of its lines.
-use Rattle.std.proofs.Common.{◌≡◌, sym, subst, ◌∙◌, arith, ℕ, Bool, true, false, ◌==◌, List, [], ◌∷◌, ◌++◌, Option, append_assoc}
+use Rattle.std.proofs.Common.{◌≡◌, sym, subst, ◌∙◌, ℕ, Bool, true, false, ◌==◌, List, [], ◌∷◌, ◌++◌, Option, append_assoc}
 use Rattle.std.specs.Bool.{OnTrue}
 use Rattle.ec_plain.specs.declared.call.Call.{Call}
 use Rattle.ec_history.specs.Placing.{Agrees, ArePlaceable, EachLine, MayFollow, Unanswered}
@@ -9,9 +9,7 @@ use Rattle.ec_history.specs.declared.shown.Shown.TheVariants as show
 use Rattle.ec_laws.proofs.Cuts.{placeable-split}
 use Rattle.ec_clerk_steps.specs.CallLaws.{IsAnsweredOnce}
 use Rattle.ec_clerk_steps.proofs.CallFrames.{lines-append}
-
-flip : (m n : ℕ) → (m == n) ≡ (n == m)
-flip m n = grind arith
+use Rattle.ec_base.proofs.Numbers.{turned as flip}
 
 at-line : (P : Shown → Type 0) (xs : List Shown) (s : Shown) (ys : List Shown) → EachLine P (xs ++ s ∷ ys) → P s
 at-line P [] s ys h = h.0

@@ -23,8 +23,6 @@ use Rattle.ec_coherence.specs.Sessions.{HasNone}
 use Rattle.ec_coherence.specs.Log.{IsNumbered, next_of}
 use Rattle.ec_coherence.specs.Steps.{calls_after}
 use Rattle.ec_coherence.specs.ChangeLaws.{Calls, IsInIt}
-use Rattle.ec_coherence.proofs.Lists.{and_both}
-use Rattle.ec_coherence.proofs.Tables.{each-append, none_some, same}
 use Rattle.ec_coherence.specs.CommitLaws.{AllAgree}
 use Rattle.ec_coherence.specs.Answers.{Gives, fresh_of, op_given}
 use Rattle.ec_coherence.specs.Comes.{after_answer}
@@ -41,6 +39,10 @@ use Rattle.ec_clerk_steps.proofs.Unseen.{answer-keeps-all}
 use Rattle.ec_clerk_steps.proofs.Watched as watched
 use Rattle.ec_clerk_steps.proofs.Watched.{IsPending}
 use Rattle.ec_clerk_steps.proofs.Zeroless.{left-out, ops-left-out, still-no-zero}
+use Rattle.ec_base.proofs.Numbers.{same-self as same}
+use Rattle.ec_base.proofs.Options.{none_some}
+use Rattle.ec_base.proofs.Bools.{and-both as and_both}
+use Rattle.ec_history.proofs.HistoryLemmas.{each-more as each-append}
 
 module _ (g : System) (all : AllAgree g) (zeros : ZerosAgree g) (c s : ℕ) (age : Age) (k : Clerk) (in-it : IsInIt g c s age k) (r : g.running c ≡ Some age.boot) (o : T (is_open g s))
     (n l : ℕ) (cl : Call) (a : Answer) (op : Option ℕ) (gives : Gives g.durable.max_objects k (verdict cl k) a op (answered_clerk (verdict cl k) k).owed) (suit : Suits (verdict cl k) k)

@@ -2,9 +2,9 @@
 use Rattle.std.proofs.Common.{◌≡◌, sym, ap, ◌∙◌, ℕ, [], None}
 use Rattle.ec_coherence.specs.System.{System}
 use Rattle.ec_coherence.specs.Steps.{call_of}
-use Rattle.ec_coherence.proofs.Tables.{none_some}
 use Rattle.ec_clerk_steps.specs.Calls.{CallsAgree}
 use Rattle.ec_clerk_steps.specs.Waits.{AreAtRest}
+use Rattle.ec_base.proofs.Options.{none_some}
 
 module _ (g : System) (still : (c : ℕ) → g.running c ≡ None) (none : g.calls ≡ []) where
   pub opening-calls : CallsAgree g

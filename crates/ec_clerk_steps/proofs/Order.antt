@@ -31,12 +31,13 @@ use Rattle.ec_protocol.specs.declared.clerk.Recalled.{Recalled}
 use Rattle.ec_protocol.specs.declared.clerk.Waiting.{Waiting}
 use Rattle.ec_protocol.specs.declared.clerk.Out.TheVariants as out
 use Rattle.ec_protocol.specs.Clerk.{Doing, Tried, Waits, Answered, add_ids, answer_recalls, answer_with, ask_anew, ask_for, ask_pushes, ask_room, await, awaited, claim, emit, enter_epoch, epoch, evict, evict_unpinned, first_id, give_back, has_session, hello, idless, is_need, is_owing, is_ready, is_session, is_settled, is_wanted, issue, keep_call, keep_push, keep_recall, less_id, lose, mark_recall, may_want, needs, on_objects, refuse_make, refuse_makes, resend_batches, resend_needs, resend_room, resend_want, same_age, send, send_backs, send_batch, send_outstanding, send_picked, send_room, send_want, settle, settle_outcome, spend, suits, take_ended, take_ids, take_no_room, take_recall, take_restarted, taken, try, try_pushes, try_recalls, try_verdict, verdict, want, wanted, with_cache, with_clerk, with_log, with_update}
-use Rattle.ec_coherence.proofs.Lists.{and_first, each-more}
+use Rattle.ec_coherence.proofs.Lists.{each-more}
 use Rattle.ec_coherence.proofs.Settling.{Keeping, settle-keeps}
-use Rattle.ec_coherence.proofs.Tables.{holds}
 use Rattle.ec_coherence.proofs.Try.{OnTried}
 use Rattle.ec_coherence.proofs.TriedList.{keeping}
 use Rattle.ec_clerk_steps.proofs.Logs.{InOrder, end-order, issue-order, kept-order, pick-order}
+use Rattle.ec_base.proofs.Bools.{left as and_first, holds-true as holds}
+use Rattle.ec_coherence.proofs.KeyedSteps.{entering}
 
 -- what is recalled, asked for and issued is in order
 abbrev pub IsTrim : Clerk → Type 0
@@ -178,9 +179,6 @@ trim-refuse live reserved (p ∷ ws) e h = trim-refuse live reserved ws _ (go (i
     go : (o : Option (List ℕ)) → Trim (elim o as (λ y. Doing) [ Some xs ↦ refuse_make live reserved p.no xs e | None ↦ keep_call p e ])
     go (Some xs) = h
     go None = h
-
-abbrev entering : ℕ → Doing → Doing
-entering a e = elim (nat_lt (epoch e) a) as (λ y. Doing) [ true ↦ with_clerk (enter_epoch a) e | false ↦ e ]
 
 trim-restarted : (a : ℕ) (e : Doing) → Trim e → Trim (take_restarted a e)
 trim-restarted a e h = choose (nat_lt a (epoch e)) e (send_outstanding (claim (entering a e))) h

@@ -17,7 +17,6 @@ use Rattle.ec_coherence.specs.Events.{IsUncut}
 use Rattle.ec_coherence.specs.Steps.{doing_in}
 use Rattle.ec_coherence.specs.ChangeLaws.{with_clerk}
 use Rattle.ec_coherence.proofs.ClerkIn.{start-same}
-use Rattle.ec_coherence.proofs.Tables.{none_some}
 use Rattle.ec_coherence.specs.CommitLaws.{AllAgree}
 use Rattle.ec_coherence.specs.Watches.{WatchAgrees}
 use Rattle.ec_clerk_steps.specs.CallLaws.{Passes}
@@ -45,6 +44,7 @@ use Rattle.ec_clerk_steps.proofs.SameStores.{SameStore, frees-stay, names-stay}
 use Rattle.ec_clerk_steps.proofs.Target as target
 use Rattle.ec_clerk_steps.proofs.Turned.{same-age}
 use Rattle.ec_clerk_steps.proofs.Without as without
+use Rattle.ec_base.proofs.Options.{none_some}
 
 module _ (g : System) (c b : ℕ) (d : Doing) (γ : Ghost) (t : IsTrying g c b d γ) (out : d.clerk.session ≡ None) (before rest : List Waiting) (w : Waiting) (split : d.clerk.waiting ≡ before ++ w ∷ rest)
     (a : Answer) (op : Option ℕ) (gives : Gives g.durable.max_objects (single.left g c b d γ t before rest w split) (single.v g c b d γ t before rest w split) a op (single.now g c b d γ t before rest w split).owed)

@@ -24,8 +24,7 @@ use Rattle.ec_coherence.specs.Steps.{doing_in}
 use Rattle.ec_coherence.specs.Events.{CutAgrees, shown_boot, shown_op}
 use Rattle.ec_coherence.specs.ChangeLaws.{with_clerk}
 use Rattle.ec_coherence.proofs.ClerkIn.{start-same}
-use Rattle.ec_coherence.proofs.Lists.{no_both}
-use Rattle.ec_coherence.proofs.Tables.{none_some, same_some}
+use Rattle.ec_coherence.proofs.Tables.{same_some}
 use Rattle.ec_coherence.specs.CommitLaws.{AllAgree}
 use Rattle.ec_clerk_steps.specs.CallLaws.{Passes}
 use Rattle.ec_clerk_steps.specs.Waits.{HasLine}
@@ -40,7 +39,7 @@ use Rattle.ec_coherence.specs.Comes.{begun_at, entry_next}
 use Rattle.ec_coherence.proofs.Answering.{fresh-here, new_fresh, old_fresh}
 use Rattle.ec_coherence.proofs.Judged.{shows-all}
 use Rattle.ec_coherence.proofs.Rebased.{Alike, owed_from-same}
-use Rattle.ec_coherence.proofs.Touching.{each-holds, each-passing, none-such, or-right, touched-held}
+use Rattle.ec_coherence.proofs.Touching.{each-holds, each-passing, none-such, touched-held}
 use Rattle.ec_clerk_steps.specs.Answering.{Suits, answered_clerk}
 use Rattle.ec_clerk_steps.specs.Frees.{FreesAgree}
 use Rattle.ec_clerk_steps.specs.Trying.{IsTrying, late_ghost}
@@ -61,6 +60,8 @@ use Rattle.ec_clerk_steps.proofs.Single.{gives-same}
 use Rattle.ec_clerk_steps.proofs.SameStores.{SameStore, frees-stay, names-stay}
 use Rattle.ec_clerk_steps.proofs.Target as target
 use Rattle.ec_clerk_steps.proofs.Turned.{same-age}
+use Rattle.ec_base.proofs.Options.{none_some}
+use Rattle.ec_base.proofs.Bools.{not-both as no_both, or-right}
 
 each-any : {A : Type 0} (P : A → Type 0) (xs : List A) → ((x : A) → P x) → Each P xs
 each-any P [] f = tt

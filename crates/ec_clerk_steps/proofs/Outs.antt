@@ -10,7 +10,8 @@ use Rattle.ec_protocol.specs.declared.clerk.Out.TheVariants as out
 use Rattle.ec_wire.specs.declared.msg.Msg.{Msg}
 use Rattle.ec_coherence.specs.System.{System, Ghost, with_start}
 use Rattle.ec_coherence.specs.Steps.{call_of, calls_after, less_call, out_lines, sends}
-use Rattle.ec_coherence.proofs.Acting.{grouped, sends-more}
+use Rattle.ec_coherence.proofs.Acting.{sends-more}
+use Rattle.ec_base.proofs.Lists.{regroup as grouped}
 
 abbrev pub Calls : Type 0
 Calls = Table (Table (ℕ × Call))

@@ -30,13 +30,15 @@ use Rattle.ec_coherence.specs.Log.{HasWrites, IsNumbered, LogsAgree, next_of}
 use Rattle.ec_coherence.specs.Images.{ImagesAgree}
 use Rattle.ec_coherence.specs.Invariant.{Invariant}
 use Rattle.ec_coherence.specs.ChangeLaws.{Calls}
-use Rattle.ec_coherence.proofs.Lists.{and_first, and_next, each-more, each-turn, or_first}
-use Rattle.ec_coherence.proofs.Tables.{equal, none_some, same}
+use Rattle.ec_coherence.proofs.Lists.{each-more, each-turn}
 use Rattle.ec_coherence.proofs.Judged.{held-token}
 use Rattle.ec_coherence.specs.Answers.{Gives, op_given}
 use Rattle.ec_clerk_steps.specs.Answering.{Suits, answered_clerk, done_clerk}
 use Rattle.ec_clerk_steps.proofs.NodesAnswered.{NodesAgree}
 use Rattle.ec_clerk_steps.proofs.Turned.{writes-all}
+use Rattle.ec_base.proofs.Bools.{left as and_first, right as and_next, or_first}
+use Rattle.ec_base.proofs.Numbers.{same-self as same, equal}
+use Rattle.ec_base.proofs.Options.{none_some}
 
 -- A sound update has an operand.
 some-operand : (u : Update) → T (is_sound u) → (x : ℕ) × T (member x (operands u))

@@ -10,13 +10,13 @@ use Rattle.ec_protocol.specs.declared.clerk.Waiting.{Waiting}
 use Rattle.ec_coherence.specs.System.{System, Ghost}
 use Rattle.ec_coherence.specs.Tokens.{Names, view}
 use Rattle.ec_coherence.specs.Steps.{doing_in}
-use Rattle.ec_coherence.proofs.Caches.{at-cons}
 use Rattle.ec_coherence.proofs.Lists.{each-more, each-turn}
-use Rattle.ec_coherence.proofs.Tables.{same}
 use Rattle.ec_clerk_steps.specs.DoingLaws.{IsInHand}
 use Rattle.ec_clerk_steps.proofs.Hand.{again-clerk, name-on, sends-batch, sends-room, wants-again}
 use Rattle.ec_clerk_steps.proofs.Moving as moving
 use Rattle.ec_clerk_steps.proofs.Naming.{needs-named}
+use Rattle.ec_base.proofs.Numbers.{same-self as same}
+use Rattle.ec_coherence.proofs.CacheChange.{at-cons}
 
 -- something is found at each key
 keys-at : {X : Type 0} (es : Table X) → Each (λ k. T (is_some (at k es))) (keys es)

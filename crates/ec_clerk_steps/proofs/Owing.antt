@@ -19,12 +19,14 @@ use Rattle.ec_protocol.specs.declared.clerk.Clerk.{Clerk}
 use Rattle.ec_coherence.specs.System.{System, base_of, is_of}
 use Rattle.ec_coherence.specs.Events.{CutAgrees, EventsAgree, shown_boot, shown_op}
 use Rattle.ec_coherence.specs.Log.{Knows, numbered}
-use Rattle.ec_coherence.proofs.Lists.{and_both, and_first, and_next, each-always, each-turn, filter-alike, filter-map, filter-two, map-two, same_tests}
-use Rattle.ec_coherence.proofs.Tables.{same}
+use Rattle.ec_coherence.proofs.Lists.{each-always, each-turn, filter-alike, filter-map, filter-two}
 use Rattle.ec_coherence.specs.Starts.{AreAlike}
 use Rattle.ec_coherence.proofs.Lost as losses
 use Rattle.ec_coherence.proofs.Lost.{in-part, of-part}
 use Rattle.ec_clerk_steps.specs.Cuts.{lost_of}
+use Rattle.ec_base.proofs.Bools.{left as and_first, and-both as and_both, same_tests, right as and_next}
+use Rattle.ec_base.proofs.Numbers.{same-self as same}
+use Rattle.ec_base.proofs.Lists.{map_twice as map-two}
 
 -- the log lost what isn't durable
 pub log-lost : (w : Window) (l : LogState) (own dur : Op → Bool) (ks : List Op) → Knows l w (filter own ks) dur → lost w l ≡ numbered (filter (λ o. own o && not (dur o)) ks)

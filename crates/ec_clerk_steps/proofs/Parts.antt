@@ -32,11 +32,12 @@ use Rattle.ec_coherence.specs.Tokens.{Fits, side, side_in, view}
 use Rattle.ec_coherence.specs.Steps.{doing_in}
 use Rattle.ec_coherence.proofs.ClerkIn.{start-same, was-in}
 use Rattle.ec_coherence.proofs.Lists.{each-fewer}
-use Rattle.ec_coherence.proofs.Tables.{equal}
 use Rattle.ec_coherence.specs.Answers.{IsUnowed}
 use Rattle.ec_coherence.specs.StandLaws.{IsUnderWay}
 use Rattle.ec_clerk_steps.specs.Zeros.{HasNoZero, ZerosAgree}
 use Rattle.ec_clerk_steps.specs.ZeroLaws.{HaveNoZero, SameParts}
+use Rattle.ec_base.proofs.Numbers.{equal}
+use Rattle.ec_base.proofs.Bools.{neither}
 
 abbrev OutOf : ℕ × Update → Type 0
 OutOf o = T (not (has_operand 0 o.1))
@@ -183,14 +184,9 @@ within s e f d p = go (is_session s d.clerk.session && (e == epoch d))
 kept-batch : (n : ℕ) (d : Doing) → HasNoZero d.clerk → HasNoZero (with_log (kept n) d).clerk
 kept-batch n d z = record { ids = z.ids; undurable = each-fewer OutOf (λ op. not (member op.0 (log.ops_in n d.clerk.log))) d.clerk.log.undurable z.undurable; owed = z.owed }
 
--- an object isn't among these pairs
-not-both : (a b : Bool) → T (not a) → T (not b) → T (not (a || b))
-not-both true b h i = h
-not-both false b h i = i
-
 unowed-more : (qs rs : Owed) (x : ℕ) → IsUnowed qs x → IsUnowed rs x → IsUnowed (qs ++ rs) x
 unowed-more [] rs x h i = i
-unowed-more (q ∷ qs) rs x h i = not-both (x == q.1) (member x (map (λ q. q.1) (qs ++ rs))) (first (x == q.1) (member x (map (λ q. q.1) qs)) h) (unowed-more qs rs x (next (x == q.1) (member x (map (λ q. q.1) qs)) h) i)
+unowed-more (q ∷ qs) rs x h i = neither (x == q.1) (member x (map (λ q. q.1) (qs ++ rs))) (first (x == q.1) (member x (map (λ q. q.1) qs)) h) (unowed-more qs rs x (next (x == q.1) (member x (map (λ q. q.1) qs)) h) i)
   where
     first : (a b : Bool) → T (not (a || b)) → T (not a)
     first true b h = h
@@ -255,7 +251,7 @@ have-no-zero = record {
 
 not-in : (x first : ℕ) (n : ℕ) → x < first → T (not (member x (run first n)))
 not-in x first zero l = tt
-not-in x first (suc n) l = not-both (x == first) (member x (run (first + 1) n)) (other x first l) (not-in x (first + 1) n (omega (arith, l)))
+not-in x first (suc n) l = neither (x == first) (member x (run (first + 1) n)) (other x first l) (not-in x (first + 1) n (omega (arith, l)))
   where
     other : (x y : ℕ) → x < y → T (not (x == y))
     other x y l = subst (λ b. T (not b)) (sym (differ x y l)) tt

@@ -4,7 +4,6 @@ use Rattle.std.proofs.lemmas.Bool.{and_parts}
 use Rattle.ec_plain.specs.declared.call.Call.{Call}
 use Rattle.ec_history.specs.History.{Each}
 use Rattle.ec_history.specs.Placing.{watch}
-use Rattle.ec_laws.proofs.Numbers.{each-map}
 use Rattle.ec_log.specs.LogOrder.{is_from}
 use Rattle.ec_protocol.specs.Clerk.{Doing, doing}
 use Rattle.ec_protocol.specs.declared.clerk.Clerk.{Clerk}
@@ -12,10 +11,12 @@ use Rattle.ec_coherence.specs.System.{System, Ghost, with_start}
 use Rattle.ec_coherence.specs.Events.{shown_boot}
 use Rattle.ec_coherence.specs.Steps.{call_of, doing_in}
 use Rattle.ec_coherence.proofs.ClerkIn.{start-same}
-use Rattle.ec_coherence.proofs.Tables.{equal, same_some}
+use Rattle.ec_coherence.proofs.Tables.{same_some}
 use Rattle.ec_clerk_steps.specs.Calls.{AreApart, Began, CallsAgree, IsOpenCall, LosesBelow, StartCalls, has_number, told_to}
 use Rattle.ec_clerk_steps.specs.Waits.{HasLine}
 use Rattle.ec_clerk_steps.specs.CallLaws.{IsQuiet}
+use Rattle.ec_base.proofs.Numbers.{equal}
+use Rattle.ec_laws.proofs.BasesAlike.{each-map}
 
 -- Of the starts of clerks, one is this now, and the others stay.
 

@@ -26,8 +26,8 @@ use Rattle.ec_coherence.specs.ChangeLaws.{LogsAndImages, with_clerk}
 use Rattle.ec_coherence.proofs.Caches.{at-lowered, at_most}
 use Rattle.ec_coherence.proofs.GiveBack.{goes-back}
 use Rattle.ec_coherence.proofs.Keyed.{keyed-lowered}
-use Rattle.ec_coherence.proofs.Lists.{each-always, each-at, each-member, each-more, each-turn, either_way, no_both}
-use Rattle.ec_coherence.proofs.Tables.{at-without, equal, fails, is-false, same_some}
+use Rattle.ec_coherence.proofs.Lists.{each-always, each-at, each-member, each-more, each-turn, either_way}
+use Rattle.ec_coherence.proofs.Tables.{at-without, fails, same_some}
 use Rattle.ec_coherence.proofs.TakeRecall.{clear-agrees, keep-agrees}
 use Rattle.ec_coherence.specs.StandLaws.{IsUnderWay}
 use Rattle.ec_clerk_steps.specs.DoingLaws.{IsInHand}
@@ -35,6 +35,8 @@ use Rattle.ec_clerk_steps.proofs.CacheLogs as kept
 use Rattle.ec_clerk_steps.proofs.Hand as hand
 use Rattle.ec_clerk_steps.proofs.Moving as moving
 use Rattle.ec_clerk_steps.proofs.Undurable.{left-held, settled-apart}
+use Rattle.ec_base.proofs.Numbers.{equal}
+use Rattle.ec_base.proofs.Bools.{not-both as no_both, no-longer as is-false}
 
 -- the mode that is left is a lowered one
 left-lowered : (r : Recalled) (o : Option Held) → T (is_lowered_mode r.to) → T (is_lowered_mode (left_of r o))
@@ -71,7 +73,7 @@ on-lowered y x to None k e h q = (h, q, refl)
 on-lowered y x to (Some d) k e h q = go (is_free to) q
   where
     none : {A : Type 0} → ◌≡◌ {A = Option Held} None (Some h) → A
-    none p = absurd (Rattle.ec_coherence.proofs.Tables.none_some p)
+    none p = absurd (Rattle.ec_base.proofs.Options.none_some p)
 
     most : (o : Option Held) → at_most to o ≡ Some h → (p : Held) × (o ≡ Some p) × (h.image ≡ p.image)
     most None p = none p
@@ -104,7 +106,7 @@ module _ (g : System) (c b s : ℕ) (d : Doing) (γ : Ghost) (h : IsInHand g c b
       where
         write : (o : Option Held) → IsWrite o → is_write (held_mode o) ≡ true
         write None i = absurd i
-        write (Some o) i = Rattle.ec_coherence.proofs.Tables.is-true (is_write o.hold) i
+        write (Some o) i = Rattle.ec_base.proofs.Bools.is-true (is_write o.hold) i
 
         none : (o : Option ℕ) → is_none o ≡ true → o ≡ None
         none None e = refl

@@ -30,10 +30,10 @@ use Rattle.ec_coherence.specs.Log.{Knows, mine}
 use Rattle.ec_coherence.specs.Steps.{give_ids, open_session, runs}
 use Rattle.ec_coherence.proofs.Carried.{slot-same}
 use Rattle.ec_coherence.proofs.ClerkIn.{in-it, start-same, was-in}
-use Rattle.ec_coherence.proofs.Lists.{and_first, either_way}
+use Rattle.ec_coherence.proofs.Lists.{either_way}
 use Rattle.ec_coherence.proofs.OpenSlots.{at-open}
 use Rattle.ec_coherence.proofs.OpenedSession.{opened-logs}
-use Rattle.ec_coherence.proofs.Tables.{by-session, differ, differs, equal, holds, is-true, none_some, same, same_some}
+use Rattle.ec_coherence.proofs.Tables.{by-session, differ, differs, same_some}
 use Rattle.ec_coherence.specs.CommitLaws.{AllAgree, show_batch}
 use Rattle.ec_coherence.specs.Ends.{show_end}
 use Rattle.ec_coherence.proofs.Its as its
@@ -42,6 +42,9 @@ use Rattle.ec_clerk_steps.specs.Frames.{behind}
 use Rattle.ec_clerk_steps.proofs.Keeping.{keeps-knowing}
 use Rattle.ec_clerk_steps.proofs.Slots.{its-slot, none-later}
 use Rattle.ec_clerk_steps.proofs.Steps.{batch-others, end-others, end-own, ids-open, ids-others, open-others, open-steps}
+use Rattle.ec_base.proofs.Bools.{left as and_first, is-true, holds-true as holds}
+use Rattle.ec_base.proofs.Numbers.{same-self as same, equal}
+use Rattle.ec_base.proofs.Options.{none_some}
 
 -- What the end of a session makes of the lines' view of another clerk, and of its own.
 

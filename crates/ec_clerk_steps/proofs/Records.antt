@@ -18,7 +18,7 @@ use Rattle.ec_durable.specs.declared.record.Record.TheVariants.{Batch, Open, End
 use Rattle.ec_protocol.specs.declared.server.Server.{Server}
 use Rattle.ec_coherence.specs.System.{System, Ghost}
 use Rattle.ec_coherence.specs.Steps.{Committed, open_session, runs}
-use Rattle.ec_coherence.proofs.Tables.{differ, none_some, same_some}
+use Rattle.ec_coherence.proofs.Tables.{differ, same_some}
 use Rattle.ec_coherence.specs.CommitLaws.{AllAgree}
 use Rattle.ec_coherence.specs.Ends.{show_end}
 use Rattle.ec_clerk_steps.specs.Counts.{CountsAgree}
@@ -28,6 +28,7 @@ use Rattle.ec_clerk_steps.proofs.Counted.{ended-starts}
 use Rattle.ec_clerk_steps.proofs.Keeping.{keeps-knowing}
 use Rattle.ec_clerk_steps.proofs.Recorded.{batch-keeps, end-keeps, frozen-other, ids-keep, lines-other, next-is, open-keeps, owner-is, unfrozen-new}
 use Rattle.ec_clerk_steps.proofs.Steps.{epoch-own}
+use Rattle.ec_base.proofs.Options.{none_some}
 
 module _ (g : System) (all : AllAgree g) (d : Durable) (v : Option Server) (p : List (ℕ × Msg)) where
   module _ (cuts : CutsAgree g) where

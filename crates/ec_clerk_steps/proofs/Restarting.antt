@@ -12,12 +12,13 @@ use Rattle.ec_coherence.specs.Steps.{doing_in}
 use Rattle.ec_coherence.proofs.Caches.{at-numberless, bare}
 use Rattle.ec_coherence.proofs.Keyed.{keyed-new-epoch}
 use Rattle.ec_coherence.proofs.Restarted.{goes-epoch}
-use Rattle.ec_coherence.proofs.Tables.{none_some, same_some}
+use Rattle.ec_coherence.proofs.Tables.{same_some}
 use Rattle.ec_clerk_steps.specs.DoingLaws.{IsInHand}
 use Rattle.ec_clerk_steps.proofs.CacheLogs as kept
 use Rattle.ec_clerk_steps.proofs.Hand as hand
 use Rattle.ec_clerk_steps.proofs.Moving as moving
 use Rattle.ec_clerk_steps.proofs.Outstanding.{all-again}
+use Rattle.ec_base.proofs.Options.{none_some}
 
 -- a token without its number is the same
 bare-write : (o : Option Held) → IsWrite o → IsWrite (bare o)

@@ -18,7 +18,7 @@ use Rattle.ec_cache.specs.Cache as cache
 use Rattle.ec_cache.specs.Cache.{counted, held_image, held_mode, holds, images_held, mode}
 use Rattle.ec_cache.specs.declared.state.CacheState.{CacheState}
 use Rattle.ec_cache.specs.declared.state.Held.{Held}
-use Rattle.ec_laws.proofs.Numbers.{each-append, each-map}
+use Rattle.ec_laws.proofs.Numbers.{each-append}
 use Rattle.ec_log.specs.Log.{first, first_number, is_asked, is_full, ops_are_spent}
 use Rattle.ec_log.specs.declared.state.Asked.{Asked}
 use Rattle.ec_log.specs.declared.state.Asked.TheVariants.{Object, All}
@@ -29,14 +29,16 @@ use Rattle.ec_protocol.specs.Clerk.{Answered, Doing, Tried, Waits, answer_recall
 use Rattle.ec_protocol.specs.declared.clerk.Clerk.{Clerk}
 use Rattle.ec_protocol.specs.declared.clerk.Recalled.{Recalled}
 use Rattle.ec_protocol.specs.declared.clerk.Waiting.{Waiting}
-use Rattle.ec_coherence.proofs.CacheChange.{at-used}
-use Rattle.ec_coherence.proofs.Caches.{at-kept, at-lowered, at-renewed, at_most}
+use Rattle.ec_coherence.proofs.CacheChange.{at-used, at-renewed}
+use Rattle.ec_coherence.proofs.Caches.{at-kept, at-lowered, at_most}
 use Rattle.ec_coherence.proofs.Lists.{filter-more}
-use Rattle.ec_coherence.proofs.Tables.{at-without, equal}
+use Rattle.ec_coherence.proofs.Tables.{at-without}
 use Rattle.ec_clerk_steps.specs.Waits.{NoneReady, does_wait}
 use Rattle.ec_clerk_steps.specs.CallLaws.{IsStill, IsStillIf, is_answer, prepared}
 use Rattle.ec_clerk_steps.proofs.Less.{HoldsLess, less-waits}
 use Rattle.ec_clerk_steps.proofs.Still.{asks-still, still-ask, still-kept, still-same, still-then, still-waits, tries-answer, none-still}
+use Rattle.ec_base.proofs.Numbers.{equal}
+use Rattle.ec_laws.proofs.BasesAlike.{each-map}
 
 -- Changes that make no recall ready.
 
@@ -77,7 +79,7 @@ by-still d e s r = record {
 -- Answers.
 
 -- an update changes images alone
-mode-changed : (u : Update) (xs : List ℕ) (y : ℕ) (k : CacheState) → mode y (cache.change u xs k) ≡ mode y k
+pub mode-changed : (u : Update) (xs : List ℕ) (y : ℕ) (k : CacheState) → mode y (cache.change u xs k) ≡ mode y k
 mode-changed u [] y k = refl
 mode-changed u (x ∷ xs) y k = mode-changed u xs y (cache.change_at u x k) ∙ go (at x k.held) refl
   where

@@ -21,9 +21,7 @@ use Rattle.ec_coherence.proofs.Lists.{filter-alike, filter-two}
 use Rattle.ec_laws.proofs.Issues.{issue-sorted}
 use Rattle.ec_clerk_steps.specs.Calls.{LosesBelow}
 use Rattle.ec_clerk_steps.proofs.Issued.{kept-of}
-
-holds : (b : Bool) → b ≡ true → T b
-holds b e = subst T (sym e) tt
+use Rattle.ec_base.proofs.Bools.{holds-true}
 
 -- an operation of the log isn't below its first one
 from-first : (n : ℕ) (xs : Issued) → T (is_from n xs) → (m : ℕ) (u : Update) → Holds xs m u → n ≤ m
@@ -62,7 +60,7 @@ below-lost c b n m (e ∷ h) k t = go e k.0 (names c b m e.1) refl t (below-lost
 
     go : (e : ℕ × Entry) → LosesBelow c b n e → (x : Bool) → names c b m e.1 ≡ x → T (x || is_lost c b m h) → (T (is_lost c b m h) → m < n) → m < n
     go e q false f t r = r t
-    go (p, entry.Loss d f ns) q true i t r = let two = parts (same_start c b d f) (member m ns) (holds _ i) in in-all n m ns (q two.0) two.1
+    go (p, entry.Loss d f ns) q true i t r = let two = parts (same_start c b d f) (member m ns) (holds-true _ i) in in-all n m ns (q two.0) two.1
     go (p, entry.Call d f j begun cl a op) q true i t r = absurd (no i)
       where
         no : false ≡ true → ⊥
@@ -104,7 +102,7 @@ module _ (issued : Issued) (sorted : T (is_sorted nat_cmp issued)) (lost known :
           kept-m = holds-kept (λ x. not (lost x.0)) issued m x hm (ap not f)
 
           by : (z : Bool) → lost n ≡ z → T (known n || lost n) → ⊥
-          by true i t = omega (arith, below n (holds (lost n) i), from-first first l.undurable own m x there, lt)
+          by true i t = omega (arith, below n (holds-true (lost n) i), from-first first l.undurable own m x there, lt)
           by false i t =
               let sure : T (known n) = subst T (ap (λ z. known n || z) i ∙ or_false (known n)) t in
               no (known m) e (needed-by_number (filter (λ x. not (lost x.0)) issued) known r.sorted r.closed m n x y kept-m (holds-kept (λ x. not (lost x.0)) issued n y hn (ap not i)) lt nd sure)

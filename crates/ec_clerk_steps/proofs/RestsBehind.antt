@@ -5,7 +5,6 @@ use Rattle.std.proofs.lemmas.List.Folds.{list_any-append}
 use Rattle.ec_plain.specs.declared.call.Call.{Call}
 use Rattle.ec_history.specs.Placing.{is_numbered}
 use Rattle.ec_history.specs.declared.shown.Shown.{Shown}
-use Rattle.ec_laws.proofs.Numbers.{each-map}
 use Rattle.ec_protocol.specs.Clerk.{Doing}
 use Rattle.ec_protocol.specs.declared.clerk.Clerk.{Clerk}
 use Rattle.ec_protocol.specs.declared.clerk.Out.{Out}
@@ -13,11 +12,13 @@ use Rattle.ec_protocol.specs.declared.clerk.Out.TheVariants as out
 use Rattle.ec_coherence.specs.System.{System, Ghost}
 use Rattle.ec_coherence.specs.ChangeLaws.{Calls}
 use Rattle.ec_coherence.specs.Steps.{call_of, calls_after, doing_in, less_call}
-use Rattle.ec_coherence.proofs.Tables.{equal, same_some}
+use Rattle.ec_coherence.proofs.Tables.{same_some}
 use Rattle.ec_clerk_steps.specs.Calls.{is_shown}
 use Rattle.ec_clerk_steps.specs.Waits.{AreAtRest, HasLine, IsAtRest, does_wait}
 use Rattle.ec_clerk_steps.proofs.CallsLeft.{call-less}
 use Rattle.ec_clerk_steps.proofs.Quiet.{split-start}
+use Rattle.ec_base.proofs.Numbers.{equal}
+use Rattle.ec_laws.proofs.BasesAlike.{each-map}
 
 -- what comes out of a clerk takes no call of another
 others-calls : (c f n : ℕ) → (f == c) ≡ false → (os : List Out) (calls : Calls) → call_of f n (calls_after c os calls) ≡ call_of f n calls

@@ -18,7 +18,7 @@ use Rattle.ec_plain.specs.declared.call.Outcome.{Outcome}
 use Rattle.ec_history.specs.Placing.{shows}
 use Rattle.ec_history.specs.declared.entry.Answer.TheVariants as answer
 use Rattle.ec_resolve.proofs.Agreeing.{plain-agrees}
-use Rattle.ec_coherence.proofs.Tables.{none_some}
+use Rattle.ec_base.proofs.Options.{none_some}
 
 abbrev nothing : Images
 nothing = λ x. Gone
@@ -30,7 +30,7 @@ walk-nothing : (p : Path) → walk nothing p ≡ lost
 walk-nothing [] = refl
 walk-nothing (n ∷ ns) = refl
 
-some-touched : {A : Type 0} (xs : List ℕ) → xs ≡ root ∷ [] → xs ≡ [] → A
+pub some-touched : {A : Type 0} (xs : List ℕ) → xs ≡ root ∷ [] → xs ≡ [] → A
 some-touched xs e f = absurd (apart (sym e ∙ f))
   where
     apart : root ∷ [] ≡ [] → ⊥

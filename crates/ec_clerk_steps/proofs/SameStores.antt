@@ -15,11 +15,12 @@ use Rattle.ec_coherence.specs.System.{System, clerk_in, seen_ops, with_start}
 use Rattle.ec_coherence.specs.Tokens.{Names, in_sixteen, is_hidden, is_untaken, side_in, view}
 use Rattle.ec_coherence.specs.ChangeLaws.{Calls}
 use Rattle.ec_coherence.proofs.ClerkIn.{now-in, other-in, was-in}
-use Rattle.ec_coherence.proofs.Lists.{and_first, and_next, each-at, each-member, each-turn}
+use Rattle.ec_coherence.proofs.Lists.{each-at, each-member, each-turn}
 use Rattle.ec_coherence.proofs.Tables.{same_some}
 use Rattle.ec_clerk_steps.specs.Names.{AreOnNamed, NamesAgree}
 use Rattle.ec_clerk_steps.specs.Frees.{FreesAgree}
 use Rattle.ec_clerk_steps.specs.Zeros.{LeaveOut}
+use Rattle.ec_base.proofs.Bools.{left as and_first, right as and_next}
 
 -- Each clerk that is in a session then was in it, with as many ids taken, and has no new ones.
 pub record SameStore (g h : System) : Type 0 where
@@ -63,7 +64,7 @@ in-left x u ids m = go (is_make u) m
   where
     drops : (xs : List ℕ) → T (member x (drop 1 xs)) → T (member x xs)
     drops [] m = m
-    drops (y ∷ ys) m = Rattle.ec_coherence.proofs.Lists.or_next (x == y) (member x ys) m
+    drops (y ∷ ys) m = Rattle.ec_base.proofs.Bools.or-right (x == y) (member x ys) m
 
     go : (b : Bool) → T (member x (elim b as (λ z. List ℕ) [ true ↦ drop 1 ids | false ↦ ids ])) → T (member x ids)
     go true m = drops ids m

@@ -28,9 +28,9 @@ use Rattle.ec_durable.specs.declared.state.Durable.{Durable}
 use Rattle.ec_protocol.specs.Server.{Serving, act, act_all, add_claimed, all_claimed, back, claim, commit, end, end_open, epoch, finish, flush, forget, forget_old, grant_ids, greet, has_claimed, hello, ids_are_spent, in_session, is_grant, is_last_number, may_write, new_server, next_number, note, open_new, record_ids, resend_ids, room, send_grant, send_ids, serve, serve_rounds, serving, slot_of, spend, start, stay, take, taken, tell, tell_all, tell_ended, tell_opened, tell_start, want, with_server}
 use Rattle.ec_protocol.specs.declared.server.Server.{Server}
 use Rattle.ec_coherence.proofs.Lists.{each-more}
-use Rattle.ec_coherence.proofs.Tables.{holds}
 use Rattle.ec_clerk_steps.proofs.Steps.{step-most}
 use Rattle.ec_clerk_steps.specs.Fulls.{AreFullAt, IsFullAt}
+use Rattle.ec_base.proofs.Bools.{holds-true as holds}
 
 module _ (most : ℕ) where
   -- so many objects there may be, and what was said so far is right

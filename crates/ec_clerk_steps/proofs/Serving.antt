@@ -24,13 +24,16 @@ use Rattle.ec_coherence.specs.Sessions.{SessionsAgree}
 use Rattle.ec_coherence.specs.Tokens.{Names, view}
 use Rattle.ec_coherence.specs.Steps.{Committed, serving_in}
 use Rattle.ec_coherence.proofs.Committed.{session-there, start-there}
-use Rattle.ec_coherence.proofs.Lists.{and_first, and_next, each-fewer}
-use Rattle.ec_coherence.proofs.Tables.{equal, holds, is-true, none_some, same_some}
+use Rattle.ec_coherence.proofs.Lists.{each-fewer}
+use Rattle.ec_coherence.proofs.Tables.{same_some}
 use Rattle.ec_coherence.specs.CommitLaws.{AllAgree, Stands}
 use Rattle.ec_coherence.specs.Makes.{Makes}
 use Rattle.ec_clerk_steps.specs.Names.{AreOnNamed, NamesAgree}
 use Rattle.ec_clerk_steps.specs.Follows.{AreGiven, GhostsFollow}
 use Rattle.ec_clerk_steps.proofs.NameFrames.{names-follow}
+use Rattle.ec_base.proofs.Bools.{left as and_first, right as and_next, is-true, holds-true as holds}
+use Rattle.ec_base.proofs.Options.{none_some}
+use Rattle.ec_base.proofs.Numbers.{equal}
 
 -- The next id never falls, and ids are given from it on.
 

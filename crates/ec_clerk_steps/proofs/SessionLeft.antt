@@ -37,7 +37,7 @@ use Rattle.ec_coherence.specs.BatchLaws.{Agrees}
 use Rattle.ec_coherence.specs.Events.{CutAgrees, EventsAgree, IsUncut, shown_boot}
 use Rattle.ec_coherence.proofs.ClerkIn.{start-same}
 use Rattle.ec_coherence.proofs.Lists.{each-more, each-turn}
-use Rattle.ec_coherence.proofs.Tables.{by-session, equal, is-false, none_some, refutes, same, same_some}
+use Rattle.ec_coherence.proofs.Tables.{by-session, same_some}
 use Rattle.ec_coherence.proofs.Told.{told-images, told-logs}
 use Rattle.ec_coherence.specs.CommitLaws.{AllAgree}
 use Rattle.ec_coherence.specs.Starts.{Greets, StartsAgree}
@@ -47,6 +47,9 @@ use Rattle.ec_clerk_steps.specs.Cuts.{CutKnows, CutsAgree, lost_of}
 use Rattle.ec_clerk_steps.specs.JoinLaws.{tell_loss}
 use Rattle.ec_clerk_steps.proofs.Owing.{keys-are, log-lost, owes-loss}
 use Rattle.ec_clerk_steps.proofs.Slots.{its-slot, older-from}
+use Rattle.ec_base.proofs.Numbers.{same-self as same, equal}
+use Rattle.ec_base.proofs.Options.{none_some, some-at}
+use Rattle.ec_base.proofs.Bools.{not-both as refutes, no-longer as is-false}
 
 -- an age of the same boot that is neither older nor at a greater round is the same
 same-age : (a b : Age) → a.boot ≡ b.boot → T (not (is_older a b)) → a.round ≤ b.round → a ≡ b
@@ -62,10 +65,6 @@ same-age a b e n l = λ i. record { boot = e i; round = rounds i }
     rounds : a.round ≡ b.round
     rounds = equal-rounds a.round b.round
         (off (nat_lt a.boot b.boot) (nat_lt a.round b.round) (ap (λ z. nat_lt a.boot b.boot || (z && nat_lt a.round b.round)) (sym (ap (λ z. z == b.boot) e ∙ same b.boot)) ∙ is-false (is_older a b) n)) l
-
-some-is : {A : Type 0} (o : Option A) → T (is_some o) → (x : A) × (o ≡ Some x)
-some-is None t = absurd t
-some-is (Some x) t = (x, refl)
 
 untold-starts : (w : Watch) → (begun (record w { untold = None })).starts ≡ (begun w).starts
 untold-starts w = go w.running
@@ -116,7 +115,7 @@ module _ (g : System) (all : AllAgree g) (cuts : CutsAgree g) (c b s : ℕ) (k :
   ended = (all.0).stops.ended s (subst (λ o. T (is_some o)) (sym owns) tt) fits.1
 
   seen-ops : (ks : List Op) × (g.ghost.frozen s ≡ Some ks)
-  seen-ops = some-is (g.ghost.frozen s) ended
+  seen-ops = some-at (g.ghost.frozen s) ended
 
   abbrev ks : List Op
   ks = seen-ops.0

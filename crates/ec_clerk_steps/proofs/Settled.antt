@@ -5,14 +5,14 @@ use Rattle.std.proofs.lemmas.Bool.{and_parts, true≢false}
 use Rattle.ec_base.specs.declared.ids.Age.{Age}
 use Rattle.ec_volume.specs.Volume.{after}
 use Rattle.ec_volume.specs.declared.update.Update.{Update}
-use Rattle.ec_order.specs.Order.{InClosure, Issued, Holds, ask, need}
+use Rattle.ec_order.specs.Order.{Holds}
 use Rattle.ec_history.specs.History.{Base, Op, Each, Covers, is_lost, issued, kept, numbers, of_issue, of_start, same_start, updates}
 use Rattle.ec_history.specs.Legal.{IsLegal}
 use Rattle.ec_history.specs.declared.entry.Answer.{Answer}
 use Rattle.ec_history.specs.declared.entry.Entry.{Entry}
 use Rattle.ec_history.specs.declared.entry.Entry.TheVariants as entry
 use Rattle.ec_laws.proofs.Cuts.{legal-split}
-use Rattle.ec_laws.proofs.Numbers.{each-front, each-map}
+use Rattle.ec_laws.proofs.Numbers.{each-front}
 use Rattle.ec_machine_laws.specs.Picks.{IsRest}
 use Rattle.ec_machine_laws.proofs.Holding.{holds-kept}
 use Rattle.ec_report.specs.Report.{Owed}
@@ -30,7 +30,7 @@ use Rattle.ec_coherence.specs.Invariant.{Invariant}
 use Rattle.ec_coherence.specs.Steps.{call_of}
 use Rattle.ec_coherence.proofs.ClerkIn.{was-in}
 use Rattle.ec_coherence.proofs.SlotLaws.{open-of}
-use Rattle.ec_coherence.proofs.Tables.{equal, none_some, refutes, same, same_some, some-of}
+use Rattle.ec_coherence.proofs.Tables.{same_some, some-of}
 use Rattle.ec_coherence.specs.Starts.{StartsAgree}
 use Rattle.ec_coherence.specs.Answers.{Gives, IsLive, Sees, based, fresh_of}
 use Rattle.ec_coherence.specs.Comes.{begun_at, entry_next}
@@ -42,6 +42,11 @@ use Rattle.ec_clerk_steps.proofs.Covered.{covered-done}
 use Rattle.ec_clerk_steps.proofs.Issued.{kept-of}
 use Rattle.ec_clerk_steps.proofs.Known.{last-is}
 use Rattle.ec_clerk_steps.proofs.Lined.{began-last}
+use Rattle.ec_base.proofs.Numbers.{same-self as same, equal}
+use Rattle.ec_base.proofs.Options.{none_some}
+use Rattle.ec_base.proofs.Bools.{not-both as refutes}
+use Rattle.ec_laws.proofs.Answered.{closure-held}
+use Rattle.ec_laws.proofs.BasesAlike.{each-map}
 
 -- Boots are told apart as they are shown.
 minus-same : (f x b : ℕ) → f < b → ((b - f) == (x - f)) ≡ (b == x)
@@ -61,11 +66,6 @@ minus-same f x b l = go (b == x) refl
 each-at : {A : Type 0} (P : A → Type 0) (xs : List A) (y : A) (ys : List A) → Each P (xs ++ y ∷ ys) → P y
 each-at P [] y ys h = h.0
 each-at P (x ∷ xs) y ys h = each-at P xs y ys h.1
-
--- a closure has operations alone
-closure-held : (is : Issued) (asked : ℕ → Bool) (n : ℕ) → InClosure is asked n → (u : Update) × Holds is n u
-closure-held is asked n (ask m u h t) = (u, h)
-closure-held is asked n (need m k a b h i l t r) = (a, h)
 
 -- an operation of these has the number, and each fact on them
 held-op : (P : Op → Type 0) (ks : List Op) (n : ℕ) (u : Update) → Each P ks → Holds (numbered ks) n u → (o : Op) × (o.number ≡ n) × P o

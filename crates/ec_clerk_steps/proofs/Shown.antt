@@ -12,7 +12,6 @@ use Rattle.ec_laws.proofs.Late.{place-no_call}
 use Rattle.ec_laws.proofs.More.{watch-step}
 use Rattle.ec_protocol.specs.declared.clerk.Clerk.{Clerk}
 use Rattle.ec_coherence.specs.System.{System}
-use Rattle.ec_coherence.proofs.Tables.{equal}
 use Rattle.ec_coherence.specs.Events.{CutAgrees, EventsAgree}
 use Rattle.ec_coherence.specs.BatchLaws.{Agrees as FactsAgree}
 use Rattle.ec_coherence.specs.CommitLaws.{AllAgree}
@@ -20,6 +19,7 @@ use Rattle.ec_coherence.specs.Starts.{StartsAgree}
 use Rattle.ec_coherence.specs.Watches.{WatchesAgree}
 use Rattle.ec_coherence.proofs.Shown.{lines-agree}
 use Rattle.ec_coherence.specs.StandLaws.{lined}
+use Rattle.ec_base.proofs.Numbers.{equal}
 
 module _ (g : System) (all : AllAgree g) (c b n : ℕ) (cl : Call) (run : g.running c ≡ Some b) (own : EachLine (Agrees n c cl) g.ghost.shown) where
   abbrev l : Shown

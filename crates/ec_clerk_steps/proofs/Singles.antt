@@ -17,7 +17,7 @@ use Rattle.ec_coherence.proofs.ClerkIn.{start-same}
 use Rattle.ec_coherence.proofs.Settling.{Keeping, all-keeps}
 use Rattle.ec_coherence.proofs.Try.{OnTried}
 use Rattle.ec_coherence.proofs.TriedList.{same-verdict}
-use Rattle.ec_coherence.proofs.Tables.{equal, none_some, same, same_some, some-of}
+use Rattle.ec_coherence.proofs.Tables.{same_some, some-of}
 use Rattle.ec_coherence.specs.CommitLaws.{AllAgree}
 use Rattle.ec_clerk_steps.specs.CallLaws.{IsStillIf, Passes}
 use Rattle.ec_clerk_steps.specs.Waits.{HasLine}
@@ -34,6 +34,8 @@ use Rattle.ec_clerk_steps.proofs.Outer as outer
 use Rattle.ec_clerk_steps.proofs.OuterLate as outer-late
 use Rattle.ec_clerk_steps.proofs.Single as single
 use Rattle.ec_clerk_steps.proofs.Single.{each-mid}
+use Rattle.ec_base.proofs.Numbers.{same-self as same, equal}
+use Rattle.ec_base.proofs.Options.{none_some}
 
 -- Whether a session of this clerk and age ended.
 module _ (γ : Ghost) (c : ℕ) (age : Age) where

@@ -7,8 +7,8 @@ use Rattle.ec_sessions.specs.declared.slot.Slot.{Slot}
 use Rattle.ec_durable.specs.Durable.{slot}
 use Rattle.ec_protocol.specs.declared.clerk.Clerk.{Clerk}
 use Rattle.ec_coherence.specs.System.{System}
-use Rattle.ec_coherence.proofs.Tables.{equal}
 use Rattle.ec_coherence.specs.CommitLaws.{AllAgree}
+use Rattle.ec_base.proofs.Numbers.{equal}
 
 -- an older age has a lesser boot, or the same boot and a lesser round
 pub older-by : (a b : Age) → T (is_older a b) → (a.boot < b.boot) ⊎ ((a.boot ≡ b.boot) × (a.round < b.round))

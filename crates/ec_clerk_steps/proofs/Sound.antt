@@ -1,6 +1,6 @@
 -- Messages that a clerk in order sends are within their ranges.
-use Rattle.std.proofs.Common.{◌≡◌, refl, sym, ap, subst, ◌∙◌, arith, ◌≤◌, ℕ, T, Bool, true, false, not, ◌&&◌, ◌||◌, ◌==◌, cond, List, [], ◌∷◌, length, map}
-use Rattle.std.specs.Prelude.{None, Some, nat_le, nat_lt}
+use Rattle.std.proofs.Common.{◌≡◌, refl, sym, ap, subst, ◌∙◌, arith, ◌≤◌, ℕ, T, Bool, true, false, not, ◌&&◌, ◌==◌, cond, List, [], ◌∷◌, length, map}
+use Rattle.std.specs.Prelude.{Some, nat_le, nat_lt}
 use Rattle.std.specs.Ordering.{nat_cmp, is_lt}
 use Rattle.std.specs.Cmp.{nat_cmp_total}
 use Rattle.std.specs.FinMap.{is_sorted}
@@ -24,11 +24,14 @@ use Rattle.ec_log.specs.Log.{after_pick, batch, ops_in, pick}
 use Rattle.ec_log.specs.declared.state.Asked.{Asked}
 use Rattle.ec_log.specs.declared.state.Pick.TheVariants.{Batch}
 use Rattle.ec_log.specs.declared.state.LogState.{LogState}
-use Rattle.ec_coherence.proofs.Caches.{at-cons}
-use Rattle.ec_coherence.proofs.Evict.{IsAt}
-use Rattle.ec_coherence.proofs.Tables.{equal, none_some, same}
-use Rattle.ec_coherence.proofs.Lists.{and_both, and_first, and_next, each-fewer, each-turn}
+use Rattle.ec_coherence.proofs.Evict.{IsAt, none-at}
+use Rattle.ec_coherence.proofs.Lists.{each-fewer, each-turn}
 use Rattle.ec_clerk_steps.proofs.Logs.{InOrder, pick-order}
+use Rattle.ec_base.proofs.Bools.{left as and_first, and-both as and_both, right as and_next}
+use Rattle.ec_base.proofs.Numbers.{same-self as same, equal}
+use Rattle.ec_base.proofs.Options.{none_some}
+use Rattle.ec_coherence.proofs.CacheChange.{at-cons}
+use Rattle.ec_coherence.proofs.Flushed.{all-hold}
 
 pub lt-holds : (m n : ℕ) → T (is_lt (nat_cmp m n)) → T (nat_lt m n)
 lt-holds m n h = grind (arith, nat_tests)
@@ -39,10 +42,6 @@ sorted-rises (e ∷ []) s = tt
 sorted-rises (e ∷ f ∷ es) s =
     and_both (nat_lt e.0 f.0) (rises (keys (f ∷ es))) (lt-holds e.0 f.0 (and_first (is_lt (nat_cmp e.0 f.0)) (below_all nat_cmp e.0 es) (and_first (below_all nat_cmp e.0 (f ∷ es)) (is_sorted nat_cmp (f ∷ es)) s)))
     (sorted-rises (f ∷ es) (and_next (below_all nat_cmp e.0 (f ∷ es)) (is_sorted nat_cmp (f ∷ es)) s))
-
-pub all-hold : {A : Type 0} (p : A → Bool) (xs : List A) → Each (λ x. T (p x)) xs → T (list_all p xs)
-all-hold p [] h = tt
-all-hold p (x ∷ xs) h = and_both (p x) (list_all p xs) h.0 (all-hold p xs h.1)
 
 le-holds : (m n : ℕ) → m ≤ n → T (nat_le m n)
 le-holds m n h = grind arith
@@ -85,14 +84,6 @@ modes [] h = tt
 modes (e ∷ es) h = (h.0, modes es h.1)
 
 -- Entries of a table with distinct keys are what is found at them.
-
-none-at : (x : ℕ) (es : Table Held) → T (not (member x (keys es))) → at x es ≡ None
-none-at x [] h = refl
-none-at x (e ∷ es) h = at-cons x e es ∙ go (x == e.0) h (none-at x es)
-  where
-    go : (b : Bool) → T (not (b || member x (keys es))) → (T (not (member x (keys es))) → at x es ≡ None) → cond b (Some e.1) (at x es) ≡ None
-    go true h f = absurd h
-    go false h f = f h
 
 entries-at : (es : Table Held) → T (distinct (keys es)) → Each (IsAt es) es
 entries-at [] h = tt

@@ -31,8 +31,9 @@ use Rattle.ec_coherence.proofs.Settling.{Keeping, settle-keeps}
 use Rattle.ec_coherence.proofs.Try.{OnTried}
 use Rattle.ec_coherence.proofs.TriedList.{keeping}
 use Rattle.ec_clerk_steps.specs.DoingLaws.{SpentStays}
+use Rattle.ec_coherence.proofs.KeyedSteps.{entering}
 
-abbrev IsSpent : Doing → Type 0
+abbrev pub IsSpent : Doing → Type 0
 IsSpent e = T (is_some e.spent)
 
 -- where both ways are, so is the choice
@@ -40,7 +41,7 @@ choose : (z : Bool) (d e : Doing) → IsSpent d → IsSpent e → IsSpent (elim 
 choose true d e h i = h
 choose false d e h i = i
 
-again : (n : Counter) (e : Doing) → IsSpent (spend n e)
+pub again : (n : Counter) (e : Doing) → IsSpent (spend n e)
 again n e = go e.spent
   where
     go : (o : Option Counter) → T (is_some (first_spent o n))
@@ -155,9 +156,6 @@ refuses live reserved (p ∷ ws) e h = refuses live reserved ws _ (go (idless (v
     go : (o : Option (List ℕ)) → IsSpent (elim o as (λ y. Doing) [ Some xs ↦ refuse_make live reserved p.no xs e | None ↦ keep_call p e ])
     go (Some xs) = h
     go None = h
-
-abbrev entering : ℕ → Doing → Doing
-entering a e = elim (nat_lt (epoch e) a) as (λ y. Doing) [ true ↦ with_clerk (enter_epoch a) e | false ↦ e ]
 
 restarts : (a : ℕ) (e : Doing) → IsSpent e → IsSpent (take_restarted a e)
 restarts a e h = choose (nat_lt a (epoch e)) e (send_outstanding (claim (entering a e))) h (outstanding (claim (entering a e)) (choose (nat_lt (epoch e) a) (with_clerk (enter_epoch a) e) e h h))

@@ -30,7 +30,7 @@ use Rattle.ec_coherence.specs.Steps.{runs}
 use Rattle.ec_coherence.specs.ChangeLaws.{Calls}
 use Rattle.ec_coherence.proofs.ClerkIn.{start-same}
 use Rattle.ec_coherence.proofs.Lists.{each-more, each-turn}
-use Rattle.ec_coherence.proofs.Tables.{by-session, equal, none_some, same, same_some}
+use Rattle.ec_coherence.proofs.Tables.{by-session, same_some}
 use Rattle.ec_coherence.specs.CommitLaws.{AllAgree}
 use Rattle.ec_coherence.specs.Starts.{Greets, StartsAgree}
 use Rattle.ec_coherence.specs.Watches.{WatchAgrees}
@@ -40,6 +40,8 @@ use Rattle.ec_clerk_steps.specs.Cuts.{CutKnows, CutsAgree}
 use Rattle.ec_clerk_steps.specs.JoinLaws.{started}
 use Rattle.ec_clerk_steps.proofs.Counted.{counted, no-entry, no-op}
 use Rattle.ec_clerk_steps.proofs.SameIn as still
+use Rattle.ec_base.proofs.Numbers.{same-self as same, equal}
+use Rattle.ec_base.proofs.Options.{none_some}
 
 module _ (g : System) (all : AllAgree g) (counts : CountsAgree g) (c : ℕ) (small : c < 16) (down : g.running c ≡ None) (calls : Calls) where
   abbrev pub b : ℕ

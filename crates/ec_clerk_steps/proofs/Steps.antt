@@ -15,7 +15,7 @@ use Rattle.ec_durable.specs.declared.record.Record.TheVariants.{Batch, Open, End
 use Rattle.ec_durable.specs.declared.record.RecordFault.{RecordFault}
 use Rattle.ec_durable.specs.declared.record.RecordFault.TheVariants.{NoSession, Done, Beyond, BadAge, BadNumber, NoRoom}
 use Rattle.ec_coherence.proofs.Carried.{slot-other}
-use Rattle.ec_coherence.proofs.Tables.{equal}
+use Rattle.ec_base.proofs.Numbers.{equal}
 
 abbrev Res : Type 0
 Res = Result Durable RecordFault

@@ -30,9 +30,10 @@ use Rattle.ec_protocol.specs.declared.clerk.Recalled.{Recalled}
 use Rattle.ec_protocol.specs.declared.clerk.Waiting.{Waiting}
 use Rattle.ec_coherence.specs.ChangeLaws.{Calls}
 use Rattle.ec_coherence.specs.Steps.{call_of, calls_after, less_call}
-use Rattle.ec_laws.proofs.Numbers.{each-append, each-map}
+use Rattle.ec_laws.proofs.Numbers.{each-append}
 use Rattle.ec_clerk_steps.specs.Waits.{NoneReady, does_wait, waits_by, waits_with}
 use Rattle.ec_clerk_steps.specs.CallLaws.{IsQuiet, IsStill, IsStillIf, is_answer, prepared}
+use Rattle.ec_laws.proofs.BasesAlike.{each-map}
 
 -- Changes one after another.
 

@@ -16,13 +16,15 @@ use Rattle.ec_coherence.specs.Steps.{calls_after, doing_in, sends}
 use Rattle.ec_coherence.proofs.Acting.{is-in, view-is}
 use Rattle.ec_coherence.proofs.GivenIds.{run-distinct, run-in}
 use Rattle.ec_coherence.proofs.Ids.{in-either}
-use Rattle.ec_coherence.proofs.Lists.{and_both, and_first, and_next, each-at, no_both, or_first, or_next}
-use Rattle.ec_coherence.proofs.Tables.{equal, holds, is-true, same, same_some}
+use Rattle.ec_coherence.proofs.Lists.{each-at}
+use Rattle.ec_coherence.proofs.Tables.{same_some}
 use Rattle.ec_coherence.proofs.TakeGrant.{by-session}
 use Rattle.ec_clerk_steps.specs.DoingLaws.{IsIds, IsInHand}
 use Rattle.ec_clerk_steps.proofs.Moving as moving
 use Rattle.ec_clerk_steps.specs.Frees.{FreesAgree}
 use Rattle.ec_clerk_steps.proofs.FreesStored.{in-step, one-keeps, stills-keep}
+use Rattle.ec_base.proofs.Bools.{left as and_first, not-both as no_both, and-both as and_both, or-right as or_next, right as and_next, or_first, is-true, holds-true as holds}
+use Rattle.ec_base.proofs.Numbers.{same-self as same, equal}
 
 off : (b : Bool) → (T b → ⊥) → T (not b)
 off true f = absurd (f tt)
@@ -37,7 +39,7 @@ both-distinct (x ∷ xs) ys d e f = and_both (not (member x (xs ++ ys))) (distin
     ]))
     (both-distinct xs ys (and_next (not (member x xs)) (distinct xs) d) e (λ y m. f y (or_next (y == x) (member y xs) m)))
 
-within : (x f : ℕ) → f ≤ x → x < f + 16 → T (in_sixteen f x)
+pub within : (x f : ℕ) → f ≤ x → x < f + 16 → T (in_sixteen f x)
 within x f a b = grind arith
 
 module _ (g : System) (c b s : ℕ) (d : Doing) (γ : Ghost) (h : IsInHand g c b s d γ) (fa : FreesAgree (doing_in c b d γ g)) where

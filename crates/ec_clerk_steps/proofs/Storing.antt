@@ -17,13 +17,15 @@ use Rattle.ec_coherence.specs.Images.{ImagesAgree}
 use Rattle.ec_coherence.specs.Sessions.{SessionsAgree}
 use Rattle.ec_coherence.proofs.Carried.{gone-is}
 use Rattle.ec_coherence.proofs.Lists.{each-at, each-fewer, each-turn}
-use Rattle.ec_coherence.proofs.Tables.{is-false, is-true, none_some, same_some}
+use Rattle.ec_coherence.proofs.Tables.{same_some}
 use Rattle.ec_clerk_steps.specs.Names.{AreOnNamed, NamesAgree}
 use Rattle.ec_clerk_steps.specs.Follows.{AreGiven, GhostsFollow}
 use Rattle.ec_clerk_steps.specs.Moves.{AreSameOps, EndsOne, GhostsMove}
 use Rattle.ec_clerk_steps.specs.Frees.{FreesAgree}
 use Rattle.ec_clerk_steps.specs.Zeros.{LeaveOut}
 use Rattle.ec_clerk_steps.proofs.Serving.{still-in}
+use Rattle.ec_base.proofs.Options.{none_some}
+use Rattle.ec_base.proofs.Bools.{no-longer as is-false, is-true}
 
 -- an object that no operation has stays as it was
 pub same-image : (x : ℕ) (i : Image) (os : List Op) → LeaveOut x os → image_after x i (updates os) ≡ i
@@ -81,7 +83,7 @@ module _ (g : System) (im : ImagesAgree g) (na : NamesAgree g) where
         go : (e : EndsOne g γ) (z : Bool) → (s == e.session) ≡ z → (o : Option (List Op)) → g.ghost.frozen s ≡ o → LeaveOut x (seen_ops o g.ghost.kept)
             → LeaveOut x (seen_ops (elim z as (λ y. Option (List Op)) [ true ↦ Some g.ghost.kept | false ↦ g.ghost.frozen s ]) (filter e.stays g.ghost.kept))
         go e true q None r l = l
-        go e true q (Some ks) r l = absurd (none_some (sym e.unfrozen ∙ ap g.ghost.frozen (sym (Rattle.ec_coherence.proofs.Tables.equal s e.session q)) ∙ r))
+        go e true q (Some ks) r l = absurd (none_some (sym e.unfrozen ∙ ap g.ghost.frozen (sym (Rattle.ec_base.proofs.Numbers.equal s e.session q)) ∙ r))
         go e false q None r l = subst (λ o. LeaveOut x (seen_ops o (filter e.stays g.ghost.kept))) (sym r) (each-fewer (λ o. T (not (has_operand x o.update))) e.stays g.ghost.kept l)
         go e false q (Some ks) r l = subst (λ o. LeaveOut x (seen_ops o (filter e.stays g.ghost.kept))) (sym r) l
 

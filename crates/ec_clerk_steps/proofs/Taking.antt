@@ -23,12 +23,11 @@ use Rattle.ec_coherence.specs.Tokens.{Fits, IsWrite, Names, TokensAgree, View, s
 use Rattle.ec_coherence.specs.Log.{OfOpen}
 use Rattle.ec_coherence.specs.Steps.{doing_in}
 use Rattle.ec_coherence.proofs.Acting.{view-is}
-use Rattle.ec_coherence.proofs.Caches.{at-renewed}
 use Rattle.ec_coherence.proofs.Goes.{goes-log}
 use Rattle.ec_coherence.proofs.Keyed.{keyed-marked, keyed-take}
 use Rattle.ec_coherence.proofs.LogChange.{kept-images, kept-logs}
 use Rattle.ec_coherence.proofs.Lists.{each-more}
-use Rattle.ec_coherence.proofs.Tables.{equal, same_some}
+use Rattle.ec_coherence.proofs.Tables.{same_some}
 use Rattle.ec_coherence.proofs.TakeGrant.{by-session, grant-agrees}
 use Rattle.ec_coherence.proofs.TakeRecall.{recall-agrees}
 use Rattle.ec_coherence.specs.StandLaws.{GoesOn, IsUnderWay}
@@ -38,6 +37,8 @@ use Rattle.ec_clerk_steps.proofs.CacheLogs as kept
 use Rattle.ec_clerk_steps.proofs.Hand as hand
 use Rattle.ec_clerk_steps.proofs.Logs.{kept-order}
 use Rattle.ec_clerk_steps.proofs.Moving as moving
+use Rattle.ec_base.proofs.Numbers.{equal}
+use Rattle.ec_coherence.proofs.CacheChange.{at-renewed}
 
 module _ (g : System) (c b s : ℕ) (d : Doing) (γ : Ghost) (h : IsInHand g c b s d γ) where
   abbrev u : IsUnderWay g c b s d γ

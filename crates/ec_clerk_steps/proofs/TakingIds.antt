@@ -1,5 +1,5 @@
 -- Ids are taken: Write tokens on sixteen new objects, which are named now.
-use Rattle.std.proofs.Common.{◌≡◌, refl, sym, ap, subst, ◌∙◌, inl, ◌⊎◌, arith, ◌≤◌, ◌<◌, ◌+◌, ℕ, Bool, true, false, not, ◌&&◌, ◌==◌, cond, T}
+use Rattle.std.proofs.Common.{◌≡◌, refl, sym, ap, subst, ◌∙◌, inl, ◌⊎◌, arith, ◌<◌, ◌+◌, ℕ, Bool, true, false, not, ◌&&◌, ◌==◌, cond, T}
 use Rattle.std.specs.Prelude.{Option, Some, nat_le}
 use Rattle.ec_base.specs.Tables.{at}
 use Rattle.ec_base.specs.declared.counter.Counter.TheVariants as counter
@@ -21,7 +21,7 @@ use Rattle.ec_coherence.proofs.Acting.{is-in, view-is}
 use Rattle.ec_coherence.proofs.GivenIds.{run-in}
 use Rattle.ec_coherence.proofs.Keyed.{keyed-each}
 use Rattle.ec_coherence.proofs.Lists.{each-member, each-more, each-turn}
-use Rattle.ec_coherence.proofs.Tables.{differs, equal, same_some}
+use Rattle.ec_coherence.proofs.Tables.{differs, same_some}
 use Rattle.ec_coherence.proofs.TakeGrant.{by-session}
 use Rattle.ec_coherence.proofs.TakeIds.{ids-agree, taken-each}
 use Rattle.ec_coherence.proofs.TakenIds.{taken-images, taken-logs}
@@ -31,13 +31,12 @@ use Rattle.ec_clerk_steps.specs.DoingLaws.{IsInHand}
 use Rattle.ec_clerk_steps.proofs.Hand as hand
 use Rattle.ec_clerk_steps.proofs.Moving as moving
 use Rattle.ec_clerk_steps.proofs.Naming.{names-stay}
+use Rattle.ec_base.proofs.Numbers.{equal}
+use Rattle.ec_clerk_steps.proofs.StoredIds.{within}
 
 -- a new token
 abbrev fresh : ℕ → Held
 fresh n = record { hold = Write; number = n; image = image.Gone }
-
-within : (x f : ℕ) → f ≤ x → x < f + 16 → T (in_sixteen f x)
-within x f a b = grind arith
 
 module _ (g : System) (c b s : ℕ) (d : Doing) (γ : Ghost) (h : IsInHand g c b s d γ) where
   abbrev u : IsUnderWay g c b s d γ
@@ -86,7 +85,7 @@ module _ (g : System) (c b s : ℕ) (d : Doing) (γ : Ghost) (h : IsInHand g c b
     to-see y o p = go (member y (run first 16)) refl (sym (found y) ∙ p)
       where
         go : (z : Bool) → member y (run first 16) ≡ z → cond z (Some (fresh n)) (at y k.held) ≡ Some o → o.image ≡ seen here s y
-        go true q r = ap (λ z. z.image) (sym (same_some r)) ∙ sym (new-row y (Rattle.ec_coherence.proofs.Tables.holds (member y (run first 16)) q)).1
+        go true q r = ap (λ z. z.image) (sym (same_some r)) ∙ sym (new-row y (Rattle.ec_base.proofs.Bools.holds-true (member y (run first 16)) q)).1
         go false q r = (all.0).images.licences s y d.clerk (moving.there g c b s d γ u) o r
 
     taking : IsUnderWay g c b s e γ
@@ -136,7 +135,7 @@ module _ (g : System) (c b s : ℕ) (d : Doing) (γ : Ghost) (h : IsInHand g c b
         hidden : T (is_hidden (acting w c s d) s x)
         hidden = let r = run-in x first 16 m in
             subst (λ o. T (is_untaken (γ.grants s) (γ.first s) o x)) (sym (is-in w c s d))
-            (mine (d.clerk.got + 1 == γ.grants s) (in_sixteen (γ.first s) x) (ap (λ z. z == γ.grants s) given ∙ Rattle.ec_coherence.proofs.Tables.same (γ.grants s)) (subst (λ z. T (in_sixteen z x)) is-first (within x first r.0 r.1)))
+            (mine (d.clerk.got + 1 == γ.grants s) (in_sixteen (γ.first s) x) (ap (λ z. z == γ.grants s) given ∙ Rattle.ec_base.proofs.Numbers.same-self (γ.grants s)) (subst (λ z. T (in_sixteen z x)) is-first (within x first r.0 r.1)))
 
     takes-them : IsInHand g c b s e γ
     takes-them = record {

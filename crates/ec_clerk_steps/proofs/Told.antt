@@ -12,7 +12,6 @@ use Rattle.ec_history.specs.declared.shown.Shown.{Shown}
 use Rattle.ec_history.specs.declared.shown.Shown.TheVariants as show
 use Rattle.ec_laws.proofs.Late.{place-no_call}
 use Rattle.ec_laws.proofs.More.{watch-step}
-use Rattle.ec_laws.proofs.Numbers.{each-map}
 use Rattle.ec_log.specs.LogOrder.{is_from}
 use Rattle.ec_wire.specs.declared.msg.Msg.{Msg}
 use Rattle.ec_protocol.specs.Clerk.{is_ready}
@@ -22,7 +21,7 @@ use Rattle.ec_coherence.specs.System.{System, Ghost, at_session, base_of, with_s
 use Rattle.ec_coherence.specs.Events.{EventsAgree, shown_boot}
 use Rattle.ec_coherence.specs.Steps.{call_of}
 use Rattle.ec_coherence.proofs.ClerkIn.{start-same}
-use Rattle.ec_coherence.proofs.Tables.{at-without, equal, same_some}
+use Rattle.ec_coherence.proofs.Tables.{at-without, same_some}
 use Rattle.ec_coherence.specs.Comes.{begun_at}
 use Rattle.ec_coherence.specs.StandLaws.{crashed}
 use Rattle.ec_clerk_steps.specs.Calls.{AreApart, Began, CallsAgree, IsBefore, IsOpenCall, LosesBelow, StartCalls, before_last, has_number, is_shown, told_to}
@@ -30,15 +29,13 @@ use Rattle.ec_clerk_steps.specs.Waits.{AreAtRest, HasLine, IsAtRest, does_wait}
 use Rattle.ec_clerk_steps.specs.CallLaws.{with_change}
 use Rattle.ec_clerk_steps.proofs.CallFrames.{lines-append}
 use Rattle.ec_clerk_steps.proofs.Issued.{loses-all}
-use Rattle.ec_clerk_steps.proofs.Known.{first-line, none_some, same}
+use Rattle.ec_clerk_steps.proofs.Known.{first-line}
 use Rattle.ec_clerk_steps.proofs.Quiet.{other-start, split-start}
-
-apart-two : false ≡ true → ⊥
-apart-two e = cc
-
-or_false : (z : Bool) → (z || false) ≡ z
-or_false true = refl
-or_false false = refl
+use Rattle.ec_base.proofs.Numbers.{same-self as same, equal}
+use Rattle.ec_base.proofs.Equalities.{apart-two}
+use Rattle.ec_base.proofs.Options.{none_some}
+use Rattle.ec_laws.proofs.BasesAlike.{each-map}
+use Rattle.ec_base.proofs.Bools.{or_false}
 
 -- What the start knows to be lost is a part of what is.
 part-before : (c b : ℕ) (P : ℕ × Entry → Type 0) (h : History) → Each P h → Each P (before_last c b h)

@@ -28,10 +28,11 @@ use Rattle.ec_protocol.specs.Clerk.{first_id, verdict}
 use Rattle.ec_protocol.specs.declared.clerk.Clerk.{Clerk}
 use Rattle.ec_coherence.specs.Tokens.{IsWrite}
 use Rattle.ec_coherence.proofs.Needs.{holds-write}
-use Rattle.ec_coherence.proofs.Tables.{is-true, none_some}
 use Rattle.ec_coherence.specs.Answers.{Gives, op_given}
 use Rattle.ec_clerk_steps.specs.Answering.{answered_clerk, done_clerk}
 use Rattle.ec_clerk_steps.proofs.Refusing.{plain-fair}
+use Rattle.ec_base.proofs.Options.{none_some}
+use Rattle.ec_base.proofs.Bools.{is-true}
 
 -- The clerk stays who it is.
 

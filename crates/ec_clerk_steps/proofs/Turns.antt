@@ -1,7 +1,6 @@
 -- Calls in turn: where one doesn't wait the others have their lines, and they stay in turn where little changes.
 use Rattle.std.proofs.Common.{◌≡◌, sym, ap, subst, ◌∙◌, inl, inr, ℕ, T, false, List, [], ◌∷◌, ◌++◌}
 use Rattle.ec_history.specs.History.{Each}
-use Rattle.ec_laws.proofs.Numbers.{each-map}
 use Rattle.ec_protocol.specs.Clerk.{Doing}
 use Rattle.ec_protocol.specs.declared.clerk.Clerk.{Clerk}
 use Rattle.ec_protocol.specs.declared.clerk.Waiting.{Waiting}
@@ -11,6 +10,7 @@ use Rattle.ec_clerk_steps.specs.Waits.{AreInTurn, HasLine, does_wait}
 use Rattle.ec_clerk_steps.specs.CallLaws.{IsStill}
 use Rattle.ec_clerk_steps.proofs.Quiet.{quiet-lines}
 use Rattle.ec_clerk_steps.proofs.Still.{still-waits}
+use Rattle.ec_laws.proofs.BasesAlike.{each-map}
 
 first-is : {A : Type 0} (x y : A) (xs ys : List A) → x ∷ xs ≡ y ∷ ys → x ≡ y
 first-is x y xs ys e = cc

@@ -15,14 +15,11 @@ use Rattle.ec_sessions.specs.declared.window.Window.{Window}
 use Rattle.ec_coherence.specs.System.{System, clerk_in, is_of, is_open}
 use Rattle.ec_coherence.specs.Log.{Knows, LogsAgree, mine, numbered}
 use Rattle.ec_coherence.specs.Sessions.{SessionsAgree}
-use Rattle.ec_coherence.proofs.Lists.{each-both, each-turn, each-whole, no_both}
+use Rattle.ec_coherence.proofs.Lists.{each-both, each-turn, each-whole}
 use Rattle.ec_coherence.proofs.OpenSlots.{owner-slot}
 use Rattle.ec_coherence.proofs.Ids.{in-back, in-front}
-
--- each operation stands in its list
-each-held : (os : List Op) → Each (λ o. Holds (numbered os) o.number o.update) os
-each-held [] = tt
-each-held (o ∷ os) = (inl (refl, refl), each-turn (λ x. Holds (numbered os) x.number x.update) (λ x. Holds (numbered (o ∷ os)) x.number x.update) os (λ x h. inr h) (each-held os))
+use Rattle.ec_base.proofs.Bools.{not-both as no_both}
+use Rattle.ec_coherence.proofs.Batched.{each-held}
 
 module _ (l : LogState) (w : Window) (os : List Op) (durable : Op → Bool) (kn : Knows l w os durable) where
   pub undurable-held : Each (λ o. T (not (durable o)) → Holds l.undurable o.number o.update) os

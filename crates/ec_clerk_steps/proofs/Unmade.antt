@@ -15,8 +15,8 @@ use Rattle.ec_history.specs.History.{Each, Op, updates}
 use Rattle.ec_laws.specs.Needs.{holds_needed}
 use Rattle.ec_laws.proofs.Objects.{common}
 use Rattle.ec_durable.specs.Durable.{made}
-use Rattle.ec_coherence.proofs.Lists.{and_first, and_next, filter-no, filter-yes, no_both, or_else, or_first, or_next}
-use Rattle.ec_coherence.proofs.Tables.{is-true}
+use Rattle.ec_coherence.proofs.Lists.{filter-no, filter-yes, or_else}
+use Rattle.ec_base.proofs.Bools.{left as and_first, not-both as no_both, or-right as or_next, right as and_next, or_first, is-true}
 
 -- What fits an object that is gone makes it.
 

@@ -22,11 +22,13 @@ use Rattle.ec_protocol.specs.Clerk.{Doing, verdict}
 use Rattle.ec_protocol.specs.declared.clerk.Clerk.{Clerk}
 use Rattle.ec_coherence.specs.System.{System, base_of, is_open, seen_ops, undurable}
 use Rattle.ec_coherence.specs.Events.{CutAgrees, EventsAgree, IsUncut, cut_in, same_op, shown_boot, shown_op}
-use Rattle.ec_coherence.proofs.Lists.{and_both}
-use Rattle.ec_coherence.proofs.Tables.{each-map, equal, is-true, none_some, same, same_some}
+use Rattle.ec_coherence.proofs.Tables.{each-map, same_some}
 use Rattle.ec_coherence.specs.Answers.{Gives, IsLive, Sees, based, fresh_of, op_given, seen_by}
 use Rattle.ec_coherence.specs.Comes.{after_answer, entry_next}
 use Rattle.ec_coherence.proofs.Appended.{answer-keeps}
+use Rattle.ec_base.proofs.Numbers.{same-self as same, equal}
+use Rattle.ec_base.proofs.Options.{none_some}
+use Rattle.ec_base.proofs.Bools.{and-both as and_both, is-true}
 
 -- Only the sessions that a running start is cut off from matter to the facts of histories.
 

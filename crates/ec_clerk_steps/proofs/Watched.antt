@@ -26,8 +26,11 @@ use Rattle.ec_sessions.specs.declared.slot.Slot.{Slot}
 use Rattle.ec_durable.specs.Durable.{slot}
 use Rattle.ec_coherence.specs.System.{System, Ghost, is_of, undurable}
 use Rattle.ec_coherence.specs.Events.{shown_boot}
-use Rattle.ec_coherence.proofs.Tables.{by-session, each-map, is-true, none_some, same, same_some}
+use Rattle.ec_coherence.proofs.Tables.{by-session, each-map, same_some}
 use Rattle.ec_coherence.specs.Watches.{WatchAgrees, WatchesAgree, still_in}
+use Rattle.ec_base.proofs.Numbers.{same-self as same}
+use Rattle.ec_base.proofs.Options.{none_some}
+use Rattle.ec_base.proofs.Bools.{is-true}
 
 -- One clerk's watch, on plain variables.
 module _ (w : Watch) (runs : w.running ≡ true) (untold : w.untold ≡ None) (early : w.early ≡ []) (s : Bool) (op : Option ℕ) where

@@ -20,7 +20,6 @@ use Rattle.ec_coherence.specs.Sessions.{HasNone}
 use Rattle.ec_coherence.specs.Tokens.{Fits, view}
 use Rattle.ec_coherence.specs.Steps.{calls_after, doing_in}
 use Rattle.ec_coherence.proofs.Needs.{each-of}
-use Rattle.ec_coherence.proofs.Tables.{equal}
 use Rattle.ec_coherence.specs.CommitLaws.{AllAgree}
 use Rattle.ec_coherence.specs.StandLaws.{ClerkStands, IsUnderWay}
 use Rattle.ec_coherence.proofs.Doings.{begins-stand}
@@ -30,6 +29,7 @@ use Rattle.ec_clerk_steps.proofs.Cases as cases
 use Rattle.ec_clerk_steps.proofs.Hellos.{hello-cuts, hello-stands, old-boot-cuts, old-boot-stands}
 use Rattle.ec_clerk_steps.proofs.Joined.{joins-cuts, joins-go}
 use Rattle.ec_clerk_steps.proofs.Leaving.{ended-stands}
+use Rattle.ec_base.proofs.Numbers.{equal}
 
 -- what is lost takes no call away
 ended-calls : (w : Window) (d : Doing) → SameCalls d.clerk (take_ended w d).clerk

@@ -20,15 +20,13 @@ use Rattle.ec_coherence.specs.Events.{EventsAgree, IsUncut, cut_in, shown_boot, 
 use Rattle.ec_coherence.specs.Steps.{calls_after}
 use Rattle.ec_coherence.specs.Invariant.{Invariant}
 use Rattle.ec_coherence.specs.ChangeLaws.{Calls}
-use Rattle.ec_coherence.proofs.Lists.{no_both}
-use Rattle.ec_coherence.proofs.Tables.{none_some}
 use Rattle.ec_coherence.specs.CommitLaws.{AllAgree}
 use Rattle.ec_coherence.specs.Starts.{StartsAgree}
 use Rattle.ec_coherence.specs.Watches.{FirstsAgree}
 use Rattle.ec_coherence.specs.Answers.{Gives, IsLive, Sees, based, fresh_of, op_given}
 use Rattle.ec_coherence.specs.Comes.{after_answer, entry_next}
 use Rattle.ec_coherence.proofs.Answering.{fresh-here, is-at, kept-now}
-use Rattle.ec_coherence.proofs.Touching.{each-holds, each-passing, none-such, or-right, touched-held}
+use Rattle.ec_coherence.proofs.Touching.{each-holds, each-passing, none-such, touched-held}
 use Rattle.ec_clerk_steps.specs.Answering.{Suits, answered_clerk, answering}
 use Rattle.ec_clerk_steps.specs.AnswerLaws.{IsBegun, IsSettled}
 use Rattle.ec_clerk_steps.specs.Zeros.{LeaveOut, ZerosAgree}
@@ -40,6 +38,8 @@ use Rattle.ec_clerk_steps.proofs.OutsideAnswers.{IsQuiet, holds-none, no-number,
 use Rattle.ec_clerk_steps.proofs.Turned.{next-is, same-age, same-id, same-session}
 use Rattle.ec_clerk_steps.proofs.Unseen.{answer-keeps-all}
 use Rattle.ec_clerk_steps.proofs.Zeroless.{still-no-zero}
+use Rattle.ec_base.proofs.Options.{none_some}
+use Rattle.ec_base.proofs.Bools.{not-both as no_both, or-right}
 
 -- All facts but those on the history, of any answer outside a session.
 module _ (g : System) (inv : Invariant g) (firsts : FirstsAgree g.ghost) (starts : StartsAgree g) (zeros : ZerosAgree g) (c b : ℕ) (k : Clerk) (ws : IsBegun g c) (at-start : g.clerks c b ≡ Some k) (out : k.session ≡ None)

@@ -19,13 +19,17 @@ use Rattle.ec_cache.specs.declared.state.Held.{Held}
 use Rattle.ec_protocol.specs.Clerk.{first_id, less_id, suits, verdict}
 use Rattle.ec_protocol.specs.declared.clerk.Clerk.{Clerk}
 use Rattle.ec_coherence.proofs.CacheChange.{suits-held}
-use Rattle.ec_coherence.proofs.Lists.{either_way, no_both}
-use Rattle.ec_coherence.proofs.Tables.{each-append, equal, is-false, is-true, none_some, same, same_some}
+use Rattle.ec_coherence.proofs.Lists.{either_way}
+use Rattle.ec_coherence.proofs.Tables.{same_some}
 use Rattle.ec_coherence.specs.Answers.{IsUnowed, op_given}
 use Rattle.ec_clerk_steps.specs.Answering.{Suits, answered_clerk, done_clerk}
 use Rattle.ec_clerk_steps.specs.Zeros.{HasNoZero, LeaveOut}
 use Rattle.ec_clerk_steps.proofs.Turned.{makes-first, writes-all}
 use Rattle.ec_clerk_steps.proofs.Unmade.{fits-gone}
+use Rattle.ec_base.proofs.Numbers.{same-self as same, equal}
+use Rattle.ec_base.proofs.Options.{none_some}
+use Rattle.ec_base.proofs.Bools.{not-both as no_both, neither, not-left, not-right, no-longer as is-false, is-true}
+use Rattle.ec_history.proofs.HistoryLemmas.{each-more as each-append}
 
 -- An object that no operation has as an operand stays as it was.
 pub left-out : (x : ℕ) (i : Image) (os : List Op) → LeaveOut x os → image_after x i (updates os) ≡ i
@@ -47,24 +51,12 @@ fewer-ids u ids h = go (is_make u)
     go true = in-rest 0 ids h
     go false = h
 
-not-both : (a b : Bool) → T (not a) → T (not b) → T (not (a || b))
-not-both true b h i = h
-not-both false b h i = i
-
-not-left : (a b : Bool) → T (not (a || b)) → T (not a)
-not-left true b h = h
-not-left false b h = tt
-
-not-right : (a b : Bool) → T (not (a || b)) → T (not b)
-not-right true b h = absurd h
-not-right false b h = h
-
 part-unowed : (p : ℕ × ℕ → Bool) (qs : Owed) (x : ℕ) → IsUnowed qs x → IsUnowed (filter p qs) x
 part-unowed p [] x h = h
 part-unowed p (q ∷ qs) x h = go (p q) (part-unowed p qs x (not-right (x == q.1) (member x (map (λ q. q.1) qs)) h))
   where
     go : (b : Bool) → IsUnowed (filter p qs) x → IsUnowed (cond b (q ∷ filter p qs) (filter p qs)) x
-    go true r = not-both (x == q.1) (member x (map (λ q. q.1) (filter p qs))) (not-left (x == q.1) (member x (map (λ q. q.1) qs)) h) r
+    go true r = neither (x == q.1) (member x (map (λ q. q.1) (filter p qs))) (not-left (x == q.1) (member x (map (λ q. q.1) qs)) h) r
     go false r = r
 
 first-in : (ids : List ℕ) (x : ℕ) → first_id ids ≡ Some x → T (member x ids)

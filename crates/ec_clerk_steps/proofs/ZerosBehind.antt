@@ -15,12 +15,14 @@ use Rattle.ec_protocol.specs.declared.server.Server.{Server}
 use Rattle.ec_coherence.specs.System.{System, Ghost, is_of, with_start}
 use Rattle.ec_coherence.specs.Steps.{Committed, doing_in}
 use Rattle.ec_coherence.proofs.Lists.{each-fewer}
-use Rattle.ec_coherence.proofs.Tables.{by-session, none_some, same, same_some}
+use Rattle.ec_coherence.proofs.Tables.{by-session, same_some}
 use Rattle.ec_coherence.specs.Ends.{show_end}
 use Rattle.ec_clerk_steps.specs.Zeros.{HasNoZero, LeaveOut, ZerosAgree}
 use Rattle.ec_clerk_steps.specs.Frames.{RecordMakes, behind}
 use Rattle.ec_clerk_steps.proofs.Steps.{batch-field, end-own, epoch-own, ids-are, open-is}
 use Rattle.ec_clerk_steps.specs.ZeroLaws.{SameZeros}
+use Rattle.ec_base.proofs.Numbers.{same-self as same}
+use Rattle.ec_base.proofs.Options.{none_some}
 
 abbrev Out : Op → Type 0
 Out o = T (not (has_operand 0 o.update))

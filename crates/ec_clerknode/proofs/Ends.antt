@@ -66,7 +66,3 @@ wanted_kept ended.NoMemory e = refl
 pub or_false : (a b : Bool) → (a || b) ≡ false → a ≡ false
 or_false true b e = absurd (cc e)
 or_false false b e = refl
-
-pub or_true : (a b : Bool) → (a || b) ≡ true → (a ≡ true) ⊎ (b ≡ true)
-or_true true b e = inl refl
-or_true false b e = inr e

@@ -18,8 +18,10 @@ use Rattle.ec_clerknode.specs.Turns.{number_of, calls_by, BeganAt}
 use Rattle.ec_clerknode.specs.PassTurns.{Failed, Called, Stays, Turned}
 use Rattle.ec_clerknode.specs.Lanes.{AreReplied, IsFront}
 use Rattle.ec_clerknode.specs.LaneRuns.{LaneDone, LaneRan}
-use Rattle.ec_clerknode.proofs.Lists.{prefix_self, prefix_get, prefix_trans, prefix_length, of-append}
+use Rattle.ec_clerknode.proofs.Lists.{prefix_get, prefix_length}
 use Rattle.ec_clerknode.proofs.Turns.{caused-right}
+use Rattle.ec_lock.proofs.StepsLemmas.{of-append}
+use Rattle.ec_base.proofs.Lists.{prefix_self, prefix_trans}
 
 -- what stands at a place stands inside
 get_inside : {A : Type 0} (xs : List A) (i : ℕ) (x : A) → slice_get xs i ≡ Some x → i < length xs

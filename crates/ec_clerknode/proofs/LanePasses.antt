@@ -28,12 +28,15 @@ use Rattle.ec_clerknode.specs.declared.lane.Replied.{Replied}
 use Rattle.ec_clerknode.specs.Lanes.{AreReplied, IsFront, AreLanes, AreFronts}
 use Rattle.ec_clerknode.specs.LaneRuns.{LaneDone, LaneRan, IfTold, IsMarked, LaneFault, LanesMade, LanesRan, LanesCame, LanesRanPlain, TellsOldBoot, Looked, all_items, lists_of}
 use Rattle.ec_clerknode.specs.Jobs.{Drew, IsNewPass, OneDone, IsBack, AreBack, Puts, first_end}
-use Rattle.ec_outs.proofs.Each.{each-append}
-use Rattle.ec_clerknode.proofs.Lists.{prefix_self, prefix_trans, prefix_length, of-append, member_left, member_right, member_append, distinct_append}
+use Rattle.ec_clerknode.proofs.Lists.{prefix_length}
 use Rattle.ec_clerknode.proofs.LaneCalls.{are_longer, are_from}
 use Rattle.ec_clerknode.proofs.Turns.{marks-right}
 use Rattle.ec_link.specs.Happenings.{each}
 use Rattle.ec_base.specs.Lists.{first_of}
+use Rattle.ec_lock.proofs.StepsLemmas.{of-append}
+use Rattle.ec_base.proofs.Lists.{prefix_self, prefix_trans}
+use Rattle.ec_lock.proofs.Numbers.{member_append, distinct_append, member_left, member_right}
+use Rattle.ec_link.proofs.HappeningsLemmas.{each-append}
 
 -- Faults, as the list goes on.
 
@@ -519,10 +522,6 @@ pub no_lists : {A : Type 0} (v : Vec (Vec A Global) Global) → v.items ≡ [] �
 no_lists {A} v e = ap (map (λ (w : Vec A Global). w.items)) e
 
 -- Lists that grow with another one.
-
-pub map_twice : {A B C : Type 0} (f : B → C) (h : A → B) (xs : List A) → map f (map h xs) ≡ map (λ x. f (h x)) xs
-map_twice f h [] = refl
-map_twice f h (x ∷ xs) = ap (λ l. f (h x) ∷ l) (map_twice f h xs)
 
 pub none_mapped : {J A : Type 0} (f : J → A) (jobs : List J) (rest all : List A) → jobs ≡ [] → rest ≡ all → map f jobs ++ rest ≡ all
 none_mapped f jobs rest all none e = ap (λ l. map f l ++ rest) none ∙ e

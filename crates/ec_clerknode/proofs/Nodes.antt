@@ -33,10 +33,11 @@ use Rattle.ec_clerknode.specs.NodeSteps.{AnsweredFrom, Since, Keeps}
 use Rattle.ec_clerknode.specs.Closed.{Acts, IsOwn, Closed, Moved, Fell, Begun, Works, Waited}
 use Rattle.ec_clerknode.proofs.Lists.{get_longer, get_last}
 use Rattle.ec_clerknode.proofs.Parts.{over_push, over_new, came_over, came_push, counted_push, counted_new, links_push, no_links}
-use Rattle.ec_outs.proofs.Each.{each-push}
 use Rattle.ec_outs.proofs.Told.{added-nil}
 use Rattle.ec_link.specs.Happenings.{each}
 use Rattle.ec_base.specs.Lists.{first_of}
+use Rattle.ec_base.proofs.Equalities.{true_false}
+use Rattle.ec_link.proofs.HappeningsLemmas.{each-push}
 
 pub leads-push : (c : Clerk) (xs : List Step) (s : Step) → leads c (xs ++ s ∷ []) ≡ after (leads c xs) s.deed
 leads-push c [] s = refl
@@ -54,9 +55,6 @@ said-push (x ∷ xs) s r h = (r.0, said-push xs s r.1 h)
 wanted_last : (xs : List Step) (s : Step) → s.end ≡ sent.NoMemory → Wanted (xs ++ s ∷ [])
 wanted_last [] s e = inl e
 wanted_last (x ∷ xs) s e = inr (wanted_last xs s e)
-
-true_false : true ≡ false → ⊥
-true_false e = cc e
 
 pub heard_short : (got : Got) → length (heard got) ≤ 1
 heard_short (gave.Body bytes) = omega arith

@@ -6,7 +6,6 @@ use Rattle.ec_lock.specs.Steps.{is_number, of}
 use Rattle.ec_link.specs.Links.{Heard, added}
 use Rattle.ec_link.specs.LinkAnswers.{failed}
 use Rattle.ec_link.specs.NetAnswers.{IsEmpty}
-use Rattle.ec_outs.proofs.Each.{each-push}
 use Rattle.ec_outs.proofs.Told.{added-added}
 use Rattle.ec_clerknode.specs.declared.step.Step.{Step}
 use Rattle.ec_clerknode.specs.Run.{heard_of, heard_by}
@@ -14,16 +13,14 @@ use Rattle.ec_clerknode.specs.RunEnds.{net_of, nets, Came}
 use Rattle.ec_clerknode.specs.Parts.{is_linked, parts, onto}
 use Rattle.ec_clerknode.specs.PresentLink.{has_link, part, IsBase, Over, CameOver, Counted, count_before, IsLinker, LinksBy}
 use Rattle.ec_clerknode.specs.Turns.{number_of}
-use Rattle.ec_clerknode.proofs.Lists.{of-append}
 use Rattle.ec_link.specs.Happenings.{each}
+use Rattle.ec_lock.proofs.StepsLemmas.{of-append}
+use Rattle.ec_link.proofs.HappeningsLemmas.{each-push}
+use Rattle.ec_base.proofs.Bools.{or_true}
 
 or_false : (a b : Bool) → (a || b) ≡ false → b ≡ false
 or_false true b e = absurd (cc e)
 or_false false b e = e
-
-or_true : (b : Bool) → (b || true) ≡ true
-or_true true = refl
-or_true false = refl
 
 -- Where no exchange stands behind them.
 

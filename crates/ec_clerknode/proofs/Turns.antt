@@ -32,14 +32,14 @@ use Rattle.ec_clerknode.specs.NodeSteps.{Since, By, AnsweredFrom}
 use Rattle.ec_clerknode.specs.Closed.{More, Caused, Closed, GoesOn, EndsAs, Stops, Fails, Fell, Begun, Works, Flushes, PartsIf, PartsBehind, Resends, ReadsFlushes, Links, Started, Waited}
 use Rattle.ec_clerknode.specs.Turns.{number_of, calls_by, Replied, SaidBye}
 use Rattle.ec_clerknode.specs.PassTurns.{Failed, Called, Worked, Partings, Stays, Turned, Pending, Starts, Waits, PickedLast, Asks, FlushTurned, Finished, FinishedAlone, HandsBack, Relinked}
-use Rattle.ec_clerknode.proofs.Lists.{prefix_trans, prefix_length, prefix_get, get_last, of-append}
-use Rattle.ec_outs.proofs.Each.{each-append}
+use Rattle.ec_clerknode.proofs.Lists.{prefix_length, prefix_get, get_last}
 use Rattle.ec_clerknode.proofs.Parts.{came_over, none_linked}
 use Rattle.ec_clerknode.proofs.Parts as Parts
 use Rattle.ec_outs.proofs.Told.{added-nil}
-
-true_false : true ≡ false → ⊥
-true_false e = cc e
+use Rattle.ec_lock.proofs.StepsLemmas.{of-append}
+use Rattle.ec_base.proofs.Equalities.{true_false}
+use Rattle.ec_base.proofs.Lists.{prefix_trans}
+use Rattle.ec_link.proofs.HappeningsLemmas.{each-append}
 
 pub of_own : (pass : ℕ) (more : List Step) → By pass more → of number_of pass more ≡ more
 of_own pass [] h = refl

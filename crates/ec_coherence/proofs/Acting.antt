@@ -15,8 +15,10 @@ use Rattle.ec_coherence.specs.Tokens.{View, side, side_in, view, Fits, Passed, T
 use Rattle.ec_coherence.proofs.Said.{with_pool}
 use Rattle.ec_coherence.proofs.Sends.{sent-agrees}
 use Rattle.ec_coherence.proofs.Sides.{Moves, moved-agrees}
-use Rattle.ec_coherence.proofs.Tables.{equal, same, same_some}
+use Rattle.ec_coherence.proofs.Tables.{same_some}
 use Rattle.std.proofs.lemmas.Bool.{and_parts}
+use Rattle.ec_base.proofs.Lists.{regroup}
+use Rattle.ec_base.proofs.Numbers.{same-self as same, equal}
 
 pub here : {A : Type 0} (s : ℕ) (o : A) (f : ℕ → A) → at_session s o f s ≡ o
 here s o f = ap (λ b. elim b [ true ↦ o | false ↦ f s ]) (same s)
@@ -35,10 +37,6 @@ sends-more c (out.Told ns ∷ os) ps = sends-more c os ps
 sends-more c (out.Answer n a op ∷ os) ps = sends-more c os ps
 sends-more c (out.OldBoot a ∷ os) ps = sends-more c os ps
 
-pub grouped : {A : Type 0} (xs ys zs : List A) → (xs ++ ys) ++ zs ≡ xs ++ (ys ++ zs)
-grouped [] ys zs = refl
-grouped (x ∷ xs) ys zs = ap (λ z. x ∷ z) (grouped xs ys zs)
-
 module _ (w : View) (c s : ℕ) (d : Doing) where
   pub is-in : (acting w c s d).clerk s ≡ Some (side d.clerk)
   is-in = here s (Some (side d.clerk)) w.clerk
@@ -54,7 +52,7 @@ module _ (w : View) (c s : ℕ) (d : Doing) where
 
   -- a message is sent
   pub sends-act : (m : Msg) → TokensAgree (acting w c s d) → Fits (acting w c s d) m → TokensAgree (acting w c s (send m d))
-  sends-act m agree f = subst (λ p. TokensAgree (with_pool p (acting w c s d))) (grouped w.pool (sends c d.outs) ((c, m) ∷ []) ∙ ap (λ z. w.pool ++ z) (sym (sends-more c d.outs (out.Send m ∷ []))))
+  sends-act m agree f = subst (λ p. TokensAgree (with_pool p (acting w c s d))) (regroup w.pool (sends c d.outs) ((c, m) ∷ []) ∙ ap (λ z. w.pool ++ z) (sym (sends-more c d.outs (out.Send m ∷ []))))
       (sent-agrees (acting w c s d) c m agree f)
 
   -- what comes out for the calls isn't sent

@@ -15,12 +15,13 @@ use Rattle.ec_protocol.specs.Clerk.{Doing, emit, with_clerk, with_cache, with_up
 use Rattle.ec_coherence.specs.Clerks.{acting}
 use Rattle.ec_coherence.specs.Tokens.{View, Side, side, eff, TokensAgree}
 use Rattle.ec_coherence.proofs.Acting.{is-in}
-use Rattle.ec_coherence.proofs.Caches.{at-renewed}
 use Rattle.ec_coherence.proofs.Goes.{Goes, goes-move, goes-show}
 use Rattle.ec_coherence.proofs.OneObject.{still-moves}
 use Rattle.ec_coherence.proofs.Rows.{Fewer, Moved}
 use Rattle.ec_coherence.proofs.Sides.{Moves}
-use Rattle.ec_coherence.proofs.Tables.{equal}
+use Rattle.ec_base.proofs.Numbers.{equal}
+use Rattle.ec_coherence.proofs.CacheChange.{at-renewed}
+use Rattle.ec_cache.proofs.CacheLemmas.{all-used-lasts}
 
 -- the same token, perhaps with another image
 abbrev pub Alike : Option Held → Option Held → Type 0
@@ -51,20 +52,9 @@ used-held y x k = go (at x k.held) refl
     go None p = refl
     go (Some h) p = at-renewed y x h k.held ∙ same-one h p (y == x) refl
 
-used-lasts : (x : ℕ) (k : CacheState) → (cache.used x k).lasts ≡ k.lasts
-used-lasts x k = go (at x k.held)
-  where
-    go : (o : Option Held) → (elim o as (λ z. CacheState) [ None ↦ k | Some h ↦ record k { held = renewed x h k.held } ]).lasts ≡ k.lasts
-    go None = refl
-    go (Some h) = refl
-
 all-used-held : (y : ℕ) (xs : List ℕ) (k : CacheState) → at y (cache.all_used xs k).held ≡ at y k.held
 all-used-held y [] k = refl
 all-used-held y (x ∷ xs) k = all-used-held y xs (cache.used x k) ∙ used-held y x k
-
-all-used-lasts : (xs : List ℕ) (k : CacheState) → (cache.all_used xs k).lasts ≡ k.lasts
-all-used-lasts [] k = refl
-all-used-lasts (x ∷ xs) k = all-used-lasts xs (cache.used x k) ∙ used-lasts x k
 
 module _ (u : Update) where
   changed-held : (y x : ℕ) (k : CacheState) → Alike (at y k.held) (at y (cache.change_at u x k).held)

@@ -26,8 +26,10 @@ use Rattle.ec_protocol.specs.Clerk.{first_id, verdict}
 use Rattle.ec_protocol.specs.declared.clerk.Clerk.{Clerk}
 use Rattle.ec_coherence.specs.System.{System, seen_ops}
 use Rattle.ec_coherence.specs.Events.{EventsAgree, shown_boot, shown_op}
-use Rattle.ec_coherence.proofs.Tables.{at-put, same, differ, same_some, none_some}
+use Rattle.ec_coherence.proofs.Tables.{at-put, differ, same_some}
 use Rattle.ec_coherence.specs.Answers.{IsLive, Sees, Gives, seen_by, fresh_of, op_given, based}
+use Rattle.ec_base.proofs.Numbers.{same-self as same}
+use Rattle.ec_base.proofs.Options.{none_some}
 
 -- An answer by a verdict, on plain variables.
 module _ (base : Base) (most : ℕ) (past : History) (c b p l begun : ℕ) (cl : Call) (k : Clerk)

@@ -32,10 +32,13 @@ use Rattle.ec_protocol.specs.Clerk.{Doing, verdict}
 use Rattle.ec_protocol.specs.declared.clerk.Clerk.{Clerk}
 use Rattle.ec_coherence.specs.System.{System, base_of, is_of, is_open, undurable, with_start}
 use Rattle.ec_coherence.specs.Events.{EventsAgree, CutAgrees, Frees, IsUncut, shown_boot, shown_op, same_op}
-use Rattle.ec_coherence.proofs.Tables.{same, equal, same_some, none_some, each-map, each-append}
+use Rattle.ec_coherence.proofs.Tables.{same_some, each-map}
 use Rattle.ec_coherence.specs.Answers.{IsLive, Sees, fresh_of, op_given, based}
 use Rattle.ec_coherence.specs.Comes.{Comes, begun_at, entry_next, ops_next, after_answer}
 use Rattle.ec_coherence.proofs.Answering.{old_fresh, new_fresh, alike, kept-now, is-at, fresh-here, answers-stand, given-issued}
+use Rattle.ec_base.proofs.Numbers.{same-self as same, equal}
+use Rattle.ec_base.proofs.Options.{none_some}
+use Rattle.ec_history.proofs.HistoryLemmas.{each-more as each-append}
 
 -- Histories.
 

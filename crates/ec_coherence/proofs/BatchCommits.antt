@@ -29,9 +29,9 @@ use Rattle.ec_coherence.proofs.Batched.{sent-numbers}
 use Rattle.ec_coherence.proofs.FlushAgrees as flushing
 use Rattle.ec_coherence.proofs.FlushAgrees.{flush-agrees}
 use Rattle.ec_coherence.proofs.Flushed.{flushes}
-use Rattle.ec_coherence.proofs.Lists.{and_first, filter-alike}
+use Rattle.ec_coherence.proofs.Lists.{filter-alike}
 use Rattle.ec_coherence.proofs.OpenSlots.{at-open, open-at}
-use Rattle.ec_coherence.proofs.Tables.{equal, is-true, same, same_some}
+use Rattle.ec_coherence.proofs.Tables.{same_some}
 use Rattle.ec_coherence.specs.Starts.{StartsAgree}
 use Rattle.ec_coherence.specs.Watches.{WatchesAgree, still_in}
 use Rattle.ec_coherence.proofs.Durables as durables
@@ -40,6 +40,8 @@ use Rattle.ec_coherence.proofs.Given.{before-lines, before-record, ended-unclaim
 use Rattle.ec_coherence.proofs.Shown.{lines-agree}
 use Rattle.ec_coherence.proofs.Starting.{alike-with, quiet-with, starts-behind}
 use Rattle.ec_coherence.proofs.Stopping.{stops-behind}
+use Rattle.ec_base.proofs.Bools.{left as and_first, left-other, left-own, is-true}
+use Rattle.ec_base.proofs.Numbers.{same-self as same, equal}
 
 all-members : (P : ℕ → Bool) (xs : List ℕ) → ((n : ℕ) → T (member n xs) → T (P n)) → T (list_all P xs)
 all-members P [] f = tt
@@ -53,21 +55,7 @@ all-members P (x ∷ xs) f = both (P x) (list_all P xs) (f x (subst (λ b. T (b 
     both true b t s = s
     both false b t s = absurd t
 
--- what is left where these of one start become durable
-left-own : (o d m : Bool) → ((o && not d) && not m) ≡ (o && not (d || (o && m)))
-left-own true true m = refl
-left-own true false m = refl
-left-own false d m = refl
-
-left-other : (o d x m : Bool) → (T o → x ≡ false) → (o && not (d || (x && m))) ≡ (o && not d)
-left-other true d x m f = ap (λ z. not (d || (z && m))) (f tt) ∙ by d
-  where
-    by : (d : Bool) → not (d || false) ≡ not d
-    by true = refl
-    by false = refl
-left-other false d x m f = refl
-
-every : (P : Op → Type 0) → ((k : Op) → P k) → (ks : List Op) → Each P ks
+pub every : (P : Op → Type 0) → ((k : Op) → P k) → (ks : List Op) → Each P ks
 every P f [] = tt
 every P f (k ∷ ks) = (f k, every P f ks)
 

@@ -17,7 +17,8 @@ use Rattle.ec_coherence.specs.Events.{EventsAgree}
 use Rattle.ec_coherence.specs.Stops.{StopsAgree}
 use Rattle.ec_coherence.specs.Opening.{opening, OpeningAgrees, FirstStartStands}
 use Rattle.ec_coherence.proofs.Start.{start-stands}
-use Rattle.ec_coherence.proofs.Tables.{equal, none_some}
+use Rattle.ec_base.proofs.Options.{none_some}
+use Rattle.ec_base.proofs.Numbers.{equal}
 
 abbrev no-slots : ℕ → List (Option Slot)
 no-slots n = replicate n None

@@ -22,15 +22,18 @@ use Rattle.ec_coherence.specs.Log.{HasWrites}
 use Rattle.ec_coherence.specs.Events.{Frees, IsUncut, Untouched, shown_boot}
 use Rattle.ec_coherence.specs.Invariant.{Invariant}
 use Rattle.ec_coherence.specs.Steps.{end_session}
-use Rattle.ec_coherence.proofs.Lists.{and_both, and_first, and_next, each-always, each-part, each-turn, either_way, filter-alike, filter-two, same_tests}
+use Rattle.ec_coherence.proofs.Lists.{each-always, each-part, each-turn, either_way, filter-alike, filter-two}
 use Rattle.ec_coherence.proofs.OneSession.{write-eff}
 use Rattle.ec_coherence.proofs.OpenSlots.{one-owner, open-at, at-open}
-use Rattle.ec_coherence.proofs.Tables.{none_some, same, same_some}
+use Rattle.ec_coherence.proofs.Tables.{same_some}
 use Rattle.std.proofs.lemmas.Bool.{cases_eq}
 use Rattle.ec_coherence.specs.Starts.{StartsAgree}
 use Rattle.ec_coherence.specs.Watches.{WatchesAgree}
 use Rattle.ec_coherence.specs.Ends.{show_line}
 use Rattle.ec_coherence.proofs.Its as its
+use Rattle.ec_base.proofs.Bools.{left as and_first, and-both as and_both, same_tests, right as and_next}
+use Rattle.ec_base.proofs.Numbers.{same-self as same}
+use Rattle.ec_base.proofs.Options.{none_some}
 
 -- beside a Write token there's no other one
 free-beside : (a b : Hold) → 2 ≤ rank b → T (not (clash a b)) → T (is_free a)

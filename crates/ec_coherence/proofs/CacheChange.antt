@@ -14,18 +14,16 @@ use Rattle.ec_cache.specs.declared.state.CacheState.{CacheState}
 use Rattle.ec_cache.specs.declared.state.Held.{Held}
 use Rattle.ec_protocol.specs.Clerk.{less_id, first_id, suits}
 use Rattle.ec_coherence.specs.Tokens.{IsWrite}
-use Rattle.ec_coherence.proofs.Lists.{and_first, and_next, or_first, no_both}
-use Rattle.ec_coherence.proofs.Tables.{at-without, equal, is-true, same_some, none_some}
+use Rattle.ec_coherence.proofs.Tables.{at-without, same_some}
 use Rattle.std.specs.List.{list_all}
+use Rattle.ec_base.proofs.Bools.{left as and_first, not-both as no_both, right as and_next, or_first, is-true}
+use Rattle.ec_base.proofs.Options.{none_some, or_last}
+use Rattle.ec_base.proofs.Numbers.{equal}
 
-at-cons : {X : Type 0} (j : ℕ) (e : ℕ × X) (es : Table X) → at j (e ∷ es) ≡ cond (j == e.0) (Some e.1) (at j es)
+pub at-cons : {X : Type 0} (j : ℕ) (e : ℕ × X) (es : Table X) → at j (e ∷ es) ≡ cond (j == e.0) (Some e.1) (at j es)
 at-cons j e es = sym (ap (λ b. cond b (Some e.1) (at j es)) (unsigned_ties j e.0))
 
-abbrev or_last : {X : Type 0} → Option X → Option X → Option X
-or_last None o = o
-or_last (Some x) o = Some x
-
-at-end : {X : Type 0} (j k : ℕ) (v : X) (es : Table X) → at j (es ++ (k, v) ∷ []) ≡ or_last (at j es) (cond (j == k) (Some v) None)
+pub at-end : {X : Type 0} (j k : ℕ) (v : X) (es : Table X) → at j (es ++ (k, v) ∷ []) ≡ or_last (at j es) (cond (j == k) (Some v) None)
 at-end j k v [] = at-cons j (k, v) []
 at-end j k v (e ∷ es) = at-cons j e (es ++ (k, v) ∷ []) ∙ ap (cond (j == e.0) (Some e.1)) (at-end j k v es) ∙ go (j == e.0) ∙ ap (λ o. or_last o (cond (j == k) (Some v) None)) (sym (at-cons j e es))
   where
@@ -33,7 +31,7 @@ at-end j k v (e ∷ es) = at-cons j e (es ++ (k, v) ∷ []) ∙ ap (cond (j == e
     go true = refl
     go false = refl
 
-at-renewed : {X : Type 0} (j k : ℕ) (v : X) (es : Table X) → at j (renewed k v es) ≡ cond (j == k) (Some v) (at j es)
+pub at-renewed : {X : Type 0} (j k : ℕ) (v : X) (es : Table X) → at j (renewed k v es) ≡ cond (j == k) (Some v) (at j es)
 at-renewed j k v es = at-end j k v (without k es) ∙ ap (λ o. or_last o (cond (j == k) (Some v) None)) (at-without j k es) ∙ go (j == k) (at j es)
   where
     go : (b : Bool) (o : Option _) → or_last (cond b None o) (cond b (Some v) None) ≡ cond b (Some v) o

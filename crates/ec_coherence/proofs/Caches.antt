@@ -1,38 +1,15 @@
 -- What is found in a changed cache.
-use Rattle.std.proofs.Common.{◌≡◌, refl, sym, ap, ◌∙◌, ℕ, Bool, true, false, not, cond, List, [], ◌∷◌, ◌++◌}
+use Rattle.std.proofs.Common.{◌≡◌, refl, sym, ap, ◌∙◌, ℕ, Bool, true, false, not, cond, List, [], ◌∷◌}
 use Rattle.std.specs.Prelude.{◌==◌, Option, None, Some, filter}
-use Rattle.std.specs.Cmp.{unsigned_ties}
-use Rattle.ec_base.specs.Tables.{Table, at, at_or, or_else, put, without, renewed}
+use Rattle.ec_base.specs.Tables.{Table, at, at_or, or_else, put}
 use Rattle.ec_base.specs.declared.ids.Hold.{Hold}
 use Rattle.ec_volume.specs.Update.{member}
 use Rattle.ec_base.specs.Holds.{weaker}
 use Rattle.ec_cache.specs.Cache as cache
 use Rattle.ec_cache.specs.declared.state.Held.{Held}
-use Rattle.ec_coherence.proofs.Tables.{equal, at-put, at-without}
-
-pub at-cons : {X : Type 0} (y : ℕ) (e : ℕ × X) (es : Table X) → at y (e ∷ es) ≡ cond (y == e.0) (Some e.1) (at y es)
-at-cons y e es = sym (ap (λ b. cond b (Some e.1) (at y es)) (unsigned_ties y e.0))
-
--- the first one, or else what stands at the end
-abbrev pub or_last : {X : Type 0} → Option X → Option X → Option X
-or_last None o = o
-or_last (Some x) o = Some x
-
-pub at-end : {X : Type 0} (j k : ℕ) (v : X) (es : Table X) → at j (es ++ (k, v) ∷ []) ≡ or_last (at j es) (cond (j == k) (Some v) None)
-at-end j k v [] = at-cons j (k, v) []
-at-end j k v (e ∷ es) = at-cons j e (es ++ (k, v) ∷ []) ∙ ap (cond (j == e.0) (Some e.1)) (at-end j k v es) ∙ go (j == e.0) ∙ ap (λ o. or_last o (cond (j == k) (Some v) None)) (sym (at-cons j e es))
-  where
-    go : (b : Bool) → cond b (Some e.1) (or_last (at j es) (cond (j == k) (Some v) None)) ≡ or_last (cond b (Some e.1) (at j es)) (cond (j == k) (Some v) None)
-    go true = refl
-    go false = refl
-
-pub at-renewed : {X : Type 0} (j k : ℕ) (v : X) (es : Table X) → at j (renewed k v es) ≡ cond (j == k) (Some v) (at j es)
-at-renewed j k v es = at-end j k v (without k es) ∙ ap (λ o. or_last o (cond (j == k) (Some v) None)) (at-without j k es) ∙ go (j == k) (at j es)
-  where
-    go : (b : Bool) (o : Option _) → or_last (cond b None o) (cond b (Some v) None) ≡ cond b (Some v) o
-    go true o = refl
-    go false None = refl
-    go false (Some x) = refl
+use Rattle.ec_coherence.proofs.Tables.{at-put}
+use Rattle.ec_base.proofs.Numbers.{equal}
+use Rattle.ec_coherence.proofs.CacheChange.{at-cons}
 
 pub at-kept : {X : Type 0} (j : ℕ) (gone : List ℕ) (es : Table X) → at j (filter (λ e. not (member e.0 gone)) es) ≡ cond (member j gone) None (at j es)
 at-kept {X} j gone [] = go (member j gone)

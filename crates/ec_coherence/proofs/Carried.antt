@@ -20,8 +20,10 @@ use Rattle.ec_durable.specs.Durable.{carried_out, operations, op_fault, unreserv
 use Rattle.ec_durable.specs.declared.state.Durable.{Durable}
 use Rattle.ec_durable.specs.declared.record.RecordFault.{RecordFault}
 use Rattle.ec_coherence.specs.Log.{makes}
-use Rattle.ec_coherence.proofs.Tables.{is-true, is-false, holds, equal, same, none_some}
-use Rattle.ec_coherence.proofs.Lists.{or_first, or_next, or_else, and_first, and_next, and_both, no_both, each-at, each-member}
+use Rattle.ec_coherence.proofs.Lists.{or_else, each-at, each-member}
+use Rattle.ec_base.proofs.Bools.{left as and_first, not-both as no_both, and-both as and_both, or-right as or_next, right as and_next, or_first, no-longer as is-false, is-true, holds-true as holds}
+use Rattle.ec_base.proofs.Numbers.{same-self as same, equal}
+use Rattle.ec_base.proofs.Options.{none_some}
 
 -- One update.
 

@@ -17,7 +17,10 @@ use Rattle.ec_wire.specs.declared.msg.Msg.TheVariants.{Want, Back, Flush, Room, 
 use Rattle.ec_cache.specs.Cache.{last}
 use Rattle.ec_coherence.specs.System.{Eff, recorded, eff_from}
 use Rattle.ec_coherence.specs.Tokens.{Tables, View, Side, InSession, eff, eff_hold, Apart, Below, is_hidden, Fits, Passed, OfNow, IdsFit, IsEarlier, Noted, TablesAgree, TokensAgree, AreApart}
-use Rattle.ec_coherence.proofs.Tables.{by-session, equal, is-true, refutes, each-map, held-mode, clash-turn, same_some, none_some}
+use Rattle.ec_coherence.proofs.Tables.{by-session, each-map, held-mode, clash-turn, same_some}
+use Rattle.ec_base.proofs.Options.{none_some}
+use Rattle.ec_base.proofs.Numbers.{equal}
+use Rattle.ec_base.proofs.Bools.{not-both as refutes, is-true}
 
 -- these facts while the server has these tables
 abbrev pub over : Tables → View → View

@@ -19,7 +19,9 @@ use Rattle.ec_cache.specs.declared.state.Held.{Held}
 use Rattle.ec_coherence.specs.System.{Eff, recorded, eff_from}
 use Rattle.ec_coherence.specs.Tokens.{Tables, View, Side, InSession, eff, eff_hold, Apart, Below, Names, NotedFits, Noted, ClaimFits, is_hidden, IsEarlier, TokensAgree}
 use Rattle.ec_coherence.proofs.Changed.{over, changed, Own, changed-agrees}
-use Rattle.ec_coherence.proofs.Tables.{at-put, set-row, clash-below, each-map, is-false, same, equal, differs, refutes}
+use Rattle.ec_coherence.proofs.Tables.{at-put, set-row, clash-below, each-map, differs}
+use Rattle.ec_base.proofs.Numbers.{same-self as same, equal}
+use Rattle.ec_base.proofs.Bools.{not-both as refutes, no-longer as is-false}
 
 -- What a list of rising ids records.
 

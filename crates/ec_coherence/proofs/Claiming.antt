@@ -14,8 +14,10 @@ use Rattle.ec_tokens.specs.Tokens as tokens
 use Rattle.ec_wire.specs.Messages.{rises}
 use Rattle.ec_coherence.specs.System.{eff_from, recorded}
 use Rattle.ec_coherence.specs.Tokens.{ClaimFits, Side, Tables, TablesAgree, TokensAgree, View, eff, eff_hold, eff_of}
-use Rattle.ec_coherence.proofs.Lists.{and_first, and_next}
-use Rattle.ec_coherence.proofs.Tables.{clash-below, clash-turn, each-map, fails, holds, is-false, is-true, none_some, same}
+use Rattle.ec_coherence.proofs.Tables.{clash-below, clash-turn, each-map, fails}
+use Rattle.ec_base.proofs.Bools.{left as and_first, right as and_next, no-longer as is-false, is-true, holds-true as holds}
+use Rattle.ec_base.proofs.Numbers.{same-self as same}
+use Rattle.ec_base.proofs.Options.{none_some}
 
 none-pass : (p : tokens.Holder → Bool) (hs : List tokens.Holder) → ((g : tokens.Holder) → Contains hs g → p g ≡ false) → tokens.first (filter p hs) ≡ None
 none-pass p [] f = refl

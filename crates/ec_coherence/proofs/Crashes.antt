@@ -18,11 +18,13 @@ use Rattle.ec_coherence.specs.Log.{LogsAgree}
 use Rattle.ec_coherence.specs.Images.{ImagesAgree}
 use Rattle.ec_coherence.specs.Events.{CutAgrees, EventsAgree}
 use Rattle.ec_coherence.proofs.Lists.{each-turn}
-use Rattle.ec_coherence.proofs.Tables.{by-session, none_some, same}
+use Rattle.ec_coherence.proofs.Tables.{by-session}
 use Rattle.ec_coherence.specs.CommitLaws.{AllAgree}
 use Rattle.ec_coherence.specs.Starts.{StartsAgree}
 use Rattle.ec_coherence.specs.Watches.{WatchAgrees, WatchesAgree}
 use Rattle.ec_coherence.specs.StandLaws.{crashed}
+use Rattle.ec_base.proofs.Numbers.{same-self as same}
+use Rattle.ec_base.proofs.Options.{none_some}
 
 module _ (g : System) (all : AllAgree g) (c : ℕ) where
   abbrev h : System

@@ -18,10 +18,10 @@ use Rattle.ec_coherence.specs.ChangeLaws.{IsInIt, LogsAndImages, with_clerk}
 use Rattle.ec_coherence.specs.Steps.{call_of, calls_after, doing_in, less_call, out_lines, sends}
 use Rattle.ec_coherence.proofs.Acting.{sends-more}
 use Rattle.ec_coherence.proofs.ClerkIn.{start-same}
-use Rattle.ec_coherence.proofs.Tables.{equal}
 use Rattle.ec_coherence.specs.CommitLaws.{AllAgree}
 use Rattle.ec_coherence.specs.StandLaws.{AreSent, ClerkStands, GoesOn, sending}
 use Rattle.ec_coherence.proofs.GoesOn.{changes-stand}
+use Rattle.ec_base.proofs.Numbers.{equal}
 
 -- One start stands by its clerk and boot.
 module _ (c b : ℕ) (k : Clerk) (f : ℕ → ℕ → Option Clerk) where

@@ -22,14 +22,10 @@ use Rattle.ec_coherence.specs.System.{System, base_of, is_of, is_open, undurable
 use Rattle.ec_coherence.specs.Tokens.{eff, eff_hold, view}
 use Rattle.ec_coherence.specs.Events.{EventsAgree, CutAgrees, Frees, Untouched, same_op, shown_boot}
 use Rattle.ec_coherence.specs.Steps.{keep_batch}
-use Rattle.ec_coherence.proofs.Lists.{or_first, and_first, and_next, and_both}
 use Rattle.ec_coherence.proofs.Tables.{each-map}
+use Rattle.ec_base.proofs.Bools.{left as and_first, either-way, not-left, and-both as and_both, right as and_next, or_first}
 
 -- Fewer pass a stricter test.
-
-no-more : (a b : Bool) → T (not (a || b)) → T (not a)
-no-more true b t = t
-no-more false b t = tt
 
 pub each-less : (P : Op → Type 0) (p q : Op → Bool) → ((k : Op) → T (q k) → T (p k)) → (ks : List Op) → Each P (filter p ks) → Each P (filter q ks)
 each-less P p q f [] h = tt
@@ -68,10 +64,6 @@ all-less P p q f (k ∷ ks) h = go (q k) (p k) (f k) h (λ r. all-less P p q f k
     go true false i h r = absurd (i tt)
     go false true i h r = r (and_next (P k) (list_all P (filter p ks)) h)
     go false false i h r = r h
-
-either-way : (a b c : Bool) → (T b → T c) → T (a || b) → T (a || c)
-either-way true b c f t = tt
-either-way false b c f t = f t
 
 -- Numbers that are left of those kept.
 pub numbers-left : (p : Op → Bool) (q : ℕ → Bool) (ks : List Op) → filter q (numbers (filter p ks)) ≡ numbers (filter (λ k. p k && q k.number) ks)
@@ -113,7 +105,7 @@ module _ (g : System) (ev : EventsAgree g) (c b : ℕ) (ns : List ℕ) (d : Dura
 
   stricter : (s : ℕ) (k : Op) → T (is_of (g.ghost.owner s) k && not (later.ghost.is_durable k)) → T (is_of (g.ghost.owner s) k && not (g.ghost.is_durable k))
   stricter s k t = and_both (is_of (g.ghost.owner s) k) (not (g.ghost.is_durable k)) (and_first (is_of (g.ghost.owner s) k) _ t)
-      (no-more (g.ghost.is_durable k) (of_start c b k && member k.number ns) (and_next (is_of (g.ghost.owner s) k) _ t))
+      (not-left (g.ghost.is_durable k) (of_start c b k && member k.number ns) (and_next (is_of (g.ghost.owner s) k) _ t))
 
   module _ (opens : (s : ℕ) → T (is_open later s) → T (is_open g s)) (closed : (s : ℕ) (ks : List Op) → g.ghost.frozen s ≡ Some ks → (x : ℕ) → eff (view later) s x ≡ eff (view g) s x) where
     frees-stay : (s : ℕ) (ks : List Op) → g.ghost.frozen s ≡ Some ks → (op : Op) → Frees g s op → Frees later s op

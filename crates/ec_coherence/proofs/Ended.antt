@@ -19,7 +19,10 @@ use Rattle.ec_cache.specs.Cache.{last}
 use Rattle.ec_coherence.specs.System.{Eff, eff_from}
 use Rattle.ec_coherence.specs.Tokens.{Tables, View, Side, eff, eff_hold, Apart, Below, IdsFit, IsEarlier, OfNow, NotedFits, Noted, is_hidden, Fits, AreApart, TablesAgree, TokensAgree}
 use Rattle.ec_coherence.proofs.Changed.{over}
-use Rattle.ec_coherence.proofs.Tables.{token-dropped, at-without, none_some, each-map, same, equal, differs, refutes, holds, fails, by-session}
+use Rattle.ec_coherence.proofs.Tables.{token-dropped, at-without, each-map, differs, fails, by-session}
+use Rattle.ec_base.proofs.Numbers.{same-self as same, equal}
+use Rattle.ec_base.proofs.Options.{none_some}
+use Rattle.ec_base.proofs.Bools.{not-both as refutes, holds-true as holds}
 
 -- who doesn't clash with a token that isn't Free isn't Write
 not-write-beside : (a b : Hold) → T (is_held_mode b) → T (not (clash a b)) → T (not (is_write a))

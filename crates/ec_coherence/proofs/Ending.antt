@@ -36,10 +36,13 @@ use Rattle.ec_coherence.specs.Log.{Knows, LogAgrees, LogsAgree, HasWrites, IdsAg
 use Rattle.ec_coherence.specs.Images.{ImagesAgree}
 use Rattle.ec_coherence.specs.Steps.{end_session}
 use Rattle.ec_coherence.proofs.ClerkIn.{owned}
-use Rattle.ec_coherence.proofs.Lists.{and_first, and_next, and_both, no_both, either_way, same_tests, filter-two, filter-alike, filter-no, filter-yes, each-turn, each-more, each-part, each-fewer, each-at, each-always, Needed, needed-pairs, pairs-needed, pairs-turn, pairs-both, pairs-each}
+use Rattle.ec_coherence.proofs.Lists.{either_way, filter-two, filter-alike, filter-no, filter-yes, each-turn, each-more, each-part, each-fewer, each-at, each-always, Needed, needed-pairs, pairs-needed, pairs-turn, pairs-both, pairs-each}
 use Rattle.ec_coherence.proofs.OneSession.{write-eff, one-session, needs-shares}
 use Rattle.ec_coherence.proofs.OpenSlots.{open-at, at-open, one-owner}
-use Rattle.ec_coherence.proofs.Tables.{is-false, same, same_some, none_some, differ}
+use Rattle.ec_coherence.proofs.Tables.{same_some, differ}
+use Rattle.ec_base.proofs.Bools.{left as and_first, not-both as no_both, and-both as and_both, same_tests, right as and_next, no-longer as is-false}
+use Rattle.ec_base.proofs.Numbers.{same-self as same}
+use Rattle.ec_base.proofs.Options.{none_some}
 
 -- Parts of rising operations rise.
 

@@ -10,9 +10,10 @@ use Rattle.ec_history.specs.Legal.{IsLawful, is_closed}
 use Rattle.ec_history.specs.declared.entry.Entry.{Entry}
 use Rattle.ec_coherence.specs.System.{System, base_of, is_of, is_open, undurable}
 use Rattle.ec_coherence.specs.Events.{EventsAgree, shown_boot, shown_op}
-use Rattle.ec_coherence.proofs.Tables.{same, equal, each-map, refutes}
+use Rattle.ec_coherence.proofs.Tables.{each-map}
 use Rattle.ec_coherence.proofs.Appended.{throughout-in}
-use Rattle.ec_coherence.proofs.Touching.{or-right}
+use Rattle.ec_base.proofs.Numbers.{same-self as same, equal}
+use Rattle.ec_base.proofs.Bools.{not-both as refutes, or-right}
 
 module _ (g : System) (ev : EventsAgree g) (s : ℕ) (o : ℕ × Age) (w : g.ghost.owner s ≡ Some o) (p : T (is_open g s)) where
   abbrev sb : ℕ

@@ -23,7 +23,7 @@ use Rattle.ec_coherence.specs.Events.{EventsAgree}
 use Rattle.ec_coherence.specs.Invariant.{Invariant}
 use Rattle.ec_coherence.specs.Steps.{end_session, ended_line, runs}
 use Rattle.ec_coherence.proofs.OpenSlots.{at-open}
-use Rattle.ec_coherence.proofs.Tables.{none_some, same, same_some}
+use Rattle.ec_coherence.proofs.Tables.{same_some}
 use Rattle.ec_coherence.specs.Starts.{StartsAgree}
 use Rattle.ec_coherence.specs.Watches.{WatchAgrees, WatchesAgree, still_in}
 use Rattle.ec_coherence.proofs.Behind as around
@@ -31,6 +31,8 @@ use Rattle.ec_coherence.proofs.Its as its
 use Rattle.ec_coherence.proofs.LossesTold as told
 use Rattle.ec_coherence.proofs.LossesTold.{end-field}
 use Rattle.ec_coherence.proofs.Unseen as unseen
+use Rattle.ec_base.proofs.Numbers.{same-self as same}
+use Rattle.ec_base.proofs.Options.{none_some}
 
 -- What a clerk's lines show where nothing of it is open any more.
 record IsLeft (before after : Watch) : Type 0 where

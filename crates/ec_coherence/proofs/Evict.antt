@@ -16,20 +16,24 @@ use Rattle.ec_coherence.specs.Clerks.{acting}
 use Rattle.ec_coherence.specs.System.{Eff}
 use Rattle.ec_coherence.specs.Tokens.{View, side, eff, Names, Below, BackFits, HeldAtMost}
 use Rattle.ec_coherence.proofs.Acting.{is-in}
-use Rattle.ec_coherence.proofs.Caches.{at-cons, at-kept}
+use Rattle.ec_coherence.proofs.Caches.{at-kept}
 use Rattle.ec_coherence.proofs.Goes.{Goes, name-now, names-act, goes-send, goes-move, passed-now}
 use Rattle.ec_coherence.proofs.Rows.{Moved, still}
 use Rattle.ec_coherence.proofs.SendClaim.{held-names}
 use Rattle.ec_coherence.proofs.SendWant.{of-now}
 use Rattle.ec_coherence.proofs.Sides.{Moves}
-use Rattle.ec_coherence.proofs.Tables.{same, equal, is-true, each-map, refutes}
+use Rattle.ec_coherence.proofs.Tables.{each-map}
+use Rattle.ec_base.proofs.Numbers.{same-self as same, equal}
+use Rattle.ec_base.proofs.Bools.{not-both as refutes, is-true}
+use Rattle.ec_coherence.proofs.CacheChange.{at-cons}
+use Rattle.ec_laws.proofs.IdleIds.{both}
 
 -- Entries of a table with distinct keys are what is found at them.
 
 abbrev pub IsAt : Table Held → ℕ × Held → Type 0
 IsAt es e = at e.0 es ≡ Some e.1
 
-none-at : (x : ℕ) (es : Table Held) → T (not (member x (keys es))) → at x es ≡ None
+pub none-at : (x : ℕ) (es : Table Held) → T (not (member x (keys es))) → at x es ≡ None
 none-at x [] h = refl
 none-at x (e ∷ es) h = at-cons x e es ∙ go (x == e.0) h (none-at x es)
   where
@@ -53,10 +57,10 @@ each-at (e ∷ es) h = (at-cons e.0 e es ∙ ap (λ b. cond b (Some e.1) (at e.0
     later d p = at-cons d.0 e es ∙ go (d.0 == e.0) refl
       where
         go : (b : Bool) → (d.0 == e.0) ≡ b → cond b (Some e.1) (at d.0 es) ≡ Some d.1
-        go true q = absurd (let z : at d.0 es ≡ None = ap (λ y. at y es) (equal d.0 e.0 q) ∙ none-at e.0 es (left (member e.0 (keys es)) h) in Rattle.ec_coherence.proofs.Tables.none_some (sym z ∙ p))
+        go true q = absurd (let z : at d.0 es ≡ None = ap (λ y. at y es) (equal d.0 e.0 q) ∙ none-at e.0 es (left (member e.0 (keys es)) h) in Rattle.ec_base.proofs.Options.none_some (sym z ∙ p))
         go false q = p
 
-each-filter : {A : Type 0} (P : A → Type 0) (q : A → Bool) (xs : List A) → Each P xs → Each P (filter q xs)
+pub each-filter : {A : Type 0} (P : A → Type 0) (q : A → Bool) (xs : List A) → Each P xs → Each P (filter q xs)
 each-filter P q [] h = tt
 each-filter {A} P q (x ∷ xs) h = go (q x) (each-filter P q xs h.1)
   where
@@ -64,7 +68,7 @@ each-filter {A} P q (x ∷ xs) h = go (q x) (each-filter P q xs h.1)
     go true r = (h.0, r)
     go false r = r
 
-each-front : {A : Type 0} (P : A → Type 0) (n : ℕ) (xs : List A) → Each P xs → Each P (front n xs)
+pub each-front : {A : Type 0} (P : A → Type 0) (n : ℕ) (xs : List A) → Each P xs → Each P (front n xs)
 each-front P zero xs h = tt
 each-front P (suc n) [] h = tt
 each-front P (suc n) (x ∷ xs) h = (h.0, each-front P n xs h.1)
@@ -76,10 +80,6 @@ each-member (e ∷ xs) = (subst (λ b. T (b || member e.0 (keys xs))) (sym (same
     more : (b : Bool) (d : ℕ × Held) → T (member d.0 (keys xs)) → T (b || member d.0 (keys xs))
     more true d h = tt
     more false d h = h
-
-each-both : {A : Type 0} (P Q : A → Type 0) (xs : List A) → Each P xs → Each Q xs → Each (λ x. P x × Q x) xs
-each-both P Q [] h i = tt
-each-both P Q (x ∷ xs) h i = ((h.0, i.0), each-both P Q xs h.1 i.1)
 
 -- What goes back isn't held any more, and was of the last number.
 abbrev GoesBack : View → ℕ → ℕ → Doing → CacheState → ℕ × Held → Type 0
@@ -137,7 +137,7 @@ module _ (w : View) (c s : ℕ) (d : Doing) where
 
     pub goes-evict-unpinned : Goes w c s d (evict_unpinned pinned e)
     goes-evict-unpinned = goes-backs (cache.evicted pinned k) (record e { clerk = clerk }) dropped
-        (each-map _ _ (cache.evicted pinned k) goes-back (each-both _ _ (cache.evicted pinned k)
+        (each-map _ _ (cache.evicted pinned k) goes-back (both _ _ (cache.evicted pinned k)
         (each-front _ (length k.held - k.capacity) _ (each-filter _ (λ e. not (member e.0 pinned)) k.held (each-at k.held keyed))) (each-member (cache.evicted pinned k))))
 
   pub goes-evict : (e : Doing) → Goes w c s d e → w.next_token ≤ w.next_id → T (distinct (keys e.clerk.cache.held)) → Goes w c s d (evict e)

@@ -37,7 +37,10 @@ use Rattle.ec_coherence.proofs.Ended.{ended-agrees}
 use Rattle.ec_coherence.proofs.Said.{said-agrees}
 use Rattle.ec_coherence.proofs.Settled.{passing, each-member}
 use Rattle.ec_coherence.proofs.SlotLaws.{open-at, open-of, in-range, slot-changed, ended-other, ended-own}
-use Rattle.ec_coherence.proofs.Tables.{same, equal, refutes, is-true, each-map, each-append, same_some, by-session}
+use Rattle.ec_coherence.proofs.Tables.{each-map, same_some, by-session}
+use Rattle.ec_base.proofs.Numbers.{same-self as same, equal}
+use Rattle.ec_base.proofs.Bools.{not-both as refutes, is-true}
+use Rattle.ec_history.proofs.HistoryLemmas.{each-more as each-append}
 
 module _ (g : System) (γ : Ghost) (t : Serving) (u : Under g t γ) (c : ℕ) (sl : Slot) (in_slot : slot t.server.durable c ≡ Some sl) (opened : T sl.is_open) where
   abbrev here : System

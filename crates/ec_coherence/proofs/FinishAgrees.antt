@@ -15,7 +15,8 @@ use Rattle.ec_coherence.specs.Steps.{serving_in, end_session, Under}
 use Rattle.ec_coherence.specs.BatchLaws.{Agrees}
 use Rattle.ec_coherence.proofs.Ending as ending
 use Rattle.ec_coherence.proofs.Finish.{d', ended_step, sm, later, finish-is, finish-sessions, finish-tokens, slot-now}
-use Rattle.ec_coherence.proofs.Tables.{same, same_some}
+use Rattle.ec_coherence.proofs.Tables.{same_some}
+use Rattle.ec_base.proofs.Numbers.{same-self as same}
 
 module _ (g : System) (γ : Ghost) (t : Serving) (u : Under g t γ) (c : ℕ) (sl : Slot) (in_slot : slot t.server.durable c ≡ Some sl) (opened : T sl.is_open) where
   abbrev here : System

@@ -28,7 +28,7 @@ use Rattle.ec_coherence.specs.Steps.{end_lines, end_session, ended_line, runs, s
 use Rattle.ec_coherence.proofs.Finish as finishing
 use Rattle.ec_coherence.proofs.FinishAgrees as finished
 use Rattle.ec_coherence.proofs.Lists.{each-fewer}
-use Rattle.ec_coherence.proofs.Tables.{differ, is-true, none_some, same, same_some}
+use Rattle.ec_coherence.proofs.Tables.{differ, same_some}
 use Rattle.ec_coherence.specs.CommitLaws.{AllAgree, Stands}
 use Rattle.ec_coherence.specs.Starts.{IsOfStart}
 use Rattle.ec_coherence.proofs.Given.{before-lines, before-record, ended-unclaimed}
@@ -38,6 +38,9 @@ use Rattle.ec_coherence.proofs.Stopping.{stops-behind}
 use Rattle.ec_coherence.specs.Ends.{show_end}
 use Rattle.ec_coherence.proofs.EndsShown as gone
 use Rattle.ec_coherence.proofs.Its as its
+use Rattle.ec_base.proofs.Numbers.{same-self as same}
+use Rattle.ec_base.proofs.Options.{none_some}
+use Rattle.ec_base.proofs.Bools.{is-true}
 
 -- a session that is taken out isn't there, and none comes
 out : (s : ℕ) (us : List ℕ) → member s (filter (λ u. not (u == s)) us) ≡ false

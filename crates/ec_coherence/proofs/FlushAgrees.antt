@@ -35,7 +35,10 @@ use Rattle.ec_coherence.proofs.Flushed.{flushes}
 use Rattle.ec_coherence.proofs.Marked.{marked_step, marked-sessions, marked-tokens}
 use Rattle.ec_coherence.proofs.Said.{said-agrees}
 use Rattle.ec_coherence.proofs.SlotLaws.{in-range, slot-changed}
-use Rattle.ec_coherence.proofs.Tables.{each-map, each-append, equal, holds, is-true, same, same_some}
+use Rattle.ec_coherence.proofs.Tables.{each-map, same_some}
+use Rattle.ec_base.proofs.Numbers.{same-self as same, equal}
+use Rattle.ec_history.proofs.HistoryLemmas.{each-more as each-append}
+use Rattle.ec_base.proofs.Bools.{is-true, holds-true as holds}
 
 -- lists of slots that show the same
 same-slots : (xs ys : Slots) → length xs ≡ length ys → ((i : ℕ) → slot_at xs i ≡ slot_at ys i) → xs ≡ ys

@@ -1,6 +1,6 @@
 -- A Flush of an open session that isn't marked: its record steps, the tokens are there, and so the server commits it.
-use Rattle.std.proofs.Common.{◌≡◌, refl, sym, ap, subst, ◌∙◌, arith, ℕ, Bool, true, false, not, ◌&&◌, T, ◌≤◌, List, [], ◌∷◌}
-use Rattle.std.specs.Prelude.{Option, None, Some, is_some, Result, Ok, Err}
+use Rattle.std.proofs.Common.{◌≡◌, sym, ap, subst, ◌∙◌, arith, ℕ, Bool, true, false, not, ◌&&◌, T, ◌≤◌, List, [], ◌∷◌}
+use Rattle.std.specs.Prelude.{Option, None, Some, Result, Ok, Err}
 use Rattle.std.specs.List.{filter, list_all}
 use Rattle.ec_base.specs.Tables.{at}
 use Rattle.ec_base.specs.declared.ids.Hold.{Hold}
@@ -28,14 +28,11 @@ use Rattle.ec_coherence.specs.Log as log
 use Rattle.ec_coherence.specs.Log.{LogsAgree, HasWrites}
 use Rattle.ec_coherence.specs.Images.{ImagesAgree}
 use Rattle.ec_coherence.proofs.Committing.{commits, committed, batch-updates, session-open}
-use Rattle.ec_coherence.proofs.Lists.{and_first, and_next, and_both, each-turn, each-part}
+use Rattle.ec_coherence.proofs.Lists.{each-turn, each-part}
 use Rattle.ec_coherence.proofs.OneSession.{write-eff}
 use Rattle.ec_coherence.proofs.OpenSlots.{one-owner}
-use Rattle.ec_coherence.proofs.Tables.{is-true, is-false}
-
-some-at : {A : Type 0} (o : Option A) → T (is_some o) → (x : A) × (o ≡ Some x)
-some-at None t = absurd t
-some-at (Some x) t = (x, refl)
+use Rattle.ec_base.proofs.Bools.{left as and_first, and-both as and_both, right as and_next, no-longer as is-false, is-true}
+use Rattle.ec_base.proofs.Options.{some-at}
 
 -- no batch under way is refused
 pub every-flush-steps : (g : System) → SessionsAgree g → TokensAgree (view g) → LogsAgree g → ImagesAgree g → (c s e b : ℕ) (ops : List (ℕ × Update)) → log.Fits g (Flush s e b ops)
@@ -46,7 +43,7 @@ every-flush-steps g sa ta lo im c s e b ops f sl k here of opened there unmarked
     let r = commits g sa ta lo im c s sl k here of opened there b u.0 u.1 unmarked in
     (committed g sa ta lo im c s sl k here of opened there b u.0 u.1 unmarked, ap (λ os. step (record_of.Batch c s b os) g.durable) q.0 ∙ r.steps)
 
-all-hold : {A : Type 0} (p : A → Bool) (xs : List A) → Each (λ x. T (p x)) xs → T (list_all p xs)
+pub all-hold : {A : Type 0} (p : A → Bool) (xs : List A) → Each (λ x. T (p x)) xs → T (list_all p xs)
 all-hold p [] h = tt
 all-hold p (x ∷ xs) h = and_both (p x) (list_all p xs) h.0 (all-hold p xs h.1)
 

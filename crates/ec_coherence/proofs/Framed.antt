@@ -15,16 +15,14 @@ use Rattle.ec_protocol.specs.declared.clerk.Clerk.{Clerk}
 use Rattle.ec_coherence.specs.System.{System, base_of, is_of, is_open, undurable}
 use Rattle.ec_coherence.specs.Tokens.{eff, eff_hold, view}
 use Rattle.ec_coherence.specs.Events.{EventsAgree, CutAgrees, Frees, IsUncut, Untouched, same_op, shown_boot}
-use Rattle.ec_coherence.proofs.Tables.{each-map, none_some}
+use Rattle.ec_coherence.proofs.Tables.{each-map}
+use Rattle.ec_base.proofs.Options.{none_some}
+use Rattle.ec_base.proofs.Bools.{and-none}
 
 -- none of no numbers is left alone by each entry
 filter-none : (p : Op → Bool) (ks : List Op) → ((k : Op) → p k ≡ false) → filter p ks ≡ []
 filter-none p [] f = refl
 filter-none p (k ∷ ks) f = ap (λ b. cond b (k ∷ filter p ks) (filter p ks)) (f k) ∙ filter-none p ks f
-
-and-none : (b : Bool) → (b && false) ≡ false
-and-none true = refl
-and-none false = refl
 
 or-true : (b : Bool) → T (b || true)
 or-true true = tt

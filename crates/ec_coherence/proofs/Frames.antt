@@ -24,7 +24,10 @@ use Rattle.ec_coherence.specs.Stops.{StopsAgree}
 use Rattle.ec_coherence.specs.Invariant.{Invariant}
 use Rattle.ec_coherence.specs.Steps.{serving_in, Under}
 use Rattle.ec_coherence.proofs.Said.{said-agrees}
-use Rattle.ec_coherence.proofs.Tables.{each-map, each-append, holds, none_some}
+use Rattle.ec_coherence.proofs.Tables.{each-map}
+use Rattle.ec_base.proofs.Options.{none_some}
+use Rattle.ec_history.proofs.HistoryLemmas.{each-more as each-append}
+use Rattle.ec_base.proofs.Bools.{holds-true as holds}
 
 -- what the facts but those of tokens say of a message
 abbrev pub Heard : System → ℕ × Msg → Type 0

@@ -37,14 +37,13 @@ use Rattle.ec_coherence.proofs.GiveIds.{give-ids-tokens}
 use Rattle.ec_coherence.proofs.GivenIds.{given-logs, given-images}
 use Rattle.ec_coherence.proofs.Marked.{marked-sessions}
 use Rattle.ec_coherence.proofs.SlotLaws.{in-range, slot-changed, open-at}
-use Rattle.ec_coherence.proofs.Tables.{at-put, each-append, holds, is-true, same, same_some}
+use Rattle.ec_coherence.proofs.Tables.{at-put, same_some}
+use Rattle.ec_base.proofs.Numbers.{same-self as same, below}
+use Rattle.ec_base.proofs.Bools.{first-false, is-true, holds-true as holds}
+use Rattle.ec_history.proofs.HistoryLemmas.{each-more as each-append}
 
 both-true : (a b : Bool) → a ≡ true → b ≡ true → (a && b) ≡ true
 both-true a b p q = ap (λ z. z && b) p ∙ q
-
-first-off : (a b : Bool) → (a || b) ≡ false → a ≡ false
-first-off true b e = absurd (cc)
-first-off false b e = refl
 
 second-off : (a b : Bool) → (a || b) ≡ false → b ≡ false
 second-off true b e = absurd (cc)
@@ -52,9 +51,6 @@ second-off false b e = e
 
 not-less : (a b : ℕ) → nat_lt a b ≡ false → nat_le b a ≡ true
 not-less a b e = grind arith
-
-not-above : (a b : ℕ) → nat_le a b ≡ false → nat_lt b a ≡ true
-not-above a b e = grind arith
 
 module _ (g : System) (γ : Ghost) (t : Serving) (u : Under g t γ) (c : ℕ) (sl : Slot) (in_slot : slot t.server.durable c ≡ Some sl) (opened : T sl.is_open)
     (k : Clerk) (there : clerk_in (serving_in t γ g) sl.session ≡ Some k) (claimed : T (member sl.session t.server.claimed)) (taken : T (γ.taken sl.session)) (current : k.got ≡ sl.grants)
@@ -112,7 +108,7 @@ module _ (g : System) (γ : Ghost) (t : Serving) (u : Under g t γ) (c : ℕ) (s
 
   next : is_next_grant c sl.grants first t.server.durable ≡ true
   next = both-true _ _ (both-true _ _ (both-true _ _ (ap (λ o. sl.grants == Rattle.ec_durable.specs.Durable.grants o) in_slot ∙ same sl.grants)
-      (not-above last_grants sl.grants (second-off (nat_lt last_first_id first) _ enough))) (same first)) (not-less last_first_id first (first-off _ (nat_le last_grants sl.grants) enough))
+      (below last_grants sl.grants (second-off (nat_lt last_first_id first) _ enough))) (same first)) (not-less last_first_id first (first-false _ (nat_le last_grants sl.grants) enough))
 
   pub steps : step (record_of.Ids c s sl.grants first) t.server.durable ≡ Ok d'
   steps = ap (λ b. elim b as (λ z. Result Durable RecordFault) [
@@ -186,7 +182,7 @@ module _ (g : System) (γ : Ghost) (t : Serving) (u : Under g t γ) (c : ℕ) (s
     without = a.without;
     current = a.current;
     sound = subst (Each (λ m. T (is_sound m.1))) (append_assoc g.pool t.sent (message got)) (each-append (λ m. T (is_sound m.1)) (g.pool ++ t.sent) (message got) a.sound
-        (holds (nat_le first last_first_id) (not-less last_first_id first (first-off _ (nat_le last_grants sl.grants) enough)), tt));
+        (holds (nat_le first last_first_id) (not-less last_first_id first (first-false _ (nat_le last_grants sl.grants) enough)), tt));
     messages = subst (Each (λ m. sessions.Fits (behind got) m.0 m.1)) (append_assoc g.pool t.sent (message got))
         (each-append (λ m. sessions.Fits (behind got) m.0 m.1) (g.pool ++ t.sent) (message got) a.messages ((sl.age, (u.invariant.sessions.slots c sl in_slot).2), tt));
   }

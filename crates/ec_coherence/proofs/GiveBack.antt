@@ -24,8 +24,10 @@ use Rattle.ec_coherence.proofs.Caches.{at-lowered, at_most, last-put}
 use Rattle.ec_coherence.proofs.Goes.{Goes, names-act, name-now, goes-send, goes-move, goes-ask, passed-now}
 use Rattle.ec_coherence.proofs.OneObject.{OneSide, one-moves}
 use Rattle.ec_coherence.proofs.Rows.{Fewer, Moved}
-use Rattle.ec_coherence.proofs.Tables.{equal, at-without, same_some, each-map, each-append}
+use Rattle.ec_coherence.proofs.Tables.{at-without, same_some, each-map}
 use Rattle.ec_coherence.proofs.TakeRecall.{keep-agrees, clear-agrees}
+use Rattle.ec_base.proofs.Numbers.{equal}
+use Rattle.ec_history.proofs.HistoryLemmas.{each-more as each-append}
 
 -- what is held, behind the answer of a recall to this mode
 abbrev lower_one : Hold → Option Held → Option Held
@@ -63,7 +65,7 @@ number-lowered y x n to o k = last-put y x (max n (last x (lower_held x to o k))
 
 -- Modes.
 
-weaker-right : (a b : Hold) → rank (weaker a b) ≤ rank b
+pub weaker-right : (a b : Hold) → rank (weaker a b) ≤ rank b
 weaker-right Free Free = omega arith
 weaker-right Free Read = omega arith
 weaker-right Free Write = omega arith
@@ -153,8 +155,8 @@ module _ (w : View) (c s : ℕ) (d : Doing) (r : Recalled) (e : Doing) (goes : G
   -- what it says is true
   true-back : (r.number ≤ last r.obj clerk.cache) × HeldAtMost (at r.obj clerk.cache.held) r.number to
   true-back = (
-    subst (λ n. r.number ≤ n) (sym (number-lowered r.obj r.obj r.number to (at r.obj k.held) k)) (first (r.obj == r.obj) (Rattle.ec_coherence.proofs.Tables.same r.obj)),
-    subst (λ o. HeldAtMost o r.number to) (sym (held-lowered r.obj r.obj to k)) (second (r.obj == r.obj) (Rattle.ec_coherence.proofs.Tables.same r.obj) (at r.obj k.held)),
+    subst (λ n. r.number ≤ n) (sym (number-lowered r.obj r.obj r.number to (at r.obj k.held) k)) (first (r.obj == r.obj) (Rattle.ec_base.proofs.Numbers.same-self r.obj)),
+    subst (λ o. HeldAtMost o r.number to) (sym (held-lowered r.obj r.obj to k)) (second (r.obj == r.obj) (Rattle.ec_base.proofs.Numbers.same-self r.obj) (at r.obj k.held)),
   )
     where
       first : (b : Bool) → b ≡ true → r.number ≤ cond b (max r.number (last r.obj k)) (last r.obj k)

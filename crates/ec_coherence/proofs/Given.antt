@@ -22,13 +22,15 @@ use Rattle.ec_coherence.specs.BatchLaws.{Agrees}
 use Rattle.ec_coherence.proofs.GiveAgrees as giving
 use Rattle.ec_coherence.proofs.GiveAgrees.{give-agrees}
 use Rattle.ec_coherence.proofs.OpenSlots.{at-open, open-at}
-use Rattle.ec_coherence.proofs.Tables.{holds, none_some, same_some}
+use Rattle.ec_coherence.proofs.Tables.{same_some}
 use Rattle.ec_coherence.specs.Starts.{StartsAgree}
 use Rattle.ec_coherence.specs.Watches.{FirstsAgree, WatchesAgree, still_in}
 use Rattle.ec_coherence.proofs.Framed.{framed-events}
 use Rattle.ec_coherence.proofs.Starting.{quiet-with, starts-behind}
 use Rattle.ec_coherence.proofs.Stopping.{stops-behind}
 use Rattle.ec_coherence.proofs.Watched.{reslotted-watches}
+use Rattle.ec_base.proofs.Options.{none_some}
+use Rattle.ec_base.proofs.Bools.{holds-true as holds}
 
 -- an ended session has no token but the ones before its end
 pub ended-unclaimed : (g : System) (γ : Ghost) (t : Serving) → Invariant (serving_in t γ g) → (s : ℕ) (fs : List Op) → γ.frozen s ≡ Some fs → member s t.server.claimed ≡ false

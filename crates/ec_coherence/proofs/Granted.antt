@@ -21,8 +21,10 @@ use Rattle.ec_coherence.specs.Tokens.{Tables, View, Side, InSession, eff, Apart,
 use Rattle.ec_coherence.proofs.Changed.{over, changed}
 use Rattle.ec_coherence.proofs.OneRow.{One, one-agrees}
 use Rattle.ec_coherence.proofs.Said.{with_pool, said-agrees}
-use Rattle.ec_coherence.proofs.Tables.{token-granted, not-free, not-write, refutes, holds}
+use Rattle.ec_coherence.proofs.Tables.{token-granted, not-write}
 use Rattle.ec_coherence.proofs.Was.{was-below, some-recorded, eff-is}
+use Rattle.ec_base.proofs.Bools.{not-both as refutes, holds-true as holds}
+use Rattle.ec_wire.proofs.MessagesLemmas.{not-free}
 
 module _ (w : View) (v : Tables) (s x : ℕ) (h : Hold) (agree : TokensAgree (over v w)) (wanted : Wanted (over v w) v s x h) (others : Each (λ q. T (not (is_of s x q))) v.recalls)
     (all : (t : ℕ) → T (w.is_open t) → T (member t v.claimed)) (clear : tokens.is_clear v.tokens s x h ≡ true) where

@@ -19,7 +19,6 @@ use Rattle.ec_coherence.specs.Steps.{Under}
 use Rattle.ec_coherence.proofs.Lists.{each-more}
 use Rattle.ec_coherence.proofs.Replies.{tell-all-stands}
 use Rattle.ec_coherence.proofs.Restart.{started-agrees, stopped-agrees}
-use Rattle.ec_coherence.proofs.Tables.{same}
 use Rattle.ec_coherence.specs.CommitLaws.{AllAgree, Stands}
 use Rattle.ec_coherence.specs.Starts.{Greets}
 use Rattle.ec_coherence.proofs.Starting.{AreQuiet}
@@ -27,6 +26,7 @@ use Rattle.ec_coherence.proofs.Watched.{watches-read}
 use Rattle.ec_coherence.specs.StandLaws.{stopped}
 use Rattle.ec_coherence.proofs.Lines.{stopped-line-stands}
 use Rattle.ec_coherence.proofs.Served as frame
+use Rattle.ec_base.proofs.Numbers.{same-self as same}
 
 -- A running server stops.
 module _ (g : System) (all : AllAgree g) (v : Server) (up : g.server ≡ Some v) where

@@ -30,8 +30,11 @@ use Rattle.ec_coherence.proofs.Noted.{note-agrees, want-noted}
 use Rattle.ec_coherence.proofs.Serve.{NoWriter}
 use Rattle.ec_coherence.proofs.ServerSound.{server-sound}
 use Rattle.ec_coherence.proofs.Settled.{settled}
-use Rattle.ec_coherence.proofs.Tables.{equal, refutes, holds, held-mode, same_some, none_some}
+use Rattle.ec_coherence.proofs.Tables.{held-mode, same_some}
 use Rattle.ec_coherence.proofs.Was.{eff-is, was-below, was-apart}
+use Rattle.ec_base.proofs.Options.{none_some}
+use Rattle.ec_base.proofs.Numbers.{equal}
+use Rattle.ec_base.proofs.Bools.{not-both as refutes, holds-true as holds}
 
 module _ (g : System) (γ : Ghost) (t : Serving) (u : Under g t γ) where
   abbrev here : System

@@ -17,7 +17,7 @@ use Rattle.ec_volume.specs.declared.update.Update.{Update}
 use Rattle.ec_plain.specs.declared.call.Call.{Call}
 use Rattle.ec_order.specs.Order.{Holds}
 use Rattle.ec_history.specs.History.{Each, Op, updates, of_start}
-use Rattle.ec_laws.proofs.Objects.{fits-next, after-append}
+use Rattle.ec_laws.proofs.Objects.{fits-next}
 use Rattle.ec_machine_laws.proofs.Logging.{issue-log, issue-batch, sorted-more}
 use Rattle.ec_machine_laws.proofs.Resting.{issue-rest, issue-tells}
 use Rattle.ec_sessions.specs.declared.slot.Slot.{Slot}
@@ -39,10 +39,15 @@ use Rattle.ec_coherence.specs.Log.{Knows, LogAgrees, LogsAgree, HasWrites, IdsAg
 use Rattle.ec_coherence.specs.Images.{ImagesAgree}
 use Rattle.ec_coherence.proofs.ClerkIn.{owned, was-in, now-in, other-in}
 use Rattle.ec_coherence.proofs.Ids.{in-front, in-back, in-either}
-use Rattle.ec_coherence.proofs.Lists.{or_else, or_first, or_next, and_first, and_next, and_both, no_both, either_way, filter-more, map-more, each-turn, each-more, each-at, each-member, each-always, Pairs, Needed, needed-pairs, pairs-needed, filter-yes, filter-no}
+use Rattle.ec_coherence.proofs.Lists.{or_else, either_way, filter-more, each-turn, each-more, each-at, each-member, each-always, Pairs, Needed, needed-pairs, pairs-needed, filter-yes, filter-no}
 use Rattle.ec_coherence.proofs.OneSession.{write-eff}
 use Rattle.ec_coherence.proofs.OpenSlots.{at-open}
-use Rattle.ec_coherence.proofs.Tables.{is-true, is-false, holds, equal, same, same_some, none_some}
+use Rattle.ec_coherence.proofs.Tables.{same_some}
+use Rattle.ec_base.proofs.Bools.{left as and_first, not-both as no_both, and-both as and_both, or-right as or_next, right as and_next, or_first, no-longer as is-false, is-true, holds-true as holds}
+use Rattle.ec_base.proofs.Numbers.{same-self as same, equal}
+use Rattle.ec_base.proofs.Options.{none_some}
+use Rattle.ec_base.proofs.Lists.{map-more}
+use Rattle.ec_volume.proofs.Fitting.{image_joined as after-append}
 
 -- One more at the end.
 

@@ -18,9 +18,12 @@ use Rattle.ec_coherence.specs.Steps.{runs}
 use Rattle.ec_coherence.proofs.Committed.{session-there, start-there}
 use Rattle.ec_coherence.proofs.Lists.{either_way}
 use Rattle.ec_coherence.proofs.OpenSlots.{at-open}
-use Rattle.ec_coherence.proofs.Tables.{equal, is-false, is-true, same, same_some}
+use Rattle.ec_coherence.proofs.Tables.{same_some}
 use Rattle.ec_coherence.specs.Starts.{StartsAgree}
 use Rattle.ec_coherence.specs.Watches.{WatchesAgree, still_in}
+use Rattle.ec_base.proofs.Numbers.{same-self as same, equal}
+use Rattle.ec_base.proofs.Options.{some-at}
+use Rattle.ec_base.proofs.Bools.{no-longer as is-false, is-true}
 
 -- an age of the same boot that is neither older nor at a greater round is the same
 same-age : (a b : Age) → a.boot ≡ b.boot → T (not (is_older a b)) → a.round ≤ b.round → a ≡ b
@@ -36,10 +39,6 @@ same-age a b e n l = λ i. record { boot = e i; round = rounds i }
     rounds : a.round ≡ b.round
     rounds = equal-rounds a.round b.round
         (off (nat_lt a.boot b.boot) (nat_lt a.round b.round) (ap (λ z. nat_lt a.boot b.boot || (z && nat_lt a.round b.round)) (sym (ap (λ z. z == b.boot) e ∙ same b.boot)) ∙ is-false (is_older a b) n)) l
-
-is-some : {A : Type 0} (o : Option A) → T (is_some o) → (x : A) × (o ≡ Some x)
-is-some None t = absurd t
-is-some (Some x) t = (x, refl)
 
 module _ (g : System) (i : Invariant g) (wa : WatchesAgree g) (st : StartsAgree g) (c : ℕ) (sl : Slot) (in_slot : slot g.durable c ≡ Some sl) (opened : T sl.is_open) where
   abbrev s : ℕ
@@ -106,7 +105,7 @@ module _ (g : System) (i : Invariant g) (wa : WatchesAgree g) (st : StartsAgree 
   starts-now r p = sym (ap (λ z. (cond z w (record w { starts = w.starts + 1; running = true })).starts) (running-watch r p)) ∙ i.events.starts c r p
 
   pub untold-now : g.running c ≡ Some b → w.untold ≡ None
-  untold-now p = let k = is-some (g.clerks c b) (i.sessions.running c b p).1 in i.events.untold c b k.0 p k.1 (live k.0 k.1)
+  untold-now p = let k = some-at (g.clerks c b) (i.sessions.running c b p).1 in i.events.untold c b k.0 p k.1 (live k.0 k.1)
 
   -- the line of its end belongs to it
   pub owner-shown : (is_some w.open_start || runs g c b) ≡ true → owner w ≡ Some (shown_boot g c b)

@@ -32,10 +32,10 @@ use Rattle.ec_resolve.specs.Resolve.{evaluate, lacks_id, met}
 use Rattle.ec_resolve.specs.declared.verdict.Verdict.TheVariants.{Lost, NeedIds, Done}
 use Rattle.ec_resolve.proofs.Settled.{either}
 use Rattle.ec_resolve.proofs.Verdicts.{done-says, done-ready, lost-says, ids-says}
-use Rattle.ec_laws.proofs.Late.{same_number}
 use Rattle.ec_laws.proofs.More.{owed-step}
-use Rattle.ec_coherence.proofs.Tables.{same, equal, holds, is-true}
 use Rattle.ec_coherence.specs.Answers.{IsAt, IsAnswered, IsUnowed, id_of}
+use Rattle.ec_base.proofs.Numbers.{same-self as same, same-self as same_number, equal}
+use Rattle.ec_base.proofs.Bools.{or-right, is-true, holds-true as holds}
 
 -- Caches.
 
@@ -70,10 +70,6 @@ shows-all k v s fresh g = record {
 
 abbrev on : Owed → List ℕ
 on qs = map (λ q. q.1) qs
-
-or-right : (a b : Bool) → T b → T (a || b)
-or-right true b t = tt
-or-right false b t = t
 
 -- tests that agree on what is owed
 filter-alike : (p q : ℕ × ℕ → Bool) (qs : Owed) → ((z : ℕ × ℕ) → T (member z.1 (on qs)) → p z ≡ q z) → filter p qs ≡ filter q qs

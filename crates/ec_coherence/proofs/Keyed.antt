@@ -12,8 +12,10 @@ use Rattle.ec_cache.specs.declared.state.CacheState.{CacheState}
 use Rattle.ec_cache.specs.declared.state.Held.{Held}
 use Rattle.ec_protocol.specs.Clerk.{mark_recall, lower_held, take_each}
 use Rattle.ec_coherence.specs.Caches.{IsKeyed}
-use Rattle.ec_coherence.proofs.Caches.{at-cons}
-use Rattle.ec_coherence.proofs.Tables.{at-without, same}
+use Rattle.ec_coherence.proofs.Tables.{at-without}
+use Rattle.ec_base.proofs.Numbers.{same-self as same}
+use Rattle.ec_coherence.proofs.CacheChange.{at-cons}
+use Rattle.ec_base.proofs.Bools.{and-both, not-right}
 
 absent : (x : ℕ) (es : Table Held) → at x es ≡ None → T (not (member x (keys es)))
 absent x [] p = tt
@@ -27,17 +29,9 @@ or-left : (a b : Bool) → T (not (a || b)) → T (not a)
 or-left true b h = absurd h
 or-left false b h = tt
 
-or-right : (a b : Bool) → T (not (a || b)) → T (not b)
-or-right true b h = absurd h
-or-right false b h = h
-
 or-both : (a b : Bool) → T (not a) → T (not b) → T (not (a || b))
 or-both true b h i = absurd h
 or-both false b h i = i
-
-and-both : (a b : Bool) → T a → T b → T (a && b)
-and-both true b h i = i
-and-both false b h i = absurd h
 
 left : (a b : Bool) → T (not a && b) → T (not a)
 left true b h = absurd h
@@ -49,7 +43,7 @@ right false b h = h
 
 absent-filter : (x : ℕ) (q : ℕ × Held → Bool) (es : Table Held) → T (not (member x (keys es))) → T (not (member x (keys (filter q es))))
 absent-filter x q [] h = tt
-absent-filter x q (e ∷ es) h = go (q e) (absent-filter x q es (or-right (x == e.0) (member x (keys es)) h))
+absent-filter x q (e ∷ es) h = go (q e) (absent-filter x q es (not-right (x == e.0) (member x (keys es)) h))
   where
     go : (a : Bool) → T (not (member x (keys (filter q es)))) → T (not (member x (keys (cond a (e ∷ filter q es) (filter q es)))))
     go true i = or-both (x == e.0) (member x (keys (filter q es))) (or-left (x == e.0) (member x (keys es)) h) i
@@ -65,13 +59,13 @@ keyed-filter q (e ∷ es) h = go (q e) (keyed-filter q es (right (member e.0 (ke
 
 absent-end : (x k : ℕ) (v : Held) (es : Table Held) → T (not (member x (keys es))) → T (not (x == k)) → T (not (member x (keys (es ++ (k, v) ∷ []))))
 absent-end x k v [] h d = or-both (x == k) false d tt
-absent-end x k v (e ∷ es) h d = or-both (x == e.0) (member x (keys (es ++ (k, v) ∷ []))) (or-left (x == e.0) (member x (keys es)) h) (absent-end x k v es (or-right (x == e.0) (member x (keys es)) h) d)
+absent-end x k v (e ∷ es) h d = or-both (x == e.0) (member x (keys (es ++ (k, v) ∷ []))) (or-left (x == e.0) (member x (keys es)) h) (absent-end x k v es (not-right (x == e.0) (member x (keys es)) h) d)
 
 keyed-end : (k : ℕ) (v : Held) (es : Table Held) → T (distinct (keys es)) → T (not (member k (keys es))) → T (distinct (keys (es ++ (k, v) ∷ [])))
 keyed-end k v [] h d = tt
 keyed-end k v (e ∷ es) h d = and-both (not (member e.0 (keys (es ++ (k, v) ∷ [])))) (distinct (keys (es ++ (k, v) ∷ [])))
     (absent-end e.0 k v es (left (member e.0 (keys es)) (distinct (keys es)) h) (turn (or-left (k == e.0) (member k (keys es)) d)))
-    (keyed-end k v es (right (member e.0 (keys es)) (distinct (keys es)) h) (or-right (k == e.0) (member k (keys es)) d))
+    (keyed-end k v es (right (member e.0 (keys es)) (distinct (keys es)) h) (not-right (k == e.0) (member k (keys es)) d))
   where
     turn : T (not (k == e.0)) → T (not (e.0 == k))
     turn h = subst (λ b. T (not b)) (turned k e.0) h

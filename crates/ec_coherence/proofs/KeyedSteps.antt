@@ -174,7 +174,7 @@ choose : (z : Bool) (d e : Doing) → Keyed d → Keyed e → Keyed (elim z as (
 choose true d e h i = h
 choose false d e h i = i
 
-abbrev entering : ℕ → Doing → Doing
+abbrev pub entering : ℕ → Doing → Doing
 entering a e = elim (nat_lt (epoch e) a) as (λ y. Doing) [ true ↦ with_clerk (enter_epoch a) e | false ↦ e ]
 
 keyed-restarted : (a : ℕ) (e : Doing) → Keyed e → Keyed (take_restarted a e)

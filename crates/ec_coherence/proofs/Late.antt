@@ -28,11 +28,13 @@ use Rattle.ec_coherence.specs.System.{System, base_of, clerk_in, seen_ops}
 use Rattle.ec_coherence.specs.Tokens.{TokensAgree, eff, eff_hold, side, side_in, view}
 use Rattle.ec_coherence.specs.Events.{EventsAgree, CutAgrees, Frees, cut_in, shown_boot}
 use Rattle.ec_coherence.proofs.Settled.{each-member}
-use Rattle.ec_coherence.proofs.Tables.{equal, each-map}
+use Rattle.ec_coherence.proofs.Tables.{each-map}
 use Rattle.ec_coherence.specs.Answers.{Sees, Gives, seen_by, fresh_of, based}
 use Rattle.ec_coherence.specs.Comes.{entry_next, begun_at}
 use Rattle.ec_coherence.proofs.Answering.{old_fresh, new_fresh, alike, fresh-here, fresh-gone, given-answered, shown-updates}
-use Rattle.ec_coherence.proofs.Touching.{token-of, touched-held, each-holds, none-such, or-right}
+use Rattle.ec_coherence.proofs.Touching.{token-of, touched-held, each-holds, none-such}
+use Rattle.ec_base.proofs.Numbers.{equal}
+use Rattle.ec_base.proofs.Bools.{or-right}
 
 no-ops : (c b : ℕ) (h : History) → list_any (λ e. is_entry_of c b e.1) h ≡ false → length (filter (is_op_of c b) h) ≡ 0
 no-ops c b [] n = refl
@@ -49,7 +51,7 @@ no-ops c b (e ∷ h) n =
     one (p, entry.Call d f l begun cl a (Some m)) n = ap (λ z. z && true) n
     one (p, entry.Loss d f ns) n = refl
 
-free-low : (a f : Hold) → T (is_held_mode a) → rank a ≤ rank f → T (is_free f) → ⊥
+pub free-low : (a f : Hold) → T (is_held_mode a) → rank a ≤ rank f → T (is_free f) → ⊥
 free-low Free f m l t = m
 free-low Read Free m l t = absurd (omega (arith, l))
 free-low Write Free m l t = absurd (omega (arith, l))

@@ -32,8 +32,8 @@ use Rattle.ec_coherence.specs.Tokens.{eff, eff_hold, view}
 use Rattle.ec_coherence.specs.Events.{EventsAgree, CutAgrees, Frees, IsUncut, Untouched, same_op, shown_boot, shown_op}
 use Rattle.ec_coherence.specs.Invariant.{Invariant}
 use Rattle.ec_coherence.specs.Steps.{end_session, runs}
-use Rattle.ec_coherence.proofs.Lists.{and_both, and_first, and_next, each-more, each-part, each-turn, each-whole, or_first, or_next}
-use Rattle.ec_coherence.proofs.Tables.{by-session, differ, differs, equal, holds, is-true, same, same_some}
+use Rattle.ec_coherence.proofs.Lists.{each-more, each-part, each-turn, each-whole}
+use Rattle.ec_coherence.proofs.Tables.{by-session, differ, differs, same_some}
 use Rattle.ec_coherence.specs.Starts.{StartsAgree}
 use Rattle.ec_coherence.specs.Watches.{WatchesAgree}
 use Rattle.ec_coherence.proofs.Behind as around
@@ -42,6 +42,8 @@ use Rattle.ec_coherence.proofs.Lost as losses
 use Rattle.ec_coherence.proofs.Lost.{minus-same, of-part}
 use Rattle.ec_coherence.proofs.Twins.{Twin, twins}
 use Rattle.ec_base.specs.Options.{or_zero}
+use Rattle.ec_base.proofs.Bools.{left as and_first, and-both as and_both, or-right as or_next, right as and_next, or_first, is-true, holds-true as holds}
+use Rattle.ec_base.proofs.Numbers.{same-self as same, equal}
 
 -- nothing is covered where nothing is asked
 nothing-asked : (is : Issued) (n : ℕ) → InClosure is (λ m. member m []) n → ⊥
@@ -87,7 +89,7 @@ each-in : (ks : List Op) → Each (λ j. (p : Op → Bool) → T (p j) → T (li
 each-in [] = tt
 each-in (k ∷ ks) = ((λ p t. or_first (p k) (list_any p ks) t), each-turn (λ j. (p : Op → Bool) → T (p j) → T (list_any p ks)) (λ j. (p : Op → Bool) → T (p j) → T (list_any p (k ∷ ks))) ks (λ j f p t. or_next (p k) (list_any p ks) (f p t)) (each-in ks))
 
-each-of-map : (f : Op → Op) (Q : Op → Type 0) (ks : List Op) → Each Q (map f ks) → Each (λ k. Q (f k)) ks
+pub each-of-map : (f : Op → Op) (Q : Op → Type 0) (ks : List Op) → Each Q (map f ks) → Each (λ k. Q (f k)) ks
 each-of-map f Q [] h = tt
 each-of-map f Q (k ∷ ks) h = (h.0, each-of-map f Q ks h.1)
 
@@ -95,7 +97,7 @@ each-to-map : (f : Op → Op) (Q : Op → Type 0) (ks : List Op) → Each (λ k.
 each-to-map f Q [] h = tt
 each-to-map f Q (k ∷ ks) h = (h.0, each-to-map f Q ks h.1)
 
-each-both : (P Q : Op → Type 0) (ks : List Op) → Each P ks → Each Q ks → Each (λ k. P k × Q k) ks
+pub each-both : (P Q : Op → Type 0) (ks : List Op) → Each P ks → Each Q ks → Each (λ k. P k × Q k) ks
 each-both P Q [] p q = tt
 each-both P Q (k ∷ ks) p q = ((p.0, q.0), each-both P Q ks p.1 q.1)
 

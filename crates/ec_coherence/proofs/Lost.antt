@@ -14,10 +14,13 @@ use Rattle.ec_laws.proofs.Removed.{removal-rest}
 use Rattle.ec_coherence.specs.System.{System, base_of, is_of, is_open, undurable}
 use Rattle.ec_coherence.specs.Events.{EventsAgree, shown_boot, shown_op}
 use Rattle.ec_coherence.specs.Log.{LogsAgree}
-use Rattle.ec_coherence.proofs.Lists.{and_both, and_first, and_next, each-always, each-part, each-turn, filter-alike, filter-map, map-two, or_next, same_tests}
-use Rattle.ec_coherence.proofs.Tables.{equal, is-true, differs, same}
+use Rattle.ec_coherence.proofs.Lists.{each-always, each-part, each-turn, filter-alike, filter-map}
+use Rattle.ec_coherence.proofs.Tables.{differs}
 use Rattle.ec_coherence.proofs.EndsLawful.{end-lawful}
 use Rattle.ec_coherence.specs.Starts.{AreAlike}
+use Rattle.ec_base.proofs.Bools.{left as and_first, and-both as and_both, same_tests, or-right as or_next, right as and_next, is-true}
+use Rattle.ec_base.proofs.Numbers.{same-self as same, equal}
+use Rattle.ec_base.proofs.Lists.{map_twice as map-two}
 
 -- Lists.
 

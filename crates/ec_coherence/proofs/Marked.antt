@@ -17,8 +17,10 @@ use Rattle.ec_coherence.specs.System.{System, Ghost, is_open, open_in}
 use Rattle.ec_coherence.specs.Sessions as sessions
 use Rattle.ec_coherence.specs.Tokens.{view, TokensAgree}
 use Rattle.ec_coherence.specs.Steps.{serving_in}
-use Rattle.ec_coherence.proofs.SlotLaws.{in-range, slot-changed, open-at, open-of, alike}
-use Rattle.ec_coherence.proofs.Tables.{equal, refutes, each-map, same_some}
+use Rattle.ec_coherence.proofs.SlotLaws.{in-range, slot-changed, open-at, open-of}
+use Rattle.ec_coherence.proofs.Tables.{each-map, same_some}
+use Rattle.ec_base.proofs.Numbers.{equal}
+use Rattle.ec_base.proofs.Bools.{not-both as refutes, same_tests as alike}
 
 module _ (g : System) (γ : Ghost) (t : Serving) (a : sessions.SessionsAgree (serving_in t γ g)) (c : ℕ) (sl : Slot) (in_slot : slot t.server.durable c ≡ Some sl) (opened : T sl.is_open)
     (sm : Slot) (session : sm.session ≡ sl.session) (age : sm.age ≡ sl.age) (still : T sm.is_open) (more : (b : ℕ) → T (has sl.window b) → T (has sm.window b))

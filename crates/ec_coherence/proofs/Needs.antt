@@ -20,7 +20,7 @@ use Rattle.ec_resolve.specs.declared.verdict.Verdict.{Verdict}
 use Rattle.ec_resolve.specs.declared.verdict.Verdict.TheVariants.{Need, NeedIds, Done}
 use Rattle.ec_protocol.specs.Clerk.{need_of}
 use Rattle.ec_coherence.specs.Tokens.{IsWrite}
-use Rattle.ec_coherence.proofs.Tables.{equal}
+use Rattle.ec_base.proofs.Numbers.{equal}
 
 -- A message of the pool fits.
 

@@ -17,8 +17,9 @@ use Rattle.ec_cache.specs.declared.state.Held.{Held}
 use Rattle.ec_coherence.specs.System.{recorded}
 use Rattle.ec_coherence.specs.Tokens.{Tables, View, Side, InSession, Below, Names, WantFits, HeldBelow, Lacks, NotedFits, Wanted, Noted, AreApart, TokensAgree}
 use Rattle.ec_coherence.proofs.Changed.{over, changed, Own, changed-agrees}
-use Rattle.ec_coherence.proofs.Tables.{each-map, equal, fails}
+use Rattle.ec_coherence.proofs.Tables.{each-map, fails}
 use Rattle.ec_coherence.proofs.Was.{was-open, was-known, was-apart, was-below, was-live, was-alone}
+use Rattle.ec_base.proofs.Numbers.{equal}
 
 -- The wants become others, of which each may be granted; one of them, or the one that is noted, is of s.
 module _ (w : View) (v : Tables) (s : ℕ) (qs : List want.Want) (agree : TokensAgree (over v w)) (claimed : T (member s v.claimed)) (taken : T (w.taken s))

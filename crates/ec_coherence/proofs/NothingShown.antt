@@ -2,8 +2,8 @@
 use Rattle.std.proofs.Common.{refl, sym, ap, ℕ, arith}
 use Rattle.ec_coherence.specs.Opening.{opening}
 use Rattle.ec_coherence.proofs.Beginning.{none-in}
-use Rattle.ec_coherence.proofs.Tables.{none_some}
 use Rattle.ec_coherence.specs.Watches.{FirstsAgree, WatchesAgree, still_in}
+use Rattle.ec_base.proofs.Options.{none_some}
 
 pub opening-watches : (most : ℕ) → WatchesAgree (opening most)
 opening-watches most c = record {

@@ -12,13 +12,14 @@ use Rattle.ec_coherence.specs.System.{System, Ghost, at_session, with_start, cle
 use Rattle.ec_coherence.specs.Sessions.{HasNone, SessionsAgree}
 use Rattle.ec_coherence.specs.Steps.{sends, doing_in}
 use Rattle.ec_coherence.specs.Tokens.{View, Side, side, side_in, view, Fits, TokensAgree}
-use Rattle.ec_coherence.proofs.Acting.{IsIn, view-is, sends-more, grouped}
+use Rattle.ec_coherence.proofs.Acting.{IsIn, view-is, sends-more}
 use Rattle.ec_coherence.proofs.Goes.{Goes}
 use Rattle.ec_coherence.proofs.Leave.{left-agrees}
 use Rattle.ec_coherence.proofs.Opened.{fresh, opened-claims}
 use Rattle.ec_coherence.proofs.Said.{with_pool}
 use Rattle.ec_coherence.proofs.Sends.{sent, sent-agrees}
-use Rattle.ec_coherence.proofs.Tables.{equal, same}
+use Rattle.ec_base.proofs.Lists.{regroup as grouped}
+use Rattle.ec_base.proofs.Numbers.{same-self as same, equal}
 
 -- A step within the session.
 

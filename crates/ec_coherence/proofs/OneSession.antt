@@ -18,9 +18,9 @@ use Rattle.ec_protocol.specs.declared.clerk.Clerk.{Clerk}
 use Rattle.ec_coherence.specs.System.{System, Eff, clerk_in, is_open}
 use Rattle.ec_coherence.specs.Tokens.{side, side_in, view, eff, eff_hold, Below, IsWrite, TokensAgree}
 use Rattle.ec_coherence.specs.Log.{HasWrites}
-use Rattle.ec_coherence.proofs.Tables.{is-true, holds}
-use Rattle.ec_coherence.proofs.Lists.{or_else, or_first, or_next, each-at}
+use Rattle.ec_coherence.proofs.Lists.{or_else, each-at}
 use Rattle.std.proofs.lemmas.Bool.{cases_Bool, true≢false}
+use Rattle.ec_base.proofs.Bools.{or-right as or_next, or_first, is-true, holds-true as holds}
 
 pub any-member : (p : ℕ → Bool) (xs : List ℕ) → T (list_any p xs) → (x : ℕ) × T (member x xs) × T (p x)
 any-member p [] h = absurd h

@@ -31,10 +31,9 @@ use Rattle.ec_coherence.proofs.NewSession.{new-logs, new-images}
 use Rattle.ec_coherence.proofs.Opens.{open_step, d', no-owner, open-tokens, open-sessions, room}
 use Rattle.ec_coherence.proofs.Said.{said-agrees}
 use Rattle.ec_coherence.proofs.SlotLaws.{slot-changed}
-use Rattle.ec_coherence.proofs.Tables.{each-append, is-true, refutes, same}
-
-below : (a b : ℕ) → nat_le a b ≡ false → nat_lt b a ≡ true
-below a b e = grind arith
+use Rattle.ec_base.proofs.Numbers.{same-self as same, below}
+use Rattle.ec_base.proofs.Bools.{not-both as refutes, is-true}
+use Rattle.ec_history.proofs.HistoryLemmas.{each-more as each-append}
 
 module _ (g : System) (γ : Ghost) (t : Serving) (u : Under g t γ) (c : ℕ) (age : Age) (within : c < 16)
     (idle : (sl : Slot) → slot t.server.durable c ≡ Some sl → T (not sl.is_open)) (greater : (sl : Slot) → slot t.server.durable c ≡ Some sl → T (is_older sl.age age))

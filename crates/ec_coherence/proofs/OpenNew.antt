@@ -16,7 +16,10 @@ use Rattle.ec_coherence.specs.System.{Eff, recorded, eff_from}
 use Rattle.ec_coherence.specs.Tokens.{Tables, View, Side, InSession, eff, eff_hold, Apart, Below, IdsFit, OfNow, Noted, is_hidden, Fits, TablesAgree, TokensAgree}
 use Rattle.ec_coherence.proofs.Changed.{over}
 use Rattle.ec_coherence.proofs.Said.{with_pool, said-agrees}
-use Rattle.ec_coherence.proofs.Tables.{none_some, each-map, is-true, same, equal, refutes, holds, by-session}
+use Rattle.ec_coherence.proofs.Tables.{each-map, by-session}
+use Rattle.ec_base.proofs.Numbers.{same-self as same, equal}
+use Rattle.ec_base.proofs.Options.{none_some}
+use Rattle.ec_base.proofs.Bools.{not-both as refutes, is-true, holds-true as holds}
 
 -- the message doesn't open this session
 abbrev pub OpensNot : ℕ → Msg → Type 0

@@ -14,9 +14,10 @@ use Rattle.ec_coherence.specs.Tokens.{view, TokensAgree}
 use Rattle.ec_coherence.specs.Steps.{serving_in, open_session, Under}
 use Rattle.ec_coherence.proofs.Finish as finish
 use Rattle.ec_coherence.proofs.Opens as opens
-use Rattle.ec_coherence.proofs.Tables.{same, same_some}
+use Rattle.ec_coherence.proofs.Tables.{same_some}
+use Rattle.ec_base.proofs.Numbers.{same-self as same}
 
-twice : (slots : Slots) (c : ℕ) (a b : Option Slot) → with_slot c b (with_slot c a slots) ≡ with_slot c b slots
+pub twice : (slots : Slots) (c : ℕ) (a b : Option Slot) → with_slot c b (with_slot c a slots) ≡ with_slot c b slots
 twice [] c a b = refl
 twice (o ∷ slots) zero a b = refl
 twice (o ∷ slots) (suc c) a b = ap (λ l. o ∷ l) (twice slots c a b)

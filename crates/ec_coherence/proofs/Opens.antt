@@ -19,8 +19,11 @@ use Rattle.ec_coherence.specs.Tokens.{side_in, tables_of, view, TokensAgree}
 use Rattle.ec_coherence.specs.Steps.{serving_in, open_session}
 use Rattle.ec_coherence.proofs.OpenNew.{OpensNot, opened-agrees}
 use Rattle.ec_coherence.proofs.SlotLaws.{open-of, new-at, new-other, opened-own, opened-other}
-use Rattle.ec_coherence.proofs.Tables.{same, equal, differs, refutes, holds, fails, each-map, none_some, same_some, by-session}
+use Rattle.ec_coherence.proofs.Tables.{differs, fails, each-map, same_some, by-session}
 use Rattle.ec_protocol.specs.Clerk.{is_session}
+use Rattle.ec_base.proofs.Numbers.{same-self as same, equal}
+use Rattle.ec_base.proofs.Options.{none_some}
+use Rattle.ec_base.proofs.Bools.{not-both as refutes, holds-true as holds}
 
 -- Ages.
 

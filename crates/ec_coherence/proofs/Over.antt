@@ -1,5 +1,5 @@
 -- All facts behind a new session in the place of an open one: the old one ends first, and then the new one opens, by one record.
-use Rattle.std.proofs.Common.{◌≡◌, refl, sym, ap, subst, ◌∙◌, arith, ℕ, zero, suc, true, false, not, ◌&&◌, ◌+◌, ◌<◌, cond, T, List, [], ◌∷◌, ◌++◌, Option, Some, None}
+use Rattle.std.proofs.Common.{◌≡◌, refl, sym, ap, subst, ◌∙◌, ℕ, true, false, not, ◌&&◌, ◌+◌, ◌<◌, cond, T, List, [], ◌∷◌, ◌++◌, Some, None}
 use Rattle.std.specs.Prelude.{nat_le, nat_lt, Result, Ok, Err}
 use Rattle.std.proofs.lemmas.List.{append_assoc}
 use Rattle.ec_base.specs.Ages.{is_older}
@@ -21,21 +21,16 @@ use Rattle.ec_coherence.specs.Sessions.{IsReached}
 use Rattle.ec_coherence.specs.Steps.{open_session, serving_in}
 use Rattle.ec_coherence.proofs.Finish as finishing
 use Rattle.ec_coherence.proofs.OpenAgrees as opening
-use Rattle.ec_coherence.proofs.Tables.{is-true, same, same_some}
+use Rattle.ec_coherence.proofs.Tables.{same_some}
 use Rattle.ec_coherence.specs.CommitLaws.{AllAgree, Stands}
 use Rattle.ec_coherence.proofs.Given.{before-record}
 use Rattle.ec_coherence.proofs.SessionCommits.{open-stands, open-starts, open-watches}
 use Rattle.ec_coherence.proofs.Taking.{begins}
 use Rattle.ec_coherence.specs.Ends.{show_end}
 use Rattle.ec_coherence.proofs.Finishes as finishes
-
-twice : (slots : Slots) (c : ℕ) (a b : Option Slot) → with_slot c b (with_slot c a slots) ≡ with_slot c b slots
-twice [] c a b = refl
-twice (o ∷ slots) zero a b = refl
-twice (o ∷ slots) (suc c) a b = ap (λ l. o ∷ l) (twice slots c a b)
-
-below : (a b : ℕ) → nat_le a b ≡ false → nat_lt b a ≡ true
-below a b e = grind arith
+use Rattle.ec_base.proofs.Numbers.{same-self as same, below}
+use Rattle.ec_coherence.proofs.OpenOver.{twice}
+use Rattle.ec_base.proofs.Bools.{is-true}
 
 module _ (g : System) (γ : Ghost) (t : Serving) (st : Stands g t γ) (none : t.rec ≡ None) (c : ℕ) (sl : Slot) (in_slot : slot t.server.durable c ≡ Some sl) (opened : T sl.is_open)
     (age : Age) (within : c < 16) (greater : T (is_older sl.age age)) (reached : IsReached (serving_in t γ g) c age) (above : g.first_boot c < age.boot) (small : nat_le last_counter t.server.durable.next_session ≡ false) where

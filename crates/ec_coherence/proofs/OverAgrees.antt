@@ -34,10 +34,9 @@ use Rattle.ec_coherence.proofs.OpenOver.{between, γ-between, over_step, γ-over
 use Rattle.ec_coherence.proofs.Opens.{no-owner}
 use Rattle.ec_coherence.proofs.Said.{said-agrees}
 use Rattle.ec_coherence.proofs.SlotLaws.{in-range, slot-changed}
-use Rattle.ec_coherence.proofs.Tables.{each-append, is-true, refutes, same}
-
-below : (a b : ℕ) → nat_le a b ≡ false → nat_lt b a ≡ true
-below a b e = grind arith
+use Rattle.ec_base.proofs.Numbers.{same-self as same, below}
+use Rattle.ec_base.proofs.Bools.{not-both as refutes, is-true}
+use Rattle.ec_history.proofs.HistoryLemmas.{each-more as each-append}
 
 module _ (g : System) (γ : Ghost) (t : Serving) (u : Under g t γ) (c : ℕ) (sl : Slot) (in_slot : slot t.server.durable c ≡ Some sl) (opened : T sl.is_open)
     (age : Age) (within : c < 16) (greater : T (is_older sl.age age)) (reached : IsReached (serving_in t γ g) c age) (small : nat_le last_counter t.server.durable.next_session ≡ false) where

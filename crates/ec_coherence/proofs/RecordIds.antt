@@ -19,8 +19,11 @@ use Rattle.ec_protocol.specs.Server.{with_ids}
 use Rattle.ec_coherence.specs.System.{recorded, eff_from}
 use Rattle.ec_coherence.specs.Tokens.{Tables, View, Side, InSession, eff, Apart, Below, IdsFit, NotedFits, Noted, in_sixteen, is_hidden, is_untaken, TokensAgree}
 use Rattle.ec_coherence.proofs.Changed.{over, changed, Own, changed-agrees}
-use Rattle.ec_coherence.proofs.Tables.{token-granted, none_some, at-put, each-map, is-true, is-false, same, refutes, holds, fails, differs, by-session}
+use Rattle.ec_coherence.proofs.Tables.{token-granted, at-put, each-map, fails, differs, by-session}
 use Rattle.ec_coherence.proofs.Was.{was-open, was-known, was-below, was-apart, was-live, was-alone, none-recorded}
+use Rattle.ec_base.proofs.Numbers.{same-self as same}
+use Rattle.ec_base.proofs.Options.{none_some}
+use Rattle.ec_base.proofs.Bools.{not-both as refutes, no-longer as is-false, is-true, holds-true as holds}
 
 -- Where no other session has a token, nothing conflicts.
 

@@ -1,5 +1,5 @@
 -- The record of a server's step: serving adds none, and a new session in the place of an open one has its own.
-use Rattle.std.proofs.Common.{◌≡◌, refl, sym, ap, ◌∙◌, arith, ◌+◌, ℕ, zero, suc, Bool, true, false, T, cond, ◌&&◌, List, [], ◌∷◌, Option, Some, None, length}
+use Rattle.std.proofs.Common.{◌≡◌, refl, sym, ap, ◌∙◌, ◌+◌, ℕ, zero, suc, Bool, true, false, T, cond, ◌&&◌, List, [], ◌∷◌, Option, Some, None, length}
 use Rattle.std.specs.Prelude.{nat_le, nat_lt, Result, Ok, Err}
 use Rattle.std.specs.List.{list_any}
 use Rattle.ec_base.specs.Ages.{is_older}
@@ -19,7 +19,8 @@ use Rattle.ec_durable.specs.declared.record.RecordFault.TheVariants.{BadAge, Bad
 use Rattle.ec_protocol.specs.Server.{Serving, act, act_all, all_claimed, first_spent, is_grant, is_last_number, open_new, serve, serve_rounds, serving, spend, tell_opened, with_server}
 use Rattle.ec_protocol.specs.declared.server.Server.{Server}
 use Rattle.ec_coherence.specs.System.{System}
-use Rattle.ec_coherence.proofs.Tables.{is-true, same}
+use Rattle.ec_base.proofs.Numbers.{same-self as same, below}
+use Rattle.ec_base.proofs.Bools.{is-true}
 
 act-record : (a : Action) (t : Serving) → (act a t).rec ≡ t.rec
 act-record (action.Grant s x h) t = go (is_last_number t)
@@ -53,9 +54,6 @@ serve-record t = go (all_claimed t.server)
     go : (b : Bool) → (elim b as (λ z. Serving) [ true ↦ serve_rounds (suc (length t.server.recalls)) t | false ↦ t ]).rec ≡ t.rec
     go true = rounds-record (suc (length t.server.recalls)) t
     go false = refl
-
-below : (a b : ℕ) → nat_le a b ≡ false → nat_lt b a ≡ true
-below a b e = grind arith
 
 -- a greater age opens a session in the place of an open one
 module _ (v : Server) (c : ℕ) (age : Age) (sl : Slot) (in_slot : slot v.durable c ≡ Some sl) (greater : T (is_older sl.age age)) (small : nat_le last_counter v.durable.next_session ≡ false) where

@@ -13,7 +13,8 @@ use Rattle.ec_coherence.specs.System.{System, Ghost, is_open}
 use Rattle.ec_coherence.specs.Steps.{serving_in, Under}
 use Rattle.ec_coherence.proofs.Frames.{tell-stands}
 use Rattle.ec_coherence.proofs.SlotLaws.{open-of}
-use Rattle.ec_coherence.proofs.Tables.{refutes, holds, same_some}
+use Rattle.ec_coherence.proofs.Tables.{same_some}
+use Rattle.ec_base.proofs.Bools.{not-both as refutes, holds-true as holds}
 
 module _ (g : System) (γ : Ghost) (t : Serving) (u : Under g t γ) (c : ℕ) where
   -- this epoch, to a clerk

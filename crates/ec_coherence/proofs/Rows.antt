@@ -11,7 +11,8 @@ use Rattle.ec_cache.specs.Cache.{held_mode}
 use Rattle.ec_cache.specs.declared.state.Held.{Held}
 use Rattle.ec_coherence.specs.System.{Eff, recorded}
 use Rattle.ec_coherence.specs.Tokens.{Below, HeldAtMost, HeldBelow, GrantFits, NotedFits, Lacks, IsWrite, IsEarlier}
-use Rattle.ec_coherence.proofs.Tables.{same_some, none_some}
+use Rattle.ec_coherence.proofs.Tables.{same_some}
+use Rattle.ec_base.proofs.Options.{none_some}
 
 -- What is held, with the last number l, becomes p, with the last number m: nothing, or no more than before at the same number.
 abbrev pub Fewer : Option Held → Option Held → ℕ → ℕ → Type 0

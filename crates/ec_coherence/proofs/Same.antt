@@ -8,8 +8,8 @@ use Rattle.ec_coherence.specs.System.{System, clerk_of, if_in, with_start}
 use Rattle.ec_coherence.specs.Tokens.{Fits, TokensAgree, side, side_in, view}
 use Rattle.ec_coherence.specs.ChangeLaws.{Calls, IsInIt, with_clerk}
 use Rattle.ec_coherence.proofs.Sends.{sent-agrees}
-use Rattle.ec_coherence.proofs.Tables.{equal}
 use Rattle.ec_protocol.specs.Clerk.{is_session}
+use Rattle.ec_base.proofs.Numbers.{equal}
 
 module _ (g : System) (c s : ℕ) (age : Age) (k now : Clerk) (in-it : IsInIt g c s age k) (same_session : now.session ≡ k.session) (same_side : side now ≡ side k) (calls : Calls) where
   one-side : (t : ℕ) → side_in (if_in t (Some now)) ≡ side_in (if_in t (Some k))

@@ -15,7 +15,9 @@ use Rattle.ec_cache.specs.declared.state.Held.{Held}
 use Rattle.ec_coherence.specs.System.{Eff}
 use Rattle.ec_coherence.specs.Tokens.{Tables, View, Side, InSession, eff, eff_hold, Apart, Below, IdsFit, IsWrite, is_hidden, Fits, TablesAgree, TokensAgree}
 use Rattle.ec_coherence.proofs.Sides.{while-map}
-use Rattle.ec_coherence.proofs.Tables.{equal, differs, each-map, same_some, none_some}
+use Rattle.ec_coherence.proofs.Tables.{differs, each-map, same_some}
+use Rattle.ec_base.proofs.Options.{none_some}
+use Rattle.ec_base.proofs.Numbers.{equal}
 
 clash-write : (a b : Hold) → T (is_write a) → T (is_held_mode b) → T (not (clash a b)) → ⊥
 clash-write Free b w h n = w

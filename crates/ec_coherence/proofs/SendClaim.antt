@@ -15,10 +15,12 @@ use Rattle.ec_coherence.specs.Clerks.{acting}
 use Rattle.ec_coherence.specs.System.{Eff}
 use Rattle.ec_coherence.specs.Tokens.{View, Side, side, eff, eff_hold, Names, Below, is_hidden, ClaimFits, TokensAgree}
 use Rattle.ec_coherence.proofs.Acting.{is-in}
-use Rattle.ec_coherence.proofs.Caches.{at-cons}
 use Rattle.ec_coherence.proofs.Goes.{Goes, goes-send, passed-now}
 use Rattle.ec_coherence.proofs.SendWant.{of-now, while-all}
-use Rattle.ec_coherence.proofs.Tables.{at-put, same, differs, by-session, none_some}
+use Rattle.ec_coherence.proofs.Tables.{at-put, differs, by-session}
+use Rattle.ec_base.proofs.Numbers.{same-self as same}
+use Rattle.ec_base.proofs.Options.{none_some}
+use Rattle.ec_coherence.proofs.CacheChange.{at-cons}
 
 -- What is found in the list of a Claim.
 

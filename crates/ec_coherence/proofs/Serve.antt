@@ -36,8 +36,11 @@ use Rattle.ec_coherence.proofs.Changed.{over, changed}
 use Rattle.ec_coherence.proofs.Granted.{granted-said, not-held}
 use Rattle.ec_coherence.proofs.Noted.{wants-agree}
 use Rattle.ec_coherence.proofs.Said.{with_pool, said-agrees}
-use Rattle.ec_coherence.proofs.Tables.{token-granted, each-append, equal, not-free}
+use Rattle.ec_coherence.proofs.Tables.{token-granted}
 use Rattle.ec_coherence.proofs.Was.{was-below}
+use Rattle.ec_base.proofs.Numbers.{equal}
+use Rattle.ec_history.proofs.HistoryLemmas.{each-more as each-append}
+use Rattle.ec_wire.proofs.MessagesLemmas.{not-free}
 
 -- Lists.
 

@@ -1,5 +1,5 @@
 -- The whole invariant behind a session that the server opens for a clerk without an open one.
-use Rattle.std.proofs.Common.{◌≡◌, refl, sym, ap, subst, ◌∙◌, inl, inr, ◌⊎◌, ℕ, Bool, true, false, not, ◌==◌, ◌&&◌, ◌||◌, cond, T, ◌<◌, List, [], ◌∷◌, ◌++◌, Option, Some, None}
+use Rattle.std.proofs.Common.{◌≡◌, refl, sym, ap, subst, ◌∙◌, inl, inr, ◌⊎◌, ℕ, true, false, not, ◌==◌, ◌&&◌, ◌||◌, T, ◌<◌, List, [], ◌∷◌, ◌++◌, Option, Some, None}
 use Rattle.std.specs.Prelude.{nat_le, Ok}
 use Rattle.std.specs.List.{filter}
 use Rattle.std.proofs.lemmas.Bool.{cases_eq, and_parts}
@@ -22,11 +22,10 @@ use Rattle.ec_coherence.specs.Log.{HasWrites}
 use Rattle.ec_coherence.specs.Events.{EventsAgree}
 use Rattle.ec_coherence.specs.Steps.{end_lines, ended_line, open_session, record_lines, serving_in, Under}
 use Rattle.ec_coherence.specs.BatchLaws.{Agrees}
-use Rattle.ec_coherence.proofs.Lists.{and_first, no_both}
 use Rattle.ec_coherence.proofs.OpenAgrees as opening
 use Rattle.ec_coherence.proofs.OpenAgrees.{open-agrees}
 use Rattle.ec_coherence.proofs.OpenSlots.{at-open, open-at, owner-slot}
-use Rattle.ec_coherence.proofs.Tables.{differ, equal, holds, is-true, none_some, same_some}
+use Rattle.ec_coherence.proofs.Tables.{differ, same_some}
 use Rattle.ec_coherence.specs.Starts.{StartsAgree}
 use Rattle.ec_coherence.specs.Watches.{WatchesAgree, still_in}
 use Rattle.ec_coherence.proofs.Framed.{framed-events}
@@ -34,15 +33,10 @@ use Rattle.ec_coherence.proofs.Given.{before-lines, before-record, ended-unclaim
 use Rattle.ec_coherence.proofs.Starting.{owned-with, quiet-with, starts-behind}
 use Rattle.ec_coherence.proofs.Stopping.{stops-behind}
 use Rattle.ec_coherence.proofs.Watched.{reslotted-watches}
-
--- none of the list passes the test
-pub none-passes : (p : Op → Bool) (ks : List Op) → Each (λ k. p k ≡ false) ks → filter p ks ≡ []
-none-passes p [] h = refl
-none-passes p (k ∷ ks) h = ap (λ b. cond b (k ∷ filter p ks) (filter p ks)) h.0 ∙ none-passes p ks h.1
-
-off-of : (b : Bool) → (T b → ⊥) → b ≡ false
-off-of true f = absurd (f tt)
-off-of false f = refl
+use Rattle.ec_base.proofs.Bools.{left as and_first, not-both as no_both, off-of, is-true, holds-true as holds}
+use Rattle.ec_base.proofs.Options.{none_some}
+use Rattle.ec_base.proofs.Numbers.{equal}
+use Rattle.ec_laws.proofs.LateLoss.{filter-none}
 
 module _ (g : System) (γ : Ghost) (t : Serving) (u : Under g t γ) (none : t.rec ≡ None) (c : ℕ) (age : Age) (within : c < 16)
     (idle : (sl : Slot) → slot t.server.durable c ≡ Some sl → T (not sl.is_open)) (greater : (sl : Slot) → slot t.server.durable c ≡ Some sl → T (is_older sl.age age))
@@ -68,7 +62,7 @@ module _ (g : System) (γ : Ghost) (t : Serving) (u : Under g t γ) (none : t.re
   -- the start has no other open session, so that all it has kept is durable
   durable-so-far : undurable γ' s ≡ []
   durable-so-far = ap (λ o. filter (λ k. is_of o k && not (γ.is_durable k)) γ.kept) (opening.own-session g γ t u c age within idle greater reached small)
-      ∙ none-passes (λ k. is_of (Some (c, age)) k && not (γ.is_durable k)) γ.kept (go γ.kept u.invariant.logs.writes)
+      ∙ filter-none (λ k. is_of (Some (c, age)) k && not (γ.is_durable k)) γ.kept (go γ.kept u.invariant.logs.writes)
     where
       refuted : (k : Op) → (T (not (γ.is_durable k)) → HasWrites here k) → T (is_of (Some (c, age)) k && not (γ.is_durable k)) → ⊥
       refuted k f z =

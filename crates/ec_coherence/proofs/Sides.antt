@@ -16,7 +16,10 @@ use Rattle.ec_cache.specs.declared.state.Held.{Held}
 use Rattle.ec_coherence.specs.System.{recorded, eff_from, at_session}
 use Rattle.ec_coherence.specs.Tokens.{Tables, View, Side, WhileUp, InSession, eff, eff_of, Below, Names, GrantFits, is_untaken, is_hidden, in_sixteen, Fits, Passed, IdsFit, ClaimFits, RoomFits, IsEarlier, Noted, TablesAgree, TokensAgree}
 use Rattle.ec_coherence.proofs.Rows.{Fewer, Moved, below-kept, want-kept, back-kept, grant-kept, noted-kept, mode-kept, mode-held}
-use Rattle.ec_coherence.proofs.Tables.{equal, is-true, is-false, refutes, each-map, same_some, none_some}
+use Rattle.ec_coherence.proofs.Tables.{each-map, same_some}
+use Rattle.ec_base.proofs.Bools.{left, not-both as refutes, and-both, no-longer as is-false, is-true}
+use Rattle.ec_base.proofs.Options.{none_some}
+use Rattle.ec_base.proofs.Numbers.{equal}
 
 -- the session's clerk is this, or none is in it
 abbrev pub sided : ℕ → Option Side → View → View
@@ -29,18 +32,6 @@ while-map (Some v) P Q f h = f v refl h
 pub while-is : (o : Option Tables) (P : Tables → Type 0) (v : Tables) → o ≡ Some v → WhileUp o P → P v
 while-is o P v e h = subst (λ z. WhileUp z P) e h
 
-pub and-left : (a b : Bool) → T (a && b) → T a
-and-left true b h = tt
-and-left false b h = absurd h
-
-pub and-right : (a b : Bool) → T (a && b) → T b
-and-right true b h = h
-and-right false b h = absurd h
-
-pub and-both : (a b : Bool) → T a → T b → T (a && b)
-and-both true b h i = i
-and-both false b h i = absurd h
-
 pub contra : (a b : Bool) → (T b → T a) → T (not a) → T (not b)
 contra a true f n = absurd (refutes a (f tt) n)
 contra a false f n = tt
@@ -49,7 +40,7 @@ pub is-equal : (a b : ℕ) → T (a == b) → a ≡ b
 is-equal a b h = equal a b (is-true (a == b) h)
 
 pub equals : (a b : ℕ) → a ≡ b → T (a == b)
-equals a b h = subst (λ z. T (a == z)) h (Rattle.ec_coherence.proofs.Tables.holds (a == a) (Rattle.ec_coherence.proofs.Tables.same a))
+equals a b h = subst (λ z. T (a == z)) h (Rattle.ec_base.proofs.Bools.holds-true (a == a) (Rattle.ec_base.proofs.Numbers.same-self a))
 
 -- What is to be seen where the clerk of s has the side k, and then k'.
 pub record Moves (w : View) (s : ℕ) (k k' : Side) : Type 0 where
@@ -88,7 +79,7 @@ module _ (w : View) (s : ℕ) (k k' : Side) (agree : TokensAgree w) (moves : Mov
       own : t ≡ s → T (is_untaken (w.grants t) (w.first t) (Some k') x) → T (is_untaken (w.grants t) (w.first t) (Some k) x)
       own z h = elim (moves.got) [
         | inl q ↦ subst (λ n. T ((n + 1 == w.grants t) && in_sixteen (w.first t) x)) q h
-        | inr q ↦ absurd (let a = is-equal (k'.got + 1) (w.grants t) (and-left (k'.got + 1 == w.grants t) (in_sixteen (w.first t) x) h) in let b = q.1 in let c = ap w.grants z in omega arith)
+        | inr q ↦ absurd (let a = is-equal (k'.got + 1) (w.grants t) (left (k'.got + 1 == w.grants t) (in_sixteen (w.first t) x) h) in let b = q.1 in let c = ap w.grants z in omega arith)
       ]
 
       go : (b : Bool) → (t == s) ≡ b → T (is_untaken (w.grants t) (w.first t) (elim b [ true ↦ Some k' | false ↦ w.clerk t ]) x) → T (is_hidden w t x)
@@ -105,7 +96,7 @@ module _ (w : View) (s : ℕ) (k k' : Side) (agree : TokensAgree w) (moves : Mov
       before : T (is_hidden w s x)
       before = subst (λ o. T (is_untaken (w.grants s) (w.first s) o x)) (sym moves.was) (elim (moves.got) [
         | inl q ↦ subst (λ n. T ((n + 1 == w.grants s) && in_sixteen (w.first s) x)) q h
-        | inr q ↦ absurd (let a = is-equal (k'.got + 1) (w.grants s) (and-left (k'.got + 1 == w.grants s) (in_sixteen (w.first s) x) h) in let b = q.1 in omega arith)
+        | inr q ↦ absurd (let a = is-equal (k'.got + 1) (w.grants s) (left (k'.got + 1 == w.grants s) (in_sixteen (w.first s) x) h) in let b = q.1 in omega arith)
       ])
 
       none : (o p : Option Held) (l m : ℕ) → o ≡ None → Fewer o p l m → p ≡ None

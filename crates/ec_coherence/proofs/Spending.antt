@@ -1,26 +1,22 @@
 -- What is spent stays spent to the end of a server's step.
-use Rattle.std.proofs.Common.{◌+◌, ℕ, zero, suc, Bool, true, false, T, List, [], ◌∷◌, Option, Some, None, length}
+use Rattle.std.proofs.Common.{◌+◌, ℕ, zero, suc, Bool, true, false, T, List, [], ◌∷◌, length}
 use Rattle.std.specs.Prelude.{is_some}
 use Rattle.std.specs.List.{list_any}
-use Rattle.ec_base.specs.declared.counter.Counter.{Counter}
 use Rattle.ec_base.specs.declared.counter.Counter.TheVariants as counter
 use Rattle.ec_recall.specs.Due.{actions, wants_after}
 use Rattle.ec_recall.specs.declared.want.Action.{Action}
 use Rattle.ec_recall.specs.declared.want.Action.TheVariants as action
 use Rattle.ec_protocol.specs.Server.{Serving, act, act_all, all_claimed, first_spent, is_grant, is_last_number, serve, serve_rounds, with_server}
+use Rattle.ec_coherence.proofs.Serve.{still-spent}
 
 abbrev pub IsSpent : Serving → Type 0
 IsSpent t = T (is_some t.spent)
-
-first-kept : (o : Option Counter) (n : Counter) → T (is_some o) → T (is_some (first_spent o n))
-first-kept None n h = absurd h
-first-kept (Some m) n h = tt
 
 act-kept : (a : Action) (t : Serving) → IsSpent t → IsSpent (act a t)
 act-kept (action.Grant s x h) t i = go (is_last_number t)
   where
     go : (b : Bool) → T (is_some (elim b as (λ z. Serving) [ true ↦ record t { spent = first_spent t.spent counter.Number } | false ↦ with_server (λ s. record s { number = s.number + 1 }) t ]).spent)
-    go true = first-kept t.spent counter.Number i
+    go true = still-spent t.spent counter.Number i
     go false = i
 act-kept (action.Recall s x n h) t i = i
 

@@ -24,7 +24,8 @@ use Rattle.ec_coherence.specs.Invariant.{Invariant}
 use Rattle.ec_coherence.specs.Steps.{Under, Stood}
 use Rattle.ec_coherence.proofs.Replies.{tell-all-stands}
 use Rattle.ec_coherence.proofs.Restart.{started-agrees}
-use Rattle.ec_coherence.proofs.Tables.{each-map, same}
+use Rattle.ec_coherence.proofs.Tables.{each-map}
+use Rattle.ec_base.proofs.Numbers.{same-self as same}
 
 module _ (g : System) (i : Invariant g) (down : g.server ≡ None) (sure : g.unshown ≡ None) where
   abbrev next : ℕ

@@ -17,8 +17,9 @@ use Rattle.ec_coherence.specs.System.{System, Ghost, at_session}
 use Rattle.ec_coherence.specs.Opening.{opening}
 use Rattle.ec_coherence.specs.Steps.{keep_batch, open_session, serving_in}
 use Rattle.ec_coherence.proofs.Lists.{each-back, each-more}
-use Rattle.ec_coherence.proofs.Tables.{none_some, same_some}
+use Rattle.ec_coherence.proofs.Tables.{same_some}
 use Rattle.ec_coherence.specs.Starts.{AreAlike, Greets, IsOfStart, StartsAgree}
+use Rattle.ec_base.proofs.Options.{none_some}
 
 -- nobody greeted these
 abbrev pub AreQuiet : System → List (ℕ × Msg) → Type 0

@@ -5,7 +5,7 @@ use Rattle.ec_coherence.specs.System.{System, Ghost, is_open}
 use Rattle.ec_coherence.specs.Images.{ImagesAgree}
 use Rattle.ec_coherence.specs.Stops.{MayStep, StopsAgree}
 use Rattle.ec_coherence.specs.Steps.{serving_in, Under}
-use Rattle.ec_coherence.proofs.Lists.{no_both}
+use Rattle.ec_base.proofs.Bools.{not-both as no_both}
 
 pub stops-behind : (g : System) (γ γ' : Ghost) (t f : Serving) → Under g t γ → ImagesAgree (serving_in f γ' g) → StopsAgree (serving_in f γ' g)
 stops-behind g γ γ' t f u im = record {

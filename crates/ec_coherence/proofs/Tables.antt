@@ -1,5 +1,5 @@
 -- What is found in a changed table, and small facts on tests.
-use Rattle.std.proofs.Common.{length, ◌≡◌, ◌≢◌, refl, sym, ap, subst, ◌∙◌, arith, ℕ, Bool, true, false, not, ◌&&◌, cond, T, ◌≤◌, ◌<◌, List, [], ◌∷◌, ◌++◌}
+use Rattle.std.proofs.Common.{length, ◌≡◌, ◌≢◌, refl, sym, ap, subst, ◌∙◌, arith, ℕ, Bool, true, false, not, ◌&&◌, cond, T, ◌≤◌, ◌<◌, List, [], ◌∷◌}
 use Rattle.std.specs.Prelude.{◌==◌, Option, None, Some, is_some}
 use Rattle.std.specs.Ordering.{nat_cmp, eq_by_cmp}
 use Rattle.std.specs.Cmp.{nat_cmp_total, eq_by_cmp_equiv, unsigned_ties}
@@ -13,14 +13,9 @@ use Rattle.ec_tokens.specs.declared.token.Token.{Token}
 use Rattle.ec_base.specs.Holds.{rank, is_free, is_write, clash}
 use Rattle.ec_tokens.specs.Tokens as tokens
 use Rattle.ec_wire.specs.Messages.{is_held_mode}
+use Rattle.ec_base.proofs.Numbers.{equal}
 
 -- Tests.
-
-pub same : (k : ℕ) → (k == k) ≡ true
-same k = grind arith
-
-pub equal : (j k : ℕ) → (j == k) ≡ true → j ≡ k
-equal j k e = grind arith
 
 pub differs : (j k : ℕ) → (j == k) ≡ false → j ≢ k
 differs j k e p = absurd (grind arith)
@@ -28,23 +23,8 @@ differs j k e p = absurd (grind arith)
 pub differ : (j k : ℕ) → j ≢ k → (j == k) ≡ false
 differ j k d = grind arith
 
-pub is-true : (b : Bool) → T b → b ≡ true
-is-true true t = refl
-is-true false t = absurd t
-
-pub is-false : (b : Bool) → T (not b) → b ≡ false
-is-false true t = absurd t
-is-false false t = refl
-
-pub holds : (b : Bool) → b ≡ true → T b
-holds b e = subst T (sym e) tt
-
 pub fails : (b : Bool) → b ≡ false → T (not b)
 fails b e = subst (λ c. T (not c)) (sym e) tt
-
-pub refutes : (b : Bool) → T b → T (not b) → ⊥
-refutes true t n = n
-refutes false t n = t
 
 -- a fact about s is one about each session that is s
 pub by-session : (s t : ℕ) (P : ℕ → Type 0) → P s → ((t == s) ≡ false → P t) → P t
@@ -59,9 +39,6 @@ by-session s t P own other = go (t == s) refl
 pub same_some : {A : Type 0} {x y : A} → Some x ≡ Some y → x ≡ y
 same_some {A} {x} {y} e = ap (λ o. elim o [ None ↦ x | Some z ↦ z ]) e
 
-pub none_some : {A : Type 0} {x : A} → None ≡ Some x → ⊥
-none_some e = absurd (cc)
-
 pub some-of : {A : Type 0} {o : Option A} {x : A} → o ≡ Some x → T (is_some o)
 some-of e = subst (λ z. T (is_some z)) (sym e) tt
 
@@ -70,10 +47,6 @@ some-of e = subst (λ z. T (is_some z)) (sym e) tt
 pub each-map : {A : Type 0} (P Q : A → Type 0) (xs : List A) → ((x : A) → P x → Q x) → Each P xs → Each Q xs
 each-map P Q [] f h = tt
 each-map P Q (x ∷ xs) f h = (f x h.0, each-map P Q xs f h.1)
-
-pub each-append : {A : Type 0} (P : A → Type 0) (xs ys : List A) → Each P xs → Each P ys → Each P (xs ++ ys)
-each-append P [] ys h k = k
-each-append P (x ∷ xs) ys h k = (h.0, each-append P xs ys h.1 k)
 
 -- Maps by number.
 
@@ -138,11 +111,6 @@ pub held-mode : (h : Hold) → is_free h ≡ false → T (is_held_mode h)
 held-mode Free e = absurd (grind arith)
 held-mode Read e = tt
 held-mode Write e = tt
-
-pub not-free : (h : Hold) → T (is_held_mode h) → is_free h ≡ false
-not-free Free t = absurd t
-not-free Read t = refl
-not-free Write t = refl
 
 pub clash-turn : (a b : Hold) → clash a b ≡ clash b a
 clash-turn a b = grind arith

@@ -13,10 +13,11 @@ use Rattle.ec_protocol.specs.Clerk.{Doing, in_session, with_cache, is_session, e
 use Rattle.ec_coherence.specs.Clerks.{acting}
 use Rattle.ec_coherence.specs.Tokens.{View, side, Fits, TokensAgree}
 use Rattle.ec_coherence.proofs.Acting.{is-in, moves-act}
-use Rattle.ec_coherence.proofs.Caches.{at-renewed, last-put}
+use Rattle.ec_coherence.proofs.Caches.{last-put}
 use Rattle.ec_coherence.proofs.OneObject.{OneSide, one-moves}
-use Rattle.ec_coherence.proofs.Tables.{equal}
 use Rattle.std.proofs.lemmas.Bool.{and_parts}
+use Rattle.ec_base.proofs.Numbers.{equal}
+use Rattle.ec_coherence.proofs.CacheChange.{at-renewed}
 
 -- What is for the session that the clerk is in, of its epoch, is taken; all else is passed over.
 pub by-session : (P : Doing → Type 0) (d : Doing) (s t e : ℕ) (f : Doing → Doing) → d.clerk.session ≡ Some s → P d → (t ≡ s → e ≡ d.clerk.epoch → P (f d)) → P (in_session t e f d)

@@ -18,11 +18,14 @@ use Rattle.ec_protocol.specs.Clerk.{Doing, in_session, spend, with_clerk, take_e
 use Rattle.ec_coherence.specs.Clerks.{acting}
 use Rattle.ec_coherence.specs.Tokens.{View, side, eff, is_untaken, in_sixteen, Fits, TokensAgree}
 use Rattle.ec_coherence.proofs.Acting.{is-in, moves-act}
-use Rattle.ec_coherence.proofs.Caches.{at-renewed, last-put}
+use Rattle.ec_coherence.proofs.Caches.{last-put}
 use Rattle.ec_coherence.proofs.Rows.{Moved, still}
 use Rattle.ec_coherence.proofs.Sides.{Moves}
-use Rattle.ec_coherence.proofs.Tables.{equal, each-map, is-true}
+use Rattle.ec_coherence.proofs.Tables.{each-map}
 use Rattle.ec_coherence.proofs.TakeGrant.{by-session}
+use Rattle.ec_base.proofs.Numbers.{equal}
+use Rattle.ec_coherence.proofs.CacheChange.{at-renewed}
+use Rattle.ec_base.proofs.Bools.{is-true}
 
 abbrev own : ℕ → Held
 own n = record { hold = Write; number = n; image = image.Gone }
@@ -116,7 +119,7 @@ module _ (w : View) (c s n first : ℕ) (d : Doing) (agree : TokensAgree (acting
   }
     where
       row : (y : ℕ) (b : Bool) → in_sixteen first y ≡ b → Moved (at y k.held) (cond b (Some (own n)) (at y k.held)) (last y k) (cond b n (last y k)) d.clerk.epoch (eff (acting w c s d) s y)
-      row y true e = let q = ids y (Rattle.ec_coherence.proofs.Tables.holds (in_sixteen first y) e) in ((let a = q.1 in omega arith), inr (own n, refl, refl, q.1, q.0))
+      row y true e = let q = ids y (Rattle.ec_base.proofs.Bools.holds-true (in_sixteen first y) e) in ((let a = q.1 in omega arith), inr (own n, refl, refl, q.1, q.0))
       row y false e = still (at y k.held) (last y k) d.clerk.epoch (eff (acting w c s d) s y) (agree.holds s y (side d.clerk) (is-in w c s d))
 
       shown : (y : ℕ) → T (not (is_untaken (w.grants s) (w.first s) (Some (side clerk)) y))

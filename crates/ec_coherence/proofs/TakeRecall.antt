@@ -15,7 +15,7 @@ use Rattle.ec_coherence.specs.Tokens.{View, Side, side, Names, Fits, TokensAgree
 use Rattle.ec_coherence.proofs.Acting.{is-in, moves-act}
 use Rattle.ec_coherence.proofs.OneObject.{still-moves}
 use Rattle.ec_coherence.proofs.TakeGrant.{by-session}
-use Rattle.ec_coherence.proofs.Tables.{each-append}
+use Rattle.ec_history.proofs.HistoryLemmas.{each-more as each-append}
 
 -- a mark changes neither what is held nor the numbers
 marked-held : (x : ℕ) (to : Hold) (k : CacheState) → (mark_recall x to k).held ≡ k.held

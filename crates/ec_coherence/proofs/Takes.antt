@@ -20,7 +20,8 @@ use Rattle.ec_coherence.proofs.Acting.{IsIn, view-is, sends-more}
 use Rattle.ec_coherence.proofs.Goes.{Goes}
 use Rattle.ec_coherence.proofs.OnSystem.{begins, is-its, greets, takes-session}
 use Rattle.ec_coherence.proofs.Taken.{taken-stays, ended-agrees}
-use Rattle.ec_coherence.proofs.Tables.{equal, same, none_some}
+use Rattle.ec_base.proofs.Numbers.{same-self as same, equal}
+use Rattle.ec_base.proofs.Options.{none_some}
 
 abbrev pub Now : System → ℕ → ℕ → Ghost → Doing → Type 0
 Now g c b γ d = TokensAgree (view (doing_in c b d γ g))

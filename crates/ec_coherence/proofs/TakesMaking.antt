@@ -19,7 +19,7 @@ use Rattle.ec_coherence.specs.System.{System, Ghost}
 use Rattle.ec_coherence.specs.Sessions as sessions
 use Rattle.ec_coherence.specs.Steps.{open_session, serving_in}
 use Rattle.ec_coherence.proofs.Needs.{each-of}
-use Rattle.ec_coherence.proofs.Tables.{holds, is-true, none_some, same_some}
+use Rattle.ec_coherence.proofs.Tables.{same_some}
 use Rattle.ec_coherence.specs.CommitLaws.{AllAgree, Stands}
 use Rattle.ec_coherence.proofs.Finish.{finish-is}
 use Rattle.ec_coherence.specs.Starts.{Greets}
@@ -30,6 +30,8 @@ use Rattle.ec_coherence.proofs.Over.{over-spends, over-stands}
 use Rattle.ec_coherence.specs.Makes.{Makes, IsMade}
 use Rattle.ec_coherence.proofs.Recorded.{open-record}
 use Rattle.ec_coherence.proofs.TakingMakes.{Going, as-it-is, served, takes-back, takes-claim, takes-flush, takes-hello, takes-room, takes-want, within}
+use Rattle.ec_base.proofs.Options.{none_some}
+use Rattle.ec_base.proofs.Bools.{is-true, holds-true as holds}
 
 module _ (g : System) (v : Server) (whole : AllAgree g) (up : g.server ≡ Some v) (c : ℕ) where
   abbrev t : Serving

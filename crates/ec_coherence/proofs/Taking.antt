@@ -42,8 +42,7 @@ use Rattle.ec_coherence.proofs.Needs.{each-of}
 use Rattle.ec_coherence.proofs.OpenSlots.{at-open}
 use Rattle.ec_coherence.proofs.Replies.{old-boot-stands, opened-again-stands, restarted-stands, tell-ended-stands}
 use Rattle.ec_coherence.proofs.ServeStands.{serve-serves}
-use Rattle.ec_coherence.proofs.Tables.{at-put, equal, fails, holds, none_some, same, same_some}
-use Rattle.ec_coherence.proofs.Lists.{and_first}
+use Rattle.ec_coherence.proofs.Tables.{at-put, fails, same_some}
 use Rattle.ec_coherence.proofs.GiveAgrees.{grant-is}
 use Rattle.ec_coherence.proofs.OpenAgrees.{open-is}
 use Rattle.ec_coherence.specs.CommitLaws.{AllAgree, Stands, Takes, show_batch}
@@ -56,6 +55,9 @@ use Rattle.ec_coherence.proofs.SessionCommits.{open-stands, open-starts, open-wa
 use Rattle.ec_coherence.proofs.Spending.{serve-kept}
 use Rattle.ec_coherence.proofs.Starting.{AreQuiet, quiet-so-far, quiet-with, serve-quiet, starts-begin, starts-on}
 use Rattle.ec_coherence.proofs.Watched.{watches-read}
+use Rattle.ec_base.proofs.Bools.{left as and_first, holds-true as holds}
+use Rattle.ec_base.proofs.Numbers.{same-self as same, equal}
+use Rattle.ec_base.proofs.Options.{none_some}
 
 -- A step of a running server begins.
 module _ (g : System) (v : Server) (all : AllAgree g) (up : g.server ≡ Some v) where

@@ -42,8 +42,7 @@ use Rattle.ec_coherence.proofs.Needs.{each-of}
 use Rattle.ec_coherence.proofs.OpenSlots.{at-open}
 use Rattle.ec_coherence.proofs.Replies.{old-boot-stands, opened-again-stands, restarted-stands, tell-ended-stands}
 use Rattle.ec_coherence.proofs.ServeStands.{serve-serves}
-use Rattle.ec_coherence.proofs.Tables.{at-put, equal, fails, holds, none_some, same, same_some}
-use Rattle.ec_coherence.proofs.Lists.{and_first}
+use Rattle.ec_coherence.proofs.Tables.{at-put, fails, same_some}
 use Rattle.ec_coherence.proofs.GiveAgrees.{grant-is}
 use Rattle.ec_coherence.proofs.OpenAgrees.{open-is}
 use Rattle.ec_coherence.specs.CommitLaws.{AllAgree, Stands, show_batch}
@@ -59,6 +58,9 @@ use Rattle.ec_coherence.proofs.Watched.{watches-read}
 use Rattle.ec_coherence.proofs.Taking.{begins}
 use Rattle.ec_coherence.specs.Makes.{Makes, IsMade}
 use Rattle.ec_coherence.proofs.Recorded.{serve-record}
+use Rattle.ec_base.proofs.Bools.{left as and_first, holds-true as holds}
+use Rattle.ec_base.proofs.Numbers.{same-self as same, equal}
+use Rattle.ec_base.proofs.Options.{none_some}
 
 -- a counter is spent, or none is so far, and the step stands, with what it made of the ghosts
 abbrev pub Going : System → Server → Serving → Type 0

@@ -28,10 +28,14 @@ use Rattle.ec_coherence.specs.Tokens.{TokensAgree, Below, IsWrite, eff, eff_hold
 use Rattle.ec_coherence.specs.Log.{HasWrites}
 use Rattle.ec_coherence.specs.Events.{EventsAgree, shown_boot, shown_op}
 use Rattle.ec_coherence.proofs.Settled.{each-member}
-use Rattle.ec_coherence.proofs.Tables.{same, equal, same_some, none_some, clash-below, is-true}
+use Rattle.ec_coherence.proofs.Tables.{same_some, clash-below}
 use Rattle.ec_coherence.specs.Answers.{IsLive, Sees, Gives, fresh_of, based}
 use Rattle.ec_coherence.specs.Comes.{Marked, entry_next}
 use Rattle.ec_coherence.proofs.Answering.{is-at, fresh-here, kept-now}
+use Rattle.ec_base.proofs.Numbers.{same-self as same, equal}
+use Rattle.ec_base.proofs.Options.{none_some}
+use Rattle.ec_base.proofs.Bools.{or-right, is-true}
+use Rattle.ec_machine_laws.proofs.Given.{or-left}
 
 -- Tokens.
 
@@ -90,19 +94,12 @@ pub each-holds : (p : Op → Bool) (xs : List Op) → Each (λ k. T (p k)) xs �
 each-holds p [] h = tt
 each-holds p (x ∷ xs) h = subst (λ z. T (z && list_all p xs)) (sym (is-true (p x) h.0)) (each-holds p xs h.1)
 
-pub or-right : (a b : Bool) → T b → T (a || b)
-or-right true b m = tt
-or-right false b m = m
-
-in-first : (x : ℕ) (xs : List ℕ) → T (member x (x ∷ xs))
-in-first x xs = subst (λ b. T (b || member x xs)) (sym (same x)) tt
-
 pub none-such : (q : ℕ → Bool) (xs : List ℕ) → ((y : ℕ) → T (member y xs) → T (q y) → ⊥) → T (not (list_any q xs))
 none-such q [] f = tt
 none-such q (x ∷ xs) f = go (q x) refl (none-such q xs (λ y m t. f y (or-right (y == x) (member y xs) m) t))
   where
     go : (b : Bool) → q x ≡ b → T (not (list_any q xs)) → T (not (b || list_any q xs))
-    go true e r = absurd (f x (in-first x xs) (subst T (sym e) tt))
+    go true e r = absurd (f x (or-left x xs) (subst T (sym e) tt))
     go false e r = r
 
 pub each-passing : (p : Op → Bool) (Q : Op → Type 0) (xs : List Op) → Each (λ k. p k ≡ true → Q k) xs → Each Q (filter p xs)

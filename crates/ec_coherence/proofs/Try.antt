@@ -28,6 +28,7 @@ use Rattle.ec_coherence.proofs.Answer.{goes-used, goes-update, goes-answer}
 use Rattle.ec_coherence.proofs.Goes.{Goes, goes-rest, goes-spend, goes-ask}
 use Rattle.ec_coherence.proofs.Seen.{seen-agrees}
 use Rattle.ec_coherence.proofs.SendWant.{goes-want-once, goes-ask-room}
+use Rattle.ec_laws.proofs.Left.{updates-next}
 
 -- whether it waits or is answered
 abbrev pub OnTried : (Doing → Type 0) → Tried → Type 0
@@ -85,10 +86,6 @@ image-more : (x : ℕ) (i : Image) (us : List Update) (u : Update) → image_aft
 image-more x i [] u = refl
 image-more x i (v ∷ us) u = image-more x (image_next x i v) us u
 
-updates-more : (ks : List Op) (o : Op) → updates (ks ++ o ∷ []) ≡ updates ks ++ o.update ∷ []
-updates-more [] o = refl
-updates-more (k ∷ ks) o = ap (λ z. k.update ∷ z) (updates-more ks o)
-
 -- where each session that was taken and isn't frozen is open, they change only of such, and at the operation's operands
 pub issued-seen : (g : System) (γ : Ghost) (o : Op) (P : ℕ → Type 0) → ((t : ℕ) → γ.frozen t ≡ None → T (γ.taken t) → T ((view g).is_open t)) → ((x : ℕ) → has_operand x o.update ≡ true → P x) → (t x : ℕ)
     → (seen (record g { ghost = record γ { kept = γ.kept ++ o ∷ [] } }) t x ≡ seen (record g { ghost = γ }) t x) ⊎ ((T (γ.taken t) → T ((view g).is_open t)) × P x)
@@ -103,7 +100,7 @@ issued-seen g γ o P opens writes t x = go (γ.frozen t) refl
         → (after g.origin (updates (seen_ops z (γ.kept ++ o ∷ []))) x ≡ after g.origin (updates (seen_ops z γ.kept)) x) ⊎ ((T (γ.taken t) → T ((view g).is_open t)) × P x)
     go (Some ks) e = inl refl
     go None e = subst (λ i. (i ≡ after g.origin (updates γ.kept) x) ⊎ ((T (γ.taken t) → T ((view g).is_open t)) × P x))
-        (sym (ap (λ us. after g.origin us x) (updates-more γ.kept o) ∙ image-more x (g.origin x) (updates γ.kept) o.update))
+        (sym (ap (λ us. after g.origin us x) (updates-next γ.kept o) ∙ image-more x (g.origin x) (updates γ.kept) o.update))
         (by-operand (has_operand x o.update) refl (after g.origin (updates γ.kept) x) e)
 
 -- An operation of the session is kept: the step stands with the images that are to be seen now.

@@ -8,9 +8,9 @@ use Rattle.ec_plain.specs.declared.call.Call.{Call}
 use Rattle.ec_machine_laws.proofs.Few.{calls-few}
 use Rattle.ec_resolve.proofs.Making.{IsMaking, either-plain}
 use Rattle.ec_coherence.proofs.Ids.{in-back, in-either, in-front}
-use Rattle.ec_coherence.proofs.Tables.{equal}
 use Rattle.ec_quiet.specs.Works.{Calls, Task, Work}
 use Rattle.ec_complete.specs.WaitingCalls.{IsAbout, max_about, touched_by}
+use Rattle.ec_base.proofs.Numbers.{equal}
 
 only-one : (x y : ℕ) → T (member x (y ∷ [])) → x ≡ y
 only-one x y t = go (x == y) refl t
@@ -37,7 +37,7 @@ module _ (j : Work) (cl : Call) (v : Images) (id : ℕ) (task : j.task ≡ Calls
   ]
     where
       first : (y : ℕ) → T (member y (y ∷ []))
-      first y = subst (λ b. T (b || false)) (sym (Rattle.ec_coherence.proofs.Tables.same y)) tt
+      first y = subst (λ b. T (b || false)) (sym (Rattle.ec_base.proofs.Numbers.same-self y)) tt
 
       new : IsMaking (plain v cl) → x ≡ i → T (member x j.touched)
       new making e = elim known [

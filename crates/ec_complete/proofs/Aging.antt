@@ -17,6 +17,7 @@ use Rattle.ec_quiet.specs.Phases.{IsAged}
 use Rattle.ec_quiet.specs.Works.{Work}
 use Rattle.ec_quiet.proofs.Beside.{filter-both}
 use Rattle.ec_quiet.proofs.Taking.{each-both, each-map, each-of, regroup}
+use Rattle.ec_base.proofs.Bools.{either-way}
 
 -- One of an object that the line is about, or of an id of the clerk.
 pub take-aged : (j : Work) (k : Clerk) (x : ℕ) (h : Hold) (n : ℕ) (i : Image) → T (member x j.touched || member x k.ids) → IsAged j k → IsAged j (record k { cache = cache.take x h n i k.cache })
@@ -48,10 +49,6 @@ all-aged j n (suc m) id k own a =
     right true b t = tt
     right false b t = t
 
-left : (a b c : Bool) → (T b → T c) → T (a || b) → T (a || c)
-left true b c f t = tt
-left false b c f t = f t
-
 -- More ids leave the order as it is.
 pub more-aged : (j : Work) (k now : Clerk) → now.cache ≡ k.cache → ((x : ℕ) → T (member x k.ids) → T (member x now.ids)) → IsAged j k → IsAged j now
 more-aged j k now same more a = record {
@@ -59,5 +56,5 @@ more-aged j k now same more a = record {
   news = a.news;
   whole = ap (λ z. z.held) same ∙ a.whole;
   old = a.old;
-  fresh = each-map {A = ℕ × Held} (λ z. T (member z.0 j.touched || member z.0 k.ids)) (λ z. T (member z.0 j.touched || member z.0 now.ids)) (λ z t. left (member z.0 j.touched) (member z.0 k.ids) (member z.0 now.ids) (more z.0) t) a.news a.fresh;
+  fresh = each-map {A = ℕ × Held} (λ z. T (member z.0 j.touched || member z.0 k.ids)) (λ z. T (member z.0 j.touched || member z.0 now.ids)) (λ z t. either-way (member z.0 j.touched) (member z.0 k.ids) (member z.0 now.ids) (more z.0) t) a.news a.fresh;
 }

@@ -17,7 +17,7 @@ use Rattle.ec_protocol.specs.declared.world.Event.TheVariants as event
 use Rattle.ec_protocol.specs.declared.world.World.{World}
 use Rattle.ec_protocol.specs.declared.world.WorldFault.{WorldFault}
 use Rattle.ec_coherence.specs.System.{System}
-use Rattle.ec_coherence.proofs.Tables.{none_some, same_some}
+use Rattle.ec_coherence.proofs.Tables.{same_some}
 use Rattle.ec_lawful.specs.Calls.{AreOf}
 use Rattle.ec_lawful.specs.DrillRuns.{IsFit}
 use Rattle.ec_lawful.specs.Steps as steps
@@ -43,7 +43,9 @@ use Rattle.ec_complete.proofs.First.{IsStepped, named-now}
 use Rattle.ec_complete.proofs.Idle as idle
 use Rattle.ec_complete.proofs.Laws.{calls-tell, deliveries-hold, deliveries-keep, deliveries-tell, ends-keep, events-hold, lines-stay-known, messages-count, nothing-due, pushes-tell, servers-count}
 use Rattle.ec_complete.proofs.Settles as starts
-use Rattle.ec_complete.proofs.Settles.{counts, shows, stops}
+use Rattle.ec_complete.proofs.Settles.{counts, shows}
+use Rattle.ec_base.proofs.Options.{none_some}
+use Rattle.ec_quiet.proofs.Settled.{stops}
 
 -- a step that meets no fault
 module _ (m : Moving) (n : ℕ) (fine : (deliver runs n m.world).fault ≡ None) where

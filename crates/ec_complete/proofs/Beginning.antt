@@ -24,10 +24,10 @@ use Rattle.ec_quiet.proofs.Showing.{settled-lines}
 use Rattle.ec_quiet.proofs.Ending.{ends}
 use Rattle.ec_deliveries.specs.Runs.{HasSettled}
 use Rattle.ec_deliveries.proofs.Lines.{line-settles}
-use Rattle.ec_deliveries.proofs.Settled.{stops}
 use Rattle.ec_complete.specs.Complete.{IsFaultless, IsFaultlessRead}
 use Rattle.ec_complete.specs.SettledRuns.{EachSettles}
 use Rattle.ec_complete.specs.Begins.{Begins, EachBegins, IsBegun, RunsSettle, bound_for, most_sent}
+use Rattle.ec_quiet.proofs.Settled.{stops}
 
 -- The first step of a line.
 module _ (n : ℕ) (w : World) where

@@ -18,11 +18,12 @@ use Rattle.ec_protocol.specs.declared.clerk.Waiting.{Waiting}
 use Rattle.ec_clerk_steps.specs.CallLaws.{IsStillIf}
 use Rattle.ec_clerk_steps.proofs.Quiets.{quiet-evict}
 use Rattle.ec_clerk_steps.proofs.Still.{tries-answer}
-use Rattle.ec_coherence.proofs.Tables.{holds, none_some}
 use Rattle.ec_quiet.specs.Tries.{left_by}
 use Rattle.ec_quiet.proofs.Steps.{prepared, tries-one}
 use Rattle.ec_complete.proofs.Stepping.{settle-still}
 use Rattle.ec_complete.specs.FirstSteps.{KeepsHeld}
+use Rattle.ec_base.proofs.Options.{none_some}
+use Rattle.ec_base.proofs.Bools.{holds-true as holds}
 
 backs-clerk : (es : List (ℕ × Held)) (d : Doing) → (send_backs es d).clerk ≡ d.clerk
 backs-clerk [] d = refl

@@ -1,7 +1,6 @@
 -- Counters stay below their ends.
 use Rattle.std.proofs.Common.{◌≡◌, refl, sym, ap, subst, ◌∙◌, arith, ◌≤◌, ◌<◌, ◌+◌, ◌*◌, ℕ, suc, zero, Bool, true, false, ◌==◌, T, length, List, [], ◌∷◌, ◌++◌, Option, Some, None}
-use Rattle.std.specs.Prelude.{is_some, nat_le, nat_lt}
-use Rattle.std.proofs.lemmas.Bool.Decides.{nat_tests}
+use Rattle.std.specs.Prelude.{is_some}
 use Rattle.ec_base.specs.Limits.{last_counter}
 use Rattle.ec_base.specs.Tables.{at, keys}
 use Rattle.ec_volume.specs.Update.{member}
@@ -23,7 +22,7 @@ use Rattle.ec_coherence.specs.System.{System, clerk_in, undurable}
 use Rattle.ec_coherence.specs.Tokens.{side, side_in}
 use Rattle.ec_coherence.proofs.Ids.{in-back, in-front}
 use Rattle.ec_coherence.proofs.Lists.{each-at}
-use Rattle.ec_coherence.proofs.Tables.{equal, holds, is-true, same_some}
+use Rattle.ec_coherence.proofs.Tables.{same_some}
 use Rattle.ec_quiet.specs.Phases.{Phase, Greets, Opens, Claims, Wants, Recalls, Flushes, Keeps, Grants, Asks, Gives, Refuses, Saves, Saved, Ends, InPhase, IsWorking}
 use Rattle.ec_quiet.specs.Scenes.{IsScene, Scene}
 use Rattle.ec_quiet.specs.Works.{Work}
@@ -36,12 +35,8 @@ use Rattle.ec_complete.specs.Lines.{IsOnLine, IsSpare}
 use Rattle.ec_complete.proofs.Standing.{InSlot, in-slot, other}
 use Rattle.ec_complete.specs.Spare.{IsBelow, IsFarBelow, NextIsSpare, granted_below, max_calls, max_given, open_grants}
 use Rattle.ec_deliveries.specs.Coming.{HasNext}
-
-not-at : (top a : ℕ) → a < top → nat_le top a ≡ false
-not-at top a l = grind (arith, nat_tests, l)
-
-not-above : (top a : ℕ) → a ≤ top → nat_lt top a ≡ false
-not-above top a l = grind (arith, nat_tests, l)
+use Rattle.ec_base.proofs.Numbers.{equal, not-above, not-at}
+use Rattle.ec_base.proofs.Bools.{is-true, holds-true as holds}
 
 some-wait : {A : Type 0} (xs : List A) → (xs ≡ [] → ⊥) → 1 ≤ length xs
 some-wait [] f = absurd (f refl)

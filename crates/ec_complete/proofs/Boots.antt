@@ -26,8 +26,9 @@ use Rattle.ec_protocol.specs.declared.world.Noted.TheVariants as noted_of
 use Rattle.ec_protocol.specs.declared.world.Sent.{Sent}
 use Rattle.ec_protocol.specs.declared.world.World.{World}
 use Rattle.ec_protocol.specs.declared.world.WorldFault.TheVariants as fault
-use Rattle.ec_coherence.proofs.Tables.{at-put, equal}
+use Rattle.ec_coherence.proofs.Tables.{at-put}
 use Rattle.ec_complete.specs.Complete.{IsFaultless}
+use Rattle.ec_base.proofs.Numbers.{equal}
 
 -- the same starts were
 abbrev Alike : World → World → Type 0

@@ -33,13 +33,14 @@ use Rattle.ec_complete.specs.LineCalls.{IsCalled}
 use Rattle.ec_complete.specs.Worlds.{IsCounted, IsKnown, Outset}
 use Rattle.ec_complete.specs.Goes.{IsStarted}
 use Rattle.ec_complete.specs.Ready.{IsReady, calls_of}
-use Rattle.ec_complete.proofs.Counts.{calls-then, counted-then, one-asked, own-made, parts, sends-out, unsent-less}
+use Rattle.ec_complete.proofs.Counts.{calls-then, counted-then, one-asked, own-made, sends-out, unsent-less}
 use Rattle.ec_complete.proofs.First.{IsStepped, named-now}
 use Rattle.ec_complete.proofs.Idle as idle
 use Rattle.ec_complete.proofs.Laws.{calls-begin, calls-come-on, calls-count, calls-may-begin, calls-send, carried-out, ends-idle, spend-nothing}
 use Rattle.ec_complete.proofs.Settles.{work-begins}
+use Rattle.ec_quiet.proofs.Mail.{parts}
 
-told : (p : Phase) → IsAsked p → IsTold p
+pub told : (p : Phase) → IsAsked p → IsTold p
 told (Wants x h n) a = tt
 told (Asks again got ask) a = tt
 told (Saves b ops rest) a = tt

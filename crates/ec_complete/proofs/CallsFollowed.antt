@@ -13,17 +13,15 @@ use Rattle.ec_protocol.specs.declared.world.World.{World}
 use Rattle.ec_coherence.specs.Steps.{doing_in}
 use Rattle.ec_coherence.specs.System.{System}
 use Rattle.ec_lawful.specs.Steps.{IsNewIn}
-use Rattle.ec_quiet.specs.Phases.{Phase, Greets, Opens, Claims, Wants, Recalls, Flushes, Keeps, Grants, Asks, Gives, Refuses, Saves, Saved, Ends, InPhase}
+use Rattle.ec_quiet.specs.Phases.{InPhase}
 use Rattle.ec_quiet.specs.Scenes.{IsScene, Scene, done_by}
 use Rattle.ec_quiet.specs.Works.{Work}
 use Rattle.ec_quiet.proofs.Calling.{called}
-use Rattle.ec_quiet.specs.Frames.{IsAsked}
 use Rattle.ec_quiet.specs.Goes.{MayGo}
 use Rattle.ec_agreed_lines.specs.Lines.{HasBegun}
 use Rattle.ec_agreed_lines.proofs.Beginning.{begins}
 use Rattle.ec_complete.specs.WaitingCalls.{kept_volume, touched_by}
 use Rattle.ec_complete.specs.Lines.{IsOnLine, next_object}
-use Rattle.ec_complete.specs.FirstSteps.{IsTold}
 use Rattle.ec_complete.specs.LineCalls.{IsCalled, LeavesVolume}
 use Rattle.ec_complete.proofs.May as may
 use Rattle.ec_complete.proofs.On.{calls-leave-kept}
@@ -35,22 +33,7 @@ use Rattle.ec_complete.specs.Following.{BeginsBehind, IsCountedIn, IsWorked}
 use Rattle.ec_complete.proofs.Following.{same-scene}
 use Rattle.ec_complete.proofs.Seeing.{shows}
 use Rattle.ec_complete.proofs.Works.{calls-worked}
-
-told : (p : Phase) → IsAsked p → IsTold p
-told (Wants x h n) a = tt
-told (Asks again got ask) a = tt
-told (Saves b ops rest) a = tt
-told Ends a = tt
-told (Greets age) a = absurd a
-told (Opens age) a = absurd a
-told (Claims o) a = absurd a
-told (Recalls x h rs bs) a = absurd a
-told (Flushes x h r b ops rest) a = absurd a
-told (Keeps x h r b rest) a = absurd a
-told (Grants x h n) a = absurd a
-told (Gives got n first) a = absurd a
-told (Refuses again ask live reserved) a = absurd a
-told (Saved b rest) a = absurd a
+use Rattle.ec_complete.proofs.Calling.{told}
 
 module _ (outset : Outset) (j : Work) (number : ℕ) (cl : Call) (w : World) (sc : Scene) (g : System) (sl : Slot) (k : Clerk) (calls : ℕ) (is : IsCalled j cl w sc g sl k) (new : IsNewIn w number) (fine : (call j.clerk number cl w).fault ≡ None) (counted : IsCountedIn outset calls (call j.clerk number cl w).world) where
   abbrev now : Scene

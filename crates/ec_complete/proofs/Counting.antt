@@ -14,22 +14,16 @@ use Rattle.ec_history.specs.declared.shown.Shown.{Shown}
 use Rattle.ec_history.specs.declared.shown.Shown.TheVariants as show
 use Rattle.ec_machine_laws.specs.Answers.{answers_in}
 use Rattle.ec_machine_laws.specs.PlainLines.{IsPlain}
-use Rattle.ec_machine_laws.proofs.Watching.{IsOne, stays-one, watch-push}
+use Rattle.ec_machine_laws.proofs.Watching.{IsOne, stays-one}
 use Rattle.ec_complete.specs.Ids.{operations_in}
+use Rattle.ec_base.proofs.Lists.{regroup, no-more}
+use Rattle.ec_history.proofs.PlacingLemmas.{watch-push}
 
 abbrev AllOne : List Shown → Type 0
 AllOne past = (c : ℕ) → IsOne (watch c past)
 
 one-on : (past : List Shown) (s : Shown) → IsPlain s → AllOne past → AllOne (past ++ s ∷ [])
 one-on past s p o c = subst IsOne (sym (watch-push c unwatched past s)) (stays-one c (watch c past) s p (o c))
-
-regroup : {A : Type 0} (xs ys zs : List A) → (xs ++ ys) ++ zs ≡ xs ++ (ys ++ zs)
-regroup [] ys zs = refl
-regroup (x ∷ xs) ys zs = ap (λ l. x ∷ l) (regroup xs ys zs)
-
-no-more : {A : Type 0} (xs : List A) → xs ++ [] ≡ xs
-no-more [] = refl
-no-more (x ∷ xs) = ap (λ l. x ∷ l) (no-more xs)
 
 ones : (ss past : List Shown) → EachLine IsPlain ss → AllOne past → AllOne (past ++ ss)
 ones [] past p o = subst AllOne (sym (no-more past)) o

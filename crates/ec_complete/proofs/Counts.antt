@@ -1,5 +1,5 @@
 -- What is counted behind a line's first step: messages, and what clerks counted.
-use Rattle.std.proofs.Common.{◌≡◌, refl, sym, ap, ◌∙◌, subst, arith, ◌≤◌, ◌+◌, ℕ, suc, T, Bool, true, false, not, ◌==◌, ◌&&◌, cond, List, [], ◌∷◌, filter, length, length-append}
+use Rattle.std.proofs.Common.{◌≡◌, refl, sym, ap, ◌∙◌, subst, arith, ◌≤◌, ◌+◌, ℕ, T, Bool, true, false, not, ◌==◌, ◌&&◌, cond, List, [], ◌∷◌, length, length-append}
 use Rattle.std.specs.Prelude.{Some, None}
 use Rattle.std.specs.Ordering.{nat_cmp}
 use Rattle.std.specs.FinMap.{is_sorted}
@@ -12,8 +12,8 @@ use Rattle.ec_protocol.specs.declared.clerk.Out.TheVariants as out
 use Rattle.ec_protocol.specs.declared.world.World.{World}
 use Rattle.ec_coherence.proofs.Tables.{at-put, same_some}
 use Rattle.ec_quiet.specs.Measure.{is_under_way, sum, unsent, unsent_by}
-use Rattle.ec_quiet.specs.Phases.{Phase, Greets, Opens, Claims, Wants, Recalls, Flushes, Keeps, Grants, Asks, Gives, Refuses, Saves, Saved, Ends, InPhase, backs, is_back, main}
-use Rattle.ec_quiet.specs.Scenes.{IsScene, Mail, Scene, done_by, sends}
+use Rattle.ec_quiet.specs.Phases.{Phase, Greets, Opens, Claims, Wants, Recalls, Flushes, Keeps, Grants, Asks, Gives, Refuses, Saves, Saved, Ends, InPhase, backs}
+use Rattle.ec_quiet.specs.Scenes.{IsScene, Scene, done_by, sends}
 use Rattle.ec_quiet.specs.Sums.{value_of}
 use Rattle.ec_quiet.specs.Works.{Work, is_saving}
 use Rattle.ec_quiet.proofs.Terms.{put-value}
@@ -22,11 +22,12 @@ use Rattle.ec_machine_laws.specs.Counts as server
 use Rattle.ec_agreed_lines.specs.Counting as clerks
 use Rattle.ec_agreed_lines.specs.Counting.{sent_in}
 use Rattle.ec_quiet.specs.SettlingCounts as settling
-use Rattle.ec_quiet.proofs.Mail.{pending-is}
+use Rattle.ec_quiet.proofs.Mail.{pending-is, parts}
 use Rattle.ec_machine_laws.specs.Unspent as unspent
 use Rattle.ec_complete.specs.Worlds.{IsCounted, Outset}
 use Rattle.ec_complete.specs.Ready.{calls_of}
 use Rattle.ec_complete.proofs.Tables.{sum-less, sum-most}
+use Rattle.ec_base.proofs.Filters.{fewer}
 
 -- Messages.
 
@@ -43,14 +44,6 @@ sends-out c (out.Send m ∷ os) = omega (arith, sends-out c os)
 sends-out c (out.Told ns ∷ os) = sends-out c os
 sends-out c (out.Answer n a op ∷ os) = sends-out c os
 sends-out c (out.OldBoot a ∷ os) = sends-out c os
-
-pub parts : (j : Work) (ms : Mail) → length ms ≡ length (main j ms) + length (backs j ms)
-parts j [] = refl
-parts j (m ∷ ms) = go (is_back j m) (parts j ms)
-  where
-    go : (b : Bool) → length ms ≡ length (main j ms) + length (backs j ms) → suc (length ms) ≡ length (cond (not b) (m ∷ main j ms) (main j ms)) + length (cond b (m ∷ backs j ms) (backs j ms))
-    go true r = omega (arith, r)
-    go false r = omega (arith, r)
 
 -- a clerk that asks for something has sent one message at most
 pub one-asked : (j : Work) (sc : Scene) (p : Phase) → IsAsked p → InPhase j sc p → backs j sc.mail ≡ [] → length sc.mail ≤ 1
@@ -106,16 +99,8 @@ module _ (w u : World) (sc : Scene) (i : IsScene w sc) (none : sc.mail ≡ []) (
 
 -- Sums.
 
-few-left : {A : Type 0} (p : A → Bool) (xs : List A) → length (filter p xs) ≤ length xs
-few-left p [] = omega arith
-few-left p (x ∷ xs) = go (p x) (few-left p xs)
-  where
-    go : (b : Bool) → length (filter p xs) ≤ length xs → length (cond b (x ∷ filter p xs) (filter p xs)) ≤ suc (length xs)
-    go true r = omega (arith, r)
-    go false r = omega (arith, r)
-
 unsent-few : (l : LogState) → unsent l ≤ length l.undurable
-unsent-few l = few-left (λ op. not (is_under_way l op.0)) l.undurable
+unsent-few l = fewer (λ op. not (is_under_way l op.0)) l.undurable
 
 -- a clerk has no more undurable operations than calls that it was answered
 pub own-unsent : (j : Work) (a n s : ℕ) (x : Clerk) → clerks.IsCounted n s x → unsent_by j (a, x) + length x.waiting ≤ x.calls

@@ -20,7 +20,7 @@ use Rattle.ec_protocol.specs.declared.world.WorldFault.TheVariants as fault
 use Rattle.ec_coherence.specs.System.{Ghost, System}
 use Rattle.ec_coherence.specs.Steps.{Stands, doing_in, serving_in}
 use Rattle.ec_coherence.proofs.Lists.{each-more}
-use Rattle.ec_coherence.proofs.Tables.{differ, differs, equal, same_some}
+use Rattle.ec_coherence.proofs.Tables.{differ, differs, same_some}
 use Rattle.ec_coherence.specs.CommitLaws as commits
 use Rattle.ec_coherence.specs.Makes.{IsMade, Makes}
 use Rattle.ec_lawful.proofs.Frames.{settled-stands}
@@ -49,6 +49,7 @@ use Rattle.ec_complete.proofs.Standing.{Other, other}
 use Rattle.ec_complete.proofs.Serving as serving
 use Rattle.ec_complete.proofs.Stepping.{Leaves, LeavesOrAnswers, Steps, idle-leaves}
 use Rattle.ec_complete.proofs.Owning.{empties, keeps-object, own-leaves, refuses-or-not, stays-answered, waits-for}
+use Rattle.ec_base.proofs.Numbers.{equal}
 
 some-fault : {A B : Type 0} (x : B) → ◌≡◌ {A = Option B} (Some x) None → A
 some-fault {A} {B} x e = absurd (apart e)

@@ -14,7 +14,6 @@ use Rattle.ec_protocol.specs.World.{open_world}
 use Rattle.ec_protocol.specs.declared.server.Server.{Server}
 use Rattle.ec_protocol.specs.declared.world.World.{World}
 use Rattle.ec_coherence.proofs.Ids.{in-back}
-use Rattle.ec_coherence.proofs.Tables.{same}
 use Rattle.ec_lawful.specs.Headline.{placed_on}
 use Rattle.ec_lawful.specs.Drills.{lines_in}
 use Rattle.ec_lawful.specs.DrillRuns.{AreFit}
@@ -27,6 +26,7 @@ use Rattle.ec_complete.proofs.Going.{lines-go-on}
 use Rattle.ec_complete.proofs.Opening.{openings-ready}
 use Rattle.ec_complete.specs.RunsBehind.{DrillsWriteBehind, WritesBehind}
 use Rattle.ec_complete.proofs.RunsBehind.{runs-behind}
+use Rattle.ec_base.proofs.Numbers.{same-self as same}
 
 -- each of a list is a member of it
 each-member : (before xs : List ℕ) → Each (λ c. T (member c (before ++ xs))) xs

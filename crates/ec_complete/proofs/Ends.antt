@@ -11,6 +11,7 @@ use Rattle.ec_protocol.specs.declared.script.Line.TheVariants as line
 use Rattle.ec_lawful.specs.Headline.{AreEndsAsked, Lines, Pieces, ends, joined, may_end}
 use Rattle.ec_complete.specs.Complete.{IsFaultless}
 use Rattle.ec_complete.proofs.Plainness.{NoEnd}
+use Rattle.ec_base.proofs.Lists.{all-taken}
 
 may-end-none : (c : ℕ) (l : Line) → IsFaultless l → may_end c l ≡ false
 may-end-none c line.Comment s = refl
@@ -32,10 +33,6 @@ none-asked : (c k : ℕ) (ls : Lines) → Each IsFaultless ls → length (filter
 none-asked c zero ls a = refl
 none-asked c (suc k) [] a = refl
 none-asked c (suc k) (l ∷ ls) a = ap (λ b. length (cond b (l ∷ filter (may_end c) (take k ls)) (filter (may_end c) (take k ls)))) (may-end-none c l a.0) ∙ none-asked c k ls a.1
-
-all-taken : {A : Type 0} (xs : List A) → take (length xs) xs ≡ xs
-all-taken [] = refl
-all-taken (x ∷ xs) = ap (λ l. x ∷ l) (all-taken xs)
 
 -- lines of which none ends a session, whichever clerk it is
 abbrev NoneEnds : List Shown → Type 0

@@ -8,7 +8,6 @@ use Rattle.ec_protocol.specs.World.{Moving}
 use Rattle.ec_protocol.specs.declared.clerk.Clerk.{Clerk}
 use Rattle.ec_protocol.specs.declared.script.Line.{Line}
 use Rattle.ec_protocol.specs.declared.world.World.{World}
-use Rattle.ec_coherence.proofs.Tables.{equal}
 use Rattle.ec_quiet.specs.Measure.{sum}
 use Rattle.ec_quiet.specs.Scenes.{IsScene, Scene}
 use Rattle.ec_quiet.specs.Works.{Work}
@@ -17,6 +16,7 @@ use Rattle.ec_quiet.proofs.Beside.{other-at}
 use Rattle.ec_complete.specs.Worlds.{IsKnown, Outset}
 use Rattle.ec_complete.specs.Goes.{IsStarted, IsWorkOf}
 use Rattle.ec_complete.specs.Ready.{IsReady, calls_of}
+use Rattle.ec_base.proofs.Numbers.{equal}
 
 -- The step met no fault. The line's work is known, or nothing was done; the clerks have their names, and made few calls.
 pub record IsStepped (outset : Outset) (v : Images) (most : ℕ) (names : List ℕ) (number : ℕ) (l : Line) (w : World) (q : IsReady outset v most names number w) (m : Moving) : Type 0 where

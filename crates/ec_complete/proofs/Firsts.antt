@@ -16,7 +16,6 @@ use Rattle.ec_protocol.specs.declared.clerk.Clerk.{Clerk}
 use Rattle.ec_protocol.specs.declared.world.World.{World}
 use Rattle.ec_protocol.specs.declared.world.WorldFault.TheVariants as fault
 use Rattle.ec_coherence.proofs.Lists.{each-more}
-use Rattle.ec_coherence.proofs.Tables.{none_some}
 use Rattle.ec_lawful.specs.Creates.{creates}
 use Rattle.ec_quiet.specs.Quiet.{IsIdle}
 use Rattle.ec_quiet.specs.Scenes.{IsScene, Scene, done_by}
@@ -31,6 +30,7 @@ use Rattle.ec_complete.proofs.Pushed.{pushed-on}
 use Rattle.ec_complete.proofs.Showing as showing
 use Rattle.ec_complete.proofs.Stocks.{done, done-again, more-stock}
 use Rattle.ec_base.specs.Bools.{one_if}
+use Rattle.ec_base.proofs.Options.{none_some}
 
 fails-no : (f : _) (w : World) → (fails f w).fault ≡ None → ⊥
 fails-no f w e = none_some (sym e)

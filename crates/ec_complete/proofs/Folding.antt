@@ -14,14 +14,8 @@ use Rattle.ec_complete.specs.ScriptRooms.{sum_below}
 use Rattle.ec_complete.proofs.Sums.{once-below, sum-both, sum-less}
 use Rattle.ec_complete.specs.PlainScripts.{behind_line, makes, makes_one}
 use Rattle.ec_base.specs.Bools.{one_if}
-
-pub regroup : {A : Type 0} (xs ys zs : List A) → (xs ++ ys) ++ zs ≡ xs ++ (ys ++ zs)
-regroup [] ys zs = refl
-regroup (x ∷ xs) ys zs = ap (λ l. x ∷ l) (regroup xs ys zs)
-
-pub no-more : {A : Type 0} (xs : List A) → xs ++ [] ≡ xs
-no-more [] = refl
-no-more (x ∷ xs) = ap (λ l. x ∷ l) (no-more xs)
+use Rattle.ec_base.proofs.Lists.{regroup, no-more}
+use Rattle.ec_chains.proofs.Chained.{member-left}
 
 -- Lines and calls.
 
@@ -103,14 +97,6 @@ asked-more number (x ∷ ls) l =
 
 -- Members.
 
-pub in-front : (d : ℕ) (xs ys : List ℕ) → T (member d xs) → T (member d (xs ++ ys))
-in-front d [] ys m = absurd m
-in-front d (x ∷ xs) ys m = go (d == x) m (in-front d xs ys)
-  where
-    go : (b : Bool) → T (b || member d xs) → (T (member d xs) → T (member d (xs ++ ys))) → T (b || member d (xs ++ ys))
-    go true m r = tt
-    go false m r = r m
-
 pub in-back : (d : ℕ) (xs ys : List ℕ) → T (member d ys) → T (member d (xs ++ ys))
 in-back d [] ys m = m
 in-back d (x ∷ xs) ys m = later (d == x) (member d (xs ++ ys)) (in-back d xs ys m)
@@ -146,20 +132,20 @@ module _ (v : Images) (top : ℕ) where
     where
       go : (b : Bool) → (d == c) ≡ b → T (member d (callers ls ++ c ∷ []))
       go true e = in-back d (callers ls) (c ∷ []) (subst (λ b. T (b || false)) (sym e) tt)
-      go false e = in-front d (callers ls) (c ∷ []) (r (behind_line v top number (line.Call c cl) s) (grown s c d (outcome_on v s cl (top + number)).update e ∙ none) some)
-  called-on d number line.Comment ls s r none some = in-front d (callers ls) [] (r s none some)
-  called-on d number (line.Push c i) ls s r none some = in-front d (callers ls) [] (r s none some)
-  called-on d number (line.Cut c) ls s r none some = in-front d (callers ls) [] (r s none some)
-  called-on d number (line.Uncut c) ls s r none some = in-front d (callers ls) [] (r s none some)
-  called-on d number (line.Drop c k i) ls s r none some = in-front d (callers ls) [] (r s none some)
-  called-on d number (line.Repeat c k i) ls s r none some = in-front d (callers ls) [] (r s none some)
-  called-on d number (line.Deliver c k i) ls s r none some = in-front d (callers ls) [] (r s none some)
-  called-on d number (line.Resend c) ls s r none some = in-front d (callers ls) [] (r s none some)
-  called-on d number (line.Crash c) ls s r none some = in-front d (callers ls) [] (r s none some)
-  called-on d number (line.End c) ls s r none some = in-front d (callers ls) [] (r s none some)
-  called-on d number line.Stop ls s r none some = in-front d (callers ls) [] (r s none some)
-  called-on d number (line.Arm i k) ls s r none some = in-front d (callers ls) [] (r s none some)
-  called-on d number line.Restart ls s r none some = in-front d (callers ls) [] (r s none some)
+      go false e = member-left d (callers ls) (c ∷ []) (r (behind_line v top number (line.Call c cl) s) (grown s c d (outcome_on v s cl (top + number)).update e ∙ none) some)
+  called-on d number line.Comment ls s r none some = member-left d (callers ls) [] (r s none some)
+  called-on d number (line.Push c i) ls s r none some = member-left d (callers ls) [] (r s none some)
+  called-on d number (line.Cut c) ls s r none some = member-left d (callers ls) [] (r s none some)
+  called-on d number (line.Uncut c) ls s r none some = member-left d (callers ls) [] (r s none some)
+  called-on d number (line.Drop c k i) ls s r none some = member-left d (callers ls) [] (r s none some)
+  called-on d number (line.Repeat c k i) ls s r none some = member-left d (callers ls) [] (r s none some)
+  called-on d number (line.Deliver c k i) ls s r none some = member-left d (callers ls) [] (r s none some)
+  called-on d number (line.Resend c) ls s r none some = member-left d (callers ls) [] (r s none some)
+  called-on d number (line.Crash c) ls s r none some = member-left d (callers ls) [] (r s none some)
+  called-on d number (line.End c) ls s r none some = member-left d (callers ls) [] (r s none some)
+  called-on d number line.Stop ls s r none some = member-left d (callers ls) [] (r s none some)
+  called-on d number (line.Arm i k) ls s r none some = member-left d (callers ls) [] (r s none some)
+  called-on d number line.Restart ls s r none some = member-left d (callers ls) [] (r s none some)
 
   pub issuers-call : (d number : ℕ) (ls : List Line) (s : Plainly) → s.issued d ≡ 0 → 1 ≤ (behind_lines v top number ls s).issued d → T (member d (callers ls))
   issuers-call d number [] s none some = absurd (omega (arith, none, some))

@@ -9,8 +9,8 @@ use Rattle.ec_history.specs.declared.shown.Shown.{Shown}
 use Rattle.ec_durable.specs.WellFormed.{WellFormed}
 use Rattle.ec_durable.specs.declared.state.Durable.{Durable}
 use Rattle.ec_protocol.specs.Drill as drills
-use Rattle.ec_protocol.specs.Drill.{Ending, Done, BadLine, TooMany, IsSpent, Fates, Ran, Read, bound, carry_out, close, ending_of, ends, first_fates, is_stopped, last_restart, later_fates, line_happens, max_pending, onward, piece_before, reads, rest_fates, run_from, settle, this_fate}
-use Rattle.ec_protocol.specs.World.{Moving, forget, moving, open_world, pending, restart, runs}
+use Rattle.ec_protocol.specs.Drill.{Ending, Done, BadLine, TooMany, IsSpent, Fates, Ran, Read, bound, carry_out, close, ending_of, ends, first_fates, is_stopped, last_restart, max_pending, piece_before, reads, rest_fates, run_from}
+use Rattle.ec_protocol.specs.World.{Moving, forget, open_world, pending, restart, runs}
 use Rattle.ec_protocol.specs.declared.script.Line.{Line}
 use Rattle.ec_protocol.specs.declared.world.World.{World}
 use Rattle.ec_protocol.specs.declared.world.WorldFault.{WorldFault}
@@ -21,11 +21,11 @@ use Rattle.ec_lawful.specs.DrillRuns.{AreFit}
 use Rattle.ec_lawful.specs.Runs.{RunShows}
 use Rattle.ec_lawful.proofs.Shows.{runs-show}
 use Rattle.ec_deliveries.specs.Runs.{AllRun}
-use Rattle.ec_deliveries.proofs.Running.{settles-alike}
+use Rattle.ec_deliveries.proofs.Running.{carries-alike}
 use Rattle.ec_complete.specs.Complete.{IsFaultless, IsFaultlessRead}
 use Rattle.ec_complete.proofs.Ends.{no-ends}
 use Rattle.ec_complete.proofs.Plainness.{NoEnd}
-use Rattle.ec_complete.proofs.Folding.{no-more, regroup}
+use Rattle.ec_base.proofs.Lists.{regroup, no-more}
 
 -- Pieces.
 
@@ -67,7 +67,7 @@ front-ends : (ss ts : List Shown) → EachLine NoEnd (ss ++ ts) → EachLine NoE
 front-ends [] ts e = tt
 front-ends (s ∷ ss) ts e = (e.0, front-ends ss ts e.1)
 
-faultless-lines : (ls : List Read) → Each IsFaultlessRead ls → Each IsFaultless (lines_in ls)
+pub faultless-lines : (ls : List Read) → Each IsFaultlessRead ls → Each IsFaultless (lines_in ls)
 faultless-lines [] a = tt
 faultless-lines (reads l column ∷ ls) a = (a.0, faultless-lines ls a.1)
 faultless-lines (drills.unfit column ∷ ls) a = absurd a.0
@@ -99,26 +99,13 @@ module _ (d : Durable) (formed : WellFormed d) (sixteen : length d.sessions ≡ 
 
 -- One line more.
 
-first-runs : (fates : Fates) → AllRun fates → this_fate fates ≡ runs
-first-runs [] a = refl
-first-runs (f ∷ fs) a = a.0
-
-later-run : (fates : Fates) → AllRun fates → AllRun (later_fates fates)
-later-run [] a = tt
-later-run (f ∷ fs) a = a.1
-
-each-first : (fs : List Fates) → Each AllRun fs → AllRun (first_fates fs)
+pub each-first : (fs : List Fates) → Each AllRun fs → AllRun (first_fates fs)
 each-first [] a = tt
 each-first (f ∷ fs) a = a.0
 
 pub each-rest : (fs : List Fates) → Each AllRun fs → Each AllRun (rest_fates fs)
 each-rest [] a = tt
 each-rest (f ∷ fs) a = a.1
-
-carries-alike : (k : ℕ) (fates : Fates) (number : ℕ) (l : Line) (w : World) → AllRun fates → carry_out k fates number l w ≡ carry_out k [] number l w
-carries-alike k fates number l w a =
-    ap (λ f. elim (onward (moving w) (line_happens f number l w)).fault as (λ z. Moving) [ Some g ↦ onward (moving w) (line_happens f number l w) | None ↦ settle k (later_fates fates) (onward (moving w) (line_happens f number l w)) ]) (first-runs fates a)
-    ∙ ap (λ (z : Moving). elim (onward (moving w) (line_happens runs number l w)).fault as (λ z. Moving) [ Some g ↦ onward (moving w) (line_happens runs number l w) | None ↦ z ]) (settles-alike k (later_fates fates) (onward (moving w) (line_happens runs number l w)) (later-run fates a))
 
 module _ (k number : ℕ) (l : Line) (column : ℕ) (ls : List Read) (fs : List Fates) (w : World) (all : Each AllRun fs) (m : Moving) (carries : carry_out k [] number l w ≡ m) (fine : m.fault ≡ None) (none : pending m.world ≡ 0) where
   abbrev rest : Moving → Ran

@@ -14,8 +14,7 @@ use Rattle.ec_durable.specs.WellFormed.{IsInOrder}
 use Rattle.ec_durable.specs.declared.state.Durable.{Durable}
 use Rattle.ec_machine_laws.proofs.Once.{fewer, keys-length}
 use Rattle.ec_protocol.specs.declared.clerk.Clerk.{Clerk}
-use Rattle.ec_coherence.proofs.Lists.{and_first, and_next}
-use Rattle.ec_coherence.proofs.Tables.{equal, is-true, same_some}
+use Rattle.ec_coherence.proofs.Tables.{same_some}
 use Rattle.ec_quiet.specs.Phases.{InPhase, Asks}
 use Rattle.ec_quiet.specs.Scenes.{Scene}
 use Rattle.ec_quiet.specs.Works.{Calls, HasTask, Pushes, Task, Work}
@@ -26,6 +25,8 @@ use Rattle.ec_complete.specs.Rooms.{makes_in}
 use Rattle.ec_complete.specs.ScriptRooms.{AskingsFindRoom, HasStock, sum_below}
 use Rattle.ec_complete.proofs.Sums.{less-one, members-few, once-in, sum-both, sum-less, sum-times}
 use Rattle.ec_base.specs.Bools.{one_if}
+use Rattle.ec_base.proofs.Bools.{left as and_first, right as and_next, is-true}
+use Rattle.ec_base.proofs.Numbers.{equal}
 
 -- Ids are below the next one.
 

@@ -15,8 +15,6 @@ use Rattle.ec_protocol.specs.declared.world.World.{World}
 use Rattle.ec_coherence.specs.Invariant.{Invariant}
 use Rattle.ec_coherence.specs.Steps.{Committed, serving_in}
 use Rattle.ec_coherence.specs.System.{Ghost, System}
-use Rattle.ec_coherence.proofs.Tables.{equal, holds, is-true, none_some, same}
-use Rattle.ec_coherence.proofs.Lists.{and_first, and_next}
 use Rattle.ec_coherence.specs.CommitLaws as commits
 use Rattle.ec_clerk_steps.proofs.Steps.{ids-are, ids-open}
 use Rattle.ec_coherence.specs.Makes.{IsMade, Makes}
@@ -29,6 +27,9 @@ use Rattle.ec_complete.specs.Lines.{IsOnLine, IsSpare}
 use Rattle.ec_complete.proofs.Serving as serving
 use Rattle.ec_complete.proofs.Delivering.{server-unspent}
 use Rattle.ec_complete.specs.Spare.{AreGiven, granted_below, open_grants}
+use Rattle.ec_base.proofs.Bools.{left as and_first, right as and_next, is-true, holds-true as holds}
+use Rattle.ec_base.proofs.Numbers.{same-self as same, equal}
+use Rattle.ec_base.proofs.Options.{none_some}
 
 -- Sums over the slots.
 

@@ -27,6 +27,7 @@ use Rattle.ec_complete.proofs.Calling as calling
 use Rattle.ec_complete.proofs.First.{IsStepped}
 use Rattle.ec_complete.proofs.Pushing as pushing
 use Rattle.ec_complete.proofs.Starting as starting
+use Rattle.ec_base.proofs.Numbers.{not-above}
 
 module _ (outset : Outset) (v : Images) (most : ℕ) (names : List ℕ) (number : ℕ) (w : World) (q : IsReady outset v most names number w) (few : number ≤ 65536) (first : 1 ≤ number) where
   comment : IsStepped outset v most names number line.Comment w q (line_happens runs number line.Comment w)
@@ -83,7 +84,7 @@ module _ (outset : Outset) (v : Images) (most : ℕ) (names : List ℕ) (number 
   -- and where counters were far below their limits
   early-starts : (l : Line) → IsFaultless l → IsEarly outset → MayStart l
   early-starts line.Comment a early = tt
-  early-starts (line.Call c cl) a early = λ e. idle.not-above last_counter (boot c w + 1) (omega (arith, q.boots c, early.boots c, few))
+  early-starts (line.Call c cl) a early = λ e. not-above last_counter (boot c w + 1) (omega (arith, q.boots c, early.boots c, few))
   early-starts (line.Push c i) a early = tt
   early-starts (line.Cut c) a early = absurd a
   early-starts (line.Uncut c) a early = absurd a

@@ -35,7 +35,7 @@ use Rattle.ec_complete.specs.Following.{BeginsBehind, IsWorked}
 use Rattle.ec_complete.proofs.Following.{same-scene}
 use Rattle.ec_complete.proofs.Works.{calls-worked}
 
-some-none : {A : Type 0} (x : WorldFault) → ◌≡◌ {A = Option WorldFault} (Some x) None → A
+pub some-none : {A : Type 0} (x : WorldFault) → ◌≡◌ {A = Option WorldFault} (Some x) None → A
 some-none {A} x e = absurd (apart e)
   where
     apart : ◌≡◌ {A = Option WorldFault} (Some x) None → ⊥

@@ -1,7 +1,6 @@
 -- What is known of a world that is ready for a line: no call is under way, its line is new, and counters are low.
 use Rattle.std.proofs.Common.{◌≡◌, sym, ap, ◌∙◌, arith, ◌≤◌, ◌<◌, ◌-◌, ℕ, zero, suc, T, false, List, [], ◌∷◌, length}
-use Rattle.std.specs.Prelude.{Option, Some, None, nat_le, nat_lt}
-use Rattle.std.proofs.lemmas.Bool.Decides.{nat_tests}
+use Rattle.std.specs.Prelude.{Option, Some, None, nat_le}
 use Rattle.ec_base.specs.Limits.{last_counter}
 use Rattle.ec_base.specs.Tables.{at, keys}
 use Rattle.ec_volume.specs.Update.{distinct}
@@ -14,7 +13,6 @@ use Rattle.ec_protocol.specs.declared.clerk.Clerk.{Clerk}
 use Rattle.ec_protocol.specs.declared.world.World.{World}
 use Rattle.ec_coherence.specs.Steps.{Stands}
 use Rattle.ec_coherence.specs.System.{System}
-use Rattle.ec_coherence.proofs.Tables.{none_some}
 use Rattle.ec_lawful.specs.Steps as steps
 use Rattle.ec_lawful.specs.Steps.{IsNewIn}
 use Rattle.ec_lawful.specs.Runs.{OfRun}
@@ -28,12 +26,8 @@ use Rattle.ec_complete.proofs.Numbers.{unshown}
 use Rattle.ec_complete.specs.Worlds.{Outset}
 use Rattle.ec_complete.specs.Ready.{IsReady}
 use Rattle.ec_complete.proofs.Laws.{quiet-again}
-
-not-at : (top a : ℕ) → a < top → nat_le top a ≡ false
-not-at top a l = grind (arith, nat_tests, l)
-
-pub not-above : (top a : ℕ) → a ≤ top → nat_lt top a ≡ false
-not-above top a l = grind (arith, nat_tests, l)
+use Rattle.ec_base.proofs.Options.{none_some}
+use Rattle.ec_base.proofs.Numbers.{not-above, not-at}
 
 -- the start that runs, of a clerk that runs
 runs-in : (w : World) (g : System) → Stands w g → (c : ℕ) (k : Clerk) → at c w.clerks ≡ Some k → (b : ℕ) × (g.clerks c b ≡ Some k)

@@ -18,7 +18,6 @@ use Rattle.ec_protocol.specs.declared.clerk.Clerk.{Clerk}
 use Rattle.ec_protocol.specs.declared.script.Line.{Line}
 use Rattle.ec_protocol.specs.declared.world.World.{World}
 use Rattle.ec_coherence.specs.Events.{EventsAgree, shown_boot}
-use Rattle.ec_coherence.proofs.Tables.{none_some}
 use Rattle.ec_lawful.specs.Headline.{AreLawful, IsGreatest, placed_on}
 use Rattle.ec_lawful.proofs.PlacesServe.{fronts-there}
 use Rattle.ec_lawful.specs.Steps.{Holds}
@@ -35,7 +34,9 @@ use Rattle.ec_complete.specs.Ids.{AreAbove, operations_in}
 use Rattle.ec_complete.proofs.Counted.{tells-all}
 use Rattle.ec_complete.proofs.IdsRising.{rising-answer}
 use Rattle.ec_complete.proofs.Counting.{one-start, operations-told}
-use Rattle.ec_complete.proofs.Folding.{behind_lines, ids_of, lines-are-calls, no-more, numbers-rise}
+use Rattle.ec_complete.proofs.Folding.{behind_lines, ids_of, lines-are-calls, numbers-rise}
+use Rattle.ec_base.proofs.Options.{none_some}
+use Rattle.ec_base.proofs.Lists.{no-more}
 
 above : (n : ℕ) (ids : List ℕ) → AreRising n ids → AreAbove n ids
 above n [] a = tt

@@ -23,9 +23,9 @@ use Rattle.ec_coherence.specs.System.{System, clerk_in, is_of, is_open, open_in,
 use Rattle.ec_coherence.specs.Tokens.{IsWrite}
 use Rattle.ec_coherence.proofs.Ending.{untouched-after}
 use Rattle.ec_coherence.proofs.Ids.{in-back, in-front}
-use Rattle.ec_coherence.proofs.Lists.{each-at, each-whole, no_both}
+use Rattle.ec_coherence.proofs.Lists.{each-at, each-whole}
 use Rattle.ec_coherence.proofs.OpenSlots.{owner-slot}
-use Rattle.ec_coherence.proofs.Tables.{equal, is-true, none_some, same_some}
+use Rattle.ec_coherence.proofs.Tables.{same_some}
 use Rattle.ec_lawful.specs.Whole.{Whole}
 use Rattle.ec_quiet.specs.Phases.{Phase, Greets, Opens, Claims, Wants, Recalls, Flushes, Keeps, Grants, Asks, Gives, Refuses, Saves, Saved, Ends, InPhase, IsWorking}
 use Rattle.ec_quiet.specs.Quiet.{IsIdle}
@@ -36,6 +36,10 @@ use Rattle.ec_agreed_lines.proofs.Seen.{clerk-there, scenes-seen}
 use Rattle.ec_complete.specs.WaitingCalls.{kept_volume}
 use Rattle.ec_complete.proofs.Standing.{other}
 use Rattle.ec_complete.specs.FirstSteps.{IsStepOf, IsTold}
+use Rattle.ec_base.proofs.Options.{none_some}
+use Rattle.ec_base.proofs.Numbers.{equal}
+use Rattle.ec_base.proofs.Bools.{not-both as no_both, is-true}
+use Rattle.ec_clerk_steps.proofs.Issue.{held-of}
 
 -- An operation that is there is what each of them is.
 abbrev IsAmong : Op → List Op → Type 0
@@ -92,10 +96,6 @@ holds-kept-image f z seen inv x h =
     inv.images.licences h.session x h.clerk (clerk-there f inv.sessions h.number start.0 h.session h.clerk start.1 h.inside) h.held h.has
     ∙ ap (λ ks. after f.origin (updates (seen_ops ks f.ghost.kept)) x) (inv.images.unfrozen h.session h.opened)
 
-is-written : (o : Option Held) → IsWrite o → (t : Held) × (o ≡ Some t)
-is-written None w = absurd w
-is-written (Some t) w = (t, refl)
-
 -- An operation that isn't durable is of a clerk that holds its operands, where the clerk of each open session is there.
 abbrev RunsEach : Scene → Type 0
 RunsEach z = (c : ℕ) (sl : Slot) → slot z.server.durable c ≡ Some sl → T sl.is_open → (k : Clerk) × (at c z.clerks ≡ Some k) × (k.session ≡ Some sl.session)
@@ -117,7 +117,7 @@ of-holder f z seen inv runs x p =
     let start = seen.clerks q.0 r.0 r.1 in
     let inside : (r.0).session ≡ Some w.session = r.2 ∙ ap Some (q.2).1 in
     let same : w.clerk ≡ r.0 = same_some (sym w.in_place ∙ clerk-there f inv.sessions q.0 start.0 w.session r.0 start.1 inside) in
-    let t = is-written (at x w.clerk.cache.held) (each-at (λ y. IsWrite (at y w.clerk.cache.held)) x (operands p.op.update) w.writes p.operand) in
+    let t = held-of (at x w.clerk.cache.held) (each-at (λ y. IsWrite (at y w.clerk.cache.held)) x (operands p.op.update) w.writes p.operand) in
     record {
       holder = record { number = q.0; session = w.session; clerk = r.0; held = t.0; there = r.1; inside = inside; opened = w.is_open; has = ap (λ k. at x k.cache.held) (sym same) ∙ t.1 };
       op = p.op;

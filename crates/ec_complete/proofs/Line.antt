@@ -10,7 +10,6 @@ use Rattle.ec_protocol.specs.World.{Moving, due, runs}
 use Rattle.ec_protocol.specs.declared.script.Line.{Line}
 use Rattle.ec_protocol.specs.declared.world.World.{World}
 use Rattle.ec_protocol.specs.declared.world.WorldFault.{WorldFault}
-use Rattle.ec_coherence.proofs.Tables.{none_some}
 use Rattle.ec_lawful.specs.Headline.{placed_on}
 use Rattle.ec_quiet.specs.Quiet.{IsIdle}
 use Rattle.ec_quiet.specs.Scenes.{IsScene, Scene}
@@ -18,7 +17,6 @@ use Rattle.ec_quiet.specs.Works.{Work}
 use Rattle.ec_quiet.specs.SettlingScenes.{Reaches}
 use Rattle.ec_quiet.proofs.Delivering as delivering
 use Rattle.ec_deliveries.specs.Runs.{HasEnded}
-use Rattle.ec_deliveries.proofs.Settled.{stops}
 use Rattle.ec_complete.specs.Spare.{max_calls}
 use Rattle.ec_complete.specs.Worlds.{Outset}
 use Rattle.ec_complete.specs.Begins.{most_sent}
@@ -28,6 +26,8 @@ use Rattle.ec_agreed_lines.specs.Placed as placed
 use Rattle.ec_complete.specs.Following.{BeginsBehind}
 use Rattle.ec_complete.proofs.Following.{writes}
 use Rattle.ec_complete.proofs.FirstShown.{both-behind, first-adds, first-behind}
+use Rattle.ec_base.proofs.Options.{none_some}
+use Rattle.ec_quiet.proofs.Settled.{stops}
 
 -- The lines of a line stand behind those before it, and each durable one names what the line asks for.
 pub record IsBehindIn (base : Base) (l : Line) (w : World) (r : Moving) : Type 0 where

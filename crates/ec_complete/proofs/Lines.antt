@@ -1,5 +1,5 @@
 -- One line of a script without faults, which settles: its call is answered, and nothing else is.
-use Rattle.std.proofs.Common.{◌≡◌, refl, sym, ap, ◌∙◌, subst, arith, ◌+◌, ℕ, List, [], ◌∷◌, ◌++◌, inl, inr, ◌⊎◌, length}
+use Rattle.std.proofs.Common.{◌≡◌, refl, sym, ap, ◌∙◌, subst, arith, ◌+◌, ℕ, [], ◌∷◌, ◌++◌, inl, inr, ◌⊎◌, length}
 use Rattle.std.specs.Prelude.{Option, None, Some, ◌==◌, ◌&&◌, cond}
 use Rattle.std.proofs.lemmas.Bool.{eq-eqb}
 use Rattle.ec_base.specs.Tables.{at}
@@ -17,7 +17,6 @@ use Rattle.ec_protocol.specs.declared.script.Line.{Line}
 use Rattle.ec_protocol.specs.declared.script.Line.TheVariants as line
 use Rattle.ec_protocol.specs.declared.world.Event.TheVariants as event
 use Rattle.ec_protocol.specs.declared.world.World.{World}
-use Rattle.ec_coherence.proofs.Tables.{none_some}
 use Rattle.ec_coherence.specs.System.{System}
 use Rattle.ec_lawful.specs.Calls.{AreOf, IsOf}
 use Rattle.ec_lawful.specs.DrillRuns.{IsFit}
@@ -37,14 +36,8 @@ use Rattle.ec_agreed_lines.proofs.Reaching.{calls-once, others-none}
 use Rattle.ec_deliveries.specs.Runs.{HasSettled}
 use Rattle.ec_complete.specs.Complete.{IsFaultless}
 use Rattle.ec_complete.proofs.Numbers.{Below, later, unshown}
-
-no-more : {A : Type 0} (xs : List A) → xs ++ [] ≡ xs
-no-more [] = refl
-no-more (x ∷ xs) = ap (λ l. x ∷ l) (no-more xs)
-
-regroup : {A : Type 0} (xs ys zs : List A) → (xs ++ ys) ++ zs ≡ xs ++ (ys ++ zs)
-regroup [] ys zs = refl
-regroup (x ∷ xs) ys zs = ap (λ l. x ∷ l) (regroup xs ys zs)
+use Rattle.ec_base.proofs.Lists.{regroup, no-more}
+use Rattle.ec_base.proofs.Options.{none_some}
 
 module _ (d : Durable) (formed : WellFormed d) (sixteen : length d.sessions ≡ 16) (gone : images d.volume 0 ≡ Gone) where
   abbrev pub G : System → Type 0

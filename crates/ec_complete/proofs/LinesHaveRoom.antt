@@ -15,7 +15,7 @@ use Rattle.ec_protocol.specs.declared.clerk.Clerk.{Clerk}
 use Rattle.ec_protocol.specs.declared.server.Server.{Server}
 use Rattle.ec_protocol.specs.declared.world.Sent.{Sent}
 use Rattle.ec_protocol.specs.declared.world.World.{World}
-use Rattle.ec_coherence.proofs.Tables.{none_some, same_some}
+use Rattle.ec_coherence.proofs.Tables.{same_some}
 use Rattle.ec_lawful.specs.Steps.{Holds}
 use Rattle.ec_lawful.proofs.Events.{deliver-holds}
 use Rattle.ec_lawful.specs.Runs.{OfRun}
@@ -41,10 +41,12 @@ use Rattle.ec_complete.proofs.Settling.{all-stay}
 use Rattle.ec_complete.specs.Rooms.{ComesWell, GrantsRoom, HasRoomIn, IsWellAsked}
 use Rattle.ec_complete.specs.ScriptRooms.{HasStock, IsRoomFor, KeepsRoom, LinesKeepRoom}
 use Rattle.ec_complete.proofs.Full.{askings-find-room}
-use Rattle.ec_complete.proofs.Heads.{AreAsked, AreGiven, first-clerk, ids-given, is_ids, is_room, room-asked}
+use Rattle.ec_complete.proofs.Heads.{AreAsked, AreGiven, first-clerk, ids-given, is_ids, room-asked}
 use Rattle.ec_complete.proofs.Showing.{both}
 use Rattle.ec_complete.proofs.Showing as showing
 use Rattle.ec_complete.proofs.Stocks.{outs-room, stock-then}
+use Rattle.ec_base.proofs.Options.{none_some}
+use Rattle.ec_deliveries.proofs.Spending.{is_room}
 
 -- A world has one scene.
 pub same-scene : (w : World) (a b : Scene) → IsScene w a → IsScene w b → a ≡ b

@@ -9,7 +9,6 @@ use Rattle.ec_volume.specs.declared.update.Update.{Update}
 use Rattle.ec_volume.specs.declared.update.Update.TheVariants.{Make, Drop, Move, Put, Len, Mode, Stamp, Order, Shift, Owner}
 use Rattle.ec_plain.specs.Plain.{plain}
 use Rattle.ec_plain.specs.declared.call.Call.{Call}
-use Rattle.ec_plain.specs.declared.call.Call.TheVariants as call
 use Rattle.ec_plain.specs.declared.call.Outcome.{Outcome}
 use Rattle.ec_laws.proofs.Fresh.{plain-makes}
 use Rattle.ec_cache.specs.Cache.{images_held}
@@ -19,25 +18,7 @@ use Rattle.ec_resolve.proofs.Verdicts.{done-says, ids-says}
 use Rattle.ec_protocol.specs.Clerk.{first_id, verdict}
 use Rattle.ec_protocol.specs.declared.clerk.Clerk.{Clerk}
 use Rattle.ec_lawful.specs.Creates.{creates}
-
--- another call doesn't look at the fresh id
-same-plain : (v : Images) (cl : Call) (x y : ℕ) → creates cl ≡ false → plain v cl x ≡ plain v cl y
-same-plain v (call.Mkdir path) x y n = absurd (true≢false n)
-same-plain v (call.Create path) x y n = absurd (true≢false n)
-same-plain v (call.Write path at bytes) x y n = refl
-same-plain v (call.SetLen path len) x y n = refl
-same-plain v (call.Read path at count) x y n = refl
-same-plain v (call.Chmod path mode) x y n = refl
-same-plain v (call.Touch path stamp) x y n = refl
-same-plain v (call.Stat path) x y n = refl
-same-plain v (call.List path) x y n = refl
-same-plain v (call.Remove path) x y n = refl
-same-plain v (call.Rmdir path) x y n = refl
-same-plain v (call.Rename path target) x y n = refl
-same-plain v (call.Fsync path) x y n = refl
-same-plain v (call.Forder paths) x y n = refl
-same-plain v call.Sync x y n = refl
-same-plain v (call.Chown path owner) x y n = refl
+use Rattle.ec_lawful.proofs.News.{same-plain}
 
 module _ (v : Images) (cl : Call) (x : ℕ) where
   -- the object made would be two fresh ones

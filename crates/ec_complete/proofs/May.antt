@@ -1,9 +1,7 @@
 -- A call that begins where all is idle may go on.
-use Rattle.std.proofs.Common.{◌≡◌, refl, sym, ap, subst, ◌∙◌, inl, ◌<◌, ◌≤◌, ◌+◌, ◌-◌, ◌++◌, ◌||◌, ℕ, T, true, false, List, [], ◌∷◌, Option, Some, arith}
-use Rattle.std.specs.List.{list_any}
+use Rattle.std.proofs.Common.{◌≡◌, refl, sym, ap, subst, ◌∙◌, inl, ◌≤◌, ◌+◌, ◌-◌, ◌++◌, ◌||◌, ℕ, T, true, false, List, [], ◌∷◌, Some, arith}
 use Rattle.ec_base.specs.Tables.{at, or_else}
 use Rattle.ec_volume.specs.Update.{member}
-use Rattle.ec_history.specs.Placing.{is_numbered}
 use Rattle.ec_plain.specs.Plain.{plain}
 use Rattle.ec_plain.specs.declared.call.Call.{Call}
 use Rattle.ec_sessions.specs.declared.slot.Slot.{Slot}
@@ -15,12 +13,11 @@ use Rattle.ec_protocol.specs.declared.clerk.Clerk.{Clerk}
 use Rattle.ec_protocol.specs.declared.clerk.Waiting.{Waiting}
 use Rattle.ec_protocol.specs.declared.world.World.{World}
 use Rattle.ec_coherence.specs.Log.{next_of}
-use Rattle.ec_coherence.specs.Steps.{Stands, call_of, doing_in}
+use Rattle.ec_coherence.specs.Steps.{doing_in}
 use Rattle.ec_coherence.specs.System.{System, is_open}
 use Rattle.ec_coherence.proofs.Ids.{in-back}
 use Rattle.ec_coherence.proofs.OpenSlots.{at-open}
 use Rattle.ec_coherence.proofs.ClerkIn.{start-same}
-use Rattle.ec_coherence.proofs.Tables.{same}
 use Rattle.ec_clerk_steps.specs.Frees.{FreesAgree}
 use Rattle.ec_clerk_steps.specs.Trying.{IsTrying}
 use Rattle.ec_clerk_steps.specs.Zeros.{HasNoZero, ZerosAgree}
@@ -30,7 +27,7 @@ use Rattle.ec_lawful.specs.BeginLaws.{HasBegun}
 use Rattle.ec_lawful.proofs.Called.{has-begun}
 use Rattle.ec_lawful.proofs.Beginning.{begins}
 use Rattle.ec_lawful.proofs.Carrying.{no-zero}
-use Rattle.ec_lawful.specs.Steps.{IsNew, IsNewIn}
+use Rattle.ec_lawful.specs.Steps.{IsNewIn}
 use Rattle.ec_lawful.specs.Ties.{called}
 use Rattle.ec_quiet.specs.Facts.{IsIdleBut}
 use Rattle.ec_quiet.specs.Phases.{IsAged}
@@ -38,8 +35,6 @@ use Rattle.ec_quiet.specs.Scenes.{Scene}
 use Rattle.ec_quiet.specs.Works.{Work}
 use Rattle.ec_quiet.specs.Goes.{MayGo}
 use Rattle.ec_quiet.proofs.Taking.{each-map}
-use Rattle.ec_quiet.proofs.Used.{no-more}
-use Rattle.ec_agreed_lines.proofs.OldTokens.{found-once}
 use Rattle.ec_agreed_lines.specs.Worlds.{IsSeen}
 use Rattle.ec_agreed_lines.proofs.Seen.{scenes-seen}
 use Rattle.ec_complete.specs.WaitingCalls.{HasCall, IsAgreed, kept_volume}
@@ -48,16 +43,11 @@ use Rattle.ec_complete.proofs.Shown.{agreed-may-go}
 use Rattle.ec_complete.specs.Lines.{next_given, next_object}
 use Rattle.ec_complete.proofs.Taking.{runs-in}
 use Rattle.ec_complete.specs.LineCalls.{IsCalled}
-
-same-slot : (a b : Slot) → ◌≡◌ {A = Option Slot} (Some a) (Some b) → a ≡ b
-same-slot a b e = cc
-
--- what the system needs of the line
-new-in : (w : World) (g : System) → Stands w g → (l : ℕ) → IsNewIn w l → IsNew g l
-new-in w g st l n = record {
-  unshown = subst (λ x. list_any (is_numbered l) x ≡ false) st.shown n.unshown;
-  unused = subst (λ x. (c m k : ℕ) (cl : Call) → call_of c m x ≡ Some (k, cl) → k < l) st.calls n.unused;
-}
+use Rattle.ec_base.proofs.Numbers.{same-self as same}
+use Rattle.ec_deliveries.proofs.Holding.{same-slot}
+use Rattle.ec_base.proofs.Lists.{no-more}
+use Rattle.ec_lawful.proofs.StepsLemmas.{new-in}
+use Rattle.ec_quiet.proofs.Once.{found-once}
 
 -- the last of some
 pub last-there : (x : ℕ) (xs : List ℕ) → T (member x (xs ++ x ∷ []))

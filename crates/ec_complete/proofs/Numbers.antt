@@ -1,19 +1,16 @@
 -- The numbers of lines that were shown, below that of the next line.
 use Rattle.std.proofs.Common.{◌≡◌, refl, arith, ◌<◌, ◌+◌, ℕ, Bool, true, false, ◌||◌, List, [], ◌∷◌}
-use Rattle.std.specs.Prelude.{◌==◌}
 use Rattle.std.specs.List.{list_any}
 use Rattle.ec_plain.specs.declared.call.Call.{Call}
 use Rattle.ec_history.specs.Placing.{EachLine, is_numbered}
 use Rattle.ec_history.specs.declared.shown.Shown.{Shown}
 use Rattle.ec_history.specs.declared.shown.Shown.TheVariants as show
 use Rattle.ec_lawful.specs.Calls.{IsOf}
+use Rattle.ec_base.proofs.Numbers.{other-number}
 
 -- the call is of an earlier line
 abbrev pub Below : ℕ → ℕ → ℕ → Call → Type 0
 Below n l c cl = l < n
-
-other-number : (l n : ℕ) → l < n → (l == n) ≡ false
-other-number l n e = grind (arith, e)
 
 of-other : (n : ℕ) (s : Shown) → IsOf (Below n) s → is_numbered n s ≡ false
 of-other n (show.Waits l c cl) p = other-number l n p

@@ -26,7 +26,7 @@ use Rattle.ec_protocol.specs.World.{boot, clerks, end_each, new_world, open_worl
 use Rattle.ec_protocol.specs.declared.server.Server.{Server}
 use Rattle.ec_protocol.specs.declared.world.Sent.{Sent}
 use Rattle.ec_protocol.specs.declared.world.World.{World}
-use Rattle.ec_coherence.proofs.Tables.{none_some, same, same_some}
+use Rattle.ec_coherence.proofs.Tables.{same_some}
 use Rattle.ec_coherence.specs.Sessions.{SessionsAgree}
 use Rattle.ec_coherence.specs.Steps.{Stands}
 use Rattle.ec_lawful.specs.Calls.{IsOf}
@@ -34,7 +34,7 @@ use Rattle.ec_lawful.specs.Steps as steps
 use Rattle.ec_lawful.specs.Olds.{all_ended, opened_in, opened_state}
 use Rattle.ec_lawful.specs.Runs.{OfRun}
 use Rattle.ec_lawful.proofs.EndedSlots.{length-ended, was}
-use Rattle.ec_lawful.proofs.Opens.{world-stands}
+use Rattle.ec_lawful.proofs.Opens.{world-stands, at-middle, set-middle}
 use Rattle.ec_lawful.proofs.OpensWhole.{opened-whole}
 use Rattle.ec_deliveries.proofs.Ordering.{AreApart, at-all, own-from}
 use Rattle.ec_quiet.specs.Facts.{IsOrderly}
@@ -45,6 +45,8 @@ use Rattle.ec_quiet.proofs.Ending.{none-rise}
 use Rattle.ec_complete.specs.Worlds.{IsCounted, IsEarly, Outset, new_outset, outset_of}
 use Rattle.ec_complete.proofs.Laws.{openings-hold, openings-tell}
 use Rattle.ec_complete.specs.Ready.{IsReady, NewDisksAreReady, OpeningsAreReady, calls_of}
+use Rattle.ec_base.proofs.Numbers.{same-self as same}
+use Rattle.ec_base.proofs.Options.{none_some}
 
 -- no clerk runs yet, and nothing was sent
 record IsNew (w : World) : Type 0 where
@@ -103,15 +105,6 @@ idle-ready outset d formed sixteen gone names w sc opened i idle order counted b
 
 -- The sessions of a state that is opened.
 
--- the last slot of a front, and its session's end
-middle : (pre rest : Slots) (o : Option Slot) → slot_at (pre ++ o ∷ rest) (length pre) ≡ o
-middle [] rest o = refl
-middle (x ∷ pre) rest o = middle pre rest o
-
-ended-there : (pre rest : Slots) (o p : Option Slot) → with_slot (length pre) p (pre ++ o ∷ rest) ≡ (pre ++ p ∷ []) ++ rest
-ended-there [] rest o p = refl
-ended-there (x ∷ pre) rest o p = ap (λ l. x ∷ l) (ended-there pre rest o p)
-
 module _ (d : Durable) where
   abbrev over : Slots → Durable
   over slots = record d { sessions = slots }
@@ -129,10 +122,10 @@ module _ (d : Durable) where
           go false e =
               let stays : ended (Some sl) ≡ Some sl = ap (λ b. Some (cond b (record sl { is_open = false; unspent = [] }) sl)) e in
               subst (λ slots. IsInOrder (over slots)) (sym (append_assoc pre (Some sl ∷ []) rest) ∙ ap (λ p. (pre ++ p ∷ []) ++ rest) (sym stays)) o
-          go true e = subst (λ slots. IsInOrder (over slots)) (ended-there pre rest (Some sl) (ended (Some sl))) (step_kept (End (length pre) sl.session) (over (pre ++ Some sl ∷ rest)) (over (with_slot (length pre) (ended (Some sl)) (pre ++ Some sl ∷ rest))) o tt steps)
+          go true e = subst (λ slots. IsInOrder (over slots)) (set-middle pre rest (Some sl) (ended (Some sl))) (step_kept (End (length pre) sl.session) (over (pre ++ Some sl ∷ rest)) (over (with_slot (length pre) (ended (Some sl)) (pre ++ Some sl ∷ rest))) o tt steps)
             where
               steps : step (End (length pre) sl.session) (over (pre ++ Some sl ∷ rest)) ≡ Ok (over (with_slot (length pre) (ended (Some sl)) (pre ++ Some sl ∷ rest)))
-              steps = ap (λ o. elim (is_session sl.session o) as (λ z. Result Durable RecordFault) [ false ↦ Err NoSession | true ↦ Ok (over (with_slot (length pre) (ended o) (pre ++ Some sl ∷ rest))) ]) (middle pre rest (Some sl))
+              steps = ap (λ o. elim (is_session sl.session o) as (λ z. Result Durable RecordFault) [ false ↦ Err NoSession | true ↦ Ok (over (with_slot (length pre) (ended o) (pre ++ Some sl ∷ rest))) ]) (at-middle pre rest (Some sl))
                   ∙ ap (λ b. elim b as (λ z. Result Durable RecordFault) [ false ↦ Err NoSession | true ↦ Ok (over (with_slot (length pre) (ended (Some sl)) (pre ++ Some sl ∷ rest))) ]) (ap (λ b. b && (sl.session == sl.session)) e ∙ same sl.session)
 
 module _ (d : Durable) (formed : WellFormed d) (sixteen : length d.sessions ≡ 16) (gone : images d.volume 0 ≡ Gone) (w : World) (opened : open_world d ≡ Ok w) where

@@ -27,11 +27,12 @@ use Rattle.ec_coherence.specs.Log.{HasWrites, IdsAgree, LogAgrees, LogsAgree, ma
 use Rattle.ec_coherence.specs.Sessions.{SessionsAgree}
 use Rattle.ec_coherence.proofs.Carried.{gone-is}
 use Rattle.ec_coherence.proofs.Ids.{in-back, in-either, in-front}
-use Rattle.ec_coherence.proofs.Lists.{and_both, and_first, and_next, each-at, each-fewer, filter-no, filter-yes, no_both}
+use Rattle.ec_coherence.proofs.Lists.{each-at, each-fewer, filter-no, filter-yes}
 use Rattle.ec_coherence.proofs.OpenSlots.{owner-slot}
-use Rattle.ec_coherence.proofs.Tables.{holds, is-true, none_some}
 use Rattle.ec_machine_laws.proofs.Holding.{holds-front}
 use Rattle.ec_clerk_steps.proofs.Unmade.{IsMadeIn, Leaves, unmade}
+use Rattle.ec_base.proofs.Bools.{left as and_first, not-both as no_both, and-both as and_both, right as and_next, is-true, holds-true as holds}
+use Rattle.ec_base.proofs.Options.{none_some}
 
 -- Lists.
 

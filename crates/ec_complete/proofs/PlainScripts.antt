@@ -38,7 +38,6 @@ use Rattle.ec_quiet.specs.Settling.{IsSettled}
 use Rattle.ec_quiet.proofs.Showing as settling
 use Rattle.ec_quiet.proofs.Ending.{ends}
 use Rattle.ec_deliveries.specs.Runs.{AllRun, HasSettled}
-use Rattle.ec_deliveries.proofs.Settled.{stops}
 use Rattle.ec_machine_laws.specs.Answers.{Asking, asked_from, asking_in, none_yet}
 use Rattle.ec_machine_laws.specs.PlainLines.{asked_in}
 use Rattle.ec_complete.specs.Begins.{most_sent}
@@ -59,15 +58,15 @@ use Rattle.ec_complete.proofs.Showing as showing
 use Rattle.ec_complete.proofs.Stocks.{more-stock}
 use Rattle.ec_complete.specs.PlainScripts.{ArePushed, IsPlainScript, IsPushed, behind_line, makes}
 use Rattle.ec_complete.specs.PlainRuns.{PlainScriptsAreComplete}
-use Rattle.ec_complete.proofs.Folding.{asked-more, behind_lines, callers, callers-more, fold-more, in-back, in-front, issuers-call, makes-both, makes-more, makes-sum, makes_by, no-more, own-make, regroup}
+use Rattle.ec_complete.proofs.Folding.{asked-more, behind_lines, callers, callers-more, fold-more, in-back, issuers-call, makes-both, makes-more, makes-sum, makes_by, own-make}
 use Rattle.ec_complete.proofs.Fronts.{ahead, each-rest, front-no-end, joined-both, line-more}
 use Rattle.ec_complete.proofs.Issued.{has-issued, v}
 use Rattle.ec_complete.proofs.Named.{names-few}
 use Rattle.ec_complete.proofs.NobodyRuns.{none-run, opens}
-
-asked-both : (ss ts : List Shown) → asked_in (ss ++ ts) ≡ asked_in ss ++ asked_in ts
-asked-both [] ts = refl
-asked-both (s ∷ ss) ts = ap (λ l. Rattle.ec_machine_laws.specs.PlainLines.answered_in s ++ l) (asked-both ss ts) ∙ sym (regroup (Rattle.ec_machine_laws.specs.PlainLines.answered_in s) (asked_in ss) (asked_in ts))
+use Rattle.ec_base.proofs.Lists.{regroup, no-more}
+use Rattle.ec_agreed_lines.proofs.Showing.{asked-both}
+use Rattle.ec_chains.proofs.Chained.{member-left as in-front}
+use Rattle.ec_quiet.proofs.Settled.{stops}
 
 -- each number of a list is in it
 all-members : (cs names : List ℕ) → ((c : ℕ) → T (member c cs) → T (member c names)) → Each (λ c. T (member c names)) cs
@@ -138,8 +137,8 @@ module _ (most : ℕ) (formed : WellFormed (formatted most)) (w : World) (opened
     left = omega (arith, few);
     ready = ready;
     stock = record {
-      clerks = λ c a e. absurd (Rattle.ec_coherence.proofs.Tables.none_some (none c ∙ e));
-      named = λ c a e. absurd (Rattle.ec_coherence.proofs.Tables.none_some (none c ∙ e));
+      clerks = λ c a e. absurd (Rattle.ec_base.proofs.Options.none_some (none c ∙ e));
+      named = λ c a e. absurd (Rattle.ec_base.proofs.Options.none_some (none c ∙ e));
       run = λ c m. absurd m;
       mail = subst (λ ms. Each {A = ℕ × Rattle.ec_wire.specs.declared.msg.Msg.Msg} (λ m. Rattle.ec_complete.specs.Rooms.GrantsRoom m.1) ms) (sym ready.idle.mail) tt;
     };

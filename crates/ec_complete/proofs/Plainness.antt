@@ -14,8 +14,9 @@ use Rattle.ec_history.specs.declared.shown.Shown.{Shown}
 use Rattle.ec_history.specs.declared.shown.Shown.TheVariants as show
 use Rattle.ec_quiet.specs.Settling.{IsSettled}
 use Rattle.ec_machine_laws.specs.PlainLines.{IsPlain}
-use Rattle.ec_machine_laws.proofs.Watching.{IsOne, stays-one, watch-push}
+use Rattle.ec_machine_laws.proofs.Watching.{IsOne, stays-one}
 use Rattle.ec_complete.specs.SettledRuns.{HasRoom}
+use Rattle.ec_history.proofs.PlacingLemmas.{watch-push}
 
 -- no session ends
 abbrev pub NoEnd : Shown → Type 0

@@ -1,9 +1,8 @@
 -- The first step of a push.
 use Rattle.std.proofs.Common.{◌≡◌, refl, sym, ap, ◌∙◌, subst, arith, ◌≤◌, ◌⊎◌, ℕ, Bool, true, false, [], length, inl, inr}
-use Rattle.std.specs.Prelude.{Option, None, Some}
+use Rattle.std.specs.Prelude.{None, Some}
 use Rattle.ec_base.specs.Tables.{at, put}
 use Rattle.ec_volume.specs.Volume.{Images}
-use Rattle.ec_plain.specs.declared.call.Call.{Call}
 use Rattle.ec_sessions.specs.declared.slot.Slot.{Slot}
 use Rattle.ec_durable.specs.WellFormed.{IsInOrder}
 use Rattle.ec_protocol.specs.Clerk as clerk
@@ -13,7 +12,6 @@ use Rattle.ec_protocol.specs.declared.clerk.Clerk.{Clerk}
 use Rattle.ec_protocol.specs.declared.script.Line.TheVariants as line
 use Rattle.ec_protocol.specs.declared.world.Event.TheVariants as event
 use Rattle.ec_protocol.specs.declared.world.World.{World}
-use Rattle.ec_protocol.specs.declared.world.WorldFault.{WorldFault}
 use Rattle.ec_protocol.specs.declared.world.WorldFault.TheVariants as fault
 use Rattle.ec_coherence.specs.Steps.{Stands}
 use Rattle.ec_coherence.specs.System.{System}
@@ -25,7 +23,7 @@ use Rattle.ec_lawful.proofs.Runs.{keep}
 use Rattle.ec_lawful.proofs.Clerks.{clerks-keep-all}
 use Rattle.ec_quiet.specs.Quiet.{IsIdle}
 use Rattle.ec_quiet.specs.Scenes.{IsScene, Scene, done_by}
-use Rattle.ec_quiet.specs.Works.{Calls, Pushes, Task, Work}
+use Rattle.ec_quiet.specs.Works.{Work}
 use Rattle.ec_quiet.specs.First.{IsPush}
 use Rattle.ec_quiet.proofs.Pushing.{begins}
 use Rattle.ec_quiet.proofs.Delivering.{comes-out, shown-alike, with-clerks}
@@ -36,18 +34,8 @@ use Rattle.ec_deliveries.proofs.Begun.{pushes-begin}
 use Rattle.ec_complete.specs.Following.{BeginsBehind, IsUncalled}
 use Rattle.ec_complete.proofs.Following.{same-scene}
 use Rattle.ec_complete.proofs.Works.{pushes-worked}
-
-not-called : {A : Type 0} (n : ℕ) (cl : Call) → ◌≡◌ {A = Task} (Pushes n) (Calls cl) → A
-not-called {A} n cl e = absurd (apart e)
-  where
-    apart : ◌≡◌ {A = Task} (Pushes n) (Calls cl) → ⊥
-    apart q = cc
-
-some-none : {A : Type 0} (x : WorldFault) → ◌≡◌ {A = Option WorldFault} (Some x) None → A
-some-none {A} x e = absurd (apart e)
-  where
-    apart : ◌≡◌ {A = Option WorldFault} (Some x) None → ⊥
-    apart q = cc
+use Rattle.ec_complete.proofs.Greeting.{some-none}
+use Rattle.ec_complete.proofs.On.{not-pushed}
 
 -- what is pushed without a fault was issued
 issued-here : (c n : ℕ) (k : Clerk) (w : World) → (push c n (Some k) w).fault ≡ None → has_issued n k ≡ true
@@ -116,7 +104,7 @@ module _ (outset : Outset) (j : Work) (n : ℕ) (w : World) (sc : Scene) (g : Sy
       stands = sh;
       order = order;
       few = subst (λ xs. length xs ≤ max_about) (sym none) (omega arith);
-      about = λ a here waits cl e. not-called n cl (sym is.task ∙ e);
+      about = λ a here waits cl e. not-pushed n cl (sym is.task ∙ e);
       id = λ a here waits. absurd ((rest a here).0 waits);
       answered = λ o task a here. (rest a here).1;
     }

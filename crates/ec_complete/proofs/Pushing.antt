@@ -21,7 +21,7 @@ use Rattle.ec_protocol.specs.declared.world.Event.TheVariants as event
 use Rattle.ec_protocol.specs.declared.world.World.{World}
 use Rattle.ec_protocol.specs.declared.world.WorldFault.TheVariants as fault
 use Rattle.ec_coherence.specs.System.{System}
-use Rattle.ec_coherence.proofs.Tables.{none_some, same_some}
+use Rattle.ec_coherence.proofs.Tables.{same_some}
 use Rattle.ec_lawful.specs.Steps as steps
 use Rattle.ec_lawful.specs.Runs.{OfRun}
 use Rattle.ec_quiet.specs.Facts.{IsAnswered, IsIdleBut}
@@ -46,6 +46,7 @@ use Rattle.ec_complete.proofs.First.{IsStepped, named-now}
 use Rattle.ec_complete.proofs.Idle as idle
 use Rattle.ec_complete.proofs.Laws.{events-hold, pushes-begin, pushes-count, pushes-send}
 use Rattle.ec_complete.proofs.Settles.{work-begins}
+use Rattle.ec_base.proofs.Options.{none_some}
 
 -- A push leaves the calls, the cache and the wants.
 

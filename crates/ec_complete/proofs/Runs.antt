@@ -40,14 +40,8 @@ use Rattle.ec_complete.proofs.Ids.{as-many, ids-rise}
 use Rattle.ec_complete.proofs.Lines as lines
 use Rattle.ec_complete.proofs.Numbers.{Below}
 use Rattle.ec_complete.proofs.Plainness.{are-plain}
-
-no-more : {A : Type 0} (xs : List A) → xs ++ [] ≡ xs
-no-more [] = refl
-no-more (x ∷ xs) = ap (λ l. x ∷ l) (no-more xs)
-
-regroup : {A : Type 0} (xs ys zs : List A) → (xs ++ ys) ++ zs ≡ xs ++ (ys ++ zs)
-regroup [] ys zs = refl
-regroup (x ∷ xs) ys zs = ap (λ l. x ∷ l) (regroup xs ys zs)
+use Rattle.ec_base.proofs.Lists.{regroup, no-more}
+use Rattle.ec_complete.proofs.Fronts.{faultless-lines}
 
 asked-both : (ss ts : List Shown) → asked_in (ss ++ ts) ≡ asked_in ss ++ asked_in ts
 asked-both [] ts = refl
@@ -56,11 +50,6 @@ asked-both (s ∷ ss) ts = ap (λ l. Rattle.ec_machine_laws.specs.PlainLines.ans
 same-joined : (ps : List (List Shown)) → drills.joined ps ≡ joined ps
 same-joined [] = refl
 same-joined (p ∷ ps) = ap (λ l. p ++ l) (same-joined ps)
-
-faultless-lines : (ls : List Read) → Each IsFaultlessRead ls → Each IsFaultless (lines_in ls)
-faultless-lines [] a = tt
-faultless-lines (reads l column ∷ ls) a = (a.0, faultless-lines ls a.1)
-faultless-lines (unfit column ∷ ls) a = absurd a.0
 
 each-front : (n : ℕ) (ls : List Line) → Each IsFaultless ls → Each IsFaultless (take n ls)
 each-front zero ls a = tt

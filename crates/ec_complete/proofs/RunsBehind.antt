@@ -7,7 +7,7 @@ use Rattle.ec_volume.specs.Update.{member}
 use Rattle.ec_volume.specs.Volume.{Images, WellFormed}
 use Rattle.ec_history.specs.History.{Base, Each}
 use Rattle.ec_history.specs.declared.shown.Shown.{Shown}
-use Rattle.ec_protocol.specs.Drill.{Fates, Ran, Read, TooMany, carry_out, clerk_in, ending_of, ends, first_fates, later_fates, line_happens, max_pending, named_in, onward, piece_before, reads, rest_fates, run_from, settle, this_fate, unfit}
+use Rattle.ec_protocol.specs.Drill.{Fates, Ran, Read, TooMany, carry_out, clerk_in, ending_of, ends, first_fates, later_fates, line_happens, max_pending, named_in, onward, piece_before, reads, rest_fates, run_from, settle, unfit}
 use Rattle.ec_protocol.specs.World.{Moving, forget, moving, pending, runs}
 use Rattle.ec_protocol.specs.declared.script.Line.{Line}
 use Rattle.ec_protocol.specs.declared.world.World.{World}
@@ -17,7 +17,7 @@ use Rattle.ec_lawful.specs.Drills.{lines_in}
 use Rattle.ec_lawful.specs.DrillRuns.{AreFit}
 use Rattle.ec_quiet.proofs.Ending as ending
 use Rattle.ec_deliveries.specs.Runs.{AllRun, HasEnded, HasSettled}
-use Rattle.ec_deliveries.proofs.Running.{settles-alike}
+use Rattle.ec_deliveries.proofs.Running.{settles-alike, first-runs, later-run}
 use Rattle.ec_complete.specs.Begins.{bound_for, most_sent}
 use Rattle.ec_complete.specs.Complete.{IsFaultless, IsFaultlessRead}
 use Rattle.ec_complete.specs.Goes.{GoesOn, LinesGoOn}
@@ -28,29 +28,14 @@ use Rattle.ec_complete.specs.Pieces.{ArePiecesBehind}
 use Rattle.ec_complete.specs.RunsBehind.{WritesBehind}
 use Rattle.ec_complete.proofs.Begins.{goes-behind}
 use Rattle.ec_complete.proofs.Line.{IsAtWorkOrIdle, IsBehindIn, line-behind, line-ended}
+use Rattle.ec_complete.proofs.Fronts.{each-first, each-rest}
 
 -- The disk runs in each step.
-
-first-runs : (fates : Fates) → AllRun fates → this_fate fates ≡ runs
-first-runs [] a = refl
-first-runs (f ∷ fs) a = a.0
-
-later-run : (fates : Fates) → AllRun fates → AllRun (later_fates fates)
-later-run [] a = tt
-later-run (f ∷ fs) a = a.1
 
 carries-alike : (k : ℕ) (fates : Fates) (number : ℕ) (l : Line) (w : World) → AllRun fates → carry_out k fates number l w ≡ carry_out k [] number l w
 carries-alike k fates number l w a =
     ap (λ f. elim (onward (moving w) (line_happens f number l w)).fault as (λ z. Moving) [ Some g ↦ onward (moving w) (line_happens f number l w) | None ↦ settle k (later_fates fates) (onward (moving w) (line_happens f number l w)) ]) (first-runs fates a)
     ∙ ap (λ (z : Moving). elim (onward (moving w) (line_happens runs number l w)).fault as (λ z. Moving) [ Some g ↦ onward (moving w) (line_happens runs number l w) | None ↦ z ]) (settles-alike k (later_fates fates) (onward (moving w) (line_happens runs number l w)) (later-run fates a))
-
-each-first : (fs : List Fates) → Each AllRun fs → AllRun (first_fates fs)
-each-first [] a = tt
-each-first (f ∷ fs) a = a.0
-
-each-rest : (fs : List Fates) → Each AllRun fs → Each AllRun (rest_fates fs)
-each-rest [] a = tt
-each-rest (f ∷ fs) a = a.1
 
 -- Names.
 

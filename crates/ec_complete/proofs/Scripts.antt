@@ -57,7 +57,7 @@ scripts-settle v most names number ls w g = settle-all v most names number ls w 
 -- each stands in a list
 each-in : (xs ns : List ℕ) → ((x : ℕ) → T (member x xs) → T (member x ns)) → Each (λ c. T (member c ns)) xs
 each-in [] ns h = tt
-each-in (x ∷ xs) ns h = (h x (subst (λ b. T (b || member x xs)) (sym (Rattle.ec_coherence.proofs.Tables.same x)) tt), each-in xs ns (λ y m. h y (behind (y == x) (member y xs) m)))
+each-in (x ∷ xs) ns h = (h x (subst (λ b. T (b || member x xs)) (sym (Rattle.ec_base.proofs.Numbers.same-self x)) tt), each-in xs ns (λ y m. h y (behind (y == x) (member y xs) m)))
   where
     behind : (a b : Bool) → T b → T (a || b)
     behind true b m = tt

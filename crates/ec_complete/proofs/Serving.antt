@@ -23,10 +23,9 @@ use Rattle.ec_coherence.specs.Invariant.{Invariant}
 use Rattle.ec_coherence.specs.Log.{IdsAgree}
 use Rattle.ec_coherence.specs.Steps.{Committed, serving_in}
 use Rattle.ec_coherence.specs.System.{Ghost, System}
-use Rattle.ec_coherence.proofs.Lists.{and_first, and_next}
 use Rattle.ec_coherence.proofs.Needs.{each-of}
 use Rattle.ec_coherence.proofs.OpenSlots.{at-open}
-use Rattle.ec_coherence.proofs.Tables.{differ, equal, holds, is-true, none_some, same, same_some}
+use Rattle.ec_coherence.proofs.Tables.{differ, same_some}
 use Rattle.ec_coherence.specs.CommitLaws as commits
 use Rattle.ec_clerk_steps.proofs.Steps.{batch-field, ids-are, ids-open, open-is}
 use Rattle.ec_coherence.specs.Makes.{IsMade, Makes}
@@ -42,6 +41,9 @@ use Rattle.ec_agreed_lines.proofs.Seen.{clerk-there, scenes-seen}
 use Rattle.ec_complete.specs.Lines.{IsOnLine, next_given, next_object}
 use Rattle.ec_complete.proofs.Taking.{next-sent}
 use Rattle.ec_complete.proofs.Standing.{InSlot, in-slot, other, own}
+use Rattle.ec_base.proofs.Bools.{left as and_first, right as and_next, is-true, holds-true as holds}
+use Rattle.ec_base.proofs.Numbers.{same-self as same, equal}
+use Rattle.ec_base.proofs.Options.{none_some}
 
 -- A phase whose next message is for the server isn't that of a session that was opened.
 not-opens : (j : Work) (sc : Scene) (age : _) (m : ℕ × Msg) (rest : Mail) → InPhase j sc (Opens age) → sc.mail ≡ m ∷ rest → is_for_server m.1 ≡ true → ⊥

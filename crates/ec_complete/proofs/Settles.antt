@@ -1,21 +1,19 @@
 -- A line whose work began settles, and sends few messages.
-use Rattle.std.proofs.Common.{◌≡◌, sym, ap, ◌∙◌, subst, arith, ◌≤◌, ◌+◌, ◌*◌, ℕ, zero, suc, T, true, List, [], inl, inr, length}
+use Rattle.std.proofs.Common.{◌≡◌, sym, ap, ◌∙◌, subst, arith, ◌≤◌, ◌+◌, ◌*◌, ℕ, T, true, List, [], inl, inr, length}
 use Rattle.std.specs.Prelude.{Option, None, Some, is_some}
 use Rattle.ec_base.specs.Tables.{at, once}
 use Rattle.ec_volume.specs.Update.{member}
 use Rattle.ec_history.specs.Placing.{EachLine}
-use Rattle.ec_history.specs.declared.shown.Shown.TheVariants.{Unsettled}
 use Rattle.ec_sessions.specs.declared.slot.Slot.{Slot}
 use Rattle.ec_durable.specs.Durable.{slot}
-use Rattle.ec_protocol.specs.Drill.{line_happens, onward, settle}
+use Rattle.ec_protocol.specs.Drill.{line_happens, settle}
 use Rattle.ec_protocol.specs.World as world
-use Rattle.ec_protocol.specs.World.{Moving, deliver, due, pending, runs, show_line}
+use Rattle.ec_protocol.specs.World.{Moving, due, pending, runs}
 use Rattle.ec_protocol.specs.declared.clerk.Clerk.{Clerk}
 use Rattle.ec_protocol.specs.declared.script.Line.{Line}
 use Rattle.ec_protocol.specs.declared.script.Line.TheVariants as line
 use Rattle.ec_protocol.specs.declared.world.World.{World}
 use Rattle.ec_protocol.specs.declared.world.WorldFault.{WorldFault}
-use Rattle.ec_coherence.proofs.Tables.{none_some}
 use Rattle.ec_quiet.specs.Measure.{sum, unsent_by}
 use Rattle.ec_quiet.specs.Phases.{InPhase, Phase, backs}
 use Rattle.ec_quiet.specs.Quiet.{IsIdle}
@@ -33,12 +31,8 @@ use Rattle.ec_complete.specs.Worlds.{IsEarly, IsKnown, Outset}
 use Rattle.ec_complete.specs.Goes.{HasStarted, IsStarted}
 use Rattle.ec_complete.proofs.Laws.{calls-send, lines-can-go-on, lines-can-settle, lines-settle, lines-settle-or-end, lines-settled, measure-most, nothing-due, pushes-send, rows-few}
 use Rattle.ec_complete.proofs.Tables.{few-named}
-
--- where nothing is due
-pub stops : (k : ℕ) (m : Moving) → due m.world ≡ None → settle k [] m ≡ m
-stops zero m e = ap (λ o. elim o as (λ z. Moving) [ None ↦ m | Some n ↦ show_line Unsettled m ]) e
-stops (suc k) m e =
-    ap (λ o. elim o as (λ z. Moving) [ None ↦ m | Some n ↦ elim (onward m (deliver runs n m.world)).fault as (λ z. Moving) [ Some f ↦ onward m (deliver runs n m.world) | None ↦ settle k [] (onward m (deliver runs n m.world)) ] ]) e
+use Rattle.ec_base.proofs.Options.{none_some}
+use Rattle.ec_quiet.proofs.Settled.{stops}
 
 -- Work that is in a phase in which lines begin, where clerks have names and few operations are undurable.
 module _ (outset : Outset) (names : List ℕ) (number : ℕ) (j : Work) (m : Moving) (now : Scene) (i : IsScene m.world now) (known : IsKnown outset j number m) (few-touched : length j.touched ≤ 137) (named : (a : ℕ) (b : Clerk) → at a now.clerks ≡ Some b → T (member a names)) where

@@ -25,16 +25,7 @@ use Rattle.ec_deliveries.specs.Runs.{CanGoOn, CanSettle}
 use Rattle.ec_complete.specs.Begins.{most_sent}
 use Rattle.ec_complete.specs.Worlds.{IsCounted, IsEarly, IsKnown, LinesCanGoOn, LinesCanSettle, LinesStayKnown, Outset}
 use Rattle.ec_complete.proofs.Spare as spares
-
--- A world has one scene.
-same-scene : (w : World) (a b : Scene) → IsScene w a → IsScene w b → a ≡ b
-same-scene w a b i k = (λ z. record { server = servers z; clerks = (sym i.clerks ∙ k.clerks) z; mail = (sym i.mail ∙ k.mail) z })
-  where
-    some : (x y : Server) → ◌≡◌ {A = Option Server} (Some x) (Some y) → x ≡ y
-    some x y e = cc
-
-    servers : a.server ≡ b.server
-    servers = some a.server b.server (sym i.server ∙ k.server)
+use Rattle.ec_complete.proofs.Following.{same-scene}
 
 module _ (can-next : CanTakeNext) (stay-on : LinesStayOn) (are-spare : CountersAreSpare) (stay-given : IdsStayGiven) (count-server : DeliveriesCount) (count-clerks : DeliveriesCountClerks)
     (outset : Outset) (j : Work) (calls : ℕ) (few-calls : calls ≤ max_calls) where

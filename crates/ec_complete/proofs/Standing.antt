@@ -5,11 +5,12 @@ use Rattle.ec_sessions.specs.declared.slot.Slot.{Slot}
 use Rattle.ec_durable.specs.Durable.{slot}
 use Rattle.ec_protocol.specs.declared.clerk.Clerk.{Clerk}
 use Rattle.ec_protocol.specs.declared.server.Server.{Server}
-use Rattle.ec_coherence.proofs.Tables.{equal, same_some}
+use Rattle.ec_coherence.proofs.Tables.{same_some}
 use Rattle.ec_quiet.specs.Facts.{IsIdleBut, clerk_of}
 use Rattle.ec_quiet.specs.Phases.{Phase, Greets, Opens, Claims, Wants, Recalls, Flushes, Keeps, Grants, Asks, Gives, Refuses, Saves, Saved, Ends, InPhase, IsRecalled, IsStarting, IsWorking, excepted, is_busy}
 use Rattle.ec_quiet.specs.Scenes.{Scene}
 use Rattle.ec_quiet.specs.Works.{Work}
+use Rattle.ec_base.proofs.Numbers.{equal}
 
 -- Another clerk is in the session of its slot, and waits for nothing.
 pub record Other (v : Server) (c : ℕ) (k : Clerk) : Type 0 where

@@ -27,7 +27,7 @@ use Rattle.ec_protocol.specs.declared.world.World.{World}
 use Rattle.ec_protocol.specs.declared.world.WorldFault.TheVariants as fault
 use Rattle.ec_coherence.specs.System.{System}
 use Rattle.ec_coherence.proofs.Ids.{in-front}
-use Rattle.ec_coherence.proofs.Tables.{none_some, same_some}
+use Rattle.ec_coherence.proofs.Tables.{same_some}
 use Rattle.ec_quiet.specs.Measure.{sum, unsent, unsent_by}
 use Rattle.ec_quiet.specs.Phases.{Phase, Greets, Opens, Claims, Wants, Recalls, Flushes, Keeps, Grants, Asks, Gives, Refuses, Saves, Saved, Ends, InPhase, IsWorking}
 use Rattle.ec_quiet.specs.Quiet.{IsQuiet}
@@ -50,6 +50,7 @@ use Rattle.ec_complete.proofs.First.{IsStepped, named-now}
 use Rattle.ec_complete.proofs.Idle as idle
 use Rattle.ec_complete.proofs.Laws.{calls-count, calls-send, needs-touched, starts-come-on, starts-greet}
 use Rattle.ec_complete.proofs.Settles.{work-begins}
+use Rattle.ec_base.proofs.Options.{none_some}
 
 -- Where a clerk starts without a fault its next start may be counted.
 pub may-start : (c number : ℕ) (cl : Call) (w : World) → at c w.clerks ≡ None → (call c number cl w).fault ≡ None → nat_lt last_counter (boot c w + 1) ≡ false

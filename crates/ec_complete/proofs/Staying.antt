@@ -11,7 +11,7 @@ use Rattle.ec_protocol.specs.declared.script.Line.{Line}
 use Rattle.ec_protocol.specs.declared.script.Line.TheVariants as line
 use Rattle.ec_plain.specs.declared.call.Call.{Call}
 use Rattle.ec_coherence.specs.System.{System}
-use Rattle.ec_coherence.proofs.Tables.{differ, differs, equal, none_some, same_some}
+use Rattle.ec_coherence.proofs.Tables.{differ, differs, same_some}
 use Rattle.ec_quiet.specs.Scenes.{Mail, Scene, delivered, done_by, is_for_server, served, taken_by}
 use Rattle.ec_quiet.specs.Works.{Calls, Pushes, Task, Work}
 use Rattle.ec_quiet.proofs.Beside.{other-at, own-at}
@@ -21,6 +21,8 @@ use Rattle.ec_complete.proofs.Owning.{empties}
 use Rattle.ec_deliveries.specs.PhasesBehind.{saved}
 use Rattle.ec_deliveries.specs.ScriptWorks.{IsWorkOn}
 use Rattle.ec_complete.specs.Following.{IsAtWork, IsWorked}
+use Rattle.ec_base.proofs.Options.{none_some}
+use Rattle.ec_base.proofs.Numbers.{equal}
 
 -- The line's clerk was there, and if its call waits it did before.
 abbrev Was : Work → Scene → Clerk → Type 0

@@ -37,7 +37,6 @@ use Rattle.ec_protocol.specs.declared.clerk.Out.TheVariants as out
 use Rattle.ec_protocol.specs.declared.clerk.Recalled.{Recalled}
 use Rattle.ec_protocol.specs.declared.clerk.Waiting.{Waiting}
 use Rattle.ec_coherence.proofs.Lists.{each-more}
-use Rattle.ec_coherence.proofs.Tables.{none_some}
 use Rattle.ec_coherence.proofs.Settling.{Keeping, settle-keeps}
 use Rattle.ec_coherence.proofs.Try.{OnTried}
 use Rattle.ec_coherence.proofs.TriedList.{same-verdict}
@@ -45,6 +44,7 @@ use Rattle.ec_lawful.specs.Creates.{creates}
 use Rattle.ec_complete.specs.Rooms.{ComesWell, GrantsRoom, HasRoomIn, IsStocked, makes_in}
 use Rattle.ec_complete.proofs.Making.{done-creates, ids-create}
 use Rattle.ec_base.specs.Bools.{one_if}
+use Rattle.ec_base.proofs.Options.{none_some}
 
 pub makes-both : (ws vs : List Waiting) → makes_in (ws ++ vs) ≡ makes_in ws + makes_in vs
 makes-both [] vs = omega arith

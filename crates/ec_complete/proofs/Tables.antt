@@ -8,9 +8,10 @@ use Rattle.std.proofs.lemmas.Bool.Decides.{nat_tests}
 use Rattle.ec_base.specs.SortedLaws.{first, second}
 use Rattle.ec_base.specs.Tables.{Table, at, keys, once}
 use Rattle.ec_volume.specs.Update.{member}
-use Rattle.ec_coherence.proofs.Tables.{none_some, same_some}
+use Rattle.ec_coherence.proofs.Tables.{same_some}
 use Rattle.ec_machine_laws.proofs.Once.{AreOnce, fewer, keys-length}
 use Rattle.ec_quiet.specs.Measure.{sum}
+use Rattle.ec_base.proofs.Options.{none_some}
 
 -- Numbers, each once.
 

@@ -1,6 +1,6 @@
 -- What a line's clerk needs of the next message is there.
-use Rattle.std.proofs.Common.{◌≡◌, refl, sym, ap, subst, ◌∙◌, arith, ◌≤◌, ◌<◌, ◌+◌, ℕ, suc, Bool, true, false, not, ◌||◌, cond, T, length, List, [], ◌∷◌, ◌++◌, Option, Some, None}
-use Rattle.std.specs.Prelude.{nat_le, nat_lt, filter, Contains, ◌==◌, ◌&&◌, is_some}
+use Rattle.std.proofs.Common.{◌≡◌, refl, sym, ap, subst, ◌∙◌, arith, ◌≤◌, ◌<◌, ◌+◌, ℕ, Bool, true, false, not, ◌||◌, T, length, List, [], ◌∷◌, ◌++◌, Option, Some, None}
+use Rattle.std.specs.Prelude.{nat_le, nat_lt, Contains, ◌==◌, ◌&&◌, is_some}
 use Rattle.std.proofs.lemmas.Bool.Decides.{nat_tests}
 use Rattle.ec_base.specs.Tables.{at, or_else}
 use Rattle.ec_base.specs.declared.ids.Hold.{Hold}
@@ -32,7 +32,7 @@ use Rattle.ec_coherence.specs.Tokens as tokens
 use Rattle.ec_coherence.proofs.ClerkIn.{start-same}
 use Rattle.ec_coherence.proofs.Needs.{each-of}
 use Rattle.ec_coherence.proofs.OpenSlots.{at-open}
-use Rattle.ec_coherence.proofs.Tables.{none_some, same, same_some}
+use Rattle.ec_coherence.proofs.Tables.{same_some}
 use Rattle.ec_clerk_steps.specs.Trying.{IsTrying}
 use Rattle.ec_lawful.specs.SettleLaws.{IsLined}
 use Rattle.ec_lawful.proofs.Beginning.{begins}
@@ -63,6 +63,9 @@ use Rattle.ec_complete.proofs.Shown.{agreed-may-go}
 use Rattle.ec_complete.specs.Lines.{IsOnLine, IsSpare, next_given}
 use Rattle.ec_complete.proofs.Aging.{all-aged, more-aged, take-aged}
 use Rattle.ec_complete.proofs.Suiting.{next-suits}
+use Rattle.ec_base.proofs.Numbers.{same-self as same}
+use Rattle.ec_base.proofs.Options.{none_some}
+use Rattle.ec_base.proofs.Filters.{fewer}
 
 -- The start that runs, of a clerk of the world.
 pub runs-in : (w : World) (g : System) → Stands w g → (c : ℕ) (k : Clerk) → at c w.clerks ≡ Some k → (b : ℕ) × (g.running c ≡ Some b) × (g.clerks c b ≡ Some k)
@@ -92,15 +95,6 @@ agreed-midst g c b s d t within opened order = record {
   session = within;
   is_open = opened;
 }
-
--- Fewer operations are no more.
-fewer : {A : Type 0} (p : A → Bool) (xs : List A) → length (filter p xs) ≤ length xs
-fewer p [] = omega arith
-fewer p (x ∷ xs) = go (p x) (fewer p xs)
-  where
-    go : (b : Bool) → length (filter p xs) ≤ length xs → length (cond b (x ∷ filter p xs) (filter p xs)) ≤ suc (length xs)
-    go true l = omega (arith, l)
-    go false l = omega (arith, l)
 
 still-small : (most m n : ℕ) → m ≤ n → nat_le most n ≡ false → nat_le most m ≡ false
 still-small most m n l f = grind (arith, nat_tests, l, f)

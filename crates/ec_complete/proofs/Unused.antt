@@ -16,7 +16,7 @@ use Rattle.ec_coherence.specs.Log.{IdsAgree}
 use Rattle.ec_coherence.specs.System.{System, clerk_in, is_open, seen_ops, undurable}
 use Rattle.ec_coherence.specs.Tokens.{Names, in_sixteen, is_hidden, is_untaken, side_in, view}
 use Rattle.ec_coherence.proofs.OpenSlots.{at-open}
-use Rattle.ec_coherence.proofs.Tables.{same, same_some}
+use Rattle.ec_coherence.proofs.Tables.{same_some}
 use Rattle.ec_lawful.specs.Whole.{Whole}
 use Rattle.ec_quiet.specs.Facts.{IsIn, IsNew}
 use Rattle.ec_quiet.specs.Phases.{InPhase, Phase}
@@ -28,6 +28,7 @@ use Rattle.ec_complete.specs.Lines.{IsOnLine, next_given, next_object}
 use Rattle.ec_complete.proofs.Taking.{runs-in}
 use Rattle.ec_complete.proofs.Standing.{own}
 use Rattle.ec_deliveries.specs.ScriptWorks.{LeaveOut}
+use Rattle.ec_base.proofs.Numbers.{same-self as same}
 
 -- an id above all of a list is none of it
 above-all : (n x : ℕ) (P : ℕ → Type 0) (ys : List ℕ) → n ≤ x → Each (λ y. (y < n) × P y) ys → T (not (member x ys))

@@ -16,9 +16,9 @@ use Rattle.ec_quiet.specs.Facts.{IsOrderly, IsIdleBut, Same, clerk_of}
 use Rattle.ec_quiet.specs.Phases.{lowered_to}
 use Rattle.ec_machine_laws.specs.Holding.{left_at}
 use Rattle.ec_machine_laws.specs.Serving.{IsAtWork}
-use Rattle.ec_machine_laws.proofs.Rows.{same-self}
 use Rattle.ec_deliveries.specs.Orderly.{IsLikeBut}
 use Rattle.ec_deliveries.proofs.Ordering.{all-at}
+use Rattle.ec_base.proofs.Numbers.{same-self}
 
 -- a holder is at work: its clerk's slot is open with its session, which has claimed
 pub record IsHolder (v : Server) (s : ℕ) : Type 0 where

@@ -12,10 +12,10 @@ use Rattle.ec_quiet.specs.Phases.{Phase, Claims, Wants, Ends, InPhase, IsWorking
 use Rattle.ec_quiet.specs.Scenes.{Mail, Scene, delivered}
 use Rattle.ec_quiet.specs.Works.{Work, is_saving}
 use Rattle.ec_machine_laws.specs.Serving.{IsAtWork}
-use Rattle.ec_machine_laws.proofs.Rows.{same-self}
 use Rattle.ec_machine_laws.proofs.Stepping.{claimed-twice}
 use Rattle.ec_deliveries.specs.Orderly.{IsLikeBut, KeepsBacks}
 use Rattle.ec_deliveries.proofs.Working.{working-stays, wanting-stays, keeps-backs, main-joins, main-front}
+use Rattle.ec_base.proofs.Numbers.{same-self}
 
 pub working-at : (xs : List ℕ) (j : Work) (sc : Scene) (sl : Slot) (k : Clerk) → IsWorking xs j sc sl k → IsAtWork j.clerk j.session sc.server.durable.epoch sl (serving sc.server)
 working-at xs j sc sl k w = record {
@@ -33,7 +33,7 @@ saves-less : (b : Bool) → if_more (b && false) 64 ≤ if_more (b && true) 64
 saves-less true = omega arith
 saves-less false = omega arith
 
-abbrev behind : Scene → Mail → Serving → Scene
+abbrev pub behind : Scene → Mail → Serving → Scene
 behind sc rest t = record sc { server = t.server; mail = rest ++ t.sent }
 
 module _ (j : Work) (sc : Scene) (rest : Mail) (mail : sc.mail ≡ (j.clerk, msg.Claim j.session sc.server.durable.epoch []) ∷ rest) where

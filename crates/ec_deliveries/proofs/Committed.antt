@@ -24,17 +24,17 @@ use Rattle.ec_quiet.specs.Works.{Work}
 use Rattle.ec_machine_laws.specs.Records.{IsRestOf}
 use Rattle.ec_machine_laws.specs.Serving.{IsAtWork}
 use Rattle.ec_machine_laws.proofs.Recording.{batch-own, batch-rest}
-use Rattle.ec_machine_laws.proofs.Rows.{same-self}
 use Rattle.ec_machine_laws.proofs.Stepping.{batch-committed}
 use Rattle.ec_deliveries.specs.Orderly.{HasMoved, KeepsBacks}
-use Rattle.ec_deliveries.proofs.Claimed.{working-at}
+use Rattle.ec_deliveries.proofs.Claimed.{working-at, behind}
 use Rattle.ec_deliveries.proofs.Idling.{idle-stays, like-record}
 use Rattle.ec_deliveries.proofs.Ordering.{batch-orderly}
 use Rattle.ec_deliveries.proofs.Returned.{first-other}
 use Rattle.ec_deliveries.proofs.Windowed.{next-new, next-moved}
 use Rattle.ec_deliveries.proofs.Working.{in-moves, working-moves, wanting-stays, keeps-backs, main-joins, main-front}
 use Rattle.ec_deliveries.specs.Coming.{IsTaken, IsNext}
-use Rattle.ec_deliveries.proofs.Frames.{behind, turned, like-but, other-clerk, no-back, nothing-due, want-stays}
+use Rattle.ec_deliveries.proofs.Frames.{like-but, other-clerk, no-back, nothing-due, want-stays}
+use Rattle.ec_base.proofs.Numbers.{same-self, turned}
 
 -- The window of a batch that is the next one.
 

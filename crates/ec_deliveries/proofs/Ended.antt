@@ -14,7 +14,7 @@ use Rattle.ec_quiet.specs.Bounds.{other_rows}
 use Rattle.ec_quiet.proofs.Bounded.{measure-most}
 use Rattle.ec_quiet.proofs.Delivering as delivering
 use Rattle.ec_quiet.proofs.Idle.{all-idle}
-use Rattle.ec_quiet.proofs.Settled.{behind, onward-is, settle-is}
+use Rattle.ec_quiet.proofs.Settled.{behind, onward-is, settle-is, stops}
 use Rattle.ec_quiet.specs.SettlingScenes.{Reaches, here, on}
 use Rattle.ec_quiet.specs.Settling.{IsSettled}
 use Rattle.ec_quiet.proofs.Counting.{delivered-one}
@@ -24,7 +24,6 @@ use Rattle.ec_deliveries.specs.Coming.{HasNext}
 use Rattle.ec_quiet.specs.First.{HasFirst}
 use Rattle.ec_deliveries.specs.Runs.{CanGoOn, HasEnded, HasSettled}
 use Rattle.ec_deliveries.proofs.Led.{deliveries-lead-on}
-use Rattle.ec_deliveries.proofs.Settled.{stops}
 use Rattle.ec_deliveries.proofs.Spending.{had-next, next-else-much}
 use Rattle.ec_quiet.specs.Goes.{GoesOn}
 

@@ -25,6 +25,7 @@ use Rattle.ec_quiet.specs.Works.{Work}
 use Rattle.ec_quiet.proofs.Taking as taking
 use Rattle.ec_quiet.proofs.Taking.{at-renewed, each-both, each-map, each-of, few-left, regroup}
 use Rattle.ec_quiet.proofs.Beside.{filter-both}
+use Rattle.ec_base.proofs.Bools.{or-right}
 
 -- the clerk with the ids, while its tokens are taken
 abbrev pub filling : ℕ → Clerk → CacheState → Clerk
@@ -44,10 +45,6 @@ pub record IsFilled (j : Work) (sc : Scene) (rest : Mail) (first : ℕ) (k : Cle
   pub given : Each {A = ℕ × Msg} (λ m. IsGivenBack j sc.server.durable.epoch (filling first k c) m.1) (backs j rest)
   pub aged : IsAged j (filling first k c)
   pub size : length c.held + length xs ≤ length k.cache.held + ids_per_grant
-
-or-right : (a b : Bool) → T b → T (a || b)
-or-right true b t = tt
-or-right false b t = t
 
 apart : (a b : Bool) → a ≡ false → T (not b) → T (not (a || b))
 apart true b e t = absurd (grind (arith, e))

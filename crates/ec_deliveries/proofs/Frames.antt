@@ -1,5 +1,5 @@
 -- What deliveries to the server share: sessions, mail, and idle clerks.
-use Rattle.std.proofs.Common.{◌≡◌, ◌≢◌, refl, sym, ap, ◌∙◌, arith, ℕ, suc, Bool, true, false, ◌==◌, ◌&&◌, cond, List, [], ◌∷◌, ◌++◌, map, filter, Option, Some}
+use Rattle.std.proofs.Common.{◌≡◌, ◌≢◌, refl, sym, ap, ◌∙◌, arith, ℕ, suc, Bool, true, false, ◌==◌, ◌&&◌, cond, List, [], ◌∷◌, map, filter, Option, Some}
 use Rattle.std.specs.Prelude.{is_none}
 use Rattle.std.proofs.lemmas.Bool.{eqb-true, true≢false}
 use Rattle.ec_base.specs.declared.ids.Hold.{Hold}
@@ -9,26 +9,18 @@ use Rattle.ec_recall.specs.Due.{told_of, recall_of, actions, wants_after}
 use Rattle.ec_recall.specs.declared.want.Want.{Want}
 use Rattle.ec_wire.specs.declared.msg.Msg.{Msg}
 use Rattle.ec_durable.specs.Durable.{slot}
-use Rattle.ec_protocol.specs.Server.{Serving}
 use Rattle.ec_protocol.specs.declared.clerk.Clerk.{Clerk}
 use Rattle.ec_protocol.specs.declared.server.Server.{Server}
 use Rattle.ec_quiet.specs.Facts.{IsIdleBut, clerk_of}
 use Rattle.ec_quiet.specs.Phases.{backs, is_back, is_back_message}
-use Rattle.ec_quiet.specs.Scenes.{Mail, Scene}
+use Rattle.ec_quiet.specs.Scenes.{Mail}
 use Rattle.ec_quiet.specs.Works.{Work}
 use Rattle.ec_machine_laws.specs.Serving.{telling}
-use Rattle.ec_machine_laws.proofs.Rows.{same-self}
 use Rattle.ec_machine_laws.proofs.Wanting.{one-recalled, one-stays, no-news}
 use Rattle.ec_deliveries.specs.Orderly.{IsLike, IsLikeBut, KeepsBacks}
 use Rattle.ec_deliveries.proofs.Backed.{IsHolder}
 use Rattle.ec_deliveries.proofs.Working.{later-one}
-
--- the scene behind the server's step
-abbrev pub behind : Scene → Mail → Serving → Scene
-behind sc rest t = record sc { server = t.server; mail = rest ++ t.sent }
-
-pub turned : (a b : ℕ) → (a == b) ≡ (b == a)
-turned a b = grind arith
+use Rattle.ec_base.proofs.Numbers.{same-self}
 
 -- Sessions.
 

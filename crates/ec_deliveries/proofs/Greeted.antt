@@ -25,14 +25,16 @@ use Rattle.ec_quiet.specs.Scenes.{Mail, Scene, delivered}
 use Rattle.ec_quiet.specs.Works.{Work}
 use Rattle.ec_machine_laws.specs.Records.{IsRestOf}
 use Rattle.ec_machine_laws.proofs.Recording.{open-own, open-rest}
-use Rattle.ec_machine_laws.proofs.Rows.{same-self}
 use Rattle.ec_machine_laws.proofs.Stepping.{greeting-opens}
 use Rattle.ec_deliveries.specs.Orderly.{IsLike, KeepsBacks}
 use Rattle.ec_deliveries.proofs.Idling.{idle-stays}
 use Rattle.ec_deliveries.proofs.Ordering.{open-orderly}
 use Rattle.ec_deliveries.proofs.Working.{keeps-backs, main-joins, main-front}
 use Rattle.ec_deliveries.specs.Coming.{MayOpen, IsNext}
-use Rattle.ec_deliveries.proofs.Frames.{behind, no-back}
+use Rattle.ec_deliveries.proofs.Frames.{no-back}
+use Rattle.ec_base.proofs.Numbers.{same-self}
+use Rattle.ec_deliveries.proofs.Claimed.{behind}
+use Rattle.ec_base.proofs.Bools.{or_right}
 
 -- The slot's session, if it had one, ended; so there is none to end.
 pub greeted-new : (o : Option Slot) (age : Age) → is_open o ≡ false → is_greater o age ≡ true → greeting o age ≡ Greater None
@@ -55,10 +57,6 @@ open-step c age d newer few = ap age-or newer ∙ ap number-or (ap (λ b. b && n
 
     age-or : Bool → Result Durable RecordFault
     age-or b = elim b as (λ z. Result Durable RecordFault) [ false ↦ Err BadAge | true ↦ number-or (is_next_session d.next_session d) ]
-
-or-more : (a b : Bool) → b ≡ true → (a || b) ≡ true
-or-more true b e = refl
-or-more false b e = e
 
 module _ (j : Work) (sc : Scene) (age : Age) (rest : Mail) (ip : InPhase j sc (Greets age)) (few : MayOpen sc.server) (mail : sc.mail ≡ (j.clerk, msg.Hello j.clerk age) ∷ rest) where
   abbrev starting : IsStarting j sc age
@@ -103,7 +101,7 @@ module _ (j : Work) (sc : Scene) (age : Age) (rest : Mail) (ip : InPhase j sc (G
       cc
 
   like-others : (c s : ℕ) → (c == j.clerk) ≡ false → IsLike sc.server now c s
-  like-others c s away = record { slot = rest-is.others c away; epoch = rest-is.epoch; claimed = or-more (s == next) (has_claimed s sc.server); number = omega arith; tokens = λ x. refl }
+  like-others c s away = record { slot = rest-is.others c away; epoch = rest-is.epoch; claimed = or_right (s == next) (has_claimed s sc.server); number = omega arith; tokens = λ x. refl }
 
   -- the next session is this work's
   own : j.session ≡ next

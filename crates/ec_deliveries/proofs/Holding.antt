@@ -2,8 +2,7 @@
 use Rattle.std.proofs.Common.{◌≡◌, refl, sym, ap, ◌∙◌, subst, arith, ℕ, T, Bool, true, false, not, ◌&&◌, cond, List, [], ◌∷◌, ◌++◌, filter}
 use Rattle.std.specs.Prelude.{Option, None, Some, ◌==◌, ⊤}
 use Rattle.std.specs.Ordering.{nat_cmp, is_lt}
-use Rattle.std.specs.declared.cmp.Ordering.{Ordering}
-use Rattle.std.specs.declared.cmp.Ordering.TheVariants.{Less, Equal, Greater}
+use Rattle.std.specs.declared.cmp.Ordering.TheVariants.{Less}
 use Rattle.std.specs.Cmp.{nat_cmp_total}
 use Rattle.std.specs.FinMap.{find, is_sorted}
 use Rattle.std.specs.FinMap.Entries.{below_all}
@@ -24,6 +23,7 @@ use Rattle.ec_protocol.specs.declared.clerk.Clerk.{Clerk}
 use Rattle.ec_protocol.specs.declared.server.Server.{Server}
 use Rattle.ec_quiet.specs.Facts.{IsOrderly, clerk_of}
 use Rattle.ec_machine_laws.proofs.Rows.{later-row, own-row}
+use Rattle.ec_base.proofs.Bools.{lower}
 
 abbrev Stands : Tokens → ℕ → Holder → Type 0
 Stands ts x g = token ts g.0 x ≡ Some (record { hold = g.1; number = g.2 })
@@ -33,18 +33,13 @@ abbrev pub AreRising : List Holder → Type 0
 AreRising [] = ⊤
 AreRising (g ∷ gs) = Each (λ (f : Holder). nat_cmp g.0 f.0 ≡ Less) gs × AreRising gs
 
-less : (r : Ordering) → T (is_lt r) → r ≡ Less
-less Less t = refl
-less Equal t = absurd t
-less Greater t = absurd t
-
 after : (m : ℕ) (ts : Tokens) (x : ℕ) → T (below_all nat_cmp m ts) → Each (λ (g : Holder). nat_cmp m g.0 ≡ Less) (holders ts x)
 after m [] x t = tt
 after m (r ∷ rs) x t = go (find nat_cmp x r.1) (after m rs x (second (is_lt (nat_cmp m r.0)) (below_all nat_cmp m rs) t))
   where
     go : (o : Option Token) → Each (λ (g : Holder). nat_cmp m g.0 ≡ Less) (holders rs x) → Each (λ (g : Holder). nat_cmp m g.0 ≡ Less) (Rattle.ec_tokens.specs.Tokens.held_by r.0 o (holders rs x))
     go None e = e
-    go (Some k) e = (less (nat_cmp m r.0) (first (is_lt (nat_cmp m r.0)) (below_all nat_cmp m rs) t), e)
+    go (Some k) e = (lower (nat_cmp m r.0) (first (is_lt (nat_cmp m r.0)) (below_all nat_cmp m rs) t), e)
 
 pub all-rise : (ts : Tokens) (x : ℕ) → T (is_sorted nat_cmp ts) → AreRising (holders ts x)
 all-rise [] x s = tt

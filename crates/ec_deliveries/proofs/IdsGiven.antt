@@ -1,5 +1,5 @@
 -- Ids that are asked for are given or refused.
-use Rattle.std.proofs.Common.{◌≡◌, refl, sym, ap, subst, ◌∙◌, arith, ◌≤◌, ◌<◌, ◌+◌, ◌*◌, ◌-◌, ℕ, T, Bool, true, false, not, ◌==◌, ◌&&◌, ◌||◌, cond, List, [], ◌∷◌, ◌++◌, length, Option, Some, None, Ok}
+use Rattle.std.proofs.Common.{◌≡◌, refl, sym, ap, subst, ◌∙◌, arith, ◌≤◌, ◌<◌, ◌+◌, ◌*◌, ◌-◌, ℕ, T, Bool, true, false, ◌==◌, ◌&&◌, ◌||◌, cond, List, [], ◌∷◌, ◌++◌, length, Option, Some, None, Ok}
 use Rattle.std.specs.Prelude.{nat_lt, nat_le, Result, Err}
 use Rattle.std.proofs.lemmas.Bool.Decides.{nat_tests}
 use Rattle.ec_base.specs.Tables.{Table}
@@ -35,18 +35,19 @@ use Rattle.ec_machine_laws.specs.Records.{IsRestOf}
 use Rattle.ec_machine_laws.specs.Serving.{IsAtWork, giving_ids}
 use Rattle.ec_machine_laws.proofs.Given.{ids-tokens}
 use Rattle.ec_machine_laws.proofs.Recording.{ids-own, ids-rest}
-use Rattle.ec_machine_laws.proofs.Rows.{same-self}
 use Rattle.ec_machine_laws.proofs.Stepping.{room-refused, room-granted}
 use Rattle.ec_quiet.proofs.Falling.{granted-others}
 use Rattle.ec_deliveries.specs.Orderly.{IsLike, HasMoved, KeepsBacks, are_no_backs}
-use Rattle.ec_deliveries.proofs.Claimed.{working-at, like-self}
+use Rattle.ec_deliveries.proofs.Claimed.{working-at, like-self, behind}
 use Rattle.ec_deliveries.proofs.Idling.{idle-stays}
 use Rattle.ec_deliveries.proofs.Ordering.{ids-orderly}
 use Rattle.ec_deliveries.proofs.Wanted.{other-session}
 use Rattle.ec_deliveries.proofs.Working.{working-moves, working-stays, keeps-backs, main-joins, main-front}
 use Rattle.ec_deliveries.specs.Coming.{IsFreshFor}
-use Rattle.ec_deliveries.proofs.Frames.{behind, no-back}
+use Rattle.ec_deliveries.proofs.Frames.{no-back}
 use Rattle.ec_quiet.specs.Goes.{GoesOn}
+use Rattle.ec_base.proofs.Numbers.{same-self}
+use Rattle.ec_base.proofs.Bools.{no-longer, is-true}
 
 -- The measure.
 
@@ -130,14 +131,6 @@ each-of P (x ∷ xs) f = (f x (or-left (x == x) (member x xs) (subst T (sym (sam
     or-right : (a b : Bool) → T b → T (a || b)
     or-right true b h = tt
     or-right false b h = h
-
-is-true : (b : Bool) → T b → b ≡ true
-is-true true h = refl
-is-true false h = absurd h
-
-is-off : (b : Bool) → T (not b) → b ≡ false
-is-off true h = absurd h
-is-off false h = refl
 
 module _ (j : Work) (sc : Scene) (again : Bool) (got ask : ℕ) (rest : Mail) (ip : InPhase j sc (Asks again got ask)) (mail : sc.mail ≡ (j.clerk, msg.Room j.session sc.server.durable.epoch got ask) ∷ rest) where
   abbrev asking : IsAsking [] j sc again ask
@@ -239,7 +232,7 @@ module _ (j : Work) (sc : Scene) (again : Bool) (got ask : ℕ) (rest : Mail) (i
       epoch = rest-is.epoch;
       claimed = λ e. e;
       number = omega arith;
-      tokens = λ y m. tokens-are j.session y ∙ ap (λ b. cond {A = Option Token} ((j.session == j.session) && b) (Some (record { hold = Write; number = number })) (token sc.server.tokens j.session y)) (is-off (member y (run first ids_per_grant)) m) ∙ off (j.session == j.session) y;
+      tokens = λ y m. tokens-are j.session y ∙ ap (λ b. cond {A = Option Token} ((j.session == j.session) && b) (Some (record { hold = Write; number = number })) (token sc.server.tokens j.session y)) (no-longer (member y (run first ids_per_grant)) m) ∙ off (j.session == j.session) y;
     }
       where
         off : (a : Bool) (y : ℕ) → cond {A = Option Token} (a && false) (Some (record { hold = Write; number = number })) (token sc.server.tokens j.session y) ≡ token sc.server.tokens j.session y

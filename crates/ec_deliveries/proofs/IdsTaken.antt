@@ -27,6 +27,7 @@ use Rattle.ec_quiet.proofs.Begun.{ids}
 use Rattle.ec_quiet.proofs.Going.{goes}
 use Rattle.ec_quiet.proofs.Taking.{each-map, same-task, stays-sent}
 use Rattle.ec_deliveries.proofs.Filling.{IsFilled, IsGiven, all-taken, filling, filling_at, in-run, of-run, run-length}
+use Rattle.ec_base.proofs.Bools.{either-way}
 
 member-left : (y : ℕ) (xs ys : List ℕ) → T (member y ys) → T (member y (xs ++ ys))
 member-left y [] ys t = t
@@ -43,10 +44,6 @@ member-front y (x ∷ xs) ys t = go (Rattle.std.specs.Prelude.◌==◌ y x) t (m
     go : (b : Bool) → T (b || member y xs) → (T (member y xs) → T (member y (xs ++ ys))) → T (b || member y (xs ++ ys))
     go true t r = tt
     go false t r = r t
-
-or-more : (a b c : Bool) → (T b → T c) → T (a || b) → T (a || c)
-or-more true b c f t = tt
-or-more false b c f t = f t
 
 module _ (j : Work) (sc : Scene) (got n first : ℕ) (rest : Mail) (q : InPhase j sc (Gives got n first)) (head : sc.mail ≡ (j.clerk, Ids j.session sc.server.durable.epoch got n first) ∷ rest)
     (out : n ≤ sc.server.number) (countable : nat_le last_grants got ≡ false) where
@@ -89,7 +86,7 @@ module _ (j : Work) (sc : Scene) (got n first : ℕ) (rest : Mail) (q : InPhase 
         whole = a.whole;
         old = a.old;
         fresh = each-map {A = ℕ × Held} (λ z. T (member z.0 j.touched || member z.0 k.ids)) (λ z. T (member z.0 j.touched || member z.0 before.ids))
-            (λ z t. or-more (member z.0 j.touched) (member z.0 k.ids) (member z.0 before.ids) (member-front z.0 k.ids (run first ids_per_grant)) t) a.news a.fresh;
+            (λ z t. either-way (member z.0 j.touched) (member z.0 k.ids) (member z.0 before.ids) (member-front z.0 k.ids (run first ids_per_grant)) t) a.news a.fresh;
       }
 
   starts : IsFilled j sc rest first k (run first ids_per_grant) k.cache

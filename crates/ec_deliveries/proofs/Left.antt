@@ -25,11 +25,12 @@ use Rattle.ec_quiet.specs.Scenes.{Mail, Scene}
 use Rattle.ec_quiet.specs.Works.{Work}
 use Rattle.ec_machine_laws.specs.Serving.{IsAtWork}
 use Rattle.ec_machine_laws.proofs.Given.{lowered-tokens}
-use Rattle.ec_machine_laws.proofs.Rows.{same-self, lowered-others, no-conflict}
+use Rattle.ec_machine_laws.proofs.Rows.{lowered-others, no-conflict}
 use Rattle.ec_machine_laws.proofs.Stepping.{at-work}
 use Rattle.ec_quiet.proofs.Falling.{own-same}
 use Rattle.ec_deliveries.proofs.Ordering.{back-orderly}
 use Rattle.ec_deliveries.proofs.Wanted.{no-more}
+use Rattle.ec_base.proofs.Numbers.{same-self}
 
 -- The tokens behind such a message: lowered, if it fits.
 

@@ -32,7 +32,8 @@ use Rattle.ec_machine_laws.specs.Records.{IsRestOf}
 use Rattle.ec_machine_laws.specs.Serving.{lowering, giving_ids}
 use Rattle.ec_machine_laws.proofs.Given.{lowered-tokens, ids-tokens, ids-sound}
 use Rattle.ec_machine_laws.proofs.Recording.{batch-own, batch-rest, batch-session, ids-own, ids-rest, ids-session, open-own, open-rest, open-session}
-use Rattle.ec_machine_laws.proofs.Rows.{same-self}
+use Rattle.ec_base.proofs.Numbers.{same-self}
+use Rattle.ec_base.proofs.Bools.{first-of}
 
 -- Tokens.
 
@@ -55,10 +56,6 @@ one-more v clerks ts ss here new o own shows live s x t e = go (here s x) refl (
     go : (b : Bool) → here s x ≡ b → cond b new (token v.tokens s x) ≡ Some t → HasOpen v s
     go true q p = subst (HasOpen v) (sym (own s x q)) live
     go false q p = o.holders s x t p
-
-pub first-of : (a b : Bool) → (a && b) ≡ true → a ≡ true
-first-of true b e = refl
-first-of false b e = e
 
 pub grant-orderly : (v : Server) (clerks : Table Clerk) (c ss x n : ℕ) (h : Hold) (sl : Slot) → IsOrderly v clerks → slot v.durable c ≡ Some sl → sl.session ≡ ss → sl.is_open ≡ true → is_free h ≡ false → is_clear v.tokens ss x h ≡ true
     → IsOrderly (record v { number = n; tokens = granted ss x h n v.tokens }) clerks

@@ -6,7 +6,6 @@ use Rattle.ec_order.specs.Order.{Holds, Issued}
 use Rattle.ec_history.specs.History.{Base, History, Op, issued, issued_by, issued_from, is_one_of, kept, kept_from, kept_next, of_issue, of_start}
 use Rattle.ec_history.specs.declared.entry.Entry.{Entry}
 use Rattle.ec_history.specs.declared.entry.Entry.TheVariants as entry
-use Rattle.ec_laws.proofs.Objects.{holds, is-true}
 use Rattle.ec_log.specs.Choice.{numbers_asked}
 use Rattle.ec_log.specs.Log.{is_asked}
 use Rattle.ec_log.specs.declared.state.Asked.{Asked}
@@ -14,6 +13,7 @@ use Rattle.ec_machine_laws.specs.Needs.{IsPart}
 use Rattle.ec_machine_laws.proofs.Closing.{set-grows}
 use Rattle.ec_machine_laws.proofs.Holding.{held-by, holds-front, holds-kept, holds-passed, number-of}
 use Rattle.ec_deliveries.specs.Closures.{IsInClosureOf}
+use Rattle.ec_base.proofs.Bools.{on as holds, is-true}
 
 -- Lists of operations.
 

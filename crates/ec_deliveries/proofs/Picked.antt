@@ -21,10 +21,7 @@ use Rattle.ec_protocol.specs.Clerk.{Doing, ask_for, send_picked, spend}
 use Rattle.ec_quiet.specs.Works.{Work}
 use Rattle.ec_quiet.specs.Tries.{batch_sent}
 use Rattle.ec_deliveries.specs.PhasesBehind.{AreAsked, AsksOf, BatchesAreAsked}
-
-pub each-turn : {A : Type 0} (P Q : A → Type 0) → ((x : A) → P x → Q x) → (xs : List A) → Each P xs → Each Q xs
-each-turn P Q f [] e = tt
-each-turn P Q f (x ∷ xs) e = (f x e.0, each-turn P Q f xs e.1)
+use Rattle.ec_laws.proofs.BasesAlike.{each-map}
 
 put-each : {X : Type 0} (P : X → Type 0) (n : ℕ) (x : X) (es : Table X) → P x → Each {A = ℕ × X} (λ e. P e.1) es → Each {A = ℕ × X} (λ e. P e.1) (put n x es)
 put-each P n x [] p h = (p, tt)
@@ -59,7 +56,7 @@ module _ (v : Images) (j : Work) (c : ℕ) where
     batches xs inside true = fine
     batches xs inside false =
         put-each (AreAsked v j c (sent xs)) l.next_batch (keys (take 64 xs)) l.batches (record { what = a; asks = asks; inside = λ n m. inside n (in-front 64 xs n m) })
-        (each-turn {A = ℕ × List ℕ} (λ b. AreAsked v j c l b.1) (λ b. AreAsked v j c (sent xs) b.1) (again xs) l.batches fine)
+        (each-map {A = ℕ × List ℕ} (λ b. AreAsked v j c l b.1) (λ b. AreAsked v j c (sent xs) b.1) (again xs) l.batches fine)
 
     picked : (xs : Issued) → ((n : ℕ) → T (member n (keys xs)) → T (member n (keys (log.closure_of a l)))) → BatchesAreAsked v j c (send_picked (log.pick_from xs l) d).clerk.log
     picked [] inside = fine

@@ -38,12 +38,10 @@ use Rattle.ec_deliveries.proofs.Calling as calling
 use Rattle.ec_deliveries.proofs.Calling.{IsCalled, held-so}
 use Rattle.ec_deliveries.proofs.Holding.{IsConflict, IsHolderOf, clerks-differ, conflict-is, holder-of, same-slot}
 use Rattle.ec_deliveries.proofs.Standing as standing
+use Rattle.ec_base.proofs.Options.{some-at}
+use Rattle.ec_base.proofs.Lists.{map-more}
 
 -- Lists.
-
-map-both : {A B : Type 0} (f : A → B) (xs ys : List A) → map f (xs ++ ys) ≡ map f xs ++ map f ys
-map-both f [] ys = refl
-map-both f (x ∷ xs) ys = ap (λ l. f x ∷ l) (map-both f xs ys)
 
 any-both : (p : Holder → Bool) (xs : List Holder) (y : Holder) → list_any p (xs ++ y ∷ []) ≡ (list_any p xs || p y)
 any-both p [] y = no-other (p y)
@@ -134,10 +132,6 @@ module _ (j : Work) (sc : Scene) (x : ℕ) (h : Hold) (r : Holder) (bs rs : List
       (each-map (λ (b : Holder). ((b.0 == r.0) ≡ false) × (token sc.server.tokens b.0 x ≡ Some (record { hold = b.1; number = b.2 }))) (λ (b : Holder). (clerk_of sc.server b.0 == c) ≡ false)
       (λ b f. clerks-differ sc.server b.0 r.0 (holder-of sc.server sc.clerks b.0 x (record { hold = b.1; number = b.2 }) orderly f.1) holder f.0) bs conf.before)
 
-some-there : {A : Type 0} (o : Option A) → T (is_some o) → (a : A) × (o ≡ Some a)
-some-there None t = absurd t
-some-there (Some a) t = (a, refl)
-
 -- The recall is kept, and marks the token.
 
 module _ (v : Server) (c : ℕ) (sl : Slot) (k : Clerk) (r : Holder) (x : ℕ) (h : Hold) (idle : IsIdleBut [] v c sl k) (own : sl.session ≡ r.0) (recorded : token v.tokens r.0 x ≡ Some (record { hold = r.1; number = r.2 })) (clashes : clash r.1 h ≡ true) where
@@ -218,7 +212,7 @@ module _ (j : Work) (sc : Scene) (x : ℕ) (h : Hold) (r : Holder) (rs bs : List
   other = another j sc x h r bs rs q.orderly noted
 
   pub running : (k : Clerk) × (at cl sc.clerks ≡ Some k)
-  running = some-there (at cl sc.clerks) (runs j sc x h r bs rs q.orderly noted)
+  running = some-at (at cl sc.clerks) (runs j sc x h r bs rs q.orderly noted)
 
   abbrev k : Clerk
   k = running.0
@@ -310,7 +304,7 @@ module _ (j : Work) (sc : Scene) (x : ℕ) (h : Hold) (r : Holder) (rs bs : List
     clerk = q.clerk;
     number = q.number;
     main_is = standing.main-now j sc cl other message refl rest head given (Back r.0 e x r.2 (recall_to h)) ∙ ap (λ l. l ++ back_of sc x h r ∷ []) main-rest
-        ∙ regroup (map (recall_of sc x h) rs) (map (back_of sc x h) bs) (back_of sc x h r ∷ []) ∙ ap (λ l. map (recall_of sc x h) rs ++ l) (sym (map-both (back_of sc x h) bs (r ∷ [])));
+        ∙ regroup (map (recall_of sc x h) rs) (map (back_of sc x h) bs) (back_of sc x h r ∷ []) ∙ ap (λ l. map (recall_of sc x h) rs ++ l) (sym (map-more (back_of sc x h) bs (r ∷ [])));
     orderly = still-orderly cl given sc.clerks v q.orderly;
     others = others-then;
     facts = (

@@ -16,6 +16,7 @@ use Rattle.ec_tokens.specs.SoundTokens.{IsSound}
 use Rattle.ec_tokens.specs.declared.token.Token.{Token}
 use Rattle.ec_recall.specs.Due.{recall_to}
 use Rattle.ec_machine_laws.proofs.Rows.{conflicts-lowered}
+use Rattle.ec_base.proofs.Bools.{below}
 
 -- Sessions of holders rise.
 
@@ -26,9 +27,6 @@ AreLater s (g ∷ gs) = (s < g.0) × AreLater s gs
 abbrev AreRising : List Holder → Type 0
 AreRising [] = ⊤
 AreRising (g ∷ gs) = AreLater g.0 gs × AreRising gs
-
-below : (s t : ℕ) → T (is_lt (nat_cmp s t)) → s < t
-below s t h = grind (arith, nat_tests, h)
 
 later-holders : (s x : ℕ) (ts : Tokens) → T (below_all nat_cmp s ts) → AreLater s (holders ts x)
 later-holders s x [] b = tt

@@ -24,7 +24,7 @@ use Rattle.ec_quiet.specs.Works.{Work}
 use Rattle.ec_machine_laws.specs.Holding.{left_at}
 use Rattle.ec_machine_laws.specs.Serving.{IsAtWork, with_wants, telling, lowering, granting}
 use Rattle.ec_machine_laws.proofs.Given.{lowered-tokens}
-use Rattle.ec_machine_laws.proofs.Rows.{same-self, token-lowered}
+use Rattle.ec_machine_laws.proofs.Rows.{token-lowered}
 use Rattle.ec_machine_laws.proofs.Stepping.{back-waits, back-granted, grant-sent}
 use Rattle.ec_quiet.proofs.Falling.{back-same, last-same}
 use Rattle.ec_deliveries.specs.Orderly.{IsLike, IsLikeBut, KeepsBacks, are_no_backs}
@@ -34,8 +34,10 @@ use Rattle.ec_deliveries.proofs.Ordering.{back-orderly, wants-orderly}
 use Rattle.ec_deliveries.proofs.Returned.{first-token, first-other, first-clashes, first-fits, first-leaves, others-left}
 use Rattle.ec_deliveries.proofs.Wanted.{not-in-one, granted-phase}
 use Rattle.ec_deliveries.proofs.Working.{wanting-stays, keeps-backs, main-joins, main-front}
-use Rattle.ec_deliveries.proofs.Frames.{behind, turned, like-but, other-clerk, idle-wider, no-back, keeps-front, noted-want, not-clear}
+use Rattle.ec_deliveries.proofs.Frames.{like-but, other-clerk, idle-wider, no-back, keeps-front, noted-want, not-clear}
 use Rattle.ec_quiet.specs.Goes.{GoesOn}
+use Rattle.ec_base.proofs.Numbers.{same-self, turned}
+use Rattle.ec_deliveries.proofs.Claimed.{behind}
 
 module _ (j : Work) (sc : Scene) (x : ℕ) (h : Hold) (b : Holder) (bs : List Holder) (rest : Mail) (ip : InPhase j sc (Recalls x h [] (b ∷ bs))) (mail : sc.mail ≡ back_of sc x h b ∷ rest) where
   abbrev noted : IsNoted j sc x h (b ∷ (bs ++ []))

@@ -8,11 +8,11 @@ use Rattle.ec_protocol.specs.declared.script.Line.{Line}
 use Rattle.ec_protocol.specs.declared.world.World.{World}
 use Rattle.ec_deliveries.specs.Runs.{AllRun}
 
-first-runs : (fates : Fates) → AllRun fates → this_fate fates ≡ runs
+pub first-runs : (fates : Fates) → AllRun fates → this_fate fates ≡ runs
 first-runs [] a = refl
 first-runs (f ∷ fs) a = a.0
 
-later-run : (fates : Fates) → AllRun fates → AllRun (later_fates fates)
+pub later-run : (fates : Fates) → AllRun fates → AllRun (later_fates fates)
 later-run [] a = tt
 later-run (f ∷ fs) a = a.1
 
@@ -28,7 +28,7 @@ settles-alike (suc k) fates m a = go (due m.world) (settles-alike k)
         ap (λ f. elim (onward m (deliver f n m.world)).fault as (λ z. Moving) [ Some g ↦ onward m (deliver f n m.world) | None ↦ settle k (later_fates fates) (onward m (deliver f n m.world)) ]) (first-runs fates a)
         ∙ ap (λ (z : Moving). elim (onward m (deliver runs n m.world)).fault as (λ z. Moving) [ Some g ↦ onward m (deliver runs n m.world) | None ↦ z ]) (r (later_fates fates) (onward m (deliver runs n m.world)) (later-run fates a))
 
-carries-alike : (k : ℕ) (fates : Fates) (number : ℕ) (l : Line) (w : World) → AllRun fates → carry_out k fates number l w ≡ carry_out k [] number l w
+pub carries-alike : (k : ℕ) (fates : Fates) (number : ℕ) (l : Line) (w : World) → AllRun fates → carry_out k fates number l w ≡ carry_out k [] number l w
 carries-alike k fates number l w a =
     ap (λ f. elim (onward (moving w) (line_happens f number l w)).fault as (λ z. Moving) [ Some g ↦ onward (moving w) (line_happens f number l w) | None ↦ settle k (later_fates fates) (onward (moving w) (line_happens f number l w)) ]) (first-runs fates a)
     ∙ ap (λ (z : Moving). elim (onward (moving w) (line_happens runs number l w)).fault as (λ z. Moving) [ Some g ↦ onward (moving w) (line_happens runs number l w) | None ↦ z ]) (settles-alike k (later_fates fates) (onward (moving w) (line_happens runs number l w)) (later-run fates a))

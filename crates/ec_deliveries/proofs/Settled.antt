@@ -1,10 +1,9 @@
 -- A line settles, where what is known of its worlds lets each message be taken, and stays so. What's known is of the deliveries that are left, too.
-use Rattle.std.proofs.Common.{◌≡◌, refl, sym, ap, subst, arith, ◌≤◌, ◌*◌, ℕ, zero, suc, [], ◌∷◌}
+use Rattle.std.proofs.Common.{◌≡◌, refl, sym, subst, arith, ◌≤◌, ◌*◌, ℕ, zero, suc, [], ◌∷◌}
 use Rattle.std.specs.Prelude.{None, Some}
-use Rattle.ec_history.specs.declared.shown.Shown.TheVariants.{Unsettled}
 use Rattle.ec_wire.specs.declared.msg.Msg.{Msg}
-use Rattle.ec_protocol.specs.Drill.{onward, settle}
-use Rattle.ec_protocol.specs.World.{Moving, deliver, due, runs, show_line}
+use Rattle.ec_protocol.specs.Drill.{settle}
+use Rattle.ec_protocol.specs.World.{Moving, deliver, due, runs}
 use Rattle.ec_quiet.specs.Measure.{measure}
 use Rattle.ec_quiet.specs.Phases.{InPhase, Phase}
 use Rattle.ec_quiet.specs.Quiet.{IsIdle}
@@ -12,15 +11,9 @@ use Rattle.ec_quiet.specs.Scenes.{IsScene, Mail, Scene, delivered}
 use Rattle.ec_quiet.specs.Works.{Work}
 use Rattle.ec_quiet.proofs.Delivering as delivering
 use Rattle.ec_quiet.proofs.Idle.{all-idle}
-use Rattle.ec_quiet.proofs.Settled.{behind, settle-is}
+use Rattle.ec_quiet.proofs.Settled.{behind, settle-is, stops}
 use Rattle.ec_deliveries.specs.Leading.{CanTake}
 use Rattle.ec_deliveries.proofs.Led.{deliveries-lead-on}
-
--- where nothing is due
-pub stops : (k : ℕ) (m : Moving) → due m.world ≡ None → settle k [] m ≡ m
-stops zero m e = ap (λ o. elim o as (λ z. Moving) [ None ↦ m | Some n ↦ show_line Unsettled m ]) e
-stops (suc k) m e =
-    ap (λ o. elim o as (λ z. Moving) [ None ↦ m | Some n ↦ elim (onward m (deliver runs n m.world)).fault as (λ z. Moving) [ Some f ↦ onward m (deliver runs n m.world) | None ↦ settle k [] (onward m (deliver runs n m.world)) ] ]) e
 
 -- what holds where a line has settled
 pub record Rests (K : ℕ → Moving → Scene → Type 0) (m : Moving) : Type 0 where

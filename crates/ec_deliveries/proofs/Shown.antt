@@ -25,7 +25,7 @@ use Rattle.ec_machine_laws.proofs.Holding.{held-by, holds-passed}
 use Rattle.ec_deliveries.specs.Coming.{IsBatchOf, IsLineOf}
 use Rattle.ec_deliveries.proofs.Batched.{lines-of-phases}
 use Rattle.ec_deliveries.specs.PhasesBehind.{AreAsked, BatchesAreAsked, IsBehind, IsLineBehind}
-use Rattle.ec_deliveries.proofs.Picked.{each-turn}
+use Rattle.ec_laws.proofs.BasesAlike.{each-map as each-turn}
 
 -- The operations of the one batch that is under way are those of its numbers.
 module _ (v : Images) (j : Work) (c b : ℕ) (l : LogState) (s : IsSending l b) (fine : BatchesAreAsked v j c l) where

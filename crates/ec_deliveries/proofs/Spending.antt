@@ -26,7 +26,6 @@ use Rattle.ec_quiet.specs.Works.{Work}
 use Rattle.ec_quiet.proofs.Delivering as delivering
 use Rattle.ec_quiet.proofs.Sending.{IsFirst}
 use Rattle.ec_machine_laws.specs.Serving.{IsAtWork}
-use Rattle.ec_machine_laws.proofs.Rows.{same-self}
 use Rattle.ec_machine_laws.proofs.Stepping.{at-work, room-refused}
 use Rattle.ec_machine_laws.proofs.Wanting.{no-want}
 use Rattle.ec_deliveries.proofs.Claimed.{working-at}
@@ -34,6 +33,7 @@ use Rattle.ec_deliveries.proofs.Greeted.{greeted-new}
 use Rattle.ec_deliveries.proofs.ServerDelivered.{head-same, none-first}
 use Rattle.ec_deliveries.proofs.Working.{main-front}
 use Rattle.ec_deliveries.specs.Coming.{DeliveriesHaveNext, HasNext, MayOpen}
+use Rattle.ec_base.proofs.Numbers.{same-self}
 
 none-some : {A B : Type 0} (x : A) → ◌≡◌ {A = Option A} (Some x) None → B
 none-some {A} {B} x e = absurd (no x e)

@@ -17,7 +17,7 @@ use Rattle.ec_quiet.specs.Scenes.{Mail, Scene}
 use Rattle.ec_quiet.specs.Works.{Work}
 use Rattle.ec_quiet.proofs.Beside.{filter-both, other-at}
 use Rattle.ec_quiet.proofs.Taking.{stays-sent}
-use Rattle.ec_quiet.proofs.Used.{no-more}
+use Rattle.ec_base.proofs.Lists.{no-more}
 
 module _ (j : Work) (sc : Scene) (c : ℕ) (other : (c == j.clerk) ≡ false) (m : Msg) (front : is_back_message m ≡ false) (rest : Mail) (head : sc.mail ≡ (c, m) ∷ rest) (k : Clerk) (n : Msg) where
   abbrev pub now : Scene

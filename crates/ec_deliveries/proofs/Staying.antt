@@ -25,16 +25,17 @@ use Rattle.ec_quiet.specs.Scenes.{Mail, Scene, delivered}
 use Rattle.ec_quiet.specs.Works.{Work}
 use Rattle.ec_machine_laws.proofs.Wanting.{no-want, none-due}
 use Rattle.ec_deliveries.specs.Orderly.{IsLike}
-use Rattle.ec_deliveries.proofs.Claimed.{working-at}
+use Rattle.ec_deliveries.proofs.Claimed.{working-at, behind}
 use Rattle.ec_deliveries.proofs.Idling.{idle-stays, in-stays}
 use Rattle.ec_deliveries.proofs.Returned.{first-other}
 use Rattle.ec_deliveries.proofs.Wanted.{other-session}
 use Rattle.ec_deliveries.specs.Coming.{IsNext}
-use Rattle.ec_deliveries.proofs.Frames.{behind, nothing-due, want-stays}
+use Rattle.ec_deliveries.proofs.Frames.{nothing-due, want-stays}
 use Rattle.ec_deliveries.proofs.Left.{left-there, left-conflicts, left-later, left-orderly, left-taken, given-number, left_server, left_scene, backs-are, main-same, first-given, working-left, left-price}
+use Rattle.ec_base.proofs.Bools.{first-of}
 
 -- one of a list of objects
-each-member : (P : ℕ → Type 0) (xs : List ℕ) → Each P xs → (x : ℕ) → T (member x xs) → P x
+pub each-member : (P : ℕ → Type 0) (xs : List ℕ) → Each P xs → (x : ℕ) → T (member x xs) → P x
 each-member P [] e x m = absurd m
 each-member P (y ∷ xs) e x m = go (x == y) refl m (each-member P xs e.1 x)
   where
@@ -321,16 +322,12 @@ given-in j sc (Saves b ops more) ip = (ip.facts.1.clerk, ip.facts.1.working.give
 given-in j sc (Saved b more) ip = (ip.facts.1.clerk, ip.facts.1.working.given_back)
 given-in j sc Ends ip = (ip.facts.1.clerk, ip.facts.1.working.given_back)
 
-both-on : (a b : Bool) → (a && b) ≡ true → a ≡ true
-both-on true b e = refl
-both-on false b e = e
-
 pub old-tokens-leave : (j : Work) (sc : Scene) (p : Phase) (m : ℕ × Msg) (rest : Mail) → InPhase j sc p → is_back j m ≡ true → sc.mail ≡ m ∷ rest → IsNext j sc p (delivered m.0 m.1 rest sc) p
 old-tokens-leave j sc p m rest ip own mail =
     let given = given-in j sc p ip in
     let here : backs j sc.mail ≡ m ∷ backs j rest = ap (backs j) mail ∙ ap (λ b. cond b (m ∷ backs j rest) (backs j rest)) own in
     let all : Each {A = ℕ × Msg} (λ m. IsGivenBack j sc.server.durable.epoch given.0 m.1) (m ∷ backs j rest) = subst (Each {A = ℕ × Msg} (λ m. IsGivenBack j sc.server.durable.epoch given.0 m.1)) here given.1 in
     let g = all.0 in
-    let clerk : m.0 ≡ j.clerk = eqb-true m.0 j.clerk (both-on (m.0 == j.clerk) (is_back_message m.1) own) in
+    let clerk : m.0 ≡ j.clerk = eqb-true m.0 j.clerk (first-of (m.0 == j.clerk) (is_back_message m.1) own) in
     let same : m ≡ (j.clerk, msg.Back j.session sc.server.durable.epoch g.obj g.number Free) = ap (λ c. (c, m.1)) clerk ∙ ap (λ z. (j.clerk, z)) g.is in
     subst (λ z. IsNext j sc p (delivered z.0 z.1 rest sc) p) (sym same) (left-next j sc g.obj g.number rest (mail ∙ ap (λ z. z ∷ rest) same) p ip)

@@ -19,7 +19,7 @@ use Rattle.ec_wire.specs.declared.msg.Msg.TheVariants as msg
 use Rattle.ec_durable.specs.Durable.{slot}
 use Rattle.ec_cache.specs.Cache.{last, mode, held_mode}
 use Rattle.ec_cache.specs.declared.state.Held.{Held}
-use Rattle.ec_protocol.specs.Server.{Serving, serving, take, is_last_number, has_claimed}
+use Rattle.ec_protocol.specs.Server.{serving, take, is_last_number, has_claimed}
 use Rattle.ec_protocol.specs.declared.server.Server.{Server}
 use Rattle.ec_quiet.specs.Facts.{token_of, clerk_of}
 use Rattle.ec_quiet.specs.Measure.{fresh_rank, measure}
@@ -27,13 +27,14 @@ use Rattle.ec_quiet.specs.Phases.{Phase, Wants, Grants, Recalls, InPhase, IsWant
 use Rattle.ec_quiet.specs.Scenes.{Mail, Scene, delivered}
 use Rattle.ec_quiet.specs.Works.{Work}
 use Rattle.ec_machine_laws.specs.Serving.{IsAtWork, IsKnown, new_want, telling, recalls_of, granting}
-use Rattle.ec_machine_laws.proofs.Rows.{same-self}
 use Rattle.ec_machine_laws.proofs.Stepping.{want-granted, want-waits, grant-sent}
 use Rattle.ec_quiet.proofs.Falling.{want-granted as granted-falls, want-noted as noted-falls}
 use Rattle.ec_deliveries.specs.Orderly.{IsLikeBut, KeepsBacks, are_no_backs}
 use Rattle.ec_deliveries.proofs.Idling.{idle-stays, like-grant, like-wants}
 use Rattle.ec_deliveries.proofs.Ordering.{grant-orderly, wants-orderly}
 use Rattle.ec_deliveries.proofs.Working.{wanting-stays, keeps-backs, main-joins, main-front}
+use Rattle.ec_base.proofs.Numbers.{same-self}
+use Rattle.ec_deliveries.proofs.Claimed.{behind}
 
 -- Lists.
 
@@ -289,9 +290,6 @@ module _ (j : Work) (sc : Scene) (x : ℕ) (h : Hold) (n : ℕ) (rest : Mail) (i
       )
 
 -- The delivery.
-
-abbrev behind : Scene → Mail → Serving → Scene
-behind sc rest t = record sc { server = t.server; mail = rest ++ t.sent }
 
 pub wants-delivered : (j : Work) (sc : Scene) (x : ℕ) (h : Hold) (n : ℕ) (rest : Mail) → InPhase j sc (Wants x h n) → is_last_number (serving sc.server) ≡ false
     → sc.mail ≡ (j.clerk, msg.Want j.session sc.server.durable.epoch x h n) ∷ rest

@@ -17,7 +17,6 @@ use Rattle.ec_log.specs.Choice.{numbers_asked}
 use Rattle.ec_log.specs.Log.{is_asked}
 use Rattle.ec_log.specs.declared.state.Asked.{Asked}
 use Rattle.ec_log.specs.declared.state.Asked.TheVariants.{Object, Op as OneOp}
-use Rattle.ec_laws.proofs.Objects.{holds}
 use Rattle.ec_machine_laws.proofs.Holding.{held-by, holds-front, holds-passed}
 use Rattle.ec_protocol.specs.declared.script.Line.{Line}
 use Rattle.ec_protocol.specs.declared.script.Line.TheVariants as line
@@ -31,6 +30,7 @@ use Rattle.ec_resolve.proofs.Making.{either-plain}
 use Rattle.ec_resolve.proofs.Members.{member-left}
 use Rattle.ec_deliveries.specs.Scripts.{IsWriteBehind, LineAsks, volume_behind}
 use Rattle.ec_deliveries.specs.ScriptWorks.{IsWorkOf, IsWorkOn, LeaveOut}
+use Rattle.ec_base.proofs.Bools.{on as holds}
 
 -- a closure has an operation that is asked for
 asked-some : (is : Issued) (asked : ℕ → Bool) (n : ℕ) → InClosure is asked n → (m : ℕ) × T (asked m)

@@ -17,8 +17,8 @@ use Rattle.ec_quiet.specs.Facts.{IsIn}
 use Rattle.ec_quiet.specs.Phases.{IsWorking, IsWanting, IsLeaving, IsGivenBack, backs, main, is_back, is_back_message}
 use Rattle.ec_quiet.specs.Scenes.{Mail, Scene}
 use Rattle.ec_quiet.specs.Works.{Work}
-use Rattle.ec_machine_laws.proofs.Rows.{same-self}
 use Rattle.ec_deliveries.specs.Orderly.{IsLikeBut, HasMoved, KeepsBacks, are_no_backs}
+use Rattle.ec_base.proofs.Numbers.{same-self}
 
 pub in-moves : (xs : List ℕ) (v w : Server) (c s : ℕ) (sl sm : Slot) (k : Clerk) → sl.session ≡ s → HasMoved xs v w c s sl sm → IsIn v c sl k → IsIn w c sm k
 in-moves xs v w c s sl sm k own move i = record {

@@ -1,3 +1,3 @@
 mod MemoryLaws
-mod TurnLaws
+pub mod TurnLaws
 mod UndoLaws

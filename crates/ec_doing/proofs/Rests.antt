@@ -39,6 +39,7 @@ use Rattle.ec_doing.specs.declared.doing.Doing.{Doing}
 use Rattle.ec_doing.specs.Seen.{doing_of}
 use Rattle.ec_doing.specs.Resting.{Rests, AllRest, is_plain_at}
 use Rattle.ec_doing.proofs.Steps.{part_is}
+use Rattle.ec_cache.proofs.CacheLemmas.{all-used-lasts}
 
 -- What is used is held as before.
 
@@ -53,13 +54,6 @@ used_held x k y = go (at x k.held) refl
     go None p = refl
     go (Some h) p = at-renewed y x h k.held ∙ same_one h p (same y x) refl
 
-used_lasts : (x : ℕ) (k : CacheState) → (cached.used x k).lasts ≡ k.lasts
-used_lasts x k = go (at x k.held)
-  where
-    go : (o : Option Held) → (elim o as (λ z. CacheState) [ None ↦ k | Some h ↦ record k { held = renewed x h k.held } ]).lasts ≡ k.lasts
-    go None = refl
-    go (Some h) = refl
-
 used_limits : (x : ℕ) (k : CacheState) → (cached.used x k).limits ≡ k.limits
 used_limits x k = go (at x k.held)
   where
@@ -70,10 +64,6 @@ used_limits x k = go (at x k.held)
 all_held : (xs : List ℕ) (k : CacheState) (y : ℕ) → at y (cached.all_used xs k).held ≡ at y k.held
 all_held [] k y = refl
 all_held (x ∷ xs) k y = all_held xs (cached.used x k) y ∙ used_held x k y
-
-all_lasts : (xs : List ℕ) (k : CacheState) → (cached.all_used xs k).lasts ≡ k.lasts
-all_lasts [] k = refl
-all_lasts (x ∷ xs) k = all_lasts xs (cached.used x k) ∙ used_lasts x k
 
 all_limits : (xs : List ℕ) (k : CacheState) → (cached.all_used xs k).limits ≡ k.limits
 all_limits [] k = refl
@@ -175,7 +165,7 @@ want_goes x h d =
     let chosen : List ℕ → Out → Bool → clerk.Tried = λ xs o b. clerk.Waits (elim b as (λ z. clerk.Doing) [ true ↦ clerk.send_want x h (told xs o d) | false ↦ told xs o d ]) in
     let as_before : (xs : List ℕ) → test (at x (cached.all_used xs d.clerk.cache).held) (cached.last x (cached.all_used xs d.clerk.cache)) ≡ wants = λ xs.
     ap (λ p. test p (cached.last x (cached.all_used xs d.clerk.cache))) (all_held xs d.clerk.cache x)
-    ∙ ap (λ t. test (at x d.clerk.cache.held) (at_or 0 x t)) (all_lasts xs d.clerk.cache) in
+    ∙ ap (λ t. test (at x d.clerk.cache.held) (at_or 0 x t)) (all-used-lasts xs d.clerk.cache) in
     goes_later d (clerk.Waits (clerk.want x h d)) (λ xs o. chosen xs o wants) (λ xs o. clerk.Waits (clerk.want x h (told xs o d))) (λ xs o. ap (chosen xs o) (as_before xs))
     (if_goes d (clerk.send_want x h d) (λ xs o. clerk.send_want x h (told xs o d)) (sent d (clerk.send_want x h d) _ refl) wants)
 

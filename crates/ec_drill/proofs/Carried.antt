@@ -22,6 +22,7 @@ use Rattle.ec_base.specs.Outside.{Rose}
 use Rattle.ec_drill.specs.Steps.{Fares, IsSeen, going, Comes, Stays, IsLater, AreOfLine, IsSettling, IsCarrying, before_line, behind_some}
 use Rattle.ec_drill.proofs.Follows.{on_ok, if_ok, arms_go, arms_rest}
 use Rattle.ec_drill.proofs.Known.{known_first, known_later, told_if_known, one_fate, fate_before}
+use Rattle.ec_base.proofs.Numbers.{plus_none}
 
 -- what comes to the same
 pub comes_by : {X : Type 0} (r : Result X WorldFault) (m n : Moving) (w : World) (p : List Shown) → m ≡ n → Comes r n w p → Comes r m w p
@@ -86,9 +87,6 @@ arms_bound : (tells : Type 0) (a b bound left : ℕ) (armed here : Option ℕ) (
 arms_bound tells a b bound left armed here start w before p s known rest =
     subst (λ (fs : Fates). SettleArms bound fs (going start before) armed here) (append-nil s.fates)
     (subst (λ (k : ℕ). SettleArms k (s.fates ++ []) (going start before) armed here) s.counted (s.arms known left [] here rest))
-
-plus_none : (count : ℕ) → count ≡ count + 0
-plus_none count = omega arith
 
 -- what stands for the state so far
 pub settled_so : (tells : Type 0) (a b bound left : ℕ) (armed here : Option ℕ) (start w : World) (before p : List Shown) (s : Settling tells a b bound left armed here start w before p) (more : Fates) (image : List ℕ) → tells → StandsFor image w.durable → IsSettling bound (s.fates ++ more) (going start before) image

@@ -29,13 +29,9 @@ use Rattle.ec_drill.specs.declared.writing.Cut.{Cut}
 use Rattle.ec_drill.specs.declared.writing.Cut.TheVariants as cut
 use Rattle.ec_drill.proofs.Known.{unarmed_runs}
 use Rattle.ec_drill.proofs.Writes.{cut_later, written_cause, written_part}
-use Rattle.ec_drill.proofs.Texts.{nothing, appends_two, text_of-append, texts_then, joined-push}
-
-not_true : false ≡ true → ⊥
-not_true e = cc
-
-not_false : true ≡ false → ⊥
-not_false e = cc
+use Rattle.ec_drill.proofs.Texts.{nothing, text_of-append, texts_then, joined-push}
+use Rattle.ec_base.proofs.Equalities.{apart-two, not_false}
+use Rattle.ec_base.proofs.Lists.{appends_two}
 
 by_server : (w : World) (e : Ending) (pieces : List (List Shown)) → is_spent e ≡ false → closed w e pieces ≡ elim (is_stopped (ran_to w e pieces)) [ true ↦ last_restart (ran_to w e pieces) | false ↦ ran_to w e pieces ]
 by_server w (IsSpent n) pieces s = absurd (not_false s)
@@ -52,7 +48,7 @@ restart_is w off = go w.server off
   where
     go : (s : Option Server) → is_none s ≡ true → restart_server runs s w ≡ restart runs w
     go None off = refl
-    go (Some v) off = absurd (not_true off)
+    go (Some v) off = absurd (apart-two off)
 
 stopped_closes : (w : World) (e : Ending) (pieces : List (List Shown)) → is_spent e ≡ false → is_none w.server ≡ true → (m : Moving) → happen runs event.Restart w ≡ m
     → closed w e pieces ≡ elim m.fault [ Some f ↦ record (ran_to w e pieces) { ending = ending_of 0 0 f } | None ↦ record (ran_to w e pieces) { world = m.world; pieces = pieces ++ m.shown ∷ [] } ]

@@ -35,8 +35,10 @@ use Rattle.ec_drill.specs.declared.writing.Cut.{Cut}
 use Rattle.ec_drill.specs.declared.writing.Cut.TheVariants as cut
 use Rattle.ec_drill.proofs.Known.{known_first, known_later, are_to}
 use Rattle.ec_drill.proofs.Heard.{heard_known, heard_none, heard_stops}
-use Rattle.ec_drill.proofs.Texts.{appends_two, text_of-append, texts_then, rose_later}
+use Rattle.ec_drill.proofs.Texts.{text_of-append, texts_then}
 use Rattle.ec_drill.proofs.Closings.{any_closed}
+use Rattle.ec_base.proofs.OutsideLemmas.{rose_later}
+use Rattle.ec_base.proofs.Lists.{appends_two}
 
 -- A run that came to its end, and was closed.
 

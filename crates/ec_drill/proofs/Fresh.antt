@@ -1,17 +1,14 @@
 -- Numbers that a list has, each once, but those that were seen.
-use Rattle.std.proofs.Common.{◌≡◌, refl, sym, ap, ◌∙◌, arith, ℕ, Bool, true, false, not, ◌||◌, cond, List, [], ◌∷◌, ◌++◌, filter, append_assoc, append-nil}
+use Rattle.std.proofs.Common.{◌≡◌, refl, sym, ap, ◌∙◌, arith, ℕ, Bool, true, false, not, cond, List, [], ◌∷◌, ◌++◌, filter, append_assoc, append-nil}
 use Rattle.std.specs.Prelude.{◌==◌}
 use Rattle.std.proofs.lemmas.Bool.{eqb-true}
 use Rattle.ec_base.specs.Tables.{once}
 use Rattle.ec_drill.specs.Lines.{noted}
 use Rattle.ec_volume.specs.Update.{member}
+use Rattle.ec_report.proofs.Lists.{member-append}
 
 abbrev pub fresh : List ℕ → List ℕ → List ℕ
 fresh seen xs = filter (λ y. not (member y seen)) (once xs)
-
-member-append : (n : ℕ) (xs ys : List ℕ) → member n (xs ++ ys) ≡ (member n xs || member n ys)
-member-append n [] ys = refl
-member-append n (x ∷ xs) ys = grind (arith, member-append n xs ys)
 
 pub fresh_more : (seen : List ℕ) (x : ℕ) (xs : List ℕ) → fresh seen (x ∷ xs) ≡ cond (member x seen) (fresh seen xs) (x ∷ fresh (seen ++ x ∷ []) xs)
 fresh_more seen x xs = go (member x seen) refl (once xs)

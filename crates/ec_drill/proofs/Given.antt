@@ -18,7 +18,7 @@ use Rattle.ec_drill.specs.declared.status.Status.{Status}
 use Rattle.ec_drill.specs.declared.status.Status.TheVariants as status
 use Rattle.ec_drill.proofs.Ends.{over_limit}
 
-as_many : (bs : List (List ℕ)) (rs : List Read) → AreRead bs rs → length rs ≡ length bs
+pub as_many : (bs : List (List ℕ)) (rs : List Read) → AreRead bs rs → length rs ≡ length bs
 as_many [] [] are = refl
 as_many [] (r ∷ rs) are = absurd are
 as_many (b ∷ bs) [] are = absurd are

@@ -10,7 +10,7 @@ use Rattle.ec_drill.specs.Fates.{EachRuns, IsKnown}
 use Rattle.ec_drill.specs.RunFates.{AreOf}
 use Rattle.ec_drill.specs.Steps.{Fares, IsLater}
 use Rattle.ec_drill.proofs.Known.{none_is_some}
-use Rattle.ec_drill.proofs.Texts.{rose_later}
+use Rattle.ec_base.proofs.OutsideLemmas.{rose_later}
 
 pub heard_later : (m : Bool) (a b : Counts) → a.stops ≤ b.stops → (heard m a).stops ≤ (heard m b).stops
 heard_later true a b le = le

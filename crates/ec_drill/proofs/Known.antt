@@ -13,7 +13,8 @@ use Rattle.ec_world.specs.StepEnds.{HasStopped, FateOf, IsTold, CountsOf, behind
 use Rattle.ec_drill.specs.Fates.{AllRun, EachRuns, IsKnown}
 use Rattle.ec_drill.specs.RunFates.{AreOf}
 use Rattle.ec_drill.specs.Steps.{Fares, AreOfLine}
-use Rattle.ec_drill.proofs.Texts.{rose_later, rose_then}
+use Rattle.ec_base.proofs.OutsideLemmas.{rose_later}
+use Rattle.ec_world.proofs.Arms.{rose-later as rose_then}
 
 pub known_first : (tells : Type 0) (a b c : ℕ) → b ≤ c → IsKnown tells a c → IsKnown tells a b
 known_first tells a b c le (inl told) = inl told

@@ -18,7 +18,9 @@ use Rattle.ec_drill.specs.declared.running.Ending.{Ending}
 use Rattle.ec_drill.specs.declared.running.Ending.TheVariants as ending
 use Rattle.ec_drill.specs.declared.writing.Cut.{Cut}
 use Rattle.ec_drill.proofs.Known.{known_first, known_later, one_line}
-use Rattle.ec_drill.proofs.Texts.{nothing, appends_two, text_of-append, texts_then, joined-append, joined-push}
+use Rattle.ec_drill.proofs.Texts.{nothing, text_of-append, texts_then, joined-append, joined-push}
+use Rattle.ec_base.proofs.Numbers.{is-less, not-under}
+use Rattle.ec_base.proofs.Lists.{appends_two}
 
 -- One line.
 
@@ -37,23 +39,17 @@ by_line : (k number col : ℕ) (l : Line) (ls : List Read) (fates : Fates) (more
 unfolding behind_line
 by_line k number col l ls fates more w m e = ap (behind_line k number col ls more) e
 
-few_false : (most n : ℕ) → n ≤ most → nat_lt most n ≡ false
-few_false most n le = grind arith
-
-many_true : (most n : ℕ) → most < n → nat_lt most n ≡ true
-many_true most n lt = grind arith
-
 pub line_goes : (k number col : ℕ) (l : Line) (ls : List Read) (fates : Fates) (more : List Fates) (w v : World) (piece : List Shown) → carry_out k fates number l w ≡ going v piece → pending v ≤ max_pending → run_from k number (reads l col ∷ ls) (fates ∷ more) w ≡ behind (piece ∷ []) (run_from k (number + 1) ls more (forget v))
 unfolding behind_line
 line_goes k number col l ls fates more w v piece e few =
     by_line k number col l ls fates more w (going v piece) e
-    ∙ ap (λ (b : Bool). elim b [ true ↦ ends v piece (machine.TooMany (pending v)) | false ↦ piece_before piece (run_from k (number + 1) ls more (forget v)) ]) (few_false max_pending (pending v) few)
+    ∙ ap (λ (b : Bool). elim b [ true ↦ ends v piece (machine.TooMany (pending v)) | false ↦ piece_before piece (run_from k (number + 1) ls more (forget v)) ]) (not-under max_pending (pending v) few)
 
 pub line_piles : (k number col : ℕ) (l : Line) (ls : List Read) (fates : Fates) (more : List Fates) (w v : World) (piece : List Shown) → carry_out k fates number l w ≡ going v piece → max_pending < pending v → run_from k number (reads l col ∷ ls) (fates ∷ more) w ≡ record { world = v; pieces = piece ∷ []; ending = machine.TooMany (pending v) }
 unfolding behind_line
 line_piles k number col l ls fates more w v piece e many =
     by_line k number col l ls fates more w (going v piece) e
-    ∙ ap (λ (b : Bool). elim b [ true ↦ ends v piece (machine.TooMany (pending v)) | false ↦ piece_before piece (run_from k (number + 1) ls more (forget v)) ]) (many_true max_pending (pending v) many)
+    ∙ ap (λ (b : Bool). elim b [ true ↦ ends v piece (machine.TooMany (pending v)) | false ↦ piece_before piece (run_from k (number + 1) ls more (forget v)) ]) (is-less max_pending (pending v) many)
 
 pub line_fails : (k number col : ℕ) (l : Line) (ls : List Read) (fates : Fates) (more : List Fates) (w v : World) (piece : List Shown) (f : WorldFault) → carry_out k fates number l w ≡ record (going v piece) { fault = Some f } → run_from k number (reads l col ∷ ls) (fates ∷ more) w ≡ record { world = v; pieces = piece ∷ []; ending = machine.ending_of number col f }
 unfolding behind_line

@@ -1,5 +1,5 @@
 -- Lines that are written one behind the other.
-use Rattle.std.proofs.Common.{◌≡◌, ◌<◌, ◌≤◌, ◌==◌, ℕ, zero, suc, true, List, [], ◌∷◌, ◌++◌, length, take, drop, Option, refl, sym, ap, arith, inr}
+use Rattle.std.proofs.Common.{◌≡◌, ◌<◌, ◌≤◌, ℕ, zero, suc, List, [], ◌∷◌, ◌++◌, length, take, drop, Option, refl, sym, ap, arith, inr}
 use Rattle.std.proofs.Math.ListN.{get_or}
 use Rattle.std.specs.Io.KnownBytes.{Appends}
 use Rattle.ec_history.specs.declared.shown.Shown.{Shown}
@@ -8,17 +8,14 @@ use Rattle.ec_drill.specs.Cuts.{IsPartOf}
 use Rattle.ec_drill.specs.Steps.{CutBy, CutText, CutLines, IsCause}
 use Rattle.ec_drill.specs.declared.writing.Cut.{Cut}
 use Rattle.ec_drill.specs.declared.writing.Cut.TheVariants as cut
-use Rattle.ec_drill.proofs.Texts.{appends_two, rose_later}
+use Rattle.ec_base.proofs.OutsideLemmas.{rose_later}
+use Rattle.ec_base.proofs.Lists.{appends_two}
 
 -- the line at a place, between those before and those behind it
 pub split_at : (lines : List Shown) (at : ℕ) (first : Shown) → at < length lines → first ≡ get_or lines at first → lines ≡ take at lines ++ first ∷ drop (suc at) lines
 split_at [] at first lt is = absurd (omega arith)
 split_at (x ∷ lines) zero first lt is = ap (λ y. y ∷ lines) (sym is)
 split_at (x ∷ lines) (suc at) first lt is = ap (λ l. x ∷ l) (split_at lines at first (omega arith) is)
-
-pub none_left : (bytes : List ℕ) → true ≡ (length bytes == 0) → bytes ≡ []
-none_left [] is = refl
-none_left (b ∷ bytes) is = absurd (grind arith)
 
 pub cut_later : (c : Cut) (text last : List ℕ) (f g h : ℕ) → f ≤ g → CutBy c text last g h → CutBy c text last f h
 cut_later cut.Disk text last f g h le why = absurd why

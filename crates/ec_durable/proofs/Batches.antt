@@ -21,10 +21,11 @@ use Rattle.ec_durable.specs.declared.record.RecordFault.TheVariants.{Unfit, NotR
 use Rattle.ec_durable.specs.Durable.{slot, with_slot, made, spent, carried_out, unreserved, op_fault, operations, marked}
 use Rattle.ec_durable.specs.Steps.{AreSoundOps}
 use Rattle.ec_durable.specs.WellFormed.{IsInOrder, sessions_of, fits_slot}
-use Rattle.ec_durable.proofs.Counts.{as_one, told, is_true, apart_once, once_apart, all_pass, each_passes, out_times, no_longer}
+use Rattle.ec_durable.proofs.Counts.{apart_once, once_apart, all_pass, each_passes, out_times, no_longer}
 use Rattle.ec_durable.proofs.Live.{live_count, keys_length}
 use Rattle.ec_durable.proofs.Changing.{volume_changed, stays_gone}
 use Rattle.ec_durable.proofs.Slots.{ids_with, number_of, sessions_with, all_with, slot_passes, fits_spent, fits_marked, number_spent, number_marked, ids_marked}
+use Rattle.ec_base.proofs.Bools.{as_one, is-true as is_true, holds-true as told}
 
 pub same_Ok : {d e : Durable} → ◌≡◌ {A = Result Durable RecordFault} (Ok d) (Ok e) → d ≡ e
 same_Ok {d = d} p = ap (λ (r : Result Durable RecordFault). elim r as (λ z. Durable) [ Ok x ↦ x | Err f ↦ d ]) p

@@ -13,8 +13,9 @@ use Rattle.ec_volume.specs.declared.update.Update.{Update}
 use Rattle.ec_volume.proofs.Held.{IsVolume-put, IsVolume-without, images-put, images-without, image_held}
 use Rattle.ec_volume.proofs.Changed.{changed_images}
 use Rattle.ec_durable.specs.Durable.{made}
-use Rattle.ec_durable.proofs.Counts.{told, is_true, clash, later}
-use Rattle.ec_durable.proofs.Effects.{IsWithin, within_effect, gone_stays}
+use Rattle.ec_durable.proofs.Effects.{within_effect, gone_stays}
+use Rattle.ec_base.proofs.Bools.{clash, or-right as later, is-true as is_true, holds-true as told}
+use Rattle.ec_volume.proofs.ImageLemmas.{IsWithin}
 
 volume_with : (o : ℕ) (i : Image) (es : Table Image) → T (is_gone i || is_held i) → IsVolume es → IsVolume (with_image o i es)
 volume_with o i es h v =

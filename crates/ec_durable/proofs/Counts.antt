@@ -6,24 +6,7 @@ use Rattle.ec_base.specs.SortedLaws.{first, second, both}
 use Rattle.ec_volume.specs.Update.{member, distinct}
 use Rattle.ec_sessions.specs.WindowMarks.{times}
 use Rattle.ec_sessions.specs.Slots.{without}
-
-abbrev pub as_one : Bool → ℕ
-as_one b = if b then 1 else 0
-
-pub told : (b : Bool) → b ≡ true → T b
-told b e = subst T (sym e) tt
-
-pub is_true : (b : Bool) → T b → b ≡ true
-is_true true h = refl
-is_true false h = absurd h
-
-pub clash : (b : Bool) → T (not b) → T b → ⊥
-clash true n h = n
-clash false n h = h
-
-pub later : (a b : Bool) → T b → T (a || b)
-later true b h = tt
-later false b h = h
+use Rattle.ec_base.proofs.Bools.{clash, or-right, as_one}
 
 pub here : (o x : ℕ) (xs : List ℕ) → x ≡ o → times o (x ∷ xs) ≡ 1 + times o xs
 here o x xs e = ap (λ b. (if b then 1 else 0) + times o xs) (eq-eqb x o e)
@@ -41,7 +24,7 @@ is_there o [] h = absurd (omega (arith, h))
 is_there o (x ∷ xs) h =
     elim (cases_eq x o) [
       | inl e ↦ subst (λ b. T (b || member o xs)) (sym (eq-eqb o x (sym e))) tt
-      | inr n ↦ later (o == x) (member o xs) (is_there o xs (omega (arith, h, there o x xs n)))
+      | inr n ↦ or-right (o == x) (member o xs) (is_there o xs (omega (arith, h, there o x xs n)))
     ]
 
 stands : (o : ℕ) (xs : List ℕ) → T (member o xs) → 1 ≤ times o xs

@@ -7,22 +7,13 @@ use Rattle.ec_volume.specs.Volume.{image_next}
 use Rattle.ec_volume.specs.Held.{is_held}
 use Rattle.ec_volume.specs.declared.image.Image.{Image}
 use Rattle.ec_volume.specs.declared.image.Image.TheVariants.{Gone, File, Dir}
-use Rattle.ec_volume.specs.declared.image.Kind.{Kind}
-use Rattle.ec_volume.specs.declared.image.Kind.TheVariants as kind
 use Rattle.ec_volume.specs.declared.update.Update.{Update}
 use Rattle.ec_volume.specs.declared.update.Update.TheVariants.{Make, Drop, Move, Put, Len, Mode, Stamp, Order, Shift, Owner}
 use Rattle.ec_volume.proofs.Within.{effect_held}
 use Rattle.ec_durable.specs.Durable.{made}
-use Rattle.ec_durable.proofs.Counts.{told, is_true, later}
-
--- gone, or within the limits
-abbrev pub IsWithin : Image → Type 0
-IsWithin i = T (is_gone i || is_held i)
-
-within_new : (b : Bool) (k : Kind) → IsWithin (cond b Gone (new_object k))
-within_new true k = tt
-within_new false kind.File = tt
-within_new false kind.Dir = tt
+use Rattle.ec_base.proofs.Bools.{or-right as later, is-true as is_true, holds-true as told}
+use Rattle.ec_volume.proofs.ImageLemmas.{IsWithin, within_new}
+use Rattle.ec_volume.proofs.Changed.{gone_is}
 
 -- none of the ways that leads to an object that is gone
 two_gone : (b : Bool) → cond b Gone Gone ≡ Gone
@@ -77,11 +68,6 @@ pub within_effect : (u : Update) (o : ℕ) (i : Image) → T (is_sound u) → T 
 within_effect u o Gone s t h = gone_within (made u) u o refl
 within_effect u o (File m q w bs) s t h = within_live u o (File m q w bs) s t h
 within_effect u o (Dir m q w es) s t h = within_live u o (Dir m q w es) s t h
-
-gone_is : (i : Image) → is_gone i ≡ true → i ≡ Gone
-gone_is Gone e = refl
-gone_is (File m s w bs) e = absurd (let t : false ≡ true = e in cc)
-gone_is (Dir m s w es) e = absurd (let t : false ≡ true = e in cc)
 
 next_gone : (u : Update) (o : ℕ) → made u ≡ None → image_next o Gone u ≡ Gone
 next_gone u o m = elim (has_operand o u) as (λ b. cond b (effect u o Gone) Gone ≡ Gone) [ true ↦ effect_gone u o m | false ↦ refl ]

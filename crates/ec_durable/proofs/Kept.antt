@@ -17,9 +17,10 @@ use Rattle.ec_durable.specs.Durable.{formatted, step, steps, slot, live, reserve
 use Rattle.ec_durable.specs.Steps.{AreSound, AreAllSound, AllBelow, IdsAreBelow}
 use Rattle.ec_durable.specs.StepLaws.{first_next}
 use Rattle.ec_durable.specs.WellFormed.{IsInOrder, least_max_objects, most_max_objects, sessions_of, fits_slot}
-use Rattle.ec_durable.proofs.Counts.{told, is_true, here, there, more, apart_once, once_apart, all_pass, each_passes}
+use Rattle.ec_durable.proofs.Counts.{here, there, more, apart_once, once_apart, all_pass, each_passes}
 use Rattle.ec_durable.proofs.Slots.{ids_with, length_with, sessions_with, all_with, all_imply, slot_passes, fits_later, fits_ended, fits_granted, number_ended, number_granted, ids_ended, reserved_all}
 use Rattle.ec_durable.proofs.Batches.{same_Ok, not_Ok, all_ids, ids_times, slot_kept, operations_kept, marked_kept}
+use Rattle.ec_base.proofs.Bools.{is-true as is_true, holds-true as told}
 
 -- A session that ends.
 ended_kept : (c : ℕ) (d : Durable) → IsInOrder d → IsInOrder (with_slot c (slots.ended (slot d c)) d)

@@ -5,7 +5,6 @@ use Rattle.std.specs.Ordering.{nat_cmp, is_lt}
 use Rattle.std.specs.FinMap.{is_sorted}
 use Rattle.std.specs.FinMap.Entries.{below_all}
 use Rattle.std.proofs.lemmas.Bool.{cases_eq, cases_Bool, ne_eqb, eq-eqb}
-use Rattle.std.proofs.lemmas.Bool.Decides.{nat_tests}
 use Rattle.ec_base.specs.SortedLaws.{first, second}
 use Rattle.ec_base.specs.Tables.{Table, keys}
 use Rattle.ec_volume.specs.Image.{is_gone}
@@ -14,7 +13,8 @@ use Rattle.ec_volume.specs.Held.{IsVolume, is_held}
 use Rattle.ec_volume.specs.declared.image.Image.{Image}
 use Rattle.ec_volume.proofs.Held.{held_live}
 use Rattle.ec_sessions.specs.WindowMarks.{times}
-use Rattle.ec_durable.proofs.Counts.{as_one, is_true, here, there}
+use Rattle.ec_durable.proofs.Counts.{here, there}
+use Rattle.ec_base.proofs.Bools.{as_one, is-true as is_true, lower-tested}
 
 opposite : (b : Bool) → b ≡ true → b ≡ false → ⊥
 opposite true t f = subst T f tt
@@ -42,13 +42,10 @@ gone_nowhere (e ∷ es) id h g =
       | inr n ↦ omega (arith, there id e.0 (keys es) n, gone_nowhere es id (second (is_held e.1) _ h) (sym (ap is_gone (elsewhere e es id n)) ∙ g))
     ]
 
-lower : (a b : ℕ) → T (is_lt (nat_cmp a b)) → a < b
-lower a b h = grind (arith, nat_tests)
-
 above : (k : ℕ) (es : Table Image) → T (below_all nat_cmp k es) → times k (keys es) ≤ 0
 above k [] h = omega arith
 above k (e ∷ es) h =
-    let less : k < e.0 = lower k e.0 (first (is_lt (nat_cmp k e.0)) (below_all nat_cmp k es) h) in
+    let less : k < e.0 = lower-tested k e.0 (first (is_lt (nat_cmp k e.0)) (below_all nat_cmp k es) h) in
     omega (arith, there k e.0 (keys es) (λ s. absurd (omega (arith, less, s))), above k es (second (is_lt (nat_cmp k e.0)) (below_all nat_cmp k es) h))
 
 keys_once : (es : Table Image) → T (is_sorted nat_cmp es) → (id : ℕ) → times id (keys es) ≤ 1

@@ -9,7 +9,7 @@ use Rattle.ec_sessions.specs.IdLaws.{times-append}
 use Rattle.ec_sessions.specs.Slots as slots
 use Rattle.ec_sessions.specs.declared.slot.Slot.{Slot}
 use Rattle.ec_durable.specs.WellFormed.{sessions_of, last_first_fits, fits_slot}
-use Rattle.ec_durable.proofs.Counts.{told, is_true}
+use Rattle.ec_base.proofs.Bools.{is-true as is_true, holds-true as told}
 
 -- Ids.
 

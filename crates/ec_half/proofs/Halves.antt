@@ -20,6 +20,7 @@ use Rattle.ec_disk.specs.declared.disk.Choice.{Choice}
 use Rattle.ec_disk.specs.declared.disk.Choice.TheVariants as choice
 use Rattle.ec_slots.specs.Contents.{content, content-written, part-content, length-content, byte-content}
 use Rattle.ec_half.specs.Contents.{IsHalf, HasHeader, HasLength, Rested, Stays, Fewer, Loosened, behind, behind-wrote, behind-raised, long-fewer, long-after}
+use Rattle.ec_base.proofs.Options.{none-number}
 
 one_more-rises : (a b : ℕ) → a ≤ b → one_more a ≤ one_more b
 one_more-rises a b le = grind (arith, nat_tests, le)
@@ -68,12 +69,9 @@ length-known n old new is same le = record {
 some_same : (a b : ℕ) → ◌≡◌ {A = Option ℕ} (Some a) (Some b) → b ≡ a
 some_same a b e = cc
 
-none_some : (a : ℕ) → ◌≡◌ {A = Option ℕ} None (Some a) → ⊥
-none_some a e = cc
-
 -- what a sum that was checked is
 pub some_is : (r : Option ℕ) (P : Type 0) (v x : ℕ) → SomeIff r P v → r ≡ Some x → x ≡ v
-some_is None P v x iff is = absurd (none_some x is)
+some_is None P v x iff is = absurd (none-number x is)
 some_is (Some y) P v x iff is = some_same y x is ∙ iff.1
 
 pub if_some : (r : Option ℕ) (P : Type 0) (v : ℕ) (Q : ℕ → Type 0) → SomeIff r P v → Q v → IfSome r Q
@@ -97,7 +95,7 @@ pub loosened-behind : (at place n : ℕ) (old new : View) → place ≡ at + 409
 loosened-behind at place n old new there wrote kept = behind-wrote at n old new (subst (λ (k : ℕ). Wrote (InRange k n) old new) there wrote) kept
 
 none_is : (v : Option ℕ) (m : ℕ) → v ≡ None → v ≡ Some m → ⊥
-none_is v m none some = none_some m (sym none ∙ some)
+none_is v m none some = none-number m (sym none ∙ some)
 
 pub known-more : (old new : Option ℕ) (n end place : ℕ) → ((m : ℕ) → old ≡ Some m → new ≡ Some (max m end)) → end ≡ place → old ≡ Some n → new ≡ Some (max n place)
 known-more old new n end place grows there is = subst (λ (k : ℕ). new ≡ Some (max n k)) there (grows n is)

@@ -1,5 +1,5 @@
 -- What is read of a header is what stands there.
-use Rattle.std.proofs.Common.{Result, Ok, Err, ◌≡◌, ◌+◌, ◌≤◌, ◌<◌, ◌⊎◌, inl, inr, ⊎_elim, refl, ℕ, List, length, Bool, true, false, Option, None, sym, subst, ◌∙◌, ap, arith}
+use Rattle.std.proofs.Common.{Result, Ok, Err, ◌≡◌, ◌+◌, ◌≤◌, ◌<◌, ⊎_elim, refl, ℕ, List, length, Option, None, sym, subst, ◌∙◌, ap, arith}
 use Rattle.std.proofs.lemmas.List.{ext_get_or}
 use Rattle.std.specs.Int.{w64, from_be_bytes}
 use Rattle.ec_disk.specs.Disk.{View, byte, part}
@@ -12,6 +12,8 @@ use Rattle.ec_half.specs.declared.fault.MirrorFault.TheVariants as fault
 use Rattle.ec_half.specs.declared.header.Found.{Found}
 use Rattle.ec_half.specs.declared.header.Generation.{Generation}
 use Rattle.ec_half.specs.Headers.{word, most_generation, Shows, of_slot, IsNewest, IsFound, IsBad, NoWord, NoGate, TooGreat, IsNoHalf}
+use Rattle.ec_base.proofs.Bools.{bool_cases}
+use Rattle.ec_base.proofs.Numbers.{none_more}
 
 shown_of : (image : List ℕ) (a b : Option ℕ) (s : Slot) → Shows image 512 a → Shows image 1024 b → Shows image (place_of s) (of_slot a b s)
 shown_of image a b slot.First first second = first
@@ -36,10 +38,6 @@ found image a b g is first second newest small =
 pub no_gate : (image : List ℕ) (place : ℕ) → place ≡ 512 → part image 0 8 ≡ word → Shows image 512 None → Shows image 1024 None → IsBad image place
 no_gate image place at is first second = NoGate at is (first.shut refl) (second.shut refl)
 
-bool_cases : (b : Bool) → (b ≡ true) ⊎ (b ≡ false)
-bool_cases true = inl refl
-bool_cases false = inr refl
-
 pub too_great : (image : List ℕ) (place : ℕ) (a b : Option ℕ) (g : Generation) → place ≡ 1024 → part image 0 8 ≡ word → Shows image 512 a → Shows image 1024 b → IsNewest a b g → most_generation < g.number → IsBad image place
 too_great image place a b g at is first second newest great =
     let here = shown_of image a b g.slot first second in
@@ -55,9 +53,6 @@ too_great image place a b g at is first second newest great =
           (λ shut. absurd (there.shut (newest.other_shut shut) gate))
           (bool_cases g.is_open);
     } great
-
-none_more : (k : ℕ) → 0 + k ≡ k
-none_more k = omega arith
 
 -- what is read of an image is what stands there
 module _ (x : List ℕ) (long : 1033 ≤ length x) where

@@ -1,11 +1,10 @@
 -- What is owed comes before the operations of the session, and the lost ones of those come behind it.
 use Rattle.std.proofs.Common.{◌≡◌, ◌<◌, ◌≤◌, ◌+◌, refl, sym, ap, ◌∙◌, inl, inr, arith, ℕ, Bool, true, false, cond, List, [], ◌∷◌, ◌++◌}
 use Rattle.std.specs.Prelude.{T, not, nat_lt, nat_le, map, filter}
-use Rattle.std.specs.Ordering.{nat_cmp, is_lt}
+use Rattle.std.specs.Ordering.{nat_cmp}
 use Rattle.std.specs.FinMap.{is_sorted}
 use Rattle.std.specs.FinMap.Entries.{below_all}
 use Rattle.std.proofs.lemmas.Bool.{and_parts, and_from, lt-ltb, ltb-true, le-leb, leb-true}
-use Rattle.std.proofs.lemmas.Bool.Decides.{nat_tests}
 use Rattle.ec_base.specs.SortedLaws.{first, second}
 use Rattle.ec_base.specs.Tables.{keys}
 use Rattle.ec_volume.specs.Update.{member, operands}
@@ -23,6 +22,7 @@ use Rattle.ec_report.specs.Report.{Owed, owe, pairs_of}
 use Rattle.ec_report.specs.OwedOrder.{come_behind}
 use Rattle.ec_protocol.specs.Clerk.{with_operands}
 use Rattle.ec_holdings.specs.Owing.{lost_of, owed_before}
+use Rattle.ec_base.proofs.Bools.{below}
 
 pub later : (n m : ℕ) (owed : Owed) → n ≤ m → owed_before n owed ≡ true → owed_before m owed ≡ true
 later n m [] l h = refl
@@ -58,13 +58,10 @@ first_stays pick_of.Settled l = refl
 first_stays (pick_of.Behind b) l = refl
 first_stays (pick_of.Window b) l = refl
 
-lower : (m n : ℕ) → T (is_lt (nat_cmp m n)) → m < n
-lower m n l = grind (arith, nat_tests, l)
-
 from_above : (m : ℕ) (xs : Issued) → T (below_all nat_cmp m xs) → log_order.is_from (m + 1) xs ≡ true
 from_above m [] b = refl
 from_above m (x ∷ xs) b =
-    let l : m < x.0 = lower m x.0 (first _ _ b) in
+    let l : m < x.0 = below m x.0 (first _ _ b) in
     and_from (nat_le (m + 1) x.0) (log_order.is_from (m + 1) xs) (le-leb (m + 1) x.0 (omega (arith, l))) (from_above m xs (second _ _ b))
 
 module _ (q : ℕ × Update → Bool) where

@@ -27,6 +27,7 @@ use Rattle.ec_pending.specs.declared.asked.Asked.TheVariants as asked
 use Rattle.ec_judge.specs.Carried.{issue_of, issues_in}
 use Rattle.ec_pending.specs.Pending.{numbers_in, numbered, is_asked}
 use Rattle.ec_judge.specs.Asks.{asked_on, asked_by_call}
+use Rattle.ec_plain.proofs.WalkLemmas.{same-at}
 
 regroup : (p q r : Op → Bool) (ks : List Op) → filter (λ k. (p k && q k) && r k) ks ≡ filter (λ k. p k && (q k && r k)) ks
 regroup p q r [] = refl
@@ -92,9 +93,6 @@ last-more o (n ∷ os) p e = ap (slice_get (o ∷ n ∷ os)) (count (length os))
   where
     count : (k : ℕ) → suc (suc k) - 1 ≡ suc (suc k - 1)
     count k = omega arith
-
-same-at : (p q : ℕ) → At p ≡ At q → p ≡ q
-same-at p q e = cc
 
 abbrev read-of : Walk → List ℕ
 read-of w = w.read

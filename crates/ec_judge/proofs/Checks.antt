@@ -1,9 +1,8 @@
 -- Histories, entry by entry.
-use Rattle.std.proofs.Common.{◌≡◌, refl, sym, ap, subst, ◌∙◌, arith, ◌<◌, ◌≤◌, ◌+◌, ℕ, suc, zero, T, Bool, true, false, not, map, List, [], ◌∷◌, ◌++◌, length, take, drop, get_or, Some, None, append_assoc, add-one, drop-cons, length-append}
+use Rattle.std.proofs.Common.{◌≡◌, refl, sym, ap, subst, ◌∙◌, arith, ◌<◌, ◌≤◌, ◌+◌, ℕ, suc, zero, T, Bool, true, false, not, List, [], ◌∷◌, ◌++◌, length, take, drop, get_or, Some, None, append_assoc, add-one, drop-cons, length-append}
 use Rattle.std.specs.Prelude.{nat_lt, ◌==◌, ◌||◌}
 use Rattle.std.proofs.lemmas.Bool.Decides.{nat_tests}
 use Rattle.ec_plain.specs.declared.call.Outcome.{Outcome}
-use Rattle.ec_laws.proofs.Objects.{holds}
 use Rattle.std.specs.Ordering.{nat_cmp}
 use Rattle.std.specs.FinMap.{is_sorted}
 use Rattle.std.specs.List.{list_all}
@@ -26,21 +25,19 @@ use Rattle.ec_history.specs.declared.entry.Entry.TheVariants as entry
 use Rattle.ec_history.specs.declared.rule.Rule.{Rule}
 use Rattle.ec_laws.proofs.Cuts.{legal-step}
 use Rattle.ec_laws.proofs.Numbers.{each-front}
-use Rattle.ec_laws.proofs.Removed.{both, left, right}
 use Rattle.ec_judge.specs.declared.carried.Judge.{Judge}
 use Rattle.ec_judge.specs.Faults.{IsFirstEntry}
 use Rattle.ec_judge.specs.Carried.{Carries, IsReady, Judges}
 use Rattle.ec_laws.proofs.Issues.{kept-sorted}
-use Rattle.ec_judge.proofs.Volumes.{all-same}
+use Rattle.ec_base.proofs.Bools.{both, first as left, right, on as holds}
+use Rattle.ec_laws.proofs.Places.{places}
+use Rattle.ec_volume.proofs.VolumeLemmas.{all-same}
 
-abbrev places : History → List ℕ
-places h = map (λ e. e.0) h
-
-places-append : (h g : History) → places (h ++ g) ≡ places h ++ places g
+pub places-append : (h g : History) → places (h ++ g) ≡ places h ++ places g
 places-append [] g = refl
 places-append (e ∷ h) g = ap (λ l. e.0 ∷ l) (places-append h g)
 
-member-more : (n : ℕ) (xs ys : List ℕ) → T (not (member n (xs ++ ys))) → T (not (member n xs))
+pub member-more : (n : ℕ) (xs ys : List ℕ) → T (not (member n (xs ++ ys))) → T (not (member n xs))
 member-more n [] ys t = tt
 member-more n (x ∷ xs) ys t = go (n == x) t (member-more n xs ys)
   where
@@ -48,11 +45,11 @@ member-more n (x ∷ xs) ys t = go (n == x) t (member-more n xs ys)
     go true t f = absurd t
     go false t f = f t
 
-distinct-front : (xs ys : List ℕ) → T (distinct (xs ++ ys)) → T (distinct xs)
+pub distinct-front : (xs ys : List ℕ) → T (distinct (xs ++ ys)) → T (distinct xs)
 distinct-front [] ys t = tt
 distinct-front (x ∷ xs) ys t = both (not (member x xs)) _ (member-more x xs ys (left (not (member x (xs ++ ys))) _ t)) (distinct-front xs ys (right (not (member x (xs ++ ys))) _ t))
 
-all-front : (h g : History) → T (list_all (λ e. is_bounded_entry e.1) (h ++ g)) → T (list_all (λ e. is_bounded_entry e.1) h)
+pub all-front : (h g : History) → T (list_all (λ e. is_bounded_entry e.1) (h ++ g)) → T (list_all (λ e. is_bounded_entry e.1) h)
 all-front [] g t = tt
 all-front (e ∷ h) g t = both (is_bounded_entry e.1) _ (left (is_bounded_entry e.1) _ t) (all-front h g (right (is_bounded_entry e.1) _ t))
 
@@ -60,7 +57,7 @@ all-last : (h : History) (e : ℕ × Entry) → T (list_all (λ e. is_bounded_en
 all-last [] e t = left (is_bounded_entry e.1) true t
 all-last (x ∷ h) e t = all-last h e (right (is_bounded_entry x.1) _ t)
 
-lines-front : (h g : History) → AreAtLines (h ++ g) → AreAtLines h
+pub lines-front : (h g : History) → AreAtLines (h ++ g) → AreAtLines h
 lines-front h g a = record {
   from_one = each-front (λ p. 1 ≤ p) (places h) (places g) (subst (Each (λ p. 1 ≤ p)) (places-append h g) a.from_one);
   apart = distinct-front (places h) (places g) (subst (λ l. T (distinct l)) (places-append h g) a.apart);

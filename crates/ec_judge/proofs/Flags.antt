@@ -17,7 +17,7 @@ use Rattle.ec_history.specs.declared.entry.Entry.{Entry}
 use Rattle.ec_history.specs.declared.entry.Entry.TheVariants as entry
 use Rattle.ec_laws.proofs.Cuts.{throughout-append, throughout-front, throughout-back}
 use Rattle.ec_laws.proofs.Least.{list-complete, list-least}
-use Rattle.ec_laws.proofs.Objects.{holds, is-true}
+use Rattle.ec_base.proofs.Bools.{on as holds, is-true}
 
 pub flag-step : (U V W : Type 0) (a x : Bool) → MatchBool a (¬ U) U → MatchBool x (¬ V) V → (U → V → W) → (W → U) → (W → V) → MatchBool (a || x) (¬ W) W
 flag-step U V W true x u v f g h = λ w. u (g w)

@@ -1,8 +1,7 @@
 -- Single steps of loops.
-use Rattle.std.proofs.Common.{◌≡◌, refl, sym, ap, subst, ◌∙◌, arith, ◌<◌, ◌+◌, ℕ, suc, T, Bool, true, false, not, ◌==◌, ◌&&◌, ◌||◌, cond, map, List, [], ◌∷◌, ◌++◌, length, take, drop, get_or, Some, None, append-nil, append_assoc, add-one, drop-cons}
+use Rattle.std.proofs.Common.{◌≡◌, refl, sym, ap, subst, ◌∙◌, ◌<◌, ◌+◌, ℕ, suc, T, Bool, true, false, not, ◌==◌, ◌&&◌, ◌||◌, cond, map, List, [], ◌∷◌, ◌++◌, length, take, drop, get_or, Some, None, append-nil, append_assoc, add-one, drop-cons}
 use Rattle.std.specs.List.{filter, list_all, list_any}
 use Rattle.std.proofs.lemmas.Bool.{cond-true, cond-false, and_from, true≢false}
-use Rattle.std.proofs.lemmas.Bool.Decides.{nat_tests}
 use Rattle.std.proofs.lemmas.List.{take_more, take-append-drop}
 use Rattle.std.proofs.lemmas.List.Elements.{filter-append}
 use Rattle.std.proofs.lemmas.List.Folds.{list_all-append}
@@ -12,11 +11,12 @@ use Rattle.ec_order.specs.Order.{before}
 use Rattle.ec_volume.specs.declared.update.Update.{Update}
 use Rattle.ec_history.specs.History.{Op, Owed, updates, pairs_of}
 use Rattle.ec_history.specs.Legal.{is_closed}
-use Rattle.ec_laws.proofs.Removed.{left, right}
 use Rattle.ec_outside.proofs.Known.{any-either, any-same}
 use Rattle.ec_judge.specs.declared.carried.Kept.{Kept}
 use Rattle.ec_judge.proofs.Volumes.{fits-more, after-more, unfit-not}
 use Rattle.ec_judge.specs.Carried.{op_of, ops_of, IsFront}
+use Rattle.ec_base.proofs.Bools.{first as left, right}
+use Rattle.ec_base.proofs.Numbers.{flip_too}
 
 -- Two lists with a common number.
 
@@ -24,13 +24,10 @@ any-none : (xs : List ℕ) → false ≡ list_any (λ x. false) xs
 any-none [] = refl
 any-none (x ∷ xs) = any-none xs
 
-flip : (x y : ℕ) → (x == y) ≡ (y == x)
-flip x y = grind (arith, nat_tests)
-
 pub any-flip : (xs ys : List ℕ) → list_any (λ x. member x ys) xs ≡ list_any (λ y. member y xs) ys
 any-flip [] ys = any-none ys
 any-flip (x ∷ xs) ys =
-    ap (λ b. b || list_any (λ z. member z ys) xs) (any-same (λ y. x == y) (λ y. y == x) (flip x) ys)
+    ap (λ b. b || list_any (λ z. member z ys) xs) (any-same (λ y. x == y) (λ y. y == x) (flip_too x) ys)
     ∙ ap (λ b. list_any (λ y. y == x) ys || b) (any-flip xs ys)
     ∙ sym (any-either (λ y. y == x) (λ y. member y xs) ys)
 
@@ -170,7 +167,3 @@ module _ (q : Op → Bool) (ks : List Kept) (i : ℕ) (k : Kept) (within : i < l
       let same : updates (filter q (ops_of ks)) ≡ us ++ k.update ∷ updates rest =
       ap updates (part-all ks i k within is q ∙ ap (λ x. filter q (ops_of (take i ks)) ++ cond x (op_of k ∷ rest) rest) e) ∙ updates-append (filter q (ops_of (take i ks))) (op_of k ∷ rest) in
       unfit-not formatted us (updates rest) k.update v o f.same some (subst (Fits formatted) same all)
-
-pub not-true : (x : Bool) → not x ≡ true → x ≡ false
-not-true true e = sym e
-not-true false e = refl

@@ -8,13 +8,12 @@ use Rattle.ec_volume.specs.Update.{member}
 use Rattle.ec_history.specs.History.{Base, History, Op, Throughout, Each, Covers, of_start, is_one_of, kept}
 use Rattle.ec_history.specs.Legal.{leaves, touches_none, is_call_of_other}
 use Rattle.ec_history.specs.declared.entry.Entry.{Entry}
-use Rattle.ec_laws.proofs.Objects.{holds, is-true}
-use Rattle.ec_laws.proofs.Removed.{both, left, right}
 use Rattle.ec_judge.specs.declared.carried.Kept.{Kept}
 use Rattle.ec_judge.specs.declared.carried.Start.{Start}
 use Rattle.ec_judge.specs.Carried.{Known, op_of, ops_of, is_among, IsUncovered, IsUntouched, is_touched, is_covered, IsFlagged}
 use Rattle.ec_judge.specs.Faults.{AreUncovered, AreUntouched}
 use Rattle.ec_judge.proofs.Numbers.{all-member}
+use Rattle.ec_base.proofs.Bools.{both, first as left, right, on as holds, is-true}
 
 -- Kept.
 

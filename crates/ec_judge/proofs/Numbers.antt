@@ -7,7 +7,6 @@ use Rattle.std.specs.FinMap.Entries.{below_all}
 use Rattle.ec_base.specs.SortedLaws.{first, second}
 use Rattle.std.specs.List.{filter, list_all, list_any}
 use Rattle.std.proofs.lemmas.Bool.{and_parts, eqb-true, true≢false}
-use Rattle.std.proofs.lemmas.Bool.Decides.{nat_tests}
 use Rattle.std.proofs.lemmas.List.Elements.{filter-append}
 use Rattle.ec_volume.specs.Update.{member}
 use Rattle.ec_volume.specs.declared.update.Update.{Update}
@@ -22,10 +21,12 @@ use Rattle.ec_laws.proofs.Cuts.{throughout-append}
 use Rattle.ec_laws.proofs.Issues.{by-steps}
 use Rattle.ec_laws.proofs.Unlost as unlosts
 use Rattle.ec_laws.proofs.More.{kept-step, issued-step, is_lost-append, count-step}
-use Rattle.ec_laws.proofs.Numbers.{count, IsUpTo, issued-up_to, kept-up_to, kept-each, throughout-issued, covers-up_to, each-append, each-map}
-use Rattle.ec_laws.proofs.Removed.{both, left, right}
-use Rattle.ec_laws.proofs.Objects.{holds, is-true}
+use Rattle.ec_laws.proofs.Numbers.{count, IsUpTo, issued-up_to, kept-up_to, kept-each, throughout-issued, covers-up_to, each-append}
 use Rattle.ec_judge.specs.Carried.{IsUncovered, IsUntouched}
+use Rattle.ec_base.proofs.Numbers.{itself}
+use Rattle.ec_base.proofs.Bools.{both, first as left, right, on as holds, is-true}
+use Rattle.ec_laws.proofs.BasesAlike.{each-map}
+use Rattle.ec_base.proofs.Lists.{filter-swap}
 
 -- Lists.
 
@@ -36,20 +37,6 @@ each-kept P Q p f (x ∷ xs) h = go (p x) refl (each-kept P Q p f xs h.1)
     go : (b : Bool) → p x ≡ b → Each Q (filter p xs) → Each Q (cond b (x ∷ filter p xs) (filter p xs))
     go true e r = (f x e h.0, r)
     go false e r = r
-
-pub each-both : {A : Type 0} (P Q : A → Type 0) (xs : List A) → Each P xs → Each Q xs → Each (λ x. P x × Q x) xs
-each-both P Q [] h k = tt
-each-both P Q (x ∷ xs) h k = ((h.0, k.0), each-both P Q xs h.1 k.1)
-
-filter-swap : {A : Type 0} (p q : A → Bool) (xs : List A) → filter p (filter q xs) ≡ filter q (filter p xs)
-filter-swap p q [] = refl
-filter-swap p q (x ∷ xs) = go (p x) (q x) refl refl (filter-swap p q xs)
-  where
-    go : (a b : Bool) → p x ≡ a → q x ≡ b → filter p (filter q xs) ≡ filter q (filter p xs) → filter p (cond b (x ∷ filter q xs) (filter q xs)) ≡ filter q (cond a (x ∷ filter p xs) (filter p xs))
-    go true true d e r = ap (λ c. cond c (x ∷ filter p (filter q xs)) (filter p (filter q xs))) d ∙ ap (λ l. x ∷ l) r ∙ sym (ap (λ c. cond c (x ∷ filter q (filter p xs)) (filter q (filter p xs))) e)
-    go true false d e r = r ∙ sym (ap (λ c. cond c (x ∷ filter q (filter p xs)) (filter q (filter p xs))) e)
-    go false true d e r = ap (λ c. cond c (x ∷ filter p (filter q xs)) (filter p (filter q xs))) d ∙ r
-    go false false d e r = r
 
 filter-none : {A : Type 0} (p : A → Bool) (xs : List A) → Each (λ x. p x ≡ false) xs → filter p xs ≡ []
 filter-none p [] h = refl
@@ -86,11 +73,8 @@ not-one c b m n k u l = go (is_one_of c b (n ∷ []) k) refl
 abbrev pub only : List Op → Op → Type 0
 only ks k = filter (is_one_of k.clerk k.boot (k.number ∷ [])) ks ≡ k ∷ []
 
-same-self : (n : ℕ) → (n == n) ≡ true
-same-self n = grind (arith, nat_tests)
-
 own-one : (k : Op) → is_one_of k.clerk k.boot (k.number ∷ []) k ≡ true
-own-one k = ap (λ x. (x && (k.boot == k.boot)) && ((k.number == k.number) || false)) (same-self k.clerk) ∙ ap (λ x. x && ((k.number == k.number) || false)) (same-self k.boot) ∙ ap (λ x. x || false) (same-self k.number)
+own-one k = ap (λ x. (x && (k.boot == k.boot)) && ((k.number == k.number) || false)) (itself k.clerk) ∙ ap (λ x. x && ((k.number == k.number) || false)) (itself k.boot) ∙ ap (λ x. x || false) (itself k.number)
 
 -- one more operation, with a number above those of its start
 only-more : (ks : List Op) (j : Op) (m : ℕ) → Each (only ks) ks → Each (IsUpTo j.clerk j.boot m) ks → m < j.number → Each (only (ks ++ j ∷ [])) (ks ++ j ∷ [])
@@ -111,7 +95,7 @@ only-more ks j m h u l =
             let parts = one-parts k.clerk k.boot k.number j e in
             let both = and_parts (k.clerk == j.clerk) (k.boot == j.boot) parts.0 in
             let own : of_start j.clerk j.boot k ≡ true = ap (λ x. (x == k.clerk) && (j.boot == k.boot)) (sym (eqb-true k.clerk j.clerk both.0)) ∙ ap (λ x. (k.clerk == k.clerk) && (x == k.boot)) (sym (eqb-true k.boot j.boot both.1))
-            ∙ ap (λ x. x && (k.boot == k.boot)) (same-self k.clerk) ∙ same-self k.boot in
+            ∙ ap (λ x. x && (k.boot == k.boot)) (itself k.clerk) ∙ itself k.boot in
             absurd (omega (arith, v own, parts.1, l))
 
     old : (xs : List Op) → Each (only ks) xs → Each (IsUpTo j.clerk j.boot m) xs → Each (only (ks ++ j ∷ [])) xs

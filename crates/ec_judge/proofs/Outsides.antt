@@ -15,10 +15,7 @@ use Rattle.ec_judge.specs.declared.carried.Kept.{Kept}
 use Rattle.ec_judge.specs.Carried.{op_of, ops_of}
 use Rattle.ec_outside.specs.Outside.{is_after}
 use Rattle.ec_judge.proofs.Loops.{back-more}
-
-and-false : (b : Bool) → (b && false) ≡ false
-and-false true = refl
-and-false false = refl
+use Rattle.ec_base.proofs.Bools.{and-none}
 
 any-nothing : (ts : Table (Unit {0})) (os : List ℕ) → ts ≡ [] → list_any (λ o. is_some (at o ts)) os ≡ false
 any-nothing ts [] e = refl
@@ -66,7 +63,7 @@ module _ (inside own : Op → Bool) (ks : List Kept) where
 
   closed-off : (hs js : List Op) → is_closed inside js ≡ false → is_closed inside (hs ++ js) ≡ false
   closed-off [] js e = e
-  closed-off (h ∷ hs) js e = ap (λ z. (not (inside h) || list_all (λ j. inside j || not (before h.update j.update)) (hs ++ js)) && z) (closed-off hs js e) ∙ and-false (not (inside h) || list_all (λ j. inside j || not (before h.update j.update)) (hs ++ js))
+  closed-off (h ∷ hs) js e = ap (λ z. (not (inside h) || list_all (λ j. inside j || not (before h.update j.update)) (hs ++ js)) && z) (closed-off hs js e) ∙ and-none (not (inside h) || list_all (λ j. inside j || not (before h.update j.update)) (hs ++ js))
 
   module _ (n i : ℕ) (k : Kept) (next : n ≡ i + 1) (within : i < length ks) (is : k ≡ get_or ks i k) (objs others : Table (Unit {0})) (from : Closing n objs others) where
     w : Closing (i + 1) objs others

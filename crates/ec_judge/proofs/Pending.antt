@@ -13,32 +13,22 @@ use Rattle.ec_volume.specs.Update.{member}
 use Rattle.ec_volume.specs.declared.update.Update.{Update}
 use Rattle.ec_order.specs.Order.{needs, closure}
 use Rattle.ec_history.specs.History.{Each}
-use Rattle.ec_laws.proofs.Numbers.{each-append, each-filter, each-map}
-use Rattle.ec_laws.proofs.Objects.{holds, is-true}
-use Rattle.ec_laws.proofs.Removed.{both, left, right}
+use Rattle.ec_laws.proofs.Numbers.{each-append, each-filter}
 use Rattle.ec_pending.specs.declared.issue.Issue.{Issue}
 use Rattle.ec_judge.specs.Carried.{IsUpward}
 use Rattle.ec_pending.specs.Pending.{numbers_in, is_in, numbered, taken, rest}
-use Rattle.ec_judge.proofs.Numbers.{each-both}
+use Rattle.ec_base.proofs.Numbers.{itself}
+use Rattle.ec_base.proofs.Bools.{both, first as left, right, or-none, on as holds, and-none, is-true}
+use Rattle.ec_laws.proofs.BasesAlike.{each-map}
+use Rattle.ec_laws.proofs.IdleIds.{both as each-both}
 
 -- Numbers.
-
-same : (n : ℕ) → (n == n) ≡ true
-same n = grind (arith, nat_tests)
 
 lower : (m n : ℕ) → m < n → (m == n) ≡ false
 lower m n l = grind (arith, nat_tests, l)
 
 higher : (m n : ℕ) → m < n → (n == m) ≡ false
 higher m n l = grind (arith, nat_tests, l)
-
-pub or-none : (x : Bool) → x ≡ (x || false)
-or-none true = refl
-or-none false = refl
-
-and-none : (x : Bool) → (x && false) ≡ false
-and-none true = refl
-and-none false = refl
 
 -- the numbers rise
 abbrev pub Rising : List Issue → Type 0
@@ -150,7 +140,7 @@ module _ (p : Issue → Bool) where
           → cond b (rest p is) (i ∷ rest p is) ≡ filter (λ j. not (is_in (cond b (i ∷ taken p is) (taken p is)) j.number)) (i ∷ is)
       go true q =
           q ∙ filter-same (λ j. not (is_in (taken p is) j.number)) (λ j. not (is_in (i ∷ taken p is) j.number)) is apart
-          ∙ sym (ap (λ z. cond (not (z || is_in (taken p is) i.number)) (i ∷ filter (λ j. not (is_in (i ∷ taken p is) j.number)) is) (filter (λ j. not (is_in (i ∷ taken p is) j.number)) is)) (same i.number))
+          ∙ sym (ap (λ z. cond (not (z || is_in (taken p is) i.number)) (i ∷ filter (λ j. not (is_in (i ∷ taken p is) j.number)) is) (filter (λ j. not (is_in (i ∷ taken p is) j.number)) is)) (itself i.number))
       go false q =
           ap (λ l. i ∷ l) q
           ∙ sym (ap (λ z. cond (not z) (i ∷ filter (λ j. not (is_in (taken p is) j.number)) is) (filter (λ j. not (is_in (taken p is) j.number)) is)) (absent-in i.number (taken p is) (taken-each (λ j. i.number < j.number) is r.0)))
@@ -229,7 +219,7 @@ upward-rest p g (i ∷ is) r u = go (p i || list_any (λ j. needs i.update j.upd
 
     go : (b : Bool) → (p i || list_any (λ j. needs i.update j.update) (taken p is)) ≡ b → IsUpward (λ n. g n && not (is_in (taken p is) n)) is → IsUpward (λ n. g n && not (is_in (cond b (i ∷ taken p is) (taken p is)) n)) (i ∷ is)
     go true e k = (
-      λ t. absurd (no (i.number == i.number) (is_in (taken p is) i.number) (same i.number) (right (g i.number) _ t)),
+      λ t. absurd (no (i.number == i.number) (is_in (taken p is) i.number) (itself i.number) (right (g i.number) _ t)),
       upward-same (λ n. g n && not (is_in (taken p is) n)) (λ n. g n && not (is_in (i ∷ taken p is) n)) is
           (each-map (λ j. i.number < j.number) (λ j. (g j.number && not (is_in (taken p is) j.number)) ≡ (g j.number && not (is_in (i ∷ taken p is) j.number))) (λ j l. ap (λ z. g j.number && not z) (sym (ap (λ z. z || is_in (taken p is) j.number) (higher i.number j.number l)))) is r.0) k,
     )
@@ -322,7 +312,7 @@ passing p [] r = tt
 passing p (i ∷ is) r = (head (p i) refl, each-map (λ j. (i.number < j.number) × (p j ≡ is_in (filter p is) j.number)) (λ j. p j ≡ is_in (filter p (i ∷ is)) j.number) (λ j h. h.1 ∙ behind (p i) j h.0) is (each-both (λ j. i.number < j.number) (λ j. p j ≡ is_in (filter p is) j.number) is r.0 (passing p is r.1)))
   where
     head : (a : Bool) → p i ≡ a → p i ≡ is_in (cond a (i ∷ filter p is) (filter p is)) i.number
-    head true e = e ∙ sym (ap (λ z. z || is_in (filter p is) i.number) (same i.number))
+    head true e = e ∙ sym (ap (λ z. z || is_in (filter p is) i.number) (itself i.number))
     head false e = e ∙ sym (absent-in i.number (filter p is) (each-filter (λ j. i.number < j.number) p is r.0))
 
     behind : (a : Bool) (j : Issue) → i.number < j.number → is_in (filter p is) j.number ≡ is_in (cond a (i ∷ filter p is) (filter p is)) j.number

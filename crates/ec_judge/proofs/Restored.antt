@@ -15,15 +15,18 @@ use Rattle.ec_overlay.specs.Shown.{laid_or, shown, has_own}
 use Rattle.ec_overlay.specs.declared.overlay.Overlay.{Overlay}
 use Rattle.ec_objtable.specs.Slots.{held}
 use Rattle.ec_history.specs.History.{Op, Each, updates, is_one_of}
-use Rattle.ec_laws.proofs.Numbers.{each-append, each-filter, each-map}
-use Rattle.ec_laws.proofs.Objects.{holds, is-true, fits-no, after-no, after-append, fits-append}
-use Rattle.ec_laws.proofs.Removed.{left}
+use Rattle.ec_laws.proofs.Numbers.{each-append, each-filter}
+use Rattle.ec_laws.proofs.Objects.{fits-no, after-no}
 use Rattle.ec_judge.specs.declared.carried.Kept.{Kept}
 use Rattle.ec_judge.specs.declared.carried.Firm.{Firm}
 use Rattle.ec_judge.proofs.Loops.{front-more, part-front, part-all}
 use Rattle.ec_judge.proofs.Prefixes.{left-all}
 use Rattle.ec_judge.proofs.Volumes.{first-none, or-out, none-some, fits-last}
 use Rattle.ec_judge.specs.Carried.{op_of, ops_of, is_among, is_noted, AreLaid, AreNoted, IsFront, IsFrontAt, IsWholeBeside, IsBehind, IsRestored, IsLeft}
+use Rattle.ec_base.proofs.Bools.{first as left, off-of, on as holds, is-true}
+use Rattle.ec_history.proofs.HistoryLemmas.{updates-append}
+use Rattle.ec_laws.proofs.BasesAlike.{each-map}
+use Rattle.ec_volume.proofs.Fitting.{image_joined as after-append, turns_joined as fits-append}
 
 -- Operations that aren't on an object.
 
@@ -63,13 +66,9 @@ pass-fits o q i (k ∷ js) h = go (q k) refl (pass-fits o q (image_next o i k.up
 
 -- Lists in two parts.
 
-ops-append : (ks js : List Kept) → ops_of (ks ++ js) ≡ ops_of ks ++ ops_of js
+pub ops-append : (ks js : List Kept) → ops_of (ks ++ js) ≡ ops_of ks ++ ops_of js
 ops-append [] js = refl
 ops-append (k ∷ ks) js = ap (λ l. op_of k ∷ l) (ops-append ks js)
-
-updates-append : (ks js : List Op) → updates (ks ++ js) ≡ updates ks ++ updates js
-updates-append [] js = refl
-updates-append (k ∷ ks) js = ap (λ l. k.update ∷ l) (updates-append ks js)
 
 each-drop : (P : Kept → Type 0) (ks : List Kept) (m n : ℕ) → m ≤ n → Each P (drop m ks) → Each P (drop n ks)
 each-drop P ks zero zero l h = h
@@ -85,10 +84,6 @@ each-ops P Q f (k ∷ ks) h = (f k h.0, each-ops P Q f ks h.1)
 
 two-parts : (ks : List Kept) (n : ℕ) → ops_of (take n ks) ++ ops_of (drop n ks) ≡ ops_of ks
 two-parts ks n = sym (ops-append (take n ks) (drop n ks)) ∙ ap ops_of (take-append-drop n ks)
-
-not-on : (b : Bool) → (T b → ⊥) → b ≡ false
-not-on true f = absurd (f tt)
-not-on false f = refl
 
 -- Noted operands.
 
@@ -292,7 +287,7 @@ module _ (c b : ℕ) (ns : List ℕ) (ks : List Kept) where
         go (Some i) e = ap (λ t. laid_or l.under o (held o t)) over ∙ ap (laid_or l.under o) e ∙ sym (ap (laid_or l0.under o) e) ∙ show o
         go None e =
             ap (λ t. laid_or l.under o (held o t)) over ∙ ap (laid_or l.under o) e
-            ∙ under-same o (each-ops (λ k. (p : ℕ) → T (member p (operands k.update)) → T (has_own l0 p)) (λ k. has_operand o k.update ≡ false) (λ k f. not-on (has_operand o k.update) (λ t. subst (λ x. T (is_some x)) e (f o t))) (drop n ks)
+            ∙ under-same o (each-ops (λ k. (p : ℕ) → T (member p (operands k.update)) → T (has_own l0 p)) (λ k. has_operand o k.update ≡ false) (λ k f. off-of (has_operand o k.update) (λ t. subst (λ x. T (is_some x)) e (f o t))) (drop n ks)
             (each-drop (λ k. (p : ℕ) → T (member p (operands k.update)) → T (has_own l0 p)) ks m n le laid))
 
     -- the volume with the operands of what is lost, or of all, as it is below
@@ -305,7 +300,7 @@ module _ (c b : ℕ) (ns : List ℕ) (ks : List Kept) where
           subst (ArePast o q) (two-parts ks n)
           (each-append (λ k. q k ≡ false → has_operand o k.update ≡ false) (ops_of (take n ks)) (ops_of (drop n ks)) (unlost-past o (take n ks) h.unlost)
           (each-ops (λ k. is_among c b ns k ≡ true → (p : ℕ) → T (member p (operands k.update)) → noted p ≡ true) (λ k. q k ≡ false → has_operand o k.update ≡ false)
-          (λ k f e. not-on (has_operand o k.update) (λ t. true≢false (sym (f (lost (is_among c b ns k) e) o t) ∙ m))) (drop n ks) a))
+          (λ k f e. off-of (has_operand o k.update) (λ t. true≢false (sym (f (lost (is_among c b ns k) e) o t) ∙ m))) (drop n ks) a))
         where
           lost : (x : Bool) → not x ≡ false → x ≡ true
           lost true e = refl
@@ -346,7 +341,7 @@ module _ (c b : ℕ) (ns : List ℕ) (ks : List Kept) where
               passing (k ∷ js) a = go (q (op_of k)) (passing js a.1)
                 where
                   go : (x : Bool) → AreAway o (filter q (ops_of js)) → AreAway o (cond x (op_of k ∷ filter q (ops_of js)) (filter q (ops_of js)))
-                  go true z = (not-on (has_operand o k.update) (λ t. true≢false (sym (a.0 refl o t) ∙ m)), z)
+                  go true z = (off-of (has_operand o k.update) (λ t. true≢false (sym (a.0 refl o t) ∙ m)), z)
                   go false z = z
 
   -- the operations that stay, behind the first ones

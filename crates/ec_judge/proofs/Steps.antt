@@ -27,8 +27,6 @@ use Rattle.ec_history.specs.declared.rule.Rule.TheVariants as rule
 use Rattle.ec_laws.proofs.Laws.{call-sound, call-fits}
 use Rattle.ec_laws.proofs.More.{kept-step, count-next}
 use Rattle.ec_laws.proofs.Numbers.{count, IsUpTo, issued-up_to, kept-up_to, each-append}
-use Rattle.ec_laws.proofs.Objects.{holds, is-true, after-append}
-use Rattle.ec_laws.proofs.Removed.{left}
 use Rattle.ec_judge.specs.declared.carried.Kept.{Kept}
 use Rattle.ec_judge.specs.declared.carried.Issuer.{Issuer}
 use Rattle.ec_judge.specs.declared.carried.Start.{Start}
@@ -47,13 +45,18 @@ use Rattle.ec_laws.proofs.Issues.{issue-sorted}
 use Rattle.ec_judge.proofs.Numbers.{each-kept, only, unlost, kept-only, kept-unlost, new-uncovered, new-untouched}
 use Rattle.ec_judge.proofs.Flags.{flag-step, through-more, through-front, through-last, touched-one, covered-one}
 use Rattle.ec_judge.proofs.Asked.{asks-same, asked-same, issue-same}
-use Rattle.ec_judge.proofs.Pending.{Rising, rising-from, or-none, pending-own, upward-own, pending-next, taken-closure, in-append}
+use Rattle.ec_judge.proofs.Pending.{Rising, rising-from, pending-own, upward-own, pending-next, taken-closure, in-append}
 use Rattle.std.specs.Prelude.{Result, Ok, Err, IfOk, OnOk}
 use Rattle.std.proofs.lemmas.List.Sums.{passes_at_first}
 use Rattle.ec_judge.proofs.AllStarts.{found-at, start-same, own-issued, lost-issued, pending-set, own-count, own-met, own-lost, starts-next}
-use Rattle.ec_judge.proofs.Volumes.{all-same, first-fits}
+use Rattle.ec_judge.proofs.Volumes.{first-fits}
 use Rattle.ec_judge.proofs.Prefixes.{firm-more}
 use Rattle.ec_judge.proofs.Lost.{kept-same, uncovered-yes, uncovered-no, untouched-yes, untouched-no}
+use Rattle.ec_base.proofs.Bools.{first as left, or-none, on as holds, is-true}
+use Rattle.ec_judge.proofs.Restored.{ops-append}
+use Rattle.ec_history.proofs.HistoryLemmas.{updates-append}
+use Rattle.ec_volume.proofs.VolumeLemmas.{all-same}
+use Rattle.ec_volume.proofs.Fitting.{image_joined as after-append}
 
 abbrev F : Base
 F = from_formatted
@@ -124,14 +127,6 @@ keeps-issued ks by l g cl a (Some n) out e = ap (λ o. ops_of (keeps_of by (Some
     go : (u : Option Update) → ops_of (keeps_of by (Some n) u) ≡ elim u [ None ↦ [] | Some w ↦ record { clerk = by.clerk; boot = by.boot; number = n; place = by.place; update = w } ∷ [] ]
     go None = refl
     go (Some w) = refl
-
-ops-append : (ks js : List Kept) → ops_of (ks ++ js) ≡ ops_of ks ++ ops_of js
-ops-append [] js = refl
-ops-append (k ∷ ks) js = ap (λ l. op_of k ∷ l) (ops-append ks js)
-
-updates-append : (ks js : List Op) → updates (ks ++ js) ≡ updates ks ++ updates js
-updates-append [] js = refl
-updates-append (k ∷ ks) js = ap (λ l. k.update ∷ l) (updates-append ks js)
 
 -- turns and numbers of one entry more
 

@@ -18,13 +18,11 @@ use Rattle.ec_history.specs.History.{Op, of_start, of_issue, is_one_of}
 use Rattle.ec_history.specs.Legal.{is_closed}
 use Rattle.ec_history.specs.declared.rule.Rule.{Rule}
 use Rattle.ec_history.specs.declared.rule.Rule.TheVariants as rule
-use Rattle.ec_laws.proofs.Objects.{holds, is-true}
 use Rattle.ec_judge.specs.declared.carried.Kept.{Kept}
 use Rattle.ec_judge.proofs.Loops.{cut-at}
 use Rattle.ec_judge.specs.Carried.{Known, op_of, ops_of, is_among, is_touched, are_kept, are_uncovered, are_untouched, are_closed, KeepsMarks, BreaksMarks}
-
-abbrev pub IsUnder : ℕ → List ℕ → Type 0
-IsUnder m ns = (n : ℕ) → T (member n ns) → m ≤ n
+use Rattle.ec_base.proofs.Bools.{on as holds, is-true}
+use Rattle.ec_numbers.proofs.Least.{IsUnder}
 
 -- None of the start's operations before one up to the least number is lost.
 

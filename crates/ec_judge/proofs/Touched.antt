@@ -7,24 +7,12 @@ use Rattle.std.proofs.lemmas.Bool.Decides.{nat_tests}
 use Rattle.ec_volume.specs.Update.{member}
 use Rattle.ec_judge.specs.declared.carried.Touches.{Touches}
 use Rattle.ec_judge.specs.Carried.{Known, touched_next, is_since, AreBelow}
-
-flip : (x y : ℕ) → (x == y) ≡ (y == x)
-flip x y = grind (arith, nat_tests)
-
-same : (x : ℕ) → (x == x) ≡ true
-same x = grind (arith, nat_tests)
-
-or-none : (x : Bool) → x ≡ (x || false)
-or-none true = refl
-or-none false = refl
+use Rattle.ec_base.proofs.Bools.{or-none, and-false}
+use Rattle.ec_base.proofs.Numbers.{flip_too}
 
 or-all : (x : Bool) → true ≡ (x || true)
 or-all true = refl
 or-all false = refl
-
-and-none : (x : Bool) → false ≡ (x && false)
-and-none true = refl
-and-none false = refl
 
 -- a call of the clerk c at the turn t touched these objects
 module _ (c t : ℕ) (objs : List ℕ) (old new : Known) (is : (o : ℕ) → new o ≡ cond (member o objs) (Some (touched_next c t (old o))) (old o)) where
@@ -38,8 +26,8 @@ module _ (c t : ℕ) (objs : List ℕ) (old new : Known) (is : (o : ℕ) → new
       some = grind (arith, nat_tests, l)
 
       go : (b : Bool) → (c == d) ≡ b → nat_lt u (cond (c == d) 0 t) ≡ (false || (not (d == c) && true))
-      go true e = ap (λ z. nat_lt u (cond z 0 t)) e ∙ none ∙ sym (ap (λ z. false || (not z && true)) (flip d c ∙ e))
-      go false e = ap (λ z. nat_lt u (cond z 0 t)) e ∙ some ∙ sym (ap (λ z. false || (not z && true)) (flip d c ∙ e))
+      go true e = ap (λ z. nat_lt u (cond z 0 t)) e ∙ none ∙ sym (ap (λ z. false || (not z && true)) (flip_too d c ∙ e))
+      go false e = ap (λ z. nat_lt u (cond z 0 t)) e ∙ some ∙ sym (ap (λ z. false || (not z && true)) (flip_too d c ∙ e))
   one-since d u (Some x) l = go (c == d) refl
     where
       some : nat_lt u t ≡ true
@@ -50,23 +38,23 @@ module _ (c t : ℕ) (objs : List ℕ) (old new : Known) (is : (o : ℕ) → new
           ap (λ z. nat_lt u (cond z (cond (x.clerk == c) x.other x.last) t)) e
           ∙ ap (λ z. nat_lt u (cond (x.clerk == z) x.other x.last)) (eqb-true c d e)
           ∙ or-none (nat_lt u (cond (x.clerk == d) x.other x.last))
-          ∙ sym (ap (λ z. nat_lt u (cond (x.clerk == d) x.other x.last) || (not z && true)) (flip d c ∙ e))
+          ∙ sym (ap (λ z. nat_lt u (cond (x.clerk == d) x.other x.last) || (not z && true)) (flip_too d c ∙ e))
       go false e =
           ap (λ z. nat_lt u (cond z (cond (x.clerk == c) x.other x.last) t)) e
           ∙ some
           ∙ or-all (nat_lt u (cond (x.clerk == d) x.other x.last))
-          ∙ sym (ap (λ z. nat_lt u (cond (x.clerk == d) x.other x.last) || (not z && true)) (flip d c ∙ e))
+          ∙ sym (ap (λ z. nat_lt u (cond (x.clerk == d) x.other x.last) || (not z && true)) (flip_too d c ∙ e))
 
   since-next : (d u o : ℕ) → u < t → is_since d u (new o) ≡ (is_since d u (old o) || (not (d == c) && member o objs))
   since-next d u o l = ap (is_since d u) (is o) ∙ go (member o objs)
     where
       go : (m : Bool) → is_since d u (cond m (Some (touched_next c t (old o))) (old o)) ≡ (is_since d u (old o) || (not (d == c) && m))
       go true = one-since d u (old o) l
-      go false = or-none (is_since d u (old o)) ∙ ap (λ z. is_since d u (old o) || z) (and-none (not (d == c)))
+      go false = or-none (is_since d u (old o)) ∙ ap (λ z. is_since d u (old o) || z) (and-false (not (d == c)))
 
   -- what was issued before the call
   pub any-since : (d u : ℕ) (os : List ℕ) → u < t → list_any (λ o. is_since d u (new o)) os ≡ (list_any (λ o. is_since d u (old o)) os || (not (d == c) && list_any (λ o. member o objs) os))
-  any-since d u [] l = and-none (not (d == c))
+  any-since d u [] l = and-false (not (d == c))
   any-since d u (o ∷ os) l = ap (λ z. z || list_any (λ o. is_since d u (new o)) os) (since-next d u o l) ∙ ap (λ z. (is_since d u (old o) || (not (d == c) && member o objs)) || z) (any-since d u os l)
       ∙ mix (is_since d u (old o)) (not (d == c)) (member o objs) (list_any (λ o. is_since d u (old o)) os) (list_any (λ o. member o objs) os)
     where

@@ -15,7 +15,6 @@ use Rattle.ec_protocol.specs.declared.server.Server.{Server}
 use Rattle.ec_coherence.specs.System.{System, Ghost}
 use Rattle.ec_coherence.specs.Steps.{doing_in, sends, serving_in}
 use Rattle.ec_coherence.proofs.Lists.{each-more}
-use Rattle.ec_coherence.proofs.Tables.{equal}
 use Rattle.ec_coherence.specs.CommitLaws.{AllAgree}
 use Rattle.ec_coherence.specs.StandLaws.{crashed, lined, stopped}
 use Rattle.ec_lawful.specs.Doubts.{DoubtAgrees, doubted}
@@ -27,6 +26,7 @@ use Rattle.ec_lawful.specs.Asked.{AsksAgree, IsNoBye}
 use Rattle.ec_lawful.specs.AskedLaws.{RestsKeep, StepsStay}
 use Rattle.ec_lawful.proofs.Said.{IsOwn, begin-own, own-silent, push-own, resend-own, start-own, take-own}
 use Rattle.ec_lawful.proofs.Told.{end-right, start-right, take-right}
+use Rattle.ec_base.proofs.Numbers.{equal}
 
 module _ (first : ℕ → ℕ) where
   abbrev Q : System → Type 0

@@ -13,8 +13,9 @@ use Rattle.ec_coherence.specs.Log.{LogsAgree}
 use Rattle.ec_coherence.specs.Images.{ImagesAgree}
 use Rattle.ec_coherence.specs.Stops.{MayStep, RunsOn, StopsAgree}
 use Rattle.ec_coherence.specs.Steps.{serving_in}
-use Rattle.ec_coherence.proofs.Lists.{each-front, each-turn, no_both}
+use Rattle.ec_coherence.proofs.Lists.{each-front, each-turn}
 use Rattle.ec_lawful.specs.Founds.{bare}
+use Rattle.ec_base.proofs.Bools.{not-both as no_both}
 
 -- Of the ghosts the owners and what was taken are read.
 module _ (g : System) (v : Option Server) (p : List (ℕ × Msg)) (e : g.pool ≡ p) (γ : Ghost) where

@@ -5,7 +5,7 @@ use Rattle.std.proofs.lemmas.Bool.{cases_eq, ne_eqb}
 use Rattle.ec_base.specs.Tables.{at, keys}
 use Rattle.ec_volume.specs.Update.{member}
 use Rattle.ec_volume.specs.declared.update.Update.{Update}
-use Rattle.ec_history.specs.History.{Each, Op, numbers, of_start}
+use Rattle.ec_history.specs.History.{Op, numbers, of_start}
 use Rattle.ec_history.specs.Placing.{watch}
 use Rattle.ec_history.specs.declared.watch.Watch.{Watch}
 use Rattle.ec_sessions.specs.Slots.{Slots, slot_at, with_slot}
@@ -30,10 +30,10 @@ use Rattle.ec_coherence.proofs.Batched.{sent-numbers}
 use Rattle.ec_coherence.proofs.Carried.{all_carried, less, updates_in}
 use Rattle.ec_coherence.proofs.CommitAgrees.{commit-images, commit-logs}
 use Rattle.ec_coherence.proofs.Committing.{Commits, commits, committed}
-use Rattle.ec_coherence.proofs.Lists.{and_first, filter-alike}
+use Rattle.ec_coherence.proofs.Lists.{filter-alike}
 use Rattle.ec_coherence.proofs.Marked.{marked-sessions, open-same}
 use Rattle.ec_coherence.proofs.SlotLaws.{in-range, slot-changed}
-use Rattle.ec_coherence.proofs.Tables.{equal, holds, is-true, same, same_some}
+use Rattle.ec_coherence.proofs.Tables.{same_some}
 use Rattle.ec_coherence.specs.CommitLaws.{AllAgree, show_batch}
 use Rattle.ec_coherence.specs.Starts.{AreAlike, StartsAgree}
 use Rattle.ec_coherence.specs.Watches.{WatchesAgree, still_in}
@@ -41,6 +41,9 @@ use Rattle.ec_coherence.proofs.Durables as durables
 use Rattle.ec_coherence.proofs.Durables.{durable-events, member-less, numbers-left}
 use Rattle.ec_lawful.proofs.Bares.{fewer-images, fewer-logs, idle, idle-sessions, owned-sessions, stops-of}
 use Rattle.ec_lawful.specs.Founds.{bare}
+use Rattle.ec_base.proofs.Bools.{left as and_first, left-other, left-own, is-true, holds-true as holds}
+use Rattle.ec_base.proofs.Numbers.{same-self as same, equal}
+use Rattle.ec_coherence.proofs.BatchCommits.{every}
 
 -- lists of slots that show the same
 same-slots : (xs ys : Slots) → length xs ≡ length ys → ((i : ℕ) → slot_at xs i ≡ slot_at ys i) → xs ≡ ys
@@ -64,24 +67,6 @@ all-members P (x ∷ xs) f = both (P x) (list_all P xs) (f x (subst (λ b. T (b 
     both : (a b : Bool) → T a → T b → T (a && b)
     both true b t s = s
     both false b t s = absurd t
-
--- what is left where these of one start become durable
-left-own : (o d m : Bool) → ((o && not d) && not m) ≡ (o && not (d || (o && m)))
-left-own true true m = refl
-left-own true false m = refl
-left-own false d m = refl
-
-left-other : (o d x m : Bool) → (T o → x ≡ false) → (o && not (d || (x && m))) ≡ (o && not d)
-left-other true d x m f = ap (λ z. not (d || (z && m))) (f tt) ∙ by d
-  where
-    by : (d : Bool) → not (d || false) ≡ not d
-    by true = refl
-    by false = refl
-left-other false d x m f = refl
-
-every : (P : Op → Type 0) → ((k : Op) → P k) → (ks : List Op) → Each P ks
-every P f [] = tt
-every P f (k ∷ ks) = (f k, every P f ks)
 
 module _ (g : System) (all : AllAgree (bare g)) (c : ℕ) (sl : Slot) (k : Clerk) (in_slot : slot g.durable c ≡ Some sl) (opened : T sl.is_open) (there : clerk_in (bare g) sl.session ≡ Some k)
     (b : ℕ) (ns : List ℕ) (under : at b k.log.batches ≡ Some ns) (unmarked : T (not (has sl.window b))) where

@@ -9,8 +9,8 @@ use Rattle.ec_history.specs.Placing.{EachLine, call_entry, is_call_of, is_end_of
 use Rattle.ec_history.specs.declared.shown.Shown.{Shown}
 use Rattle.ec_history.specs.declared.shown.Shown.TheVariants as show
 use Rattle.ec_laws.specs.Bases.{is_bounded_entry}
-use Rattle.ec_coherence.proofs.Lists.{and_both, and_first, and_next}
 use Rattle.ec_lawful.specs.Calls.{IsOf}
+use Rattle.ec_base.proofs.Bools.{left as and_first, and-both as and_both, right as and_next}
 
 abbrev pub IsBounded : ℕ → ℕ → Call → Type 0
 IsBounded l c cl = T (is_bounded cl)

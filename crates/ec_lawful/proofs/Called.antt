@@ -1,5 +1,5 @@
 -- A call of a running clerk has begun.
-use Rattle.std.proofs.Common.{◌≡◌, refl, sym, ap, subst, ◌∙◌, inl, inr, ◌⊎◌, arith, ◌<◌, ◌+◌, ◌-◌, ℕ, T, Bool, true, false, ◌==◌, [], Option, Some, None, append-nil}
+use Rattle.std.proofs.Common.{◌≡◌, refl, sym, ap, subst, ◌∙◌, inl, inr, ◌⊎◌, ◌+◌, ◌-◌, ℕ, T, Bool, true, false, [], Option, Some, None, append-nil}
 use Rattle.ec_base.specs.Tables.{at_or, put}
 use Rattle.ec_plain.specs.BoundedCalls.{is_bounded}
 use Rattle.ec_plain.specs.declared.call.Call.{Call}
@@ -28,13 +28,11 @@ use Rattle.ec_clerk_steps.proofs.Lined.{lined-all, lined-calls, untold-still}
 use Rattle.ec_clerk_steps.proofs.Quiet.{split-start}
 use Rattle.ec_clerk_steps.proofs.Shown.{waits-stand}
 use Rattle.ec_lawful.specs.BeginLaws.{HasBegun}
-
-less-apart : (j l : ℕ) → j < l → (j == l) ≡ false
-less-apart j l h = grind (arith, h)
+use Rattle.ec_base.proofs.Numbers.{other-number}
 
 -- a new line is of no call
 pub new-line : (g : System) (l : ℕ) → IsNew g l → IsNewLine g l
-new-line g l new = record { unshown = new.unshown; unused = λ c n j cl x. less-apart j l (new.unused c n j cl x) }
+new-line g l new = record { unshown = new.unshown; unused = λ c n j cl x. other-number j l (new.unused c n j cl x) }
 
 module _ (g : System) (all : AllAgree g) (q : CallsAgree g) (rest : AreAtRest g) (c b : ℕ) (k : Clerk) (run : g.running c ≡ Some b) (there : g.clerks c b ≡ Some k) (l : ℕ) (cl : Call) (new : IsNew g l) (bounded : T (is_bounded cl)) where
   abbrev n : ℕ

@@ -21,7 +21,7 @@ use Rattle.ec_protocol.specs.declared.clerk.Waiting.{Waiting}
 use Rattle.ec_coherence.specs.System.{System, Ghost, with_start}
 use Rattle.ec_coherence.specs.Steps.{call_of, calls_after, doing_in, sends}
 use Rattle.ec_coherence.proofs.Lists.{each-more, each-turn}
-use Rattle.ec_coherence.proofs.Tables.{equal, none_some, same, same_some}
+use Rattle.ec_coherence.proofs.Tables.{same_some}
 use Rattle.ec_coherence.specs.CommitLaws.{AllAgree}
 use Rattle.ec_coherence.specs.StandLaws.{lined}
 use Rattle.ec_clerk_steps.specs.Calls.{has_number, is_shown}
@@ -55,6 +55,8 @@ use Rattle.ec_lawful.proofs.Beginning.{begins}
 use Rattle.ec_lawful.proofs.Carrying.{no-zero}
 use Rattle.ec_lawful.proofs.Settling.{settles-call}
 use Rattle.ec_lawful.proofs.LinesLeft.{answered-gone, lines-at-end}
+use Rattle.ec_base.proofs.Numbers.{same-self as same, equal}
+use Rattle.ec_base.proofs.Options.{none_some}
 
 -- the second where the test fails
 cond-false : (z : Bool) (x y : Watch) → z ≡ false → Rattle.std.specs.Prelude.if◌then◌else◌ z x y ≡ y

@@ -31,12 +31,14 @@ use Rattle.ec_protocol.specs.declared.world.World.{World}
 use Rattle.ec_protocol.specs.declared.world.WorldFault.{WorldFault}
 use Rattle.ec_protocol.specs.declared.world.WorldFault.TheVariants as fault
 use Rattle.ec_coherence.specs.Steps.{call_of, calls_after, less_call, out_lines}
-use Rattle.ec_coherence.proofs.Tables.{at-put, at-without, equal, none_some, same_some}
+use Rattle.ec_coherence.proofs.Tables.{at-put, at-without, same_some}
 use Rattle.ec_lawful.specs.Calls.{AreOf, EachCall, IsOf, Tells}
 use Rattle.ec_lawful.proofs.Outs.{Calls, Came, came-out}
 use Rattle.ec_lawful.proofs.Pool.{Sends, sends-all}
+use Rattle.ec_base.proofs.Options.{none_some}
+use Rattle.ec_base.proofs.Numbers.{equal}
 
-each-line : (Q : Shown → Type 0) (xs ys : List Shown) → EachLine Q xs → EachLine Q ys → EachLine Q (xs ++ ys)
+pub each-line : (Q : Shown → Type 0) (xs ys : List Shown) → EachLine Q xs → EachLine Q ys → EachLine Q (xs ++ ys)
 each-line Q [] ys a b = b
 each-line Q (x ∷ xs) ys a b = (a.0, each-line Q xs ys a.1 b)
 

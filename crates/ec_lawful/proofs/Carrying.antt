@@ -6,7 +6,7 @@ use Rattle.ec_protocol.specs.Clerk.{Doing}
 use Rattle.ec_coherence.specs.System.{System, Ghost}
 use Rattle.ec_coherence.specs.Steps.{doing_in}
 use Rattle.ec_coherence.proofs.ClerkIn.{start-same}
-use Rattle.ec_coherence.proofs.Tables.{none_some, same_some}
+use Rattle.ec_coherence.proofs.Tables.{same_some}
 use Rattle.ec_coherence.specs.StandLaws.{IsUnderWay}
 use Rattle.ec_clerk_steps.specs.CallLaws.{IsQuiet}
 use Rattle.ec_clerk_steps.specs.Waits.{AreInTurn, HasLine}
@@ -23,6 +23,7 @@ use Rattle.ec_clerk_steps.specs.Trying.{IsTrying}
 use Rattle.ec_clerk_steps.specs.Zeros.{HasNoZero}
 use Rattle.ec_clerk_steps.proofs.ZerosBehind.{steps-keep}
 use Rattle.ec_lawful.specs.SettleLaws.{IsLined}
+use Rattle.ec_base.proofs.Options.{none_some}
 
 -- in a session the step is in hand
 pub in-hand : (g : System) (c b s : ℕ) (d : Doing) (γ : Ghost) → IsTrying g c b d γ → d.clerk.session ≡ Some s → IsInHand g c b s d γ

@@ -26,7 +26,7 @@ use Rattle.ec_protocol.specs.declared.world.WorldFault.{WorldFault}
 use Rattle.ec_protocol.specs.declared.world.WorldFault.TheVariants as fault
 use Rattle.ec_coherence.specs.System.{System}
 use Rattle.ec_coherence.specs.Steps.{call_of}
-use Rattle.ec_coherence.proofs.Tables.{none_some, same_some}
+use Rattle.ec_coherence.proofs.Tables.{same_some}
 use Rattle.ec_lawful.proofs.Pool.{sends-all}
 use Rattle.ec_coherence.specs.StandLaws.{lined}
 use Rattle.ec_lawful.specs.Headline.{Lines, Pieces, joined}
@@ -37,22 +37,21 @@ use Rattle.ec_lawful.specs.Steps.{Holds, IsNewIn, MayHappen, StepsKeep}
 use Rattle.ec_lawful.proofs.CallsShown.{MayBe, deliver-tells, event-tells, line-tells, quiet-tells, restart-tells}
 use Rattle.ec_lawful.proofs.Events.{deliver-holds, event-holds, restart-holds}
 use Rattle.ec_lawful.proofs.Frames.{forgotten-stands, lined-stands}
+use Rattle.ec_base.proofs.Options.{none_some}
+use Rattle.ec_base.proofs.Numbers.{longer}
 
 -- Calls of the lines so far are calls of more lines.
 
-slice-front : (xs ys : Lines) (n : ℕ) (x : Line) → slice_get xs n ≡ Some x → slice_get (xs ++ ys) n ≡ Some x
+pub slice-front : (xs ys : Lines) (n : ℕ) (x : Line) → slice_get xs n ≡ Some x → slice_get (xs ++ ys) n ≡ Some x
 slice-front [] ys n x q = absurd (none_some q)
 slice-front (z ∷ xs) ys zero x q = q
 slice-front (z ∷ xs) ys (suc n) x q = slice-front xs ys n x q
 
-slice-last : (xs : Lines) (x : Line) → slice_get (xs ++ x ∷ []) (length xs) ≡ Some x
+pub slice-last : (xs : Lines) (x : Line) → slice_get (xs ++ x ∷ []) (length xs) ≡ Some x
 slice-last [] x = refl
 slice-last (z ∷ xs) x = slice-last xs x
 
-longer : (a b n l : ℕ) → n ≡ a + b → l ≤ a → l ≤ n
-longer a b n l q p = omega (arith, q, p)
-
-more-call : (lines : Lines) (x : Line) (l c : ℕ) (cl : Call) → IsCallIn lines l c cl → IsCallIn (lines ++ x ∷ []) l c cl
+pub more-call : (lines : Lines) (x : Line) (l c : ℕ) (cl : Call) → IsCallIn lines l c cl → IsCallIn (lines ++ x ∷ []) l c cl
 more-call lines x l c cl p = (p.0, longer (length lines) 1 (length (lines ++ x ∷ [])) l (length-append lines (x ∷ [])) p.1, slice-front lines (x ∷ []) (l - 1) (line.Call c cl) p.2)
 
 less-one : (n : ℕ) → (n + 1) - 1 ≡ n

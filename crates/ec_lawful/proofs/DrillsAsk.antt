@@ -20,7 +20,6 @@ use Rattle.ec_protocol.specs.declared.world.World.{World}
 use Rattle.ec_protocol.specs.declared.world.WorldFault.{WorldFault}
 use Rattle.ec_coherence.specs.System.{System}
 use Rattle.ec_coherence.specs.Steps.{Stands, call_of}
-use Rattle.ec_coherence.proofs.Tables.{none_some}
 use Rattle.ec_coherence.specs.StandLaws.{lined}
 use Rattle.ec_lawful.specs.Headline.{AreEndsAsked, ArePieces, IsPiece, Lines, Pieces, joined, may_end}
 use Rattle.ec_lawful.specs.Calls.{AreOf, IsOf, Tells}
@@ -28,7 +27,7 @@ use Rattle.ec_lawful.specs.Drills.{lines_in}
 use Rattle.ec_lawful.specs.DrillRuns.{AreFit, IsCallIn, IsFit, Sofar}
 use Rattle.ec_lawful.specs.Steps.{Holds, IsNewIn, MayHappen, StepsKeep}
 use Rattle.ec_lawful.proofs.CallsShown.{MayBe, deliver-tells, event-tells, line-tells, quiet-tells, restart-tells}
-use Rattle.ec_lawful.proofs.Drills.{drills-on}
+use Rattle.ec_lawful.proofs.Drills.{drills-on, more-call, slice-last}
 use Rattle.ec_lawful.proofs.Events.{deliver-holds, event-holds, restart-holds}
 use Rattle.ec_lawful.proofs.Frames.{forgotten-stands, lined-stands}
 use Rattle.ec_lawful.specs.Asked.{AsksAgree, EndsAsked, allows, asked_by, ended_by, with_event}
@@ -42,23 +41,9 @@ use Rattle.ec_lawful.proofs.Reading.{alike-asks, ended-line}
 use Rattle.ec_lawful.proofs.ServingAsks.{line-alike, restart-asks, weaken}
 use Rattle.ec_lawful.proofs.Shown.{asked-show}
 use Rattle.ec_base.specs.Bools.{one_if}
+use Rattle.ec_base.proofs.Options.{none_some}
 
 -- Calls of the lines so far are calls of more lines.
-
-slice-front : (xs ys : Lines) (n : ℕ) (x : Line) → slice_get xs n ≡ Some x → slice_get (xs ++ ys) n ≡ Some x
-slice-front [] ys n x q = absurd (none_some q)
-slice-front (z ∷ xs) ys zero x q = q
-slice-front (z ∷ xs) ys (suc n) x q = slice-front xs ys n x q
-
-slice-last : (xs : Lines) (x : Line) → slice_get (xs ++ x ∷ []) (length xs) ≡ Some x
-slice-last [] x = refl
-slice-last (z ∷ xs) x = slice-last xs x
-
-longer : (a b n l : ℕ) → n ≡ a + b → l ≤ a → l ≤ n
-longer a b n l q p = omega (arith, q, p)
-
-more-call : (lines : Lines) (x : Line) (l c : ℕ) (cl : Call) → IsCallIn lines l c cl → IsCallIn (lines ++ x ∷ []) l c cl
-more-call lines x l c cl p = (p.0, longer (length lines) 1 (length (lines ++ x ∷ [])) l (length-append lines (x ∷ [])) p.1, slice-front lines (x ∷ []) (l - 1) (line.Call c cl) p.2)
 
 own-call : (lines : Lines) (c : ℕ) (cl : Call) → IsCallIn (lines ++ line.Call c cl ∷ []) (length lines + 1) c cl
 own-call lines c cl = (

@@ -8,7 +8,6 @@ use Rattle.ec_base.specs.declared.counter.Counter.TheVariants as counter
 use Rattle.ec_history.specs.History.{Each}
 use Rattle.ec_history.specs.Placing.{is_numbered}
 use Rattle.ec_history.specs.declared.shown.Shown.TheVariants as show
-use Rattle.ec_laws.proofs.Numbers.{each-map}
 use Rattle.ec_sessions.specs.Limits.{last_round}
 use Rattle.ec_sessions.specs.declared.window.Window.{Window}
 use Rattle.ec_wire.specs.declared.msg.Msg.TheVariants.{Ended}
@@ -39,6 +38,7 @@ use Rattle.ec_lawful.specs.Whole.{Whole}
 use Rattle.ec_lawful.proofs.Telling.{line-step-tells}
 use Rattle.ec_lawful.specs.SettleLaws.{IsLined}
 use Rattle.ec_lawful.proofs.Same.{first, lined-so, no-zero}
+use Rattle.ec_laws.proofs.BasesAlike.{each-map}
 
 module _ (g : System) (whole : Whole g) (c b : ℕ) (k : Clerk) (runs : g.running c ≡ Some b) (at-start : g.clerks c b ≡ Some k) (s : ℕ) (within : k.session ≡ Some s) (low mask : ℕ) (sent : Contains g.pool (c, Ended s low mask)) where
   abbrev w : Window
@@ -99,7 +99,7 @@ module _ (g : System) (whole : Whole g) (c b : ℕ) (k : Clerk) (runs : g.runnin
     orderly = inside (order-stays.taken (Ended s low mask) tt d t.orderly)
       where
         inside : IsOrderly (Rattle.ec_protocol.specs.Clerk.or_hello s (take_ended w) d).clerk → IsOrderly e.clerk
-        inside q = subst (λ x. IsOrderly (elim (Rattle.ec_protocol.specs.Clerk.is_session s x) as (λ y. Doing) [ true ↦ e | false ↦ d ]).clerk → IsOrderly e.clerk) (sym within) (own (Rattle.ec_coherence.proofs.Tables.same s))
+        inside q = subst (λ x. IsOrderly (elim (Rattle.ec_protocol.specs.Clerk.is_session s x) as (λ y. Doing) [ true ↦ e | false ↦ d ]).clerk → IsOrderly e.clerk) (sym within) (own (Rattle.ec_base.proofs.Numbers.same-self s))
             (subst (λ x. IsOrderly (elim (is_some x) as (λ y. Doing) [ false ↦ hello d | true ↦ elim (Rattle.ec_protocol.specs.Clerk.is_session s k.session) as (λ y. Doing) [ true ↦ e | false ↦ d ] ]).clerk) within q)
           where
             own : (s == s) ≡ true → IsOrderly (elim (s == s) as (λ y. Doing) [ true ↦ e | false ↦ d ]).clerk → IsOrderly e.clerk

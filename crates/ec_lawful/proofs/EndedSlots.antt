@@ -11,10 +11,12 @@ use Rattle.ec_sessions.specs.declared.slot.Slot.{Slot}
 use Rattle.ec_durable.specs.WellFormed.{sessions_of}
 use Rattle.ec_protocol.specs.World.{boots_from, session_boot}
 use Rattle.ec_coherence.specs.System.{open_in}
-use Rattle.ec_coherence.proofs.Lists.{and_first, and_next, no_both, or_first, or_next}
 use Rattle.ec_coherence.proofs.SlotLaws.{open-of}
-use Rattle.ec_coherence.proofs.Tables.{differ, equal, holds, none_some, same, same_some}
+use Rattle.ec_coherence.proofs.Tables.{differ, same_some}
 use Rattle.ec_lawful.specs.Olds.{all_ended, owner_from}
+use Rattle.ec_base.proofs.Bools.{left as and_first, not-both as no_both, or-right as or_next, right as and_next, or_first, holds-true as holds}
+use Rattle.ec_base.proofs.Numbers.{same-self as same, equal}
+use Rattle.ec_base.proofs.Options.{none_some}
 
 -- Ends of all.
 

@@ -10,8 +10,8 @@ use Rattle.ec_cache.specs.declared.state.Held.{Held}
 use Rattle.ec_protocol.specs.Clerk.{Doing, evict, first_id}
 use Rattle.ec_coherence.specs.System.{System, Ghost, clerk_in, seen, seen_ops}
 use Rattle.ec_coherence.specs.Steps.{doing_in, out_lines, sends}
-use Rattle.ec_coherence.proofs.Lists.{each-both, or_first}
-use Rattle.ec_coherence.proofs.Tables.{holds, same, same_some}
+use Rattle.ec_coherence.proofs.Lists.{each-both}
+use Rattle.ec_coherence.proofs.Tables.{same_some}
 use Rattle.ec_clerk_steps.specs.Waits.{HasLine, NoneReady, does_wait}
 use Rattle.ec_clerk_steps.proofs.RestsBehind.{rests-behind}
 use Rattle.ec_clerk_steps.proofs.Resting.{evicts-rest}
@@ -27,6 +27,8 @@ use Rattle.ec_lawful.specs.Whole.{Whole}
 use Rattle.ec_lawful.specs.SettleLaws.{Beside, IsLined}
 use Rattle.ec_lawful.proofs.Carrying.{in-hand}
 use Rattle.ec_lawful.proofs.Readying.{evicts-lined, nothing}
+use Rattle.ec_base.proofs.Numbers.{same-self as same}
+use Rattle.ec_base.proofs.Bools.{or_first, holds-true as holds}
 
 module _ (g : System) (c b : ℕ) (d : Doing) (γ : Ghost) (t : IsTrying g c b d γ) where
   -- the id that its next object would have is of none that it holds

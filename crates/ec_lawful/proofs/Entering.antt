@@ -15,13 +15,14 @@ use Rattle.ec_coherence.specs.Steps.{open_session, serving_in}
 use Rattle.ec_coherence.specs.Tokens.{TokensAgree, View, eff, tables_of, view}
 use Rattle.ec_coherence.proofs.OpenAgrees as opening
 use Rattle.ec_coherence.proofs.Restart.{down, stopped-agrees}
-use Rattle.ec_coherence.proofs.Tables.{by-session, same}
+use Rattle.ec_coherence.proofs.Tables.{by-session}
 use Rattle.ec_coherence.specs.CommitLaws.{AllAgree, Stands}
 use Rattle.ec_coherence.proofs.SessionCommits.{open-stands, open-starts, open-watches}
 use Rattle.ec_lawful.proofs.Downs.{moved-agrees}
 use Rattle.ec_lawful.proofs.Dressed.{dressed-all}
 use Rattle.ec_lawful.proofs.Ups as ups
 use Rattle.ec_lawful.specs.Founds.{bare}
+use Rattle.ec_base.proofs.Numbers.{same-self as same}
 
 module _ (g : System) (all : AllAgree (bare g)) (c : ℕ) (age : Age) (within : c < 16) (idle : (sl : Slot) → slot g.durable c ≡ Some sl → T (not sl.is_open))
     (greater : (sl : Slot) → slot g.durable c ≡ Some sl → T (is_older sl.age age)) (reached : IsReached (bare g) c age) (above : g.first_boot c < age.boot) (small : nat_le last_counter g.durable.next_session ≡ false) where

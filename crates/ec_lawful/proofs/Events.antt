@@ -30,7 +30,7 @@ use Rattle.ec_protocol.specs.declared.world.WorldFault.TheVariants as fault
 use Rattle.ec_coherence.specs.System.{System, Ghost, at_session}
 use Rattle.ec_coherence.specs.Steps as steps
 use Rattle.ec_coherence.specs.Steps.{Stands, doing_in, out_lines, running_clerk, serving_in}
-use Rattle.ec_coherence.proofs.Tables.{at-put, equal, none_some, same, same_some}
+use Rattle.ec_coherence.proofs.Tables.{at-put, same_some}
 use Rattle.ec_coherence.specs.CommitLaws.{AllAgree}
 use Rattle.ec_coherence.specs.StandLaws.{crashed, lined, stopped}
 use Rattle.ec_lawful.specs.Ties.{called, waiting}
@@ -38,6 +38,8 @@ use Rattle.ec_lawful.specs.Steps.{Holds, IsDone, IsNew, IsNewIn, IsServed, IsSte
 use Rattle.ec_lawful.proofs.Frames.{called-stands, crashed-stands, nothing-stands, same-stands, settled-stands, stopped-stands}
 use Rattle.ec_lawful.proofs.Serving.{served-stands}
 use Rattle.ec_lawful.proofs.Standing.{done-stands, same-durable}
+use Rattle.ec_base.proofs.Numbers.{same-self as same, equal}
+use Rattle.ec_base.proofs.Options.{none_some}
 
 some_not : {A : Type 0} {x : A} → Some x ≡ None → ⊥
 some_not q = none_some (sym q)
@@ -49,7 +51,7 @@ abbrev pushed : ℕ → ℕ → Clerk → World → Bool → Moving
 pushed c n k w b = elim b as (λ z. Moving) [ true ↦ clerk_does c (push n k) (moving w) | false ↦ nothing w ]
 
 -- the start that runs, of a running clerk
-runs-in : (w : World) (g : System) → Stands w g → (c : ℕ) (k : Clerk) → at c w.clerks ≡ Some k → (b : ℕ) × (g.running c ≡ Some b) × (g.clerks c b ≡ Some k)
+pub runs-in : (w : World) (g : System) → Stands w g → (c : ℕ) (k : Clerk) → at c w.clerks ≡ Some k → (b : ℕ) × (g.running c ≡ Some b) × (g.clerks c b ≡ Some k)
 runs-in w g st c k q = go (g.running c) refl (sym (st.clerks c) ∙ q)
   where
     go : (o : Option ℕ) → g.running c ≡ o → elim o as (λ z. Option Clerk) [ None ↦ None | Some b ↦ g.clerks c b ] ≡ Some k → (b : ℕ) × (g.running c ≡ Some b) × (g.clerks c b ≡ Some k)

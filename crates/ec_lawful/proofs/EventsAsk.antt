@@ -27,7 +27,7 @@ use Rattle.ec_protocol.specs.declared.world.WorldFault.TheVariants as fault
 use Rattle.ec_coherence.specs.System.{System}
 use Rattle.ec_coherence.specs.Steps.{Committed, Stands}
 use Rattle.ec_coherence.proofs.Needs.{each-of}
-use Rattle.ec_coherence.proofs.Tables.{at-without, none_some}
+use Rattle.ec_coherence.proofs.Tables.{at-without}
 use Rattle.ec_coherence.specs.CommitLaws.{AllAgree}
 use Rattle.ec_lawful.specs.Doubts.{ComesFrom}
 use Rattle.ec_lawful.proofs.From.{ends-from, takes-from}
@@ -43,6 +43,7 @@ use Rattle.ec_lawful.proofs.Reading.{Begins, alike, alike-asks, done-alike, ende
 use Rattle.ec_lawful.proofs.ServingAsks.{committed-asks, line-alike, quiet-serves, restart-asks, weaken}
 use Rattle.ec_lawful.proofs.Unended.{EndsNone, EndsOne, end-ends-one, take-ends-none}
 use Rattle.ec_base.specs.Bools.{one_if}
+use Rattle.ec_base.proofs.Options.{none_some}
 
 no-more : (n : ℕ) → n ≤ n + 0
 no-more n = omega arith

@@ -29,13 +29,14 @@ use Rattle.ec_protocol.specs.declared.world.WorldFault.TheVariants as fault
 use Rattle.ec_coherence.specs.System.{System}
 use Rattle.ec_coherence.specs.Steps as steps
 use Rattle.ec_coherence.specs.Steps.{Stands, end_lines, ended_line, found, record_lines, running_clerk, to_show}
-use Rattle.ec_coherence.proofs.Tables.{none_some, same_some}
+use Rattle.ec_coherence.proofs.Tables.{same_some}
 use Rattle.ec_coherence.specs.CommitLaws.{AllAgree}
 use Rattle.ec_coherence.specs.StandLaws.{lined, stopped}
 use Rattle.ec_lawful.specs.Doubts.{doubted}
 use Rattle.ec_lawful.specs.Founds.{found_state, shown_in, started_in, with_found}
 use Rattle.ec_lawful.proofs.Founds.{found-shown}
 use Rattle.ec_lawful.proofs.Restarts.{epoch-rises}
+use Rattle.ec_base.proofs.Options.{none_some}
 
 -- Messages that are sent.
 

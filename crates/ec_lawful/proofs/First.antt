@@ -18,7 +18,6 @@ use Rattle.ec_coherence.specs.Events.{CutAgrees, EventsAgree, shown_boot}
 use Rattle.ec_coherence.specs.ChangeLaws.{Calls, with_clerk}
 use Rattle.ec_coherence.specs.Steps.{call_of, doing_in}
 use Rattle.ec_coherence.proofs.ClerkIn.{start-same}
-use Rattle.ec_coherence.proofs.Tables.{same}
 use Rattle.ec_coherence.specs.CommitLaws.{AllAgree}
 use Rattle.ec_coherence.specs.StandLaws.{ClerkStands, GoesOn, lined}
 use Rattle.ec_clerk_steps.specs.Counts.{CountsAgree}
@@ -35,6 +34,7 @@ use Rattle.ec_clerk_steps.proofs.Quiet.{split-start}
 use Rattle.ec_clerk_steps.proofs.Told.{up-calls}
 use Rattle.ec_lawful.specs.BeginLaws.{HasBegun, first_call}
 use Rattle.ec_lawful.proofs.Called.{new-line}
+use Rattle.ec_base.proofs.Numbers.{same-self as same}
 
 -- The facts on the history don't read a clerk's waiting calls.
 module _ (g : System) (old : EventsAgree g) (c b : ℕ) (k : Clerk) (there : g.clerks c b ≡ Some k) (cl : Call) (calls : Calls) where

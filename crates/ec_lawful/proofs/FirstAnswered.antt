@@ -12,7 +12,7 @@ use Rattle.ec_history.specs.Placing.{MayFollow, answered, begun, may_show, shows
 use Rattle.ec_history.specs.declared.entry.Answer.{Answer}
 use Rattle.ec_history.specs.declared.shown.Shown.TheVariants as show
 use Rattle.ec_laws.proofs.More.{watch-step}
-use Rattle.ec_laws.proofs.Numbers.{count, each-map}
+use Rattle.ec_laws.proofs.Numbers.{count}
 use Rattle.ec_resolve.specs.declared.verdict.Verdict.{Verdict}
 use Rattle.ec_resolve.specs.declared.verdict.Verdict.TheVariants.{Need, Lost, NeedIds, Done}
 use Rattle.ec_protocol.specs.Clerk.{add_call, begin, new_clerk, verdict}
@@ -24,7 +24,6 @@ use Rattle.ec_coherence.specs.Events.{EventsAgree, IsUncut, shown_boot}
 use Rattle.ec_coherence.specs.ChangeLaws.{Calls, with_clerk}
 use Rattle.ec_coherence.specs.Steps.{call_of, doing_in, less_call}
 use Rattle.ec_coherence.proofs.ClerkIn.{start-same}
-use Rattle.ec_coherence.proofs.Tables.{equal, none_some, same}
 use Rattle.ec_coherence.specs.CommitLaws.{AllAgree}
 use Rattle.ec_coherence.specs.StandLaws.{GoesOn}
 use Rattle.ec_coherence.specs.Answers.{Gives, answered_ghost, based, fresh_of, op_given}
@@ -52,6 +51,9 @@ use Rattle.ec_lawful.specs.BeginLaws.{answered_start, behind_first, first_call, 
 use Rattle.ec_lawful.proofs.Alone.{alone, used-none}
 use Rattle.ec_lawful.proofs.First.{fresh, fresh-calls, fresh-events, own-call}
 use Rattle.ec_lawful.proofs.Nothing.{nothing-covered}
+use Rattle.ec_base.proofs.Numbers.{same-self as same, equal}
+use Rattle.ec_base.proofs.Options.{none_some}
+use Rattle.ec_laws.proofs.BasesAlike.{each-map}
 
 -- one start twice
 twice : (c b : ℕ) (k now : Clerk) (f : ℕ → ℕ → Option Clerk) → with_start c b now (with_start c b k f) ≡ with_start c b now f

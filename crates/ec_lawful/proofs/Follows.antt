@@ -10,11 +10,13 @@ use Rattle.ec_durable.specs.declared.record.Record.TheVariants.{Batch, Open, End
 use Rattle.ec_coherence.specs.System.{System, Ghost, at_session, is_of}
 use Rattle.ec_coherence.specs.Steps.{Committed}
 use Rattle.ec_coherence.proofs.Lists.{each-fewer}
-use Rattle.ec_coherence.proofs.Tables.{equal, none_some, same_some}
+use Rattle.ec_coherence.proofs.Tables.{same_some}
 use Rattle.ec_coherence.proofs.OpenSlots.{at-open}
 use Rattle.ec_coherence.specs.CommitLaws.{AllAgree}
 use Rattle.ec_clerk_steps.specs.Frames.{RecordMakes}
 use Rattle.ec_clerk_steps.proofs.Serving.{step-next}
+use Rattle.ec_base.proofs.Options.{none_some}
+use Rattle.ec_base.proofs.Numbers.{equal}
 
 -- Of the ghosts: ids that were given since come at or above the next one; what is kept was kept, and what is frozen was frozen or kept.
 pub record Moves (g : System) (γ : Ghost) : Type 0 where

@@ -8,7 +8,7 @@ use Rattle.ec_coherence.specs.Tokens.{view}
 use Rattle.ec_coherence.specs.Steps.{doing_in}
 use Rattle.ec_coherence.proofs.Goes.{goes-rest}
 use Rattle.ec_coherence.proofs.ClerkIn.{start-same}
-use Rattle.ec_coherence.proofs.Tables.{none_some, same_some}
+use Rattle.ec_coherence.proofs.Tables.{same_some}
 use Rattle.ec_coherence.specs.StandLaws.{IsUnderWay}
 use Rattle.ec_clerk_steps.specs.CallLaws.{IsQuiet}
 use Rattle.ec_clerk_steps.specs.Waits.{HasLine}
@@ -24,6 +24,7 @@ use Rattle.ec_clerk_steps.proofs.FreesStored.{stills-keep}
 use Rattle.ec_clerk_steps.specs.Trying.{IsTrying}
 use Rattle.ec_clerk_steps.specs.Zeros.{HasNoZero}
 use Rattle.ec_lawful.specs.Rooms.{unasked}
+use Rattle.ec_base.proofs.Options.{none_some}
 
 module _ (g : System) (c b s : ℕ) (d : Doing) (γ : Ghost) (t : IsTrying g c b d γ) (within : d.clerk.session ≡ Some s) where
   in-hand : IsInHand g c b s d γ

@@ -29,11 +29,10 @@ use Rattle.ec_coherence.specs.Tokens.{side, side_in, view}
 use Rattle.ec_coherence.specs.Log as log
 use Rattle.ec_coherence.specs.Steps.{end_lines, ended_line, give_ids, open_session, record_lines}
 use Rattle.ec_coherence.specs.Stops.{MayStep}
-use Rattle.ec_coherence.proofs.Lists.{and_first, and_next}
 use Rattle.ec_coherence.proofs.Needs.{each-of}
 use Rattle.ec_coherence.proofs.OpenSlots.{at-open}
 use Rattle.ec_coherence.proofs.SlotLaws.{in-range, slot-changed}
-use Rattle.ec_coherence.proofs.Tables.{equal, fails, holds, is-true, none_some, same, same_some}
+use Rattle.ec_coherence.proofs.Tables.{fails, same_some}
 use Rattle.ec_coherence.specs.CommitLaws.{AllAgree, show_batch}
 use Rattle.ec_coherence.specs.Starts.{Greets}
 use Rattle.ec_coherence.specs.Ends.{show_end}
@@ -44,13 +43,16 @@ use Rattle.ec_lawful.proofs.Endings as ending
 use Rattle.ec_lawful.proofs.Entering as entering
 use Rattle.ec_lawful.proofs.Giving as giving
 use Rattle.ec_lawful.proofs.Ups.{bare-all}
+use Rattle.ec_base.proofs.Bools.{left as and_first, right as and_next, is-true, holds-true as holds}
+use Rattle.ec_base.proofs.Numbers.{same-self as same, equal}
+use Rattle.ec_base.proofs.Options.{none_some, some-at}
 
 -- Results.
 
-same-ok : {x y : Durable} → ◌≡◌ {A = Result Durable RecordFault} (Ok x) (Ok y) → x ≡ y
+pub same-ok : {x y : Durable} → ◌≡◌ {A = Result Durable RecordFault} (Ok x) (Ok y) → x ≡ y
 same-ok {x} {y} e = ap (λ r. elim r [ Ok z ↦ z | Err f ↦ x ]) e
 
-not-ok : {A : Type 0} {x : Durable} {f : RecordFault} → ◌≡◌ {A = Result Durable RecordFault} (Err f) (Ok x) → A
+pub not-ok : {A : Type 0} {x : Durable} {f : RecordFault} → ◌≡◌ {A = Result Durable RecordFault} (Err f) (Ok x) → A
 not-ok e = absurd (cc)
 
 -- What a record that steps says of the state.
@@ -114,10 +116,6 @@ twice (o ∷ l) zero a b = refl
 twice (o ∷ l) (suc c) a b = ap (λ l. o ∷ l) (twice l c a b)
 
 -- The kinds, on a stopped system.
-
-is-there : {A : Type 0} (o : Option A) → T (is_some o) → (x : A) × (o ≡ Some x)
-is-there None t = absurd t
-is-there (Some x) t = (x, refl)
 
 some-clerk : (o : Option Clerk) → T (is_some (side_in o)) → (k : Clerk) × (o ≡ Some k)
 some-clerk None t = absurd t
@@ -256,7 +254,7 @@ module _ (g : System) (all : AllAgree (bare g)) where
         let unmarked : T (not (has (z.0).window b)) = fails (has (z.0).window b) (sym (ap (has_batch b) z.1) ∙ q.1) in
         let k = some-clerk (clerk_in (bare g) s) ((all.0).tokens.present s (at-open s g.durable.sessions c z.0 (z.1, z.3, z.2)) passes.0) in
         let f = carries c z.0 z.1 z.3 z.2 unmarked k.0 k.1 in
-        let ns = is-there (at b ((k.0).log).batches) f.1 in
+        let ns = some-at (at b ((k.0).log).batches) f.1 in
         subst (λ o. AllAgree (at_found now (show_batch c (session_boot o) (keys ops) g.ghost))) (sym z.1) (of-clerk z.0 k.0 z.1 z.2 z.3 unmarked k.1 f.0 ns.0 ns.1)
 
   -- any of them

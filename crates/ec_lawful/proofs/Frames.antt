@@ -19,10 +19,11 @@ use Rattle.ec_protocol.specs.declared.world.Sent.{Sent}
 use Rattle.ec_protocol.specs.declared.world.World.{World}
 use Rattle.ec_coherence.specs.System.{System}
 use Rattle.ec_coherence.specs.Steps.{Stands, running_clerk}
-use Rattle.ec_coherence.proofs.Tables.{at-without, none_some}
+use Rattle.ec_coherence.proofs.Tables.{at-without}
 use Rattle.ec_coherence.specs.StandLaws.{crashed, lined, stopped}
 use Rattle.ec_lawful.specs.Ties.{called, waiting}
 use Rattle.ec_lawful.proofs.Standing.{same-durable}
+use Rattle.ec_base.proofs.Options.{none_some}
 
 -- What is found in a table of which some keys stay.
 module _ {X : Type 0} (p : ℕ → Bool) (k : ℕ) where

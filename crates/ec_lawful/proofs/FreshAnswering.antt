@@ -15,7 +15,7 @@ use Rattle.ec_protocol.specs.declared.clerk.Waiting.{Waiting}
 use Rattle.ec_coherence.specs.System.{System, Ghost}
 use Rattle.ec_coherence.specs.Steps.{doing_in}
 use Rattle.ec_coherence.proofs.ClerkIn.{start-same}
-use Rattle.ec_coherence.proofs.Tables.{none_some, same_some}
+use Rattle.ec_coherence.proofs.Tables.{same_some}
 use Rattle.ec_coherence.specs.CommitLaws.{AllAgree}
 use Rattle.ec_coherence.specs.Answers.{Gives, fresh_of}
 use Rattle.ec_clerk_steps.specs.Answering.{Suits, answered_clerk}
@@ -27,8 +27,10 @@ use Rattle.ec_lawful.specs.Fresh.{FreshAgrees, Taken}
 use Rattle.ec_lawful.specs.FreshLaws.{HasOld}
 use Rattle.ec_lawful.proofs.FreshAnswered.{answers-fresh, stored-above}
 use Rattle.ec_lawful.proofs.Goes.{in-it}
-use Rattle.ec_lawful.proofs.Makes.{first-gone, first-in, spends}
+use Rattle.ec_lawful.proofs.Makes.{spends}
 use Rattle.ec_lawful.proofs.FreshSteps.{hidden-was, taken-was, twice}
+use Rattle.ec_base.proofs.Options.{none_some}
+use Rattle.ec_clerk_steps.proofs.Issue.{first-gone, first-in}
 
 -- What the ghosts are behind an answer.
 module _ (g : System) (c b : ℕ) (d : Doing) (γ : Ghost) (l : ℕ) (cl : Call) (a : Answer) (op : Option ℕ) (δ : Ghost) where

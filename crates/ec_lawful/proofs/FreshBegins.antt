@@ -3,8 +3,8 @@ use Rattle.std.proofs.Common.{◌≡◌, refl, sym, ap, subst, ◌∙◌, List, 
 use Rattle.ec_history.specs.History.{Each}
 use Rattle.ec_history.specs.declared.shown.Shown.{Shown}
 use Rattle.ec_coherence.specs.System.{System, base_of}
-use Rattle.ec_coherence.proofs.Tables.{none_some}
 use Rattle.ec_lawful.specs.Fresh.{AreFresh, FreshAgrees, IsOfStart}
+use Rattle.ec_base.proofs.Options.{none_some}
 
 pub begins-fresh : (g : System) → g.clerks ≡ (λ c b. None) → g.ghost.shown ≡ [] → g.ghost.history ≡ [] → FreshAgrees g
 begins-fresh g clerks shown history = record {

@@ -9,8 +9,7 @@ use Rattle.ec_coherence.specs.System.{System, Ghost, with_start}
 use Rattle.ec_coherence.specs.Steps.{doing_in}
 use Rattle.ec_coherence.specs.Tokens.{in_sixteen, is_untaken, side}
 use Rattle.ec_coherence.proofs.ClerkIn.{start-same}
-use Rattle.ec_coherence.proofs.Lists.{and_next}
-use Rattle.ec_coherence.proofs.Tables.{equal, none_some, same_some}
+use Rattle.ec_coherence.proofs.Tables.{same_some}
 use Rattle.ec_coherence.specs.CommitLaws.{AllAgree}
 use Rattle.ec_clerk_steps.specs.Names.{NamesAgree}
 use Rattle.ec_clerk_steps.specs.Moves.{IsStill}
@@ -18,6 +17,9 @@ use Rattle.ec_lawful.specs.FreshIds.{AreQuiet}
 use Rattle.ec_lawful.specs.Fresh.{FreshAgrees, Hidden, IsIn, Taken}
 use Rattle.ec_lawful.specs.FreshLaws.{HasOld, SameLines}
 use Rattle.ec_lawful.proofs.Goes.{goes-fresh}
+use Rattle.ec_base.proofs.Options.{none_some}
+use Rattle.ec_base.proofs.Numbers.{equal}
+use Rattle.ec_base.proofs.Bools.{right as and_next}
 
 -- One start changes.
 module _ (c b : ℕ) (now : Clerk) (g h : System) (clerks : h.clerks ≡ with_start c b now g.clerks) where

@@ -26,7 +26,7 @@ use Rattle.ec_coherence.proofs.GivenIds.{given-images, given-logs}
 use Rattle.ec_coherence.proofs.Marked.{marked-sessions, open-same}
 use Rattle.ec_coherence.proofs.OpenSlots.{at-open}
 use Rattle.ec_coherence.proofs.SlotLaws.{in-range, slot-changed}
-use Rattle.ec_coherence.proofs.Tables.{same, same_some}
+use Rattle.ec_coherence.proofs.Tables.{same_some}
 use Rattle.ec_coherence.specs.CommitLaws.{AllAgree}
 use Rattle.ec_coherence.specs.Starts.{StartsAgree}
 use Rattle.ec_coherence.specs.Watches.{WatchesAgree, still_in}
@@ -36,9 +36,10 @@ use Rattle.ec_coherence.proofs.Watched.{reslotted-watches}
 use Rattle.ec_lawful.proofs.Bares.{idle, idle-sessions, owned-sessions, stops-of}
 use Rattle.ec_lawful.proofs.NewIds as ids
 use Rattle.ec_lawful.specs.Founds.{bare}
+use Rattle.ec_base.proofs.Numbers.{same-self as same}
 
 some-side : (o : Option Clerk) (k : Side) → side_in o ≡ Some k → (m : Clerk) × (o ≡ Some m) × (side m ≡ k)
-some-side None k p = absurd (Rattle.ec_coherence.proofs.Tables.none_some p)
+some-side None k p = absurd (Rattle.ec_base.proofs.Options.none_some p)
 some-side (Some m) k p = (m, refl, same_some p)
 
 module _ (g : System) (all : AllAgree (bare g)) (c : ℕ) (sl : Slot) (in_slot : slot g.durable c ≡ Some sl) (opened : T sl.is_open) (taken : T (g.ghost.taken sl.session))

@@ -6,12 +6,11 @@ use Rattle.ec_history.specs.Placing.{place}
 use Rattle.ec_history.specs.declared.entry.Entry.{Entry}
 use Rattle.ec_history.specs.declared.entry.Entry.TheVariants as entry
 use Rattle.ec_history.specs.declared.shown.Shown.{Shown}
-use Rattle.ec_laws.proofs.Numbers.{each-map}
 use Rattle.ec_protocol.specs.declared.clerk.Clerk.{Clerk}
 use Rattle.ec_coherence.specs.System.{System, base_of, clerk_in, clerk_of}
 use Rattle.ec_coherence.specs.Tokens.{Names, in_sixteen, is_hidden, is_untaken, side, side_in, view}
 use Rattle.ec_coherence.specs.Events.{shown_boot}
-use Rattle.ec_coherence.proofs.Lists.{and_first, and_next, each-at, no_both}
+use Rattle.ec_coherence.proofs.Lists.{each-at}
 use Rattle.ec_coherence.proofs.Tables.{same_some}
 use Rattle.ec_coherence.specs.CommitLaws.{AllAgree}
 use Rattle.ec_clerk_steps.specs.Names.{NamesAgree}
@@ -19,6 +18,8 @@ use Rattle.ec_lawful.specs.FreshIds.{IsGiven, OnCreate}
 use Rattle.ec_lawful.specs.Fresh.{AreFresh, FreshAgrees, Hidden, IsIn, IsOfStart, Stored, Taken}
 use Rattle.ec_lawful.specs.FreshLaws.{GoesQuiet}
 use Rattle.ec_lawful.proofs.Quiet.{cut-front, quiet-each, quiet-few, quiet-fresh}
+use Rattle.ec_base.proofs.Bools.{left as and_first, not-both as no_both, right as and_next}
+use Rattle.ec_laws.proofs.BasesAlike.{each-map}
 
 -- Where starts are.
 
@@ -42,7 +43,7 @@ module _ (g : System) (all : AllAgree g) where
       ∙ ap (λ a. clerk_of s (Some (c, record (k.age) { boot = a })) g.clerks) (boot-of c b s k i)
       ∙ ap (λ o. Rattle.ec_coherence.specs.System.if_in s o) i.stands
       ∙ ap (λ o. elim (Rattle.ec_protocol.specs.Clerk.is_session s o) as (λ z. Option Clerk) [ true ↦ Some k | false ↦ None ]) i.session
-      ∙ ap (λ z. elim z as (λ z. Option Clerk) [ true ↦ Some k | false ↦ None ]) (Rattle.ec_coherence.proofs.Tables.same s)
+      ∙ ap (λ z. elim z as (λ z. Option Clerk) [ true ↦ Some k | false ↦ None ]) (Rattle.ec_base.proofs.Numbers.same-self s)
 
   pub hidden-in : (c b s x : ℕ) (k : Clerk) → IsIn g c b s k → T (is_untaken (g.ghost.grants s) (g.ghost.first s) (Some (side k)) x) → T (is_hidden (view g) s x)
   hidden-in c b s x k i t = subst (λ o. T (is_untaken (g.ghost.grants s) (g.ghost.first s) (side_in o) x)) (sym (in-it c b s k i)) t
@@ -66,7 +67,7 @@ module _ (g : System) (all : AllAgree g) where
   pub stored-below : NamesAgree g → (c b x : ℕ) → Stored g c b x → x < g.durable.next_id
   stored-below na c b x (inl t) = (taken-named na c b x t).0
   stored-below na c b x (inr (s, k, i, t)) =
-      let given = (all.0).tokens.given s (some-given (g.ghost.grants s) k.got (Rattle.ec_coherence.proofs.Tables.equal (k.got + 1) (g.ghost.grants s) (Rattle.ec_coherence.proofs.Tables.is-true (k.got + 1 == g.ghost.grants s) (and_first (k.got + 1 == g.ghost.grants s) (in_sixteen (g.ghost.first s) x) t)))) in
+      let given = (all.0).tokens.given s (some-given (g.ghost.grants s) k.got (Rattle.ec_base.proofs.Numbers.equal (k.got + 1) (g.ghost.grants s) (Rattle.ec_base.proofs.Bools.is-true (k.got + 1 == g.ghost.grants s) (and_first (k.got + 1 == g.ghost.grants s) (in_sixteen (g.ghost.first s) x) t)))) in
       below (g.ghost.first s) x g.durable.next_id (and_next (k.got + 1 == g.ghost.grants s) (in_sixteen (g.ghost.first s) x) t) given.0
     where
       some-given : (n m : ℕ) → m + 1 ≡ n → suc zero ≤ n

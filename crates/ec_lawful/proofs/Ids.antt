@@ -1,5 +1,5 @@
 -- The facts on fresh ids where a clerk takes ids, and where it takes a session.
-use Rattle.std.proofs.Common.{◌≡◌, refl, sym, ap, subst, ◌∙◌, inl, inr, arith, ◌≤◌, ◌<◌, ◌+◌, ◌==◌, ℕ, zero, suc, Bool, true, false, not, T, [], None, Some, append-nil}
+use Rattle.std.proofs.Common.{◌≡◌, refl, sym, ap, subst, ◌∙◌, inl, inr, arith, ◌≤◌, ◌+◌, ◌==◌, ℕ, zero, suc, Bool, true, false, not, T, [], None, Some, append-nil}
 use Rattle.std.specs.Prelude.{nat_le}
 use Rattle.ec_base.specs.declared.counter.Counter.TheVariants as counter
 use Rattle.ec_volume.specs.Update.{member}
@@ -18,8 +18,7 @@ use Rattle.ec_coherence.proofs.Acting.{is-in, view-is}
 use Rattle.ec_coherence.proofs.ClerkIn.{start-same}
 use Rattle.ec_coherence.proofs.GivenIds.{run-in}
 use Rattle.ec_coherence.proofs.Ids.{in-either}
-use Rattle.ec_coherence.proofs.Lists.{and_both, and_first, no_both}
-use Rattle.ec_coherence.proofs.Tables.{equal, holds, is-true, same, same_some}
+use Rattle.ec_coherence.proofs.Tables.{same_some}
 use Rattle.ec_coherence.proofs.TakeGrant.{by-session}
 use Rattle.ec_coherence.specs.CommitLaws.{AllAgree}
 use Rattle.ec_clerk_steps.specs.DoingLaws.{IsIds, IsInHand}
@@ -28,9 +27,9 @@ use Rattle.ec_lawful.specs.Fresh.{FreshAgrees, Hidden, IsIn, Stored, Taken}
 use Rattle.ec_lawful.specs.FreshLaws.{HasOld}
 use Rattle.ec_lawful.proofs.Goes.{goes-fresh}
 use Rattle.ec_lawful.proofs.FreshSteps.{in-cases, step-fresh, twice}
-
-within : (x f : ℕ) → f ≤ x → x < f + 16 → T (in_sixteen f x)
-within x f a b = grind arith
+use Rattle.ec_base.proofs.Bools.{left as and_first, not-both as no_both, and-both as and_both, is-true, holds-true as holds}
+use Rattle.ec_base.proofs.Numbers.{same-self as same, equal}
+use Rattle.ec_clerk_steps.proofs.StoredIds.{within}
 
 -- Ids are taken.
 module _ (g : System) (c b s : ℕ) (d : Doing) (γ : Ghost) (h : IsInHand g c b s d γ) (fa : FreshAgrees (doing_in c b d γ g)) where

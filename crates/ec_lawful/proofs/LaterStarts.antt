@@ -1,5 +1,5 @@
 -- A session comes in the place of an open one of this run only by a later start: a start greets again only behind the end of its session.
-use Rattle.std.proofs.Common.{◌≡◌, refl, sym, ap, subst, ◌∙◌, arith, ◌<◌, ◌≤◌, ℕ, Bool, true, false, not, ◌==◌, ◌&&◌, ◌||◌, T, Option, Some, None}
+use Rattle.std.proofs.Common.{◌≡◌, refl, sym, ap, subst, ◌∙◌, arith, ◌<◌, ◌≤◌, ℕ, Bool, true, false, ◌==◌, ◌&&◌, ◌||◌, T, Option, Some, None}
 use Rattle.std.specs.Prelude.{Contains, is_some, nat_lt, Ok}
 use Rattle.ec_base.specs.Ages.{is_older}
 use Rattle.ec_base.specs.declared.ids.Age.{Age}
@@ -15,12 +15,14 @@ use Rattle.ec_coherence.specs.Sessions as sessions
 use Rattle.ec_coherence.specs.Tokens.{side_in}
 use Rattle.ec_coherence.proofs.Needs.{each-of}
 use Rattle.ec_coherence.proofs.OpenSlots.{at-open}
-use Rattle.ec_coherence.proofs.Tables.{equal, fails, holds, same_some}
+use Rattle.ec_coherence.proofs.Tables.{fails, same_some}
 use Rattle.ec_coherence.specs.CommitLaws.{AllAgree}
 use Rattle.ec_clerk_steps.proofs.Steps.{open-steps}
 use Rattle.ec_lawful.specs.Asked.{AsksAgree}
 use Rattle.ec_lawful.proofs.Pays.{MayOpen}
 use Rattle.ec_protocol.specs.Clerk.{is_session}
+use Rattle.ec_base.proofs.Numbers.{equal}
+use Rattle.ec_base.proofs.Bools.{not-both, holds-true as holds}
 
 some-of : (o : Option Clerk) → T (is_some o) → (k : Clerk) × (o ≡ Some k)
 some-of None t = absurd t
@@ -51,10 +53,6 @@ older-round a b p q = holds (is_older a b) (by (nat_lt a.boot b.boot) (yes a.boo
     by : (x : Bool) → (a.boot == b.boot) ≡ true → nat_lt a.round b.round ≡ true → (x || ((a.boot == b.boot) && nat_lt a.round b.round)) ≡ true
     by true p q = refl
     by false p q = ap (λ z. z && nat_lt a.round b.round) p ∙ q
-
-not-both : (b : Bool) → T b → T (not b) → ⊥
-not-both true t f = f
-not-both false t f = t
 
 module _ (first : ℕ → ℕ) (g : System) (all : AllAgree g) (asks : AsksAgree first g) (c : ℕ) (age : Age) (greets : Contains g.pool (c, Hello c age)) where
   fits : sessions.Fits g c (Hello c age)

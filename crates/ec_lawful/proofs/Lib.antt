@@ -91,8 +91,9 @@ pub mod Taken
 pub mod Tried
 pub mod Tries
 mod OpenSlots
-mod Bounded
+pub mod Bounded
 pub mod Licences
 pub mod Worlds
 pub mod Entries
 pub mod RunsInOrder
+pub mod StepsLemmas

@@ -20,12 +20,13 @@ use Rattle.ec_coherence.specs.Stops.{MayStep}
 use Rattle.ec_coherence.specs.Tokens.{eff, eff_hold, view}
 use Rattle.ec_coherence.proofs.ClerkIn.{was-in}
 use Rattle.ec_coherence.proofs.SlotLaws.{open-at}
-use Rattle.ec_coherence.proofs.Tables.{clash-below, clash-turn, none_some, same_some}
+use Rattle.ec_coherence.proofs.Tables.{clash-below, clash-turn, same_some}
 use Rattle.ec_coherence.specs.CommitLaws.{AllAgree}
 use Rattle.ec_coherence.proofs.Answering.{shown-updates}
 use Rattle.ec_coherence.proofs.Touching.{token-of}
 use Rattle.ec_lawful.specs.Coherent.{HasLicence, Holds, left_by}
 use Rattle.ec_lawful.proofs.OpenSlots.{open-before}
+use Rattle.ec_base.proofs.Options.{none_some}
 
 -- two weaker modes don't conflict either
 weaker-apart : (a b e f : Hold) → rank a ≤ rank e → rank b ≤ rank f → T (not (clash e f)) → T (not (clash a b))

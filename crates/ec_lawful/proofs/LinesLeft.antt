@@ -15,11 +15,12 @@ use Rattle.ec_coherence.specs.ChangeLaws.{Calls}
 use Rattle.ec_coherence.specs.Steps.{call_of, calls_after, doing_in, less_call, out_lines}
 use Rattle.ec_coherence.proofs.ClerkIn.{start-same}
 use Rattle.ec_coherence.proofs.Lists.{each-turn}
-use Rattle.ec_coherence.proofs.Tables.{equal, none_some, same}
 use Rattle.ec_clerk_steps.specs.Calls.{Began, is_shown}
 use Rattle.ec_clerk_steps.specs.Waits.{HasLine}
 use Rattle.ec_clerk_steps.proofs.CallsLeft.{call-less}
 use Rattle.ec_clerk_steps.specs.Trying.{IsTrying}
+use Rattle.ec_base.proofs.Numbers.{same-self as same, equal}
+use Rattle.ec_base.proofs.Options.{none_some}
 
 abbrev next_calls : ℕ → ℕ → Calls → Option (ℕ × Call) → Calls
 next_calls c m calls o = elim o as (λ z. Calls) [ None ↦ calls | Some l ↦ less_call c m calls ]

@@ -16,16 +16,15 @@ use Rattle.ec_sessions.specs.declared.slot.Slot.{Slot}
 use Rattle.ec_durable.specs.Durable.{slot}
 use Rattle.ec_coherence.specs.System.{System, Ghost, base_of, is_of, undurable}
 use Rattle.ec_coherence.specs.Events.{shown_boot}
-use Rattle.ec_coherence.proofs.Tables.{holds, is-true}
 use Rattle.ec_coherence.specs.CommitLaws.{AllAgree}
 use Rattle.ec_coherence.specs.Watches.{WatchAgrees, still_in}
 use Rattle.ec_laws.specs.Accounts.{IsUndurable, LinesTell}
 use Rattle.ec_laws.specs.Laws.{OneMore}
-use Rattle.ec_laws.proofs.Members.{off}
 use Rattle.ec_laws.proofs.Telling.{nothing-tells, one-more}
 use Rattle.ec_lawful.specs.Headline.{AreLawful, FrontsAreLawful}
 use Rattle.ec_lawful.specs.HeadlineLaws.{GoesBy, TellsAll}
 use Rattle.ec_lawful.proofs.Rebase.{SameIds, fronts-by, legal-by, tells-by}
+use Rattle.ec_base.proofs.Bools.{clash as off, is-true, holds-true as holds}
 
 -- one of the operations has this number
 pub numbered-in : (n : ℕ) (P : Op → Type 0) (ks : List Op) → Each P ks → T (member n (numbers ks)) → (k : Op) × P k × (k.number ≡ n)

@@ -1,11 +1,11 @@
 -- What an operation of a call that makes objects is, and which id it has.
-use Rattle.std.proofs.Common.{◌≡◌, refl, sym, ap, subst, ◌∙◌, ◌==◌, ◌||◌, ◌&&◌, ℕ, Bool, true, false, not, T, List, [], ◌∷◌, ◌++◌, length, Option, None, Some}
+use Rattle.std.proofs.Common.{◌≡◌, refl, sym, ap, subst, ◌∙◌, ◌&&◌, ℕ, Bool, true, false, T, List, [], ◌∷◌, ◌++◌, length, Option, None, Some}
 use Rattle.std.specs.Prelude.{drop, is_some, nat_le}
 use Rattle.std.proofs.lemmas.Bool.{true≢false}
 use Rattle.ec_base.specs.Tables.{or_else}
 use Rattle.ec_volume.specs.Entries.{Entries, entry}
 use Rattle.ec_volume.specs.Image.{entries_of}
-use Rattle.ec_volume.specs.Update.{distinct, is_make, member}
+use Rattle.ec_volume.specs.Update.{is_make}
 use Rattle.ec_volume.specs.Volume.{Images}
 use Rattle.ec_volume.specs.declared.image.Kind.{Kind}
 use Rattle.ec_volume.specs.declared.image.Kind.TheVariants as kind
@@ -28,8 +28,6 @@ use Rattle.ec_history.specs.declared.entry.Answer.{Answer}
 use Rattle.ec_report.specs.Report.{Owed}
 use Rattle.ec_protocol.specs.Clerk.{first_id, verdict}
 use Rattle.ec_protocol.specs.declared.clerk.Clerk.{Clerk}
-use Rattle.ec_coherence.proofs.Lists.{and_first, no_both}
-use Rattle.ec_coherence.proofs.Tables.{none_some, same, same_some}
 use Rattle.ec_coherence.specs.Answers.{Gives}
 use Rattle.ec_clerk_steps.specs.Answering.{Suits, answered_clerk}
 use Rattle.ec_clerk_steps.proofs.Turned.{makes-first}
@@ -109,12 +107,3 @@ module _ (k : Clerk) (cl : Call) (cr : creates cl ≡ true) where
   spends most (Lost ns xs) e a op rest g t = absurd (subst (λ z. T (is_some z)) g.1 t)
   spends most (NeedIds xs) e a op rest g t = absurd (subst (λ z. T (is_some z)) g.4 t)
   spends most (Done o) e a op rest g t = by-done o e o.update refl (subst (λ z. T (is_some z)) g.1 t)
-
--- the first of distinct ids isn't among the others
-pub first-gone : (x : ℕ) (ids : List ℕ) → first_id ids ≡ Some x → T (distinct ids) → T (member x (drop 1 ids)) → ⊥
-first-gone x [] e d m = m
-first-gone x (y ∷ ys) e d m = no_both (member y ys) (subst (λ z. T (member z ys)) (sym (same_some e)) m) (and_first (not (member y ys)) (distinct ys) d)
-
-pub first-in : (x : ℕ) (ids : List ℕ) → first_id ids ≡ Some x → T (member x ids)
-first-in x [] e = absurd (none_some e)
-first-in x (y ∷ ys) e = subst (λ z. T ((z == y) || member z ys)) (same_some e) (subst (λ b. T (b || member y ys)) (sym (same y)) tt)

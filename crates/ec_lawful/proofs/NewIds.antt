@@ -10,7 +10,9 @@ use Rattle.ec_wire.specs.declared.msg.Msg.TheVariants.{Want, Back, Room, Claim, 
 use Rattle.ec_coherence.specs.System.{Eff, at_session}
 use Rattle.ec_coherence.specs.Tokens.{Below, Fits, InSession, Names, Side, TokensAgree, View, in_sixteen, is_hidden, is_untaken}
 use Rattle.ec_coherence.proofs.Restart.{down}
-use Rattle.ec_coherence.proofs.Tables.{by-session, each-map, holds, refutes, same}
+use Rattle.ec_coherence.proofs.Tables.{by-session, each-map}
+use Rattle.ec_base.proofs.Numbers.{same-self as same}
+use Rattle.ec_base.proofs.Bools.{not-both as refutes, holds-true as holds}
 
 module _ (w : View) (s : ℕ) (agree : TokensAgree (down w)) (taken : T (w.taken s)) (one_next : w.next_token ≡ w.next_id) (full : InSession w s (λ k. k.got ≡ w.grants s))
     (gone : (x : ℕ) → w.next_id ≤ x → w.seen s x ≡ Gone) where

@@ -38,7 +38,7 @@ none-made (Order objs) e = refl
 none-made (Shift dir from into to obj k victim up) e = refl
 none-made (Owner obj owner) e = refl
 
-same-plain : (v : Images) (cl : Call) (x y : ℕ) → creates cl ≡ false → plain v cl x ≡ plain v cl y
+pub same-plain : (v : Images) (cl : Call) (x y : ℕ) → creates cl ≡ false → plain v cl x ≡ plain v cl y
 same-plain v (call.Mkdir path) x y n = absurd (true≢false n)
 same-plain v (call.Create path) x y n = absurd (true≢false n)
 same-plain v (call.Write path at bytes) x y n = refl

@@ -2,17 +2,14 @@
 use Rattle.std.proofs.Common.{◌≡◌, refl, sym, subst, arith, ◌≤◌, ℕ, Bool, true, false, cond, map, List, [], ◌∷◌, ◌++◌, Option, Some, None, append-nil, append_assoc}
 use Rattle.std.specs.List.{filter}
 use Rattle.ec_volume.specs.declared.update.Update.{Update}
-use Rattle.ec_order.specs.Order.{Holds, InClosure, Issued, ask, need}
+use Rattle.ec_order.specs.Order.{Holds}
 use Rattle.ec_history.specs.History.{Base, History, Op, Throughout, Each, Covers, issued, issued_by, kept, of_issue, of_start, outcome}
 use Rattle.ec_history.specs.Legal.{IsLegal, IsLegalNext}
 use Rattle.ec_history.specs.declared.entry.Entry.{Entry}
 use Rattle.ec_history.specs.declared.entry.Entry.TheVariants as entry
 use Rattle.ec_laws.proofs.More.{issued-step}
 use Rattle.ec_laws.proofs.Numbers.{IsUpTo, count, each-append, issued-up_to}
-
-closure-held : (is : Issued) (asked : ℕ → Bool) (n : ℕ) → InClosure is asked n → (u : Update) × Holds is n u
-closure-held is asked n (ask m u h t) = (u, h)
-closure-held is asked n (need m k a b h i l t r) = (a, h)
+use Rattle.ec_laws.proofs.Answered.{closure-held}
 
 module _ (base : Base) (most : ℕ) where
   one-next : (past : History) (e : ℕ × Entry) → IsLegalNext base most past e → Each (λ k. 1 ≤ k.number) (issued_by base (kept base past) e)

@@ -7,9 +7,10 @@ use Rattle.ec_plain.specs.declared.call.Call.{Call}
 use Rattle.ec_history.specs.Placing.{EachLine, is_numbered}
 use Rattle.ec_history.specs.declared.shown.Shown.{Shown}
 use Rattle.ec_history.specs.declared.shown.Shown.TheVariants as show
-use Rattle.ec_coherence.proofs.Tables.{same}
 use Rattle.ec_lawful.specs.Headline.{ArePieces, IsIn, IsPiece, Pieces, joined}
 use Rattle.ec_lawful.specs.Calls.{IsOf}
+use Rattle.ec_base.proofs.Numbers.{same-self as same}
+use Rattle.ec_base.proofs.Bools.{or_right}
 
 -- what holds of each line by two facts, and by each of them
 module _ (P Q : ℕ → ℕ → Call → Type 0) where
@@ -47,10 +48,6 @@ module _ (P Q : ℕ → ℕ → Call → Type 0) where
 abbrev pub IsKnown : List Shown → ℕ → ℕ → ℕ → Call → Type 0
 IsKnown past k l c cl = (l ≡ k) ⊎ (list_any (is_numbered l) past ≡ true)
 
-or-true : (a b : Bool) → b ≡ true → (a || b) ≡ true
-or-true true b e = refl
-or-true false b e = e
-
 or-first : (a b : Bool) → a ≡ true → (a || b) ≡ true
 or-first true b e = refl
 or-first false b e = absurd (cc)
@@ -58,7 +55,7 @@ or-first false b e = absurd (cc)
 -- each line of these is of a number that is in them
 pub own-known : (past : List Shown) (k : ℕ) (ss : List Shown) → ((l : ℕ) → list_any (is_numbered l) ss ≡ true → list_any (is_numbered l) past ≡ true) → EachLine (IsOf (IsKnown past k)) ss
 own-known past k [] f = tt
-own-known past k (s ∷ ss) f = (its s (λ l e. f l (or-first (is_numbered l s) (list_any (is_numbered l) ss) e)), own-known past k ss (λ l e. f l (or-true (is_numbered l s) (list_any (is_numbered l) ss) e)))
+own-known past k (s ∷ ss) f = (its s (λ l e. f l (or-first (is_numbered l s) (list_any (is_numbered l) ss) e)), own-known past k ss (λ l e. f l (or_right (is_numbered l s) (list_any (is_numbered l) ss) e)))
   where
     its : (s : Shown) → ((l : ℕ) → is_numbered l s ≡ true → list_any (is_numbered l) past ≡ true) → IsOf (IsKnown past k) s
     its (show.Waits l c cl) g = inr (g l (same l))

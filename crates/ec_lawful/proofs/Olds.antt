@@ -16,9 +16,8 @@ use Rattle.ec_coherence.specs.Log.{LogsAgree}
 use Rattle.ec_coherence.specs.Images.{ImagesAgree}
 use Rattle.ec_coherence.specs.Events.{EventsAgree}
 use Rattle.ec_coherence.specs.Stops.{StopsAgree}
-use Rattle.ec_coherence.proofs.Lists.{and_first, and_next, no_both}
 use Rattle.ec_coherence.proofs.Restart.{down, started-agrees}
-use Rattle.ec_coherence.proofs.Tables.{none_some, same_some}
+use Rattle.ec_coherence.proofs.Tables.{same_some}
 use Rattle.ec_coherence.specs.CommitLaws.{AllAgree}
 use Rattle.ec_coherence.specs.Starts.{StartsAgree}
 use Rattle.ec_coherence.specs.Watches.{FirstsAgree, WatchesAgree, still_in}
@@ -26,6 +25,8 @@ use Rattle.ec_lawful.specs.Olds.{frozen_if, opened_in, opened_state}
 use Rattle.ec_lawful.proofs.EndedSlots as slots
 use Rattle.ec_lawful.proofs.EndedSlots.{none-open, of-sessions, owner-at, owner-of}
 use Rattle.ec_lawful.proofs.Volumes.{each-held, known-id}
+use Rattle.ec_base.proofs.Bools.{left as and_first, not-both as no_both, right as and_next}
+use Rattle.ec_base.proofs.Options.{none_some}
 
 module _ (d : Durable) (wf : WellFormed d) (sixteen : length d.sessions ≡ 16) where
   abbrev g : System

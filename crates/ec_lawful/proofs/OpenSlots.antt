@@ -13,14 +13,10 @@ use Rattle.ec_durable.specs.declared.record.Record.{Record}
 use Rattle.ec_durable.specs.declared.record.Record.TheVariants.{Batch, Open, End, Ids, Epoch}
 use Rattle.ec_durable.specs.declared.record.RecordFault.{RecordFault}
 use Rattle.ec_durable.specs.declared.record.RecordFault.TheVariants as fault
-use Rattle.ec_coherence.proofs.Lists.{and_first}
-use Rattle.ec_coherence.proofs.Tables.{equal, holds, is-true, same_some}
-
-same-ok : {x y : Durable} → ◌≡◌ {A = Result Durable RecordFault} (Ok x) (Ok y) → x ≡ y
-same-ok {x} {y} e = ap (λ r. elim r [ Ok z ↦ z | Err f ↦ x ]) e
-
-not-ok : {A : Type 0} {x : Durable} {f : RecordFault} → ◌≡◌ {A = Result Durable RecordFault} (Err f) (Ok x) → A
-not-ok e = absurd (cc)
+use Rattle.ec_coherence.proofs.Tables.{same_some}
+use Rattle.ec_base.proofs.Bools.{left as and_first, is-true, holds-true as holds}
+use Rattle.ec_base.proofs.Numbers.{equal}
+use Rattle.ec_lawful.proofs.Founds.{not-ok, same-ok}
 
 -- each open session of the second slot was open in the first one
 abbrev WasOpen : Option Slot → Option Slot → Type 0

@@ -20,9 +20,11 @@ use Rattle.ec_protocol.specs.World.{clerks, end_each, new_world, open_world, ope
 use Rattle.ec_protocol.specs.declared.server.Server.{Server}
 use Rattle.ec_protocol.specs.declared.world.World.{World}
 use Rattle.ec_coherence.specs.Steps.{Stands}
-use Rattle.ec_coherence.proofs.Tables.{none_some, same, same_some}
+use Rattle.ec_coherence.proofs.Tables.{same_some}
 use Rattle.ec_lawful.specs.Olds.{all_ended, opened_in, opened_state}
 use Rattle.ec_lawful.proofs.EndedSlots.{boots-at}
+use Rattle.ec_base.proofs.Numbers.{same-self as same}
+use Rattle.ec_base.proofs.Options.{none_some}
 
 -- What a start says leaves the rest of the step.
 
@@ -86,11 +88,11 @@ module _ (d : Durable) (c : ℕ) where
 
 -- All of them, in the order of the clerks.
 
-at-middle : (pre rest : Slots) (o : Option Slot) → slot_at (pre ++ o ∷ rest) (length pre) ≡ o
+pub at-middle : (pre rest : Slots) (o : Option Slot) → slot_at (pre ++ o ∷ rest) (length pre) ≡ o
 at-middle [] rest o = refl
 at-middle (x ∷ pre) rest o = at-middle pre rest o
 
-set-middle : (pre rest : Slots) (o p : Option Slot) → with_slot (length pre) p (pre ++ o ∷ rest) ≡ (pre ++ p ∷ []) ++ rest
+pub set-middle : (pre rest : Slots) (o p : Option Slot) → with_slot (length pre) p (pre ++ o ∷ rest) ≡ (pre ++ p ∷ []) ++ rest
 set-middle [] rest o p = refl
 set-middle (x ∷ pre) rest o p = ap (λ l. x ∷ l) (set-middle pre rest o p)
 

@@ -10,7 +10,7 @@ use Rattle.ec_durable.specs.WellFormed.{WellFormed}
 use Rattle.ec_durable.specs.declared.state.Durable.{Durable}
 use Rattle.ec_coherence.specs.System.{clerk_in, clerk_of}
 use Rattle.ec_coherence.specs.Tokens.{Names, view, is_hidden, is_untaken, side_in}
-use Rattle.ec_coherence.proofs.Tables.{none_some, same_some}
+use Rattle.ec_coherence.proofs.Tables.{same_some}
 use Rattle.ec_lawful.specs.Olds.{opened_in, owner_from, frozen_if}
 use Rattle.ec_lawful.proofs.Olds.{opened-all}
 use Rattle.ec_lawful.proofs.Volumes.{entries-known, known-id}
@@ -20,6 +20,7 @@ use Rattle.ec_clerk_steps.specs.Zeros.{LeaveOut}
 use Rattle.ec_lawful.proofs.LinesTell.{nothing-tells-all}
 use Rattle.ec_lawful.proofs.FreshBegins.{begins-fresh}
 use Rattle.ec_lawful.specs.Whole.{Whole}
+use Rattle.ec_base.proofs.Options.{none_some}
 
 -- no clerk is in any session
 nobody : (d : Durable) (s : ℕ) → clerk_in (opened_in d) s ≡ None

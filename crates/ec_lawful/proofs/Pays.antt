@@ -13,11 +13,13 @@ use Rattle.ec_protocol.specs.World.{ended_in, noted, session_boot}
 use Rattle.ec_protocol.specs.declared.world.Noted.{Noted}
 use Rattle.ec_protocol.specs.declared.world.Noted.TheVariants as noted_of
 use Rattle.ec_coherence.proofs.Carried.{slot-same}
-use Rattle.ec_coherence.proofs.Tables.{differs, equal, holds, same}
+use Rattle.ec_coherence.proofs.Tables.{differs}
 use Rattle.ec_clerk_steps.proofs.Steps.{epoch-own, open-is, open-others, open-steps}
 use Rattle.ec_lawful.specs.Asked.{passed, seat, to_end}
 use Rattle.ec_lawful.proofs.Seats.{batch-seat, end-seat, ids-seat}
 use Rattle.ec_base.specs.Bools.{one_if}
+use Rattle.ec_base.proofs.Numbers.{same-self as same, equal}
+use Rattle.ec_base.proofs.Bools.{holds-true as holds}
 
 -- a session comes in the place of an open one of this run only by a later start that began
 abbrev pub MayOpen : (ℕ → ℕ) → (ℕ → ℕ) → Durable → Record → Type 0

@@ -15,7 +15,6 @@ use Rattle.ec_coherence.specs.Sessions as sessions
 use Rattle.ec_coherence.specs.Steps.{doing_in}
 use Rattle.ec_coherence.specs.Tokens.{Fits, view}
 use Rattle.ec_coherence.proofs.Needs.{each-of}
-use Rattle.ec_coherence.proofs.Tables.{equal}
 use Rattle.ec_clerk_steps.specs.CallLaws.{is_calm}
 use Rattle.ec_clerk_steps.proofs.Quiets.{quiet-taken}
 use Rattle.ec_clerk_steps.specs.DoingLaws.{IsInHand}
@@ -43,6 +42,7 @@ use Rattle.ec_lawful.specs.Whole.{Whole}
 use Rattle.ec_lawful.specs.SettleLaws.{IsLined}
 use Rattle.ec_lawful.proofs.Carrying.{goes-lined, in-hand, same-shows}
 use Rattle.ec_lawful.proofs.Same.{first, no-zero}
+use Rattle.ec_base.proofs.Numbers.{equal}
 
 module _ (g : System) (whole : Whole g) (c b : ℕ) (k : Clerk) (runs : g.running c ≡ Some b) (at-start : g.clerks c b ≡ Some k) (s : ℕ) (within : k.session ≡ Some s) where
   abbrev d : Doing

@@ -13,7 +13,6 @@ use Rattle.ec_coherence.specs.System.{System, Ghost}
 use Rattle.ec_coherence.specs.Sessions as sessions
 use Rattle.ec_coherence.specs.Steps.{doing_in}
 use Rattle.ec_coherence.specs.Tokens.{Fits, view}
-use Rattle.ec_coherence.proofs.Tables.{equal}
 use Rattle.ec_coherence.proofs.TakeGrant.{by-session}
 use Rattle.ec_clerk_steps.proofs.Quiets.{quiet-taken}
 use Rattle.ec_clerk_steps.specs.Cuts.{CutsAgree}
@@ -34,6 +33,7 @@ use Rattle.ec_coherence.specs.StandLaws.{ClerkStands}
 use Rattle.ec_lawful.proofs.Ids.{ids-fresh}
 use Rattle.ec_lawful.specs.SettleLaws.{IsLined, IsPlain}
 use Rattle.ec_lawful.proofs.Carrying.{goes-lined, in-hand, no-zero, still-lined}
+use Rattle.ec_base.proofs.Numbers.{equal}
 
 module _ (g : System) (c b s : ℕ) (d : Doing) (γ : Ghost) (l : IsLined g c b d γ) (session : d.clerk.session ≡ Some s) where
   abbrev here : System

@@ -20,11 +20,13 @@ use Rattle.ec_protocol.specs.declared.world.Noted.TheVariants as noted_of
 use Rattle.ec_protocol.specs.declared.world.World.{World}
 use Rattle.ec_protocol.specs.declared.world.WorldFault.TheVariants as fault
 use Rattle.ec_coherence.specs.Steps.{call_of, less_call, out_lines}
-use Rattle.ec_coherence.proofs.Tables.{at-put, equal, none_some}
+use Rattle.ec_coherence.proofs.Tables.{at-put}
 use Rattle.ec_lawful.specs.Headline.{ends}
 use Rattle.ec_lawful.proofs.Outs.{Calls, Came, came-out}
 use Rattle.ec_lawful.specs.Asked.{EndsAsked, ended_by, passed, seat, spare, to_end, top}
 use Rattle.ec_base.specs.Bools.{one_if}
+use Rattle.ec_base.proofs.Options.{none_some}
+use Rattle.ec_base.proofs.Numbers.{equal, plus_none}
 
 -- Lines.
 
@@ -84,11 +86,8 @@ pub record Notes (m n : Moving) (o : Option Noted) : Type 0 where
   pub clerks : n.world.clerks ≡ m.world.clerks
   pub boots : n.world.boots ≡ m.world.boots
 
-plus-none : (n : ℕ) → n ≡ n + 0
-plus-none n = omega arith
-
 pub notes : (o : Option Noted) (m : Moving) → Notes m (world.show_noted o m) o
-notes None m = record { ended = λ c. plus-none (ended_by c m.world.shown); durable = refl; unshown = refl; clerks = refl; boots = refl }
+notes None m = record { ended = λ c. plus_none (ended_by c m.world.shown); durable = refl; unshown = refl; clerks = refl; boots = refl }
 notes (Some (noted_of.Durable d ns)) m = record { ended = λ c. ended-line c m.world.shown (show.Durable d ns); durable = refl; unshown = refl; clerks = refl; boots = refl }
 notes (Some (noted_of.Ended d b)) m = record { ended = λ c. ended-line c m.world.shown (world.show_ended d b m.world) ∙ ap (λ n. ended_by c m.world.shown + n) (its c); durable = refl; unshown = refl; clerks = refl; boots = refl }
   where

@@ -19,7 +19,6 @@ use Rattle.ec_coherence.specs.Invariant.{Invariant}
 use Rattle.ec_coherence.specs.Steps.{found, serving_in, Under}
 use Rattle.ec_coherence.proofs.Lists.{each-more}
 use Rattle.ec_coherence.proofs.Replies.{tell-all-stands}
-use Rattle.ec_coherence.proofs.Tables.{same}
 use Rattle.ec_coherence.specs.CommitLaws.{AllAgree}
 use Rattle.ec_coherence.specs.Starts.{Greets}
 use Rattle.ec_coherence.proofs.Starting.{AreQuiet}
@@ -29,10 +28,11 @@ use Rattle.ec_coherence.proofs.Lines.{started-stands}
 use Rattle.ec_lawful.specs.Doubts.{ComesFrom, ComesFromAny, DoubtAgrees}
 use Rattle.ec_lawful.specs.Founds.{bare, found_state, shown_in, started_in, with_found}
 use Rattle.ec_lawful.proofs.Dressed.{dressed}
-use Rattle.ec_lawful.proofs.Founds.{ends-of, founds-stand, gives-of, may, opens-of, stepped-is}
+use Rattle.ec_lawful.proofs.Founds.{ends-of, founds-stand, gives-of, may, opens-of, stepped-is, not-ok, same-ok}
 use Rattle.ec_lawful.proofs.Opens.{all-same, start-is, start-spent}
 use Rattle.ec_lawful.proofs.Ups as ups
 use Rattle.ec_lawful.proofs.Ups.{bare-all}
+use Rattle.ec_base.proofs.Numbers.{same-self as same}
 
 -- What a start says is no greeting.
 module _ (g : System) where
@@ -107,12 +107,6 @@ module _ (g : System) (all : AllAgree g) (down : g.server ≡ None) (sure : g.un
       go false p = inr (subst (λ u. AllAgree (record (started_in g (start state)) { unshown = u })) (sym sure) (subst (λ t. AllAgree (record (started_in g t) { unshown = None })) (sym (start-is state (all.0).sessions.sixteen p)) told-all))
 
 -- A record leaves the epoch, but one that raises it.
-
-same-ok : {x y : Durable} → ◌≡◌ {A = Result Durable RecordFault} (Ok x) (Ok y) → x ≡ y
-same-ok {x} {y} e = ap (λ r. elim r [ Ok z ↦ z | Err f ↦ x ]) e
-
-not-ok : {A : Type 0} {x : Durable} {f : RecordFault} → ◌≡◌ {A = Result Durable RecordFault} (Err f) (Ok x) → A
-not-ok e = absurd (cc)
 
 same-epoch : (c : ℕ) (ops : List (ℕ × Update)) (d now : Durable) → operations c ops d ≡ Ok now → now.epoch ≡ d.epoch
 same-epoch c [] d now e = ap (λ z. z.epoch) (sym (same-ok e))

@@ -16,7 +16,7 @@ use Rattle.ec_protocol.specs.World.{open_world}
 use Rattle.ec_protocol.specs.declared.script.Line.{Line}
 use Rattle.ec_protocol.specs.declared.script.Line.TheVariants as line
 use Rattle.ec_protocol.specs.declared.world.World.{World}
-use Rattle.ec_coherence.proofs.Tables.{none_some, same_some}
+use Rattle.ec_coherence.proofs.Tables.{same_some}
 use Rattle.ec_coherence.specs.Steps.{call_of}
 use Rattle.ec_lawful.specs.Headline.{Lines}
 use Rattle.ec_lawful.specs.Calls.{IsOf}
@@ -26,13 +26,10 @@ use Rattle.ec_lawful.proofs.Drills.{runs-on}
 use Rattle.ec_lawful.specs.Reached.{IsInOrder}
 use Rattle.ec_lawful.proofs.Bounded.{IsBounded}
 use Rattle.ec_lawful.proofs.Worlds.{F, in-order-of, kept-by, no-calls, no-lines, opened-holds}
+use Rattle.ec_base.proofs.Options.{none_some}
+use Rattle.ec_coherence.proofs.Evict.{each-front}
 
 -- Calls of a script that fits are within their bounds.
-
-each-take : {A : Type 0} (P : A → Type 0) (n : ℕ) (xs : List A) → Each P xs → Each P (take n xs)
-each-take P zero xs a = tt
-each-take P (suc n) [] a = tt
-each-take P (suc n) (x ∷ xs) a = (a.0, each-take P n xs a.1)
 
 abbrev IsBoundedLine : Line → Type 0
 IsBoundedLine (line.Call c cl) = T (is_bounded cl)
@@ -94,10 +91,10 @@ module _ (d : Durable) (wf : WellFormed d) (sixteen : length d.sessions ≡ 16) 
         of = record { calls = λ c k l cl x. absurd (none_some (sym (ap (λ y. call_of c k y) (no-calls d wf sixteen gone w q)) ∙ x)); shown = subst (EachLine (IsOf (IsCallIn []))) (sym (no-lines d wf sixteen gone w q)) tt };
         shown = no-lines d wf sixteen gone w q;
       }
-      (each-take IsFit n ls fit)
+      (each-front IsFit n ls fit)
 
   bounded : Each IsBoundedLine come.more
-  bounded = subst (Each IsBoundedLine) (sym come.front) (each-take IsBoundedLine (length come.more) (lines_in (take n ls)) (lines-bounded (take n ls) (each-take IsFit n ls fit)))
+  bounded = subst (Each IsBoundedLine) (sym come.front) (each-front IsBoundedLine (length come.more) (lines_in (take n ls)) (lines-bounded (take n ls) (each-front IsFit n ls fit)))
 
   pub run-in-order : IsInOrder (images d.volume) d.max_objects r.world
   run-in-order = in-order-of d wf sixteen gone r.world (come.sofar).holds (bounded-lines come.more (λ l c cl p. at-bounded come.more bounded (l - 1) (line.Call c cl) p.2) r.world.shown ((come.sofar).of).shown)

@@ -3,7 +3,6 @@ use Rattle.std.proofs.Common.{◌≡◌, refl, sym, ap, subst, ◌∙◌, inl, a
 use Rattle.std.specs.Prelude.{Contains}
 use Rattle.ec_base.specs.declared.ids.Age.{Age}
 use Rattle.ec_history.specs.History.{Each}
-use Rattle.ec_laws.proofs.Numbers.{each-map}
 use Rattle.ec_wire.specs.declared.msg.Msg.TheVariants.{Claim, Opened}
 use Rattle.ec_protocol.specs.Clerk.{Doing, doing, emit, has_session, hello, same_age, send, with_clerk}
 use Rattle.ec_protocol.specs.declared.clerk.Clerk.{Clerk}
@@ -12,7 +11,6 @@ use Rattle.ec_coherence.specs.System.{System, Ghost}
 use Rattle.ec_coherence.specs.Clerks.{take_session}
 use Rattle.ec_coherence.specs.Steps.{call_of, doing_in}
 use Rattle.ec_coherence.proofs.ClerkIn.{start-same}
-use Rattle.ec_coherence.proofs.Tables.{same}
 use Rattle.ec_coherence.specs.CommitLaws.{AllAgree}
 use Rattle.ec_coherence.specs.StandLaws.{ClerkStands}
 use Rattle.ec_clerk_steps.specs.Calls.{Began, CallsAgree, IsOpenCall, StartCalls}
@@ -39,6 +37,8 @@ use Rattle.ec_lawful.proofs.Telling.{quiet-step-tells}
 use Rattle.ec_lawful.specs.SettleLaws.{IsLined}
 use Rattle.ec_lawful.proofs.Beginning.{begins}
 use Rattle.ec_lawful.proofs.Carrying.{same-shows}
+use Rattle.ec_base.proofs.Numbers.{same-self as same}
+use Rattle.ec_laws.proofs.BasesAlike.{each-map}
 
 same-ages : (a b : Age) → a ≡ b → same_age a b ≡ true
 same-ages a b e = ap (λ z. same_age z b) e ∙ ap (λ z. z && (b.round == b.round)) (same b.boot) ∙ same b.round

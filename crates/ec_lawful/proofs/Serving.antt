@@ -24,10 +24,10 @@ use Rattle.ec_coherence.specs.System.{System, Ghost}
 use Rattle.ec_coherence.specs.Stops.{RunsOn}
 use Rattle.ec_coherence.specs.Steps as steps
 use Rattle.ec_coherence.specs.Steps.{Stands, Under, end_lines, ended_line, found, record_lines, running_clerk, serving_in, to_show}
-use Rattle.ec_coherence.proofs.Lists.{same_tests}
 use Rattle.ec_coherence.specs.CommitLaws.{AllAgree}
 use Rattle.ec_lawful.proofs.Pool.{Pooled, Sends, sends-all}
 use Rattle.ec_lawful.proofs.Standing.{pooled-of}
+use Rattle.ec_base.proofs.Bools.{same_tests}
 
 -- A record's lines are those of the system.
 module _ (w : World) (g : System) (st : Stands w g) (all : AllAgree g) where

@@ -18,12 +18,12 @@ use Rattle.ec_protocol.specs.World as world
 use Rattle.ec_protocol.specs.World.{Fate, runs, stops_with, stops_without, Moving, moving, noted, stepped}
 use Rattle.ec_protocol.specs.declared.world.World.{World}
 use Rattle.ec_protocol.specs.declared.world.WorldFault.TheVariants as fault
-use Rattle.ec_coherence.proofs.Tables.{none_some}
 use Rattle.ec_lawful.proofs.Pool.{Sends, sends-all}
 use Rattle.ec_clerk_steps.proofs.Steps.{epoch-own}
 use Rattle.ec_lawful.specs.Asked.{EndsAsked, ended_by, passed, seat, spare, to_end, top}
 use Rattle.ec_lawful.proofs.Pays.{MayOpen, Pays, asks_for, pays}
 use Rattle.ec_lawful.proofs.Reading.{Alike, Notes, alike-asks, ended-line, notes, same-tops}
+use Rattle.ec_base.proofs.Options.{none_some}
 
 pub weaken : (first asked more : ℕ → ℕ) (w : World) → ((c : ℕ) → asked c ≤ more c) → EndsAsked first asked w → EndsAsked first more w
 weaken first asked more w l a = record { within = λ c. further (ended_by c w.shown + to_end c w.unshown + spare (first c) c w) (asked c) (more c) (a.within c) (l c) }
@@ -119,7 +119,7 @@ module _ (first asked k : ℕ → ℕ) (w : World) (a : EndsAsked first asked w)
 
 -- A restart.
 
-tells-one : (c : ℕ) (t : Serving) (o : Option Slot) → (tell_start c t o).server ≡ t.server
+pub tells-one : (c : ℕ) (t : Serving) (o : Option Slot) → (tell_start c t o).server ≡ t.server
 tells-one c t None = refl
 tells-one c t (Some sl) = go sl.is_open
   where
@@ -127,7 +127,7 @@ tells-one c t (Some sl) = go sl.is_open
     go true = refl
     go false = refl
 
-tells-all : (c : ℕ) (slots : Slots) (t : Serving) → (tell_all c slots t).server ≡ t.server
+pub tells-all : (c : ℕ) (slots : Slots) (t : Serving) → (tell_all c slots t).server ≡ t.server
 tells-all c [] t = refl
 tells-all c (o ∷ slots) t = tells-all (c + 1) slots (tell_start c t o) ∙ tells-one c t o
 

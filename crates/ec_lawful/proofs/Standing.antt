@@ -13,9 +13,10 @@ use Rattle.ec_protocol.specs.declared.world.World.{World}
 use Rattle.ec_protocol.specs.declared.world.WorldFault.TheVariants as fault
 use Rattle.ec_coherence.specs.System.{System, Ghost, with_start}
 use Rattle.ec_coherence.specs.Steps.{Stands, calls_after, doing_in, found, out_lines, running_clerk, sends, to_show}
-use Rattle.ec_coherence.proofs.Tables.{at-put, equal, same}
+use Rattle.ec_coherence.proofs.Tables.{at-put}
 use Rattle.ec_lawful.proofs.Pool.{Pooled}
 use Rattle.ec_lawful.proofs.Outs.{Came, came-out}
+use Rattle.ec_base.proofs.Numbers.{same-self as same, equal}
 
 pub pooled-of : (w : World) (g : System) → Stands w g → Pooled w g.pool
 pooled-of w g st n c i m q = st.pool n c i m q

@@ -25,7 +25,7 @@ use Rattle.ec_coherence.specs.System.{System, Ghost, with_start}
 use Rattle.ec_coherence.specs.ChangeLaws.{Calls}
 use Rattle.ec_coherence.specs.Steps.{call_of, calls_after, doing_in, less_call, out_lines, sends}
 use Rattle.ec_coherence.proofs.Lists.{each-more, each-turn}
-use Rattle.ec_coherence.proofs.Tables.{at-put, none_some, same, same_some}
+use Rattle.ec_coherence.proofs.Tables.{at-put, same_some}
 use Rattle.ec_coherence.specs.CommitLaws.{AllAgree}
 use Rattle.ec_coherence.specs.StandLaws.{lined}
 use Rattle.ec_clerk_steps.specs.Calls.{is_shown}
@@ -60,6 +60,8 @@ use Rattle.ec_lawful.specs.SettleLaws.{Beside, TriesAll}
 use Rattle.ec_lawful.proofs.Settling.{settles-call}
 use Rattle.ec_lawful.proofs.CallsBegin.{shown-by}
 use Rattle.ec_lawful.proofs.LinesLeft.{lines-at-end}
+use Rattle.ec_base.proofs.Numbers.{same-self as same}
+use Rattle.ec_base.proofs.Options.{none_some}
 
 twice : (c b : ℕ) (k now : Clerk) (f : ℕ → ℕ → Option Clerk) → with_start c b now (with_start c b k f) ≡ with_start c b now f
 twice c b k now f = λ j x y. point ((x == c) && (y == b)) x y j

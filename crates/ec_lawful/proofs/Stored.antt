@@ -12,28 +12,26 @@ use Rattle.ec_history.specs.declared.shown.Shown.{Shown}
 use Rattle.ec_sessions.specs.declared.slot.Slot.{Slot}
 use Rattle.ec_durable.specs.Durable.{slot}
 use Rattle.ec_laws.proofs.KeptFormed.{kept-formed}
-use Rattle.ec_laws.proofs.Numbers.{each-filter, each-map}
+use Rattle.ec_laws.proofs.Numbers.{each-filter}
 use Rattle.ec_laws.proofs.Pulled.{pulled-fit_alone}
 use Rattle.ec_coherence.specs.System.{System, base_of, is_of, undurable}
 use Rattle.ec_coherence.specs.Events.{shown_boot, shown_op}
 use Rattle.ec_coherence.specs.Log.{HasWrites}
 use Rattle.ec_coherence.proofs.Formed.{all-sound}
 use Rattle.ec_coherence.proofs.OpenSlots as slots
-use Rattle.ec_coherence.proofs.Tables.{holds, is-true, none_some, same_some}
+use Rattle.ec_coherence.proofs.Tables.{same_some}
 use Rattle.ec_coherence.specs.CommitLaws.{AllAgree}
 use Rattle.ec_coherence.specs.Watches.{WatchAgrees, still_in}
 use Rattle.ec_laws.specs.Accounts.{IsUndurable, LinesTell}
-use Rattle.ec_laws.proofs.Members.{off}
 use Rattle.ec_laws.proofs.Telling.{kept-told}
 use Rattle.ec_lawful.specs.LawfulRuns.{ShowLawfully}
 use Rattle.ec_lawful.specs.HeadlineLaws.{TellsAll}
 use Rattle.ec_lawful.proofs.LinesTell.{Still, still-of}
-
-same-bool : (a b : Bool) → (T a → T b) → (T b → T a) → a ≡ b
-same-bool true true f k = refl
-same-bool true false f k = absurd (f tt)
-same-bool false true f k = absurd (k tt)
-same-bool false false f k = refl
+use Rattle.ec_base.proofs.Options.{none_some}
+use Rattle.ec_base.proofs.Bools.{same_tests, clash as off, is-true, holds-true as holds}
+use Rattle.ec_coherence.proofs.LossesTold.{each-of-map}
+use Rattle.ec_laws.proofs.BasesAlike.{each-map}
+use Rattle.ec_laws.proofs.LateLoss.{filter-same}
 
 -- a number of these operations is one
 member-of : (p : Op → Bool) (ks : List Op) → Each (λ k. T (p k) → T (member k.number (numbers (filter p ks)))) ks
@@ -59,14 +57,6 @@ member-of p (k ∷ ks) = (λ t. here (p k) t, rest (p k) ks (member-of p ks))
 each-at : (P : Op → Type 0) (Q : Op → Type 0) → ((k : Op) → P k → Q k) → (ks : List Op) → Each P ks → Each Q ks
 each-at P Q f ks a = each-map P Q f ks a
 
-pair : (P Q : Op → Type 0) (ks : List Op) → Each P ks → Each Q ks → Each (λ k. P k × Q k) ks
-pair P Q [] a b = tt
-pair P Q (k ∷ ks) a b = ((a.0, b.0), pair P Q ks a.1 b.1)
-
-filter-same : (p q : Op → Bool) (ks : List Op) → Each (λ k. p k ≡ q k) ks → filter p ks ≡ filter q ks
-filter-same p q [] e = refl
-filter-same p q (k ∷ ks) e = ap (λ b. cond b (k ∷ filter p ks) (filter p ks)) e.0 ∙ ap (λ xs. cond (q k) (k ∷ xs) xs) (filter-same p q ks e.1)
-
 filter-mapped : (f : Op → Op) (p : Op → Bool) (ks : List Op) → filter p (map f ks) ≡ map f (filter (λ k. p (f k)) ks)
 filter-mapped f p [] = refl
 filter-mapped f p (k ∷ ks) = ap (λ xs. cond (p (f k)) (f k ∷ xs) xs) (filter-mapped f p ks) ∙ go (p (f k))
@@ -74,10 +64,6 @@ filter-mapped f p (k ∷ ks) = ap (λ xs. cond (p (f k)) (f k ∷ xs) xs) (filte
     go : (b : Bool) → cond b (f k ∷ map f (filter (λ j. p (f j)) ks)) (map f (filter (λ j. p (f j)) ks)) ≡ map f (cond b (k ∷ filter (λ j. p (f j)) ks) (filter (λ j. p (f j)) ks))
     go true = refl
     go false = refl
-
-each-back : (f : Op → Op) (P : Op → Type 0) (ks : List Op) → Each P (map f ks) → Each (λ k. P (f k)) ks
-each-back f P [] a = tt
-each-back f P (k ∷ ks) a = (a.0, each-back f P ks a.1)
 
 less-apart : (a b f : ℕ) → f < a → f < b → a - f ≡ b - f → a ≡ b
 less-apart a b f p q e = omega (arith, p, q, e)
@@ -98,7 +84,7 @@ module _ (g : System) (all : AllAgree g) (tells : TellsAll g) where
   named o = member o.number (durable o.clerk (shown_boot g o.clerk o.boot) ss)
 
   told : Each (λ o. T (named o) ⊎ IsUndurable o.clerk (shown_boot g o.clerk o.boot) o.number ss) g.ghost.kept
-  told = each-back (shown_op g) (λ k. T (member k.number (durable k.clerk k.boot ss)) ⊎ IsUndurable k.clerk k.boot k.number ss) g.ghost.kept
+  told = each-of-map (shown_op g) (λ k. T (member k.number (durable k.clerk k.boot ss)) ⊎ IsUndurable k.clerk k.boot k.number ss) g.ghost.kept
       (subst (Each (λ k. T (member k.number (durable k.clerk k.boot ss)) ⊎ IsUndurable k.clerk k.boot k.number ss)) keeps
       (kept-told (base_of g) g.durable.max_objects ss (subst (IsLegal (base_of g) g.durable.max_objects) (sym (all.0).events.placed) (all.0).events.legal) tells.told))
 
@@ -146,7 +132,7 @@ module _ (g : System) (all : AllAgree g) (tells : TellsAll g) where
     where
       one : (o : Op) → T (named o) ⊎ IsUndurable o.clerk (shown_boot g o.clerk o.boot) o.number ss → (T (not (g.ghost.is_durable o)) → HasWrites g o) → g.first_boot o.clerk < o.boot
           → ((s : ℕ) → T (is_of (g.ghost.owner s) o && not (g.ghost.is_durable o)) → T (member o.number (numbers (undurable g.ghost s)))) → named o ≡ g.ghost.is_durable o
-      one o t has above among = same-bool (named o) (g.ghost.is_durable o) (λ n. yes (g.ghost.is_durable o) refl n) (λ d. elim t [ inl n ↦ n | inr u ↦ absurd (shown-undurable o above u d) ])
+      one o t has above among = same_tests (named o) (g.ghost.is_durable o) (λ n. yes (g.ghost.is_durable o) refl n) (λ d. elim t [ inl n ↦ n | inr u ↦ absurd (shown-undurable o above u d) ])
         where
           yes : (b : Bool) → g.ghost.is_durable o ≡ b → T (named o) → T b
           yes true e n = tt

@@ -13,8 +13,8 @@ use Rattle.ec_protocol.specs.declared.server.Server.{Server}
 use Rattle.ec_coherence.specs.System.{System, Ghost, clerk_in, seen_ops}
 use Rattle.ec_coherence.specs.Tokens.{Names, in_sixteen, is_hidden, is_untaken, side, side_in, view}
 use Rattle.ec_coherence.proofs.Carried.{gone-is}
-use Rattle.ec_coherence.proofs.Lists.{and_first, and_next, each-at}
-use Rattle.ec_coherence.proofs.Tables.{differs, equal, none_some, same_some}
+use Rattle.ec_coherence.proofs.Lists.{each-at}
+use Rattle.ec_coherence.proofs.Tables.{differs, same_some}
 use Rattle.ec_coherence.specs.CommitLaws.{AllAgree}
 use Rattle.ec_clerk_steps.specs.Frees.{FreesAgree}
 use Rattle.ec_clerk_steps.specs.Zeros.{LeaveOut, ZerosAgree}
@@ -23,6 +23,9 @@ use Rattle.ec_clerk_steps.specs.Frames.{behind}
 use Rattle.ec_clerk_steps.proofs.Serving.{still-in}
 use Rattle.ec_clerk_steps.specs.Follows.{GhostsFollow}
 use Rattle.ec_lawful.proofs.Follows.{Moves, kept-each}
+use Rattle.ec_base.proofs.Bools.{left as and_first, right as and_next}
+use Rattle.ec_base.proofs.Options.{none_some}
+use Rattle.ec_base.proofs.Numbers.{equal}
 
 leb-to : (a x : ℕ) → T (nat_le a x) → a ≤ x
 leb-to a x t = grind arith

@@ -34,16 +34,17 @@ use Rattle.ec_coherence.specs.Log as log
 use Rattle.ec_coherence.specs.Steps.{serving_in}
 use Rattle.ec_coherence.specs.Tokens as tokens
 use Rattle.ec_coherence.specs.Tokens.{ClaimFits, side, side_in, tables_of, view}
-use Rattle.ec_coherence.proofs.Lists.{and_first}
 use Rattle.ec_coherence.proofs.Needs.{each-of}
 use Rattle.ec_coherence.proofs.OpenSlots.{at-open}
-use Rattle.ec_coherence.proofs.Tables.{equal, fails, holds}
+use Rattle.ec_coherence.proofs.Tables.{fails}
 use Rattle.ec_coherence.specs.CommitLaws.{AllAgree, Stands}
 use Rattle.ec_coherence.proofs.Claiming.{claims-clear}
 use Rattle.ec_coherence.proofs.BatchCommits.{flush-is}
 use Rattle.ec_coherence.proofs.Taking.{begins}
 use Rattle.ec_coherence.proofs.Recorded.{serve-record}
 use Rattle.ec_lawful.specs.Asked.{IsNoBye}
+use Rattle.ec_base.proofs.Bools.{left as and_first, holds-true as holds}
+use Rattle.ec_base.proofs.Numbers.{equal}
 
 -- the record isn't an end
 abbrev pub EndsNone : Option Record → Type 0

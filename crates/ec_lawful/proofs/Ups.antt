@@ -9,13 +9,15 @@ use Rattle.ec_coherence.specs.System.{System, Eff, clerk_of, if_in}
 use Rattle.ec_coherence.specs.Tokens.{Fits, Side, TokensAgree, eff, eff_of, side, side_in, tables_in, view}
 use Rattle.ec_coherence.proofs.Lists.{each-turn}
 use Rattle.ec_coherence.proofs.Restart.{down, started-agrees}
-use Rattle.ec_coherence.proofs.Tables.{equal, none_some, same, same_some}
+use Rattle.ec_coherence.proofs.Tables.{same_some}
 use Rattle.ec_coherence.specs.CommitLaws.{AllAgree, Stands}
 use Rattle.ec_coherence.proofs.Taking.{begins}
 use Rattle.ec_lawful.specs.Founds.{bare}
 use Rattle.ec_lawful.proofs.Downs.{InEpoch, in-epoch, moved-agrees}
 use Rattle.ec_lawful.proofs.Dressed.{dressed, dressed-all}
 use Rattle.ec_protocol.specs.Clerk.{is_session}
+use Rattle.ec_base.proofs.Numbers.{same-self as same, equal}
+use Rattle.ec_base.proofs.Options.{none_some}
 
 module _ (g : System) (all : AllAgree g) (stop : g.server ≡ None) where
   pub down-tokens : TokensAgree (down (view g))

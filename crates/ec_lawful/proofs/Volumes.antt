@@ -4,28 +4,28 @@ use Rattle.std.specs.Prelude.{◌==◌, nat_lt}
 use Rattle.std.specs.Cmp.{IsTotalOrder, eq_by_cmp_equiv}
 use Rattle.std.specs.Cmp.Lexicographic.{nat_list_cmp_total}
 use Rattle.std.specs.FinMap.Entries.{below_all, find, is_sorted}
-use Rattle.std.specs.Ordering.{is_eq, is_lt}
+use Rattle.std.specs.Ordering.{is_lt}
 use Rattle.std.specs.declared.cmp.Ordering.{Ordering}
-use Rattle.std.specs.declared.cmp.Ordering.TheVariants.{Less, Equal, Greater}
 use Rattle.std.specs.List.{list_all}
 use Rattle.ec_base.specs.Tables.{keys}
 use Rattle.ec_volume.specs.Held.{is_held}
 use Rattle.ec_volume.specs.Entries.{by_bytes, entry}
-use Rattle.ec_volume.specs.Image.{entries_of, is_dir, is_gone}
+use Rattle.ec_volume.specs.Image.{entries_of, is_gone}
 use Rattle.ec_volume.specs.Update.{member, root}
 use Rattle.ec_volume.specs.Volume as volume
 use Rattle.ec_volume.specs.Volume.{Images, images}
 use Rattle.ec_volume.specs.declared.image.Image.{Image}
-use Rattle.ec_volume.specs.declared.image.Image.TheVariants.{Gone, File, Dir}
 use Rattle.ec_history.specs.History.{Each}
 use Rattle.ec_laws.specs.Bases.{IsBase}
 use Rattle.ec_sessions.specs.Slots.{all_unspent}
 use Rattle.ec_durable.specs.WellFormed.{WellFormed}
 use Rattle.ec_durable.specs.declared.state.Durable.{Durable}
 use Rattle.ec_coherence.proofs.Ids.{in-front}
-use Rattle.ec_coherence.proofs.Lists.{and_first, and_next, each-turn, either_way, or_first, or_next}
-use Rattle.ec_coherence.proofs.Tables.{equal, holds}
+use Rattle.ec_coherence.proofs.Lists.{each-turn, either_way}
 use Rattle.ec_lawful.specs.Olds.{AreAtMost, base_above}
+use Rattle.ec_base.proofs.Bools.{left as and_first, not-tied, or-right as or_next, right as and_next, or_first, holds-true as holds}
+use Rattle.ec_base.proofs.Numbers.{equal}
+use Rattle.ec_laws.proofs.Entries.{dir-live}
 
 -- An object that is live is one of the list's, and each is within its limits.
 
@@ -61,16 +61,11 @@ known-id d wf x n = all-below d.next_id x (keys d.volume ++ all_unspent d.sessio
 
 -- Among pairs by rising keys each one is found by its key.
 
-is-less : (a : Ordering) → T (is_lt a) → is_eq a ≡ false
-is-less Less t = refl
-is-less Equal t = absurd t
-is-less Greater t = absurd t
-
 module _ {K X : Type 0} (R : K → K → Ordering) (o : IsTotalOrder R) where
   later : (e : K × X) (fs es : List (K × X)) → T (below_all R e.0 fs) → Each (λ f. find R f.0 es ≡ Some f.1) fs → Each (λ f. find R f.0 (e ∷ es) ≡ Some f.1) fs
   later e [] es b h = tt
   later e (f ∷ fs) es b h = (
-    ap (λ z. cond z (Some e.1) (find R f.0 es)) ((eq_by_cmp_equiv o).symm f.0 e.0 ∙ is-less (R e.0 f.0) (and_first (is_lt (R e.0 f.0)) (below_all R e.0 fs) b)) ∙ h.0,
+    ap (λ z. cond z (Some e.1) (find R f.0 es)) ((eq_by_cmp_equiv o).symm f.0 e.0 ∙ not-tied (R e.0 f.0) (and_first (is_lt (R e.0 f.0)) (below_all R e.0 fs) b)) ∙ h.0,
     later e fs es (and_next (is_lt (R e.0 f.0)) (below_all R e.0 fs) b) h.1,
   )
 
@@ -108,10 +103,5 @@ greatest P (suc b) x f t = go (P b) refl (λ g. greatest P b x g t)
     go true e h = (b, holds (P b) e, λ y u. last y (f y u))
     go false e h = h (λ y u. lower y (f y u) (λ q. absurd (subst T (ap P q ∙ e) u)))
 
-root-lives : (i : Image) → T (is_dir i) → T (not (is_gone i))
-root-lives Gone t = absurd t
-root-lives (File m s w bs) t = absurd t
-root-lives (Dir m s w es) t = tt
-
 pub volumes-have-greatest : (d : Durable) → WellFormed d → (n : ℕ) × T (not (is_gone (images d.volume n))) × AreAtMost (images d.volume) n
-volumes-have-greatest d wf = greatest (λ x. not (is_gone (images d.volume x))) d.next_id root (known-id d wf) (root-lives (images d.volume root) wf.volume.root_is_dir)
+volumes-have-greatest d wf = greatest (λ x. not (is_gone (images d.volume x))) d.next_id root (known-id d wf) (dir-live (images d.volume root) wf.volume.root_is_dir)

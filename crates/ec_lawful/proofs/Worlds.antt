@@ -18,7 +18,6 @@ use Rattle.ec_protocol.specs.declared.world.Event.TheVariants as event
 use Rattle.ec_protocol.specs.declared.world.World.{World}
 use Rattle.ec_coherence.specs.System.{System, base_of}
 use Rattle.ec_coherence.specs.Steps.{Stands, call_of}
-use Rattle.ec_coherence.proofs.Tables.{none_some}
 use Rattle.ec_coherence.specs.StandLaws.{lined}
 use Rattle.ec_lawful.specs.Olds.{opened_in}
 use Rattle.ec_lawful.proofs.Opens.{world-stands}
@@ -43,6 +42,7 @@ use Rattle.ec_lawful.specs.ReachedWorlds.{Reached, opens, happens, forgets, unse
 use Rattle.ec_lawful.proofs.Bounded.{IsBounded, place-bounded}
 use Rattle.ec_lawful.proofs.Entries.{are-fitting}
 use Rattle.ec_lawful.proofs.Licences.{held-image, no-conflict}
+use Rattle.ec_base.proofs.Options.{none_some}
 
 -- Where all facts hold of a system, a world that stands in it is in order, if the calls in its lines are within their bounds.
 module _ (g : System) (whole : Whole g) (w : World) (st : Stands w g) (bounded : EachLine (IsOf IsBounded) w.shown) (top : ℕ) (greatest : IsGreatest g.origin top) where

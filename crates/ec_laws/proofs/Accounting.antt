@@ -21,12 +21,15 @@ use Rattle.ec_history.specs.declared.shown.Shown.TheVariants.{Answered, Durable,
 use Rattle.ec_laws.proofs.Late.{place-ended}
 use Rattle.ec_laws.proofs.Held.{place-other}
 use Rattle.ec_laws.proofs.More.{count-next, durable-step, issued-step, watch-step}
-use Rattle.ec_laws.proofs.Numbers.{each-append, each-back, each-front, each-map}
+use Rattle.ec_laws.proofs.Numbers.{each-append, each-back, each-front}
 use Rattle.ec_laws.proofs.Watching.{closed-undurable}
 use Rattle.ec_laws.specs.Accounts.{IsUndurable, IsAccounted, count_of}
-use Rattle.ec_laws.proofs.Members.{on, is_on, off-from, off, left-apart, left-or, lost-left, member-all, member-left, member-parts, member-right, self}
+use Rattle.ec_laws.proofs.Members.{left-apart, left-or, lost-left, member-all, member-left, member-parts, member-right}
 use Rattle.ec_laws.proofs.Watched.{Has, begun-has, has-begun, stays, was, own}
 use Rattle.ec_base.specs.Options.{or_zero}
+use Rattle.ec_base.proofs.Numbers.{same-self as self}
+use Rattle.ec_base.proofs.Bools.{clash as off, none as off-from, on, is-true as is_on}
+use Rattle.ec_laws.proofs.BasesAlike.{each-map}
 
 abbrev pub Accounts : Base → List Shown → Type 0
 Accounts base ss = (c b : ℕ) → Each (λ k. of_start c b k ≡ true → IsAccounted c b k.number ss) (issued base (place ss))

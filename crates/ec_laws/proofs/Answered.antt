@@ -20,14 +20,18 @@ use Rattle.ec_history.specs.declared.shown.Shown.TheVariants.{Answered}
 use Rattle.ec_laws.proofs.Cuts.{placeable-split, throughout-front, throughout-back}
 use Rattle.ec_laws.proofs.Held.{place-late}
 use Rattle.ec_laws.proofs.More.{durable-step, issued-append, watch-step}
-use Rattle.ec_laws.proofs.Numbers.{each-append, each-back, each-front, each-map}
+use Rattle.ec_laws.proofs.Numbers.{each-append, each-back, each-front}
 use Rattle.ec_laws.proofs.Watching.{closed-undurable, untold-runs}
 use Rattle.ec_laws.specs.Accounts.{IsUndurable, IsAccounted}
 use Rattle.ec_laws.specs.Laws.{OneMore}
-use Rattle.ec_laws.proofs.Members.{on, is_on, off, off-from, lost-left, lost-parts, lost-right, member-left, member-right, none_some, some_is, self}
+use Rattle.ec_laws.proofs.Members.{lost-left, lost-parts, lost-right, member-left, member-right, none_some, some_is}
 use Rattle.ec_laws.proofs.Watched.{Has, begun-has, has-begun, listed-has, stays, was, own}
 use Rattle.ec_laws.proofs.Accounting.{Accounts, Named, has-now, has-of, now-has, of-has, stays-durable}
 use Rattle.ec_laws.proofs.Answering.{Grows, b, e, grows, number-last}
+use Rattle.ec_base.proofs.Numbers.{same-self as self}
+use Rattle.ec_base.proofs.Bools.{clash as off, none as off-from, on, is-true as is_on}
+use Rattle.ec_base.proofs.Lists.{all-taken}
+use Rattle.ec_laws.proofs.BasesAlike.{each-map}
 
 -- a call's own operation
 each-own : (P : Op → Type 0) (base : Base) (ks : List Op) (p c f l g : ℕ) (cl : Call) (a : Answer) (op : Option ℕ)
@@ -40,7 +44,7 @@ each-own P base ks p c f l g cl a (Some n) k = go ((outcome base ks p cl).update
     go (Some v) = (k n v refl, tt)
 
 -- a closure has issued operations alone
-closure-held : (is : Issued) (asked : ℕ → Bool) (n : ℕ) → InClosure is asked n → (u : Update) × Holds is n u
+pub closure-held : (is : Issued) (asked : ℕ → Bool) (n : ℕ) → InClosure is asked n → (u : Update) × Holds is n u
 closure-held is asked n (ask m u h t) = (u, h)
 closure-held is asked n (need m k x y h i l t r) = (x, h)
 
@@ -53,12 +57,8 @@ held-each c f n u Q (k ∷ ks) all h = go (of_start c f k) all.0 h (λ r. held-e
     go true g (inr r) more = more r
     go false g r more = more r
 
-take-all : {A : Type 0} (xs : List A) → take (length xs) xs ≡ xs
-take-all [] = refl
-take-all (x ∷ xs) = ap (λ l. x ∷ l) (take-all xs)
-
 above : (ss : List Shown) → take ((length ss + 1) - 1) ss ≡ ss
-above ss = ap (λ k. take k ss) (less (length ss)) ∙ take-all ss
+above ss = ap (λ k. take k ss) (less (length ss)) ∙ all-taken ss
   where
     less : (m : ℕ) → (m + 1) - 1 ≡ m
     less m = omega arith

@@ -21,13 +21,16 @@ use Rattle.ec_laws.proofs.Cuts.{legal-split, throughout-append}
 use Rattle.ec_laws.proofs.Held.{place-late}
 use Rattle.ec_laws.proofs.Late.{place-answer}
 use Rattle.ec_laws.proofs.More.{count-next, durable-step, issued-append, issued-step, kept-step}
-use Rattle.ec_laws.proofs.Numbers.{each-append, each-back, each-front, each-map}
+use Rattle.ec_laws.proofs.Numbers.{each-append, each-back, each-front}
 use Rattle.ec_laws.proofs.Taken.{taken-covered, taken-issues}
 use Rattle.ec_laws.proofs.Watching.{closed-undurable, untold-runs}
 use Rattle.ec_laws.specs.Accounts.{IsUndurable, IsAccounted}
-use Rattle.ec_laws.proofs.Members.{on, is_on, off, off-from, lost-left, lost-parts, lost-right, member-left, member-right, none_some, self}
+use Rattle.ec_laws.proofs.Members.{lost-left, lost-parts, lost-right, member-left, member-right, none_some}
 use Rattle.ec_laws.proofs.Watched.{Has, begun-has, has-begun, listed-has, stays, was, own}
 use Rattle.ec_laws.proofs.Accounting.{Accounts, Named, has-now, has-of, now-has, of-has, stays-durable}
+use Rattle.ec_base.proofs.Numbers.{same-self as self}
+use Rattle.ec_base.proofs.Bools.{clash as off, none as off-from, on, is-true as is_on}
+use Rattle.ec_laws.proofs.BasesAlike.{each-map}
 
 -- One more call among the entries: the operations grow by its own, and are counted. It stands behind `past`, and is legal there.
 pub record Grows (base : Base) (most : ℕ) (old new : History) (e : ℕ × Entry) : Type 0 where

@@ -6,9 +6,9 @@ use Rattle.ec_volume.specs.Image.{is_dir, is_id, gives, yields, entries_of}
 use Rattle.ec_volume.specs.Update.{distinct, member, listed}
 use Rattle.ec_volume.specs.declared.image.Image.{Image}
 use Rattle.std.specs.Prelude.{is_none}
-use Rattle.ec_laws.proofs.Late.{same_number}
-use Rattle.ec_laws.proofs.Removed.{left, right}
 use Rattle.ec_laws.proofs.Entries.{id-is, none-is}
+use Rattle.ec_base.proofs.Numbers.{same-self as same_number}
+use Rattle.ec_base.proofs.Bools.{first as left, right}
 
 pub apart : (x y : ℕ) (ys : List ℕ) → T (distinct (x ∷ ys)) → member y ys ≡ true → (y == x) ≡ false
 apart x y ys d m = elim (cases_Bool (y == x)) [
@@ -25,10 +25,6 @@ member-first x ys = or_left (x == x) (member x ys) (same_number x)
 
 pub member-next : (x y : ℕ) (ys : List ℕ) → member x ys ≡ true → member x (y ∷ ys) ≡ true
 member-next x y ys m = or_right (x == y) (member x ys) m
-
-pub not-both : (b : Bool) → T b → T (not b) → ⊥
-not-both true p q = q
-not-both false p q = p
 
 pub distinct-rest : (x : ℕ) (ys : List ℕ) → T (distinct (x ∷ ys)) → T (distinct ys)
 distinct-rest x ys d = right (not (member x ys)) (distinct ys) d

@@ -18,8 +18,8 @@ use Rattle.ec_history.specs.declared.entry.Answer.TheVariants as answer
 use Rattle.ec_history.specs.declared.entry.Entry.{Entry}
 use Rattle.ec_history.specs.declared.entry.Entry.TheVariants as entry
 use Rattle.ec_laws.proofs.More.{kept-step, issued-step, owed-step, is_lost-append, count-step}
-use Rattle.ec_laws.proofs.Late.{same_number}
 use Rattle.ec_laws.proofs.Numbers.{count}
+use Rattle.ec_base.proofs.Numbers.{same-self as same_number}
 
 -- starts that differ have no operation in common
 pub apart : (c b d f : ℕ) → same_start c b d f ≡ false → (k : Op) → of_start c b k ≡ true → of_start d f k ≡ false
@@ -34,7 +34,7 @@ apart c b d f n k y = elim (cases_Bool (of_start d f k)) [
 ]
 
 -- what an fsync asks, by where its path comes to
-abbrev asks_at : ℕ → ℕ → ℕ → Reached → List Op → List ℕ
+abbrev pub asks_at : ℕ → ℕ → ℕ → Reached → List Op → List ℕ
 asks_at d f g r is = elim r [ At i ↦ numbers (filter (λ k. of_start d f k && nat_le k.place g && has_operand i k.update) is) | Not n ↦ [] ]
 
 module _ (base : Base) (c b : ℕ) where

@@ -17,12 +17,13 @@ use Rattle.ec_plain.specs.Plain.{refuses, issues, on_reached, make_in, drop_in}
 use Rattle.ec_plain.specs.declared.call.Refusal.{Refusal}
 use Rattle.ec_plain.specs.declared.call.Refusal.TheVariants as no
 use Rattle.ec_plain.specs.declared.call.Outcome.{Outcome}
-use Rattle.ec_laws.proofs.Objects.{holds}
-use Rattle.ec_laws.proofs.Removed.{both, off}
-use Rattle.ec_laws.proofs.Walked.{self, Walked, walked, no_own_entry}
+use Rattle.ec_laws.proofs.Removed.{off}
+use Rattle.ec_laws.proofs.Walked.{Walked, walked, no_own_entry}
 use Rattle.ec_laws.proofs.Ways.{gives-named}
 use Rattle.ec_laws.proofs.Makes.{Makes, cond-makes, refuses-makes, issues-makes, reached-makes}
 use Rattle.ec_laws.proofs.Moving.{fits-one}
+use Rattle.ec_base.proofs.Numbers.{same-self as self}
+use Rattle.ec_base.proofs.Bools.{both, on as holds}
 
 -- the update fits, and is sound where B holds
 pub record IsFine (v : Images) (B : Type 0) (u : Update) : Type 0 where

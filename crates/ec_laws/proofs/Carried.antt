@@ -6,10 +6,11 @@ use Rattle.ec_volume.specs.Entries.{by_bytes, entry}
 use Rattle.ec_volume.specs.Image.{is_gone, is_dir, entries_of}
 use Rattle.ec_volume.specs.Update.{root}
 use Rattle.ec_volume.specs.Volume.{Images, Names, WellFormed}
-use Rattle.ec_laws.proofs.Apart.{not-both}
 use Rattle.ec_laws.proofs.Change.{Change, IsLive}
 use Rattle.ec_laws.proofs.Edited.{edited}
-use Rattle.ec_laws.proofs.Entries.{at, at-is, at-from, one_entry}
+use Rattle.ec_laws.proofs.Entries.{at, at-is, at-from}
+use Rattle.ec_base.proofs.Bools.{not-both}
+use Rattle.ec_base.proofs.Options.{one_entry}
 
 module _ (v w : Images) (dir : ℕ) (from : List ℕ) (into : ℕ) (to : List ℕ) (obj : ℕ) (victim : Option ℕ) where
   -- the new entry, and the objects whose entries stay

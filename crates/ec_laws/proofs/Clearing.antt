@@ -1,5 +1,5 @@
 -- What no operation makes, and isn't in the volume, is an operand of none.
-use Rattle.std.proofs.Common.{◌≡◌, refl, sym, ap, ap₂, subst, ◌∙◌, inl, inr, ◌==◌, not, ℕ, Bool, true, false, T, List, [], ◌∷◌, map, Option, Some, None}
+use Rattle.std.proofs.Common.{◌≡◌, refl, sym, ap, ap₂, subst, ◌∙◌, inl, inr, ◌==◌, not, ℕ, false, T, List, [], ◌∷◌, map, Option, Some, None}
 use Rattle.ec_volume.specs.Image.{is_dir, is_gone}
 use Rattle.ec_volume.specs.Update.{has_operand, member, operands, root}
 use Rattle.ec_volume.specs.Volume.{Images, WellFormed, after}
@@ -23,6 +23,7 @@ use Rattle.ec_laws.specs.NewIds.{Clear}
 use Rattle.ec_laws.proofs.CallsAlike.{plain-like}
 use Rattle.ec_laws.proofs.OwedOperands.{next-clear, parts, turn}
 use Rattle.ec_laws.proofs.Swap.{moved-none, stay-all, swap, swap-first, swap-other, swap-renames, unlike, update-stays}
+use Rattle.ec_base.proofs.Bools.{clash}
 
 abbrev pub Unmade : ℕ → List Op → Type 0
 Unmade x os = Each (λ o. member x (made_ids o.update) ≡ false) os
@@ -31,10 +32,6 @@ not-both : (i : Image) → T (is_gone i) → T (is_dir i) → ⊥
 not-both Gone g d = d
 not-both (File m s w bs) g d = g
 not-both (Dir m s w es) g d = g
-
-pub live-gone : (z : Bool) → T (not z) → T z → ⊥
-live-gone true l g = l
-live-gone false l g = g
 
 module _ (v : Images) (f : ℕ → ℕ) (formed : WellFormed v) (x y : ℕ) (differ : x ≡ y → ⊥) (gone-x : T (is_gone (v x))) (gone-y : T (is_gone (v y))) where
   abbrev base : Base
@@ -50,7 +47,7 @@ module _ (v : Images) (f : ℕ → ℕ) (formed : WellFormed v) (x y : ℕ) (dif
   ren = swap-renames x y (no-root x gone-x) (no-root y gone-y)
 
   off : (z o : ℕ) → T (is_gone (v z)) → T (not (is_gone (v o))) → (o == z) ≡ false
-  off z o g l = unlike o z (λ e. live-gone (is_gone (v o)) l (subst (λ w. T (is_gone (v w))) (sym e) g))
+  off z o g l = unlike o z (λ e. clash (is_gone (v o)) l (subst (λ w. T (is_gone (v w))) (sym e) g))
 
   same : IsRenamed r v v
   same = kept-by r ren v formed (λ o l. swap-other x y o (off x o gone-x l) (off y o gone-y l))

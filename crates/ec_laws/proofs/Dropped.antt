@@ -10,12 +10,13 @@ use Rattle.ec_volume.specs.declared.image.Image.{Image}
 use Rattle.ec_volume.specs.declared.image.Image.TheVariants.{Gone, File, Dir}
 use Rattle.ec_volume.specs.declared.image.Kind.{Kind}
 use Rattle.ec_volume.specs.declared.update.Update.TheVariants.{Drop}
-use Rattle.ec_laws.proofs.Late.{same_number}
-use Rattle.ec_laws.proofs.Removed.{left}
-use Rattle.ec_laws.proofs.Apart.{apart, member-first, not-both, gives-is}
+use Rattle.ec_laws.proofs.Apart.{apart, member-first, gives-is}
 use Rattle.ec_laws.proofs.Change.{Change, New, Stay}
 use Rattle.ec_laws.proofs.Edited.{edited}
-use Rattle.ec_laws.proofs.Entries.{at, at-is, at-from, found-without, sorted-without, one_entry, dir-with, gone-with, entries-bare}
+use Rattle.ec_laws.proofs.Entries.{at, at-is, at-from, found-without, sorted-without, dir-with, gone-with, entries-bare}
+use Rattle.ec_base.proofs.Numbers.{same-self as same_number}
+use Rattle.ec_base.proofs.Bools.{not-both, first as left}
+use Rattle.ec_base.proofs.Options.{one_entry}
 
 -- The image of an object, by whether it is the directory and whether it is the object that goes.
 module _ (dir obj : ℕ) (name : List ℕ) (k : Kind) where

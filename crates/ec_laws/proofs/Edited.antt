@@ -7,7 +7,8 @@ use Rattle.ec_volume.specs.Image.{is_dir, entries_of}
 use Rattle.ec_volume.specs.Update.{root}
 use Rattle.ec_volume.specs.Volume.{Images, Names}
 use Rattle.ec_laws.proofs.Change.{Change, IsLive}
-use Rattle.ec_laws.proofs.Entries.{no_entry, one_entry}
+use Rattle.ec_laws.proofs.Entries.{no_entry}
+use Rattle.ec_base.proofs.Options.{one_entry}
 
 -- The object obj stands in the entries that p tells, those that q tells went, the others are v's.
 pub record Edit (v w : Images) (New : ℕ → List ℕ → ℕ → Type 0) (Stay : ℕ → Type 0) (obj : ℕ) (p q : ℕ → List ℕ → Bool) : Type 0 where

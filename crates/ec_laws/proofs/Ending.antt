@@ -16,10 +16,12 @@ use Rattle.ec_laws.proofs.Late.{place-ended}
 use Rattle.ec_laws.proofs.More.{count-next, durable-step, issued-step}
 use Rattle.ec_laws.proofs.Watching.{own_end, other_end}
 use Rattle.ec_laws.specs.Accounts.{IsUndurable, IsAccounted}
-use Rattle.ec_laws.proofs.Members.{on, is_on, lost-left, lost-right, member-all, none_some, self}
+use Rattle.ec_laws.proofs.Members.{lost-left, lost-right, member-all, none_some}
 use Rattle.ec_laws.proofs.Watched.{Has}
 use Rattle.ec_laws.proofs.Accounting.{Accounts, Named, accounts-stay, has-now, has-of, now-has, of-has}
 use Rattle.ec_base.specs.Options.{or_zero}
+use Rattle.ec_base.proofs.Numbers.{same-self as self}
+use Rattle.ec_base.proofs.Bools.{on, is-true as is_on}
 
 module _ (ss : List Shown) (d : ℕ) (ns : List ℕ) where
   abbrev s : Shown

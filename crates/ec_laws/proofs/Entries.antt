@@ -16,8 +16,8 @@ use Rattle.ec_volume.specs.declared.image.Image.{Image}
 use Rattle.ec_volume.specs.declared.image.Image.TheVariants.{Gone, File, Dir}
 use Rattle.ec_volume.specs.declared.image.Kind.{Kind}
 use Rattle.ec_volume.specs.declared.image.Kind.TheVariants as kind
-use Rattle.ec_laws.proofs.Late.{same_number}
-use Rattle.ec_laws.proofs.Objects.{holds, is-true}
+use Rattle.ec_base.proofs.Numbers.{same-self as same_number}
+use Rattle.ec_base.proofs.Bools.{on as holds, is-true}
 
 -- Names.
 
@@ -67,9 +67,6 @@ no_entry o e = absurd (apart e)
   where
     apart : None ≡ Some o → ⊥
     apart e = cc
-
-pub one_entry : (o p : ℕ) → Some o ≡ Some p → o ≡ p
-one_entry o p e = cc
 
 pub none-is : (f : Option ℕ) → T (is_none f) → f ≡ None
 none-is None h = refl

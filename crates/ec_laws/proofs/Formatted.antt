@@ -8,9 +8,9 @@ use Rattle.ec_volume.specs.Held.{is_held}
 use Rattle.ec_volume.specs.Update.{root}
 use Rattle.ec_volume.specs.Volume.{formatted, Names, WellFormed, AllReached}
 use Rattle.ec_volume.specs.declared.image.Image.TheVariants.{Gone, Dir}
-use Rattle.ec_laws.proofs.Objects.{holds}
 use Rattle.ec_laws.proofs.Change.{IsLive}
 use Rattle.ec_laws.proofs.Led.{empty-unnamed, led-reached}
+use Rattle.ec_base.proofs.Bools.{on as holds}
 
 no-entries : (d : ℕ) → entries_of (formatted d) ≡ []
 no-entries d = go (d == root)

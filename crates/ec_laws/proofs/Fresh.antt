@@ -20,8 +20,8 @@ use Rattle.ec_plain.specs.declared.call.Reply.TheVariants as reply
 use Rattle.ec_plain.specs.declared.call.Refusal.{Refusal}
 use Rattle.ec_plain.specs.declared.call.Refusal.TheVariants as no
 use Rattle.ec_plain.specs.declared.call.Outcome.{Outcome}
-use Rattle.ec_laws.proofs.Objects.{holds}
 use Rattle.ec_laws.proofs.Makes.{Makes, answers-makes, refuses-makes, issues-makes, cond-makes, reached-makes, parent-makes, entry-makes}
+use Rattle.ec_base.proofs.Bools.{on as holds}
 
 -- the object that an update makes
 abbrev pub makes : Update → Option ℕ

@@ -15,8 +15,9 @@ use Rattle.ec_history.specs.declared.shown.Shown.{Shown}
 use Rattle.ec_history.specs.declared.shown.Shown.TheVariants.{Answered, Ended}
 use Rattle.ec_laws.proofs.More.{watch-step, watch-append}
 use Rattle.ec_laws.proofs.Watching.{sound, IsHeld, held-next, held-from, held-ended, held-owner, running-owner, running-told}
-use Rattle.ec_laws.proofs.Late.{same_number, regroup, late-append, late-other, ops_in-append, fronts, fronts-same, fronts-alone, place_from-append, ended_entries, still-held, told-late, since, place-no_call}
+use Rattle.ec_laws.proofs.Late.{regroup, late-append, late-other, ops_in-append, fronts, fronts-same, fronts-alone, place_from-append, ended_entries, still-held, told-late, since, place-no_call}
 use Rattle.ec_base.specs.Options.{or_zero}
+use Rattle.ec_base.proofs.Numbers.{same-self as same_number}
 
 -- no entry of the start
 abbrev pub Lacks : ℕ → ℕ → History → Type 0

@@ -23,10 +23,11 @@ use Rattle.ec_history.specs.declared.entry.Entry.TheVariants as entry
 use Rattle.ec_history.specs.declared.shown.Shown.{Shown}
 use Rattle.ec_laws.proofs.Cuts.{throughout-append}
 use Rattle.ec_laws.proofs.More.{issued-step, kept-step, owed-step}
-use Rattle.ec_laws.proofs.Numbers.{each-filter, each-map, kept-each}
+use Rattle.ec_laws.proofs.Numbers.{each-filter, kept-each}
 use Rattle.ec_laws.specs.NewIds.{Clear, MayChange}
 use Rattle.ec_laws.proofs.CallsAlike.{Like, meets-like, plain-like, touched-like}
 use Rattle.ec_laws.proofs.OwedOperands.{IsOff, owed-off, parts, turn}
+use Rattle.ec_laws.proofs.BasesAlike.{each-map}
 
 true-false : true ≡ false → ⊥
 true-false e = cc
@@ -43,7 +44,7 @@ any-as : (p q : ℕ → Bool) (P : ℕ → Type 0) → ((x : ℕ) → P x → p 
 any-as p q P f [] h = refl
 any-as p q P f (x ∷ xs) h = ap₂ (λ a b. a || b) (f x h.0) (any-as p q P f xs h.1)
 
-both : {A : Type 0} (P Q : A → Type 0) (xs : List A) → Each P xs → Each Q xs → Each (λ x. P x × Q x) xs
+pub both : {A : Type 0} (P Q : A → Type 0) (xs : List A) → Each P xs → Each Q xs → Each (λ x. P x × Q x) xs
 both P Q [] p q = tt
 both P Q (x ∷ xs) p q = ((p.0, q.0), both P Q xs p.1 q.1)
 

@@ -13,9 +13,10 @@ use Rattle.ec_history.specs.declared.entry.Entry.{Entry}
 use Rattle.ec_history.specs.declared.entry.Entry.TheVariants as entry
 use Rattle.ec_laws.proofs.More.{kept-step, issued-step, owed-step, is_lost-append, count-step}
 use Rattle.ec_laws.proofs.Cuts.{throughout-append, throughout-front, throughout-back, legal-append, legal-step, legal-split}
-use Rattle.ec_laws.proofs.Numbers.{each-map, count}
+use Rattle.ec_laws.proofs.Numbers.{count}
 use Rattle.ec_laws.proofs.LateLoss.{filter-none, without-new, new-own, late-new, old-kept, late-lawful}
 use Rattle.ec_laws.proofs.Beside.{Other, IsBeside, beside-next, covers-same, call-same}
+use Rattle.ec_laws.proofs.BasesAlike.{each-map}
 
 -- two starts that differ, either way round
 other_way : (c b d f : ℕ) → same_start c b d f ≡ false → same_start d f c b ≡ false

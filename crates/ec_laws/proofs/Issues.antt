@@ -5,7 +5,6 @@ use Rattle.std.specs.FinMap.{is_sorted}
 use Rattle.std.specs.FinMap.Entries.{below_all}
 use Rattle.std.specs.List.{filter}
 use Rattle.std.proofs.lemmas.Bool.{and_parts, eqb-true}
-use Rattle.std.proofs.lemmas.Bool.Decides.{nat_tests}
 use Rattle.std.proofs.lemmas.List.Elements.{filter-append}
 use Rattle.ec_base.specs.SortedLaws.{first, second, both}
 use Rattle.ec_volume.specs.declared.update.Update.{Update}
@@ -18,25 +17,16 @@ use Rattle.ec_history.specs.declared.entry.Entry.TheVariants as entry
 use Rattle.ec_laws.proofs.Cuts.{legal-step}
 use Rattle.ec_laws.proofs.More.{kept-step, issued-step}
 use Rattle.ec_laws.proofs.Numbers.{count, IsUpTo, issued-up_to, kept-up_to}
+use Rattle.ec_order.proofs.OrderLemmas.{below_more}
 
 -- A list of operations whose numbers rise, with one more behind it.
-
-is-lower : (m n : ℕ) → m < n → T (is_lt (nat_cmp m n))
-is-lower m n l = subst T (sym here) tt
-  where
-    here : is_lt (nat_cmp m n) ≡ true
-    here = grind (arith, nat_tests)
-
-below-more : (m : ℕ) (xs : Issued) (y : ℕ × Update) → T (below_all nat_cmp m xs) → m < y.0 → T (below_all nat_cmp m (xs ++ y ∷ []))
-below-more m [] y h l = both _ _ (is-lower m y.0 l) tt
-below-more m (x ∷ xs) y h l = both _ _ (first _ _ h) (below-more m xs y (second _ _ h) l)
 
 abbrev IsLower : ℕ → ℕ × Update → Type 0
 IsLower n x = x.0 < n
 
 sorted-more : (xs : Issued) (y : ℕ × Update) → T (is_sorted nat_cmp xs) → Each (IsLower y.0) xs → T (is_sorted nat_cmp (xs ++ y ∷ []))
 sorted-more [] y s h = tt
-sorted-more (x ∷ xs) y s h = both _ _ (below-more x.0 xs y (first _ _ s) h.0) (sorted-more xs y (second _ _ s) h.1)
+sorted-more (x ∷ xs) y s h = both _ _ (below_more x.0 xs y (first _ _ s) h.0) (sorted-more xs y (second _ _ s) h.1)
 
 module _ (base : Base) (most : ℕ) where
   module _ (Q : History → Type 0) (more : (past : History) (e : ℕ × Entry) → IsLegal base most past → IsLegalNext base most past e → Q past → Q (past ++ e ∷ [])) where

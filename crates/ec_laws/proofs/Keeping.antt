@@ -1,5 +1,5 @@
 -- What is kept of a history is sound, fits and leaves a well-formed volume.
-use Rattle.std.proofs.Common.{◌≡◌, ◌≢◌, refl, sym, ap, subst, arith, ◌≤◌, ℕ, T, Bool, true, false, not, ◌||◌, cond, map, List, [], ◌∷◌, ◌++◌, eqb, length, Option, Some, None, append-nil, append_assoc}
+use Rattle.std.proofs.Common.{◌≡◌, ◌≢◌, refl, sym, subst, arith, ◌≤◌, ℕ, T, Bool, true, false, not, ◌||◌, cond, List, [], ◌∷◌, ◌++◌, eqb, length, Option, Some, None, append-nil, append_assoc}
 use Rattle.std.specs.List.{filter, list_all, list_any}
 use Rattle.ec_volume.specs.Image.{is_gone}
 use Rattle.ec_volume.specs.Update.{operands, has_operand, fits, member, distinct, is_sound}
@@ -18,23 +18,21 @@ use Rattle.ec_history.specs.declared.entry.Entry.TheVariants as entry
 use Rattle.ec_history.specs.declared.shown.Shown.{Shown}
 use Rattle.ec_laws.specs.Needs.{holds_needed}
 use Rattle.ec_laws.proofs.More.{kept-step}
-use Rattle.ec_laws.proofs.Objects.{holds, fits-next}
-use Rattle.ec_laws.proofs.Removed.{both, left, right, removal}
+use Rattle.ec_laws.proofs.Objects.{fits-next}
+use Rattle.ec_laws.proofs.Removed.{removal}
 use Rattle.ec_laws.proofs.Pulled.{pulled-fit_alone}
-use Rattle.ec_laws.proofs.Places.{places-within, places-distinct}
-use Rattle.ec_laws.proofs.Left.{loss-fits}
+use Rattle.ec_laws.proofs.Places.{places-within, places-distinct, places}
+use Rattle.ec_laws.proofs.Left.{loss-fits, updates-next}
 use Rattle.ec_laws.specs.Bases.{IsBase, AllHeld, AreAtLines, LeaveWellFormed, is_bounded_entry}
 use Rattle.ec_laws.proofs.Fresh.{makes, gone-stays, plain-makes}
+use Rattle.ec_base.proofs.Bools.{both, first as left, right, on as holds}
+use Rattle.ec_laws.proofs.BasesAlike.{each-map}
 
 -- Lists.
 
 each-filter : {A : Type 0} (P : A → Type 0) (q : A → Bool) (xs : List A) → Each P xs → Each P (filter q xs)
 each-filter P q [] h = tt
 each-filter P q (x ∷ xs) h = elim (q x) as (λ b. Each P (cond b (x ∷ filter q xs) (filter q xs))) [ true ↦ (h.0, each-filter P q xs h.1) | false ↦ each-filter P q xs h.1 ]
-
-each-map : {A : Type 0} (P Q : A → Type 0) → ((x : A) → P x → Q x) → (xs : List A) → Each P xs → Each Q xs
-each-map P Q f [] h = tt
-each-map P Q f (x ∷ xs) h = (f x h.0, each-map P Q f xs h.1)
 
 each-last : {A : Type 0} (P : A → Type 0) (xs : List A) (x : A) → Each P xs → P x → Each P (xs ++ x ∷ [])
 each-last P [] x h p = (p, tt)
@@ -51,10 +49,6 @@ all-filter q (k ∷ ks) h =
 all-last : (ks : List Op) (k : Op) → T (list_all is_sound (updates ks)) → T (is_sound k.update) → T (list_all is_sound (updates (ks ++ k ∷ [])))
 all-last [] k h s = both (is_sound k.update) true s tt
 all-last (j ∷ ks) k h s = both (is_sound j.update) _ (left (is_sound j.update) _ h) (all-last ks k (right (is_sound j.update) _ h) s)
-
-updates-last : (ks : List Op) (k : Op) → updates (ks ++ k ∷ []) ≡ updates ks ++ k.update ∷ []
-updates-last [] k = refl
-updates-last (j ∷ ks) k = ap (λ us. j.update ∷ us) (updates-last ks k)
 
 self : (n : ℕ) → T (eqb n n)
 self n = holds (same n)
@@ -76,9 +70,6 @@ not-rest p q ps h = go (eqb p q) h
     go : (b : Bool) → T (not (b || member p ps)) → T (not (member p ps))
     go true h = absurd h
     go false h = h
-
-abbrev places : History → List ℕ
-places h = map (λ e. e.0) h
 
 gone-after : (o : ℕ) (i : Image) (ks : List Op) → T (is_gone i) → Each (λ k. makes k.update ≡ Some o → ⊥) ks → T (is_gone (image_after o i (updates ks)))
 gone-after o i [] g h = g
@@ -135,7 +126,7 @@ module _ (formed : (v : Images) (us : List Update) → WellFormed v → T (list_
           let k : Op = record { clerk = c; boot = b; number = n; place = p; update = u } in
           let one : Fits (after base.volume (updates ks)) (u ∷ []) = fitting (after base.volume (updates ks)) cl (base.fresh p) u w.formed gone q in
           let behind : Fits base.volume (updates (ks ++ k ∷ [])) =
-          subst (Fits base.volume) (sym (updates-last ks k)) (fits-next base.volume (updates ks) u w.fits (λ o. left (not (has_operand o u) || fits u o (after base.volume (updates ks) o)) _ (one o))) in (
+          subst (Fits base.volume) (sym (updates-next ks k)) (fits-next base.volume (updates ks) u w.fits (λ o. left (not (has_operand o u) || fits u o (after base.volume (updates ks) o)) _ (one o))) in (
             leave (ks ++ k ∷ []) (all-last ks k w.sound (sound (after base.volume (updates ks)) cl (base.fresh p) u w.formed gone bounded q)) behind,
             each-last (Stands h) ks k s (apart, λ o m. plain-makes (base.fresh p) (after base.volume (updates ks)) cl u q o m),
           )

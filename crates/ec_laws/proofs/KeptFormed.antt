@@ -2,21 +2,19 @@
 use Rattle.std.proofs.Common.{sym, subst, inl, inr, ℕ, T, Bool, true, false, not, ◌==◌, ◌||◌, cond, List, [], ◌∷◌}
 use Rattle.std.specs.List.{list_all}
 use Rattle.std.proofs.lemmas.Bool.{cases_Bool, or_right}
-use Rattle.ec_volume.specs.Image.{is_gone, new_object}
+use Rattle.ec_volume.specs.Image.{is_gone}
 use Rattle.ec_volume.specs.Held.{is_held}
 use Rattle.ec_volume.specs.Update.{has_operand, is_sound, fits, effect}
 use Rattle.ec_volume.specs.Volume.{Images, image_next, image_after, after, fits_in_turn, Fits, WellFormed}
 use Rattle.ec_volume.specs.declared.image.Image.{Image}
 use Rattle.ec_volume.specs.declared.image.Image.TheVariants.{Gone, File, Dir}
-use Rattle.ec_volume.specs.declared.image.Kind.{Kind}
-use Rattle.ec_volume.specs.declared.image.Kind.TheVariants as kind
 use Rattle.ec_volume.specs.declared.update.Update.{Update}
 use Rattle.ec_volume.specs.declared.update.Update.TheVariants.{Make, Drop, Move, Put, Len, Mode, Stamp, Order, Shift, Owner}
 use Rattle.ec_volume.proofs.Within.{effect_held}
-use Rattle.ec_laws.proofs.Objects.{holds, is-true}
-use Rattle.ec_laws.proofs.Removed.{left, right, both}
 use Rattle.ec_laws.proofs.Change.{change_formed, New, Stay}
 use Rattle.ec_laws.proofs.Changed.{changed}
+use Rattle.ec_volume.proofs.ImageLemmas.{IsWithin, within_new}
+use Rattle.ec_base.proofs.Bools.{both, first as left, right, on as holds, is-true}
 
 -- The first update of a list fits, and the rest fits what it leaves.
 pub first-fits : (v : Images) (u : Update) (us : List Update) → Fits v (u ∷ us) → Fits v (u ∷ [])
@@ -32,21 +30,12 @@ kept-formed v (u ∷ us) f s t =
     (change_formed v (after v (u ∷ [])) (New u) (Stay u) (changed v u f (left (is_sound u) (list_all is_sound us) s) (first-fits v u us t)) f)
     (right (is_sound u) (list_all is_sound us) s) (rest-fits v u us t)
 
--- An update within its bounds leaves an image Gone, or within the limits.
-abbrev pub IsWithin : Image → Type 0
-IsWithin i = T (is_gone i || is_held i)
-
-within-new : (b : Bool) (k : Kind) → IsWithin (cond b Gone (new_object k))
-within-new true k = tt
-within-new false kind.File = tt
-within-new false kind.Dir = tt
-
 gone-left : (b : Bool) (i j : Image) → IsWithin i → IsWithin j → IsWithin (cond b i j)
 gone-left true i j x y = x
 gone-left false i j x y = y
 
 within-gone : (u : Update) (o : ℕ) → IsWithin (effect u o Gone)
-within-gone (Make dir name obj k) o = within-new (o == dir) k
+within-gone (Make dir name obj k) o = within_new (o == dir) k
 within-gone (Drop dir name obj k) o = gone-left (o == dir) Gone Gone tt tt
 within-gone (Move dir from to obj k victim) o = gone-left (o == dir) Gone (cond (o == obj) Gone Gone) tt (gone-left (o == obj) Gone Gone tt tt)
 within-gone (Put obj at bytes inside) o = tt

@@ -11,7 +11,7 @@ use Rattle.std.specs.declared.cmp.Ordering.TheVariants.{Less, Equal, Greater}
 use Rattle.ec_volume.specs.Entries.{by_bytes, same_name}
 use Rattle.ec_plain.specs.Walk.{Path, parent_of, last_of, same_path}
 use Rattle.ec_plain.specs.BoundedCalls.{is_short}
-use Rattle.ec_laws.proofs.Objects.{is-true}
+use Rattle.ec_base.proofs.Bools.{is-true}
 
 equal : (r : Ordering) → T (is_eq r) → r ≡ Equal
 equal Less h = absurd h

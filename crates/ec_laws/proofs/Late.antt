@@ -1,5 +1,5 @@
 -- Placing with one more line behind a transcript.
-use Rattle.std.proofs.Common.{◌≡◌, refl, sym, ap, subst, ◌∙◌, arith, ◌+◌, ℕ, Bool, true, false, ◌==◌, ◌||◌, cond, List, [], ◌∷◌, ◌++◌, length, Option, Some, None, is_some, inl, inr, append_assoc, append-nil}
+use Rattle.std.proofs.Common.{◌≡◌, refl, sym, ap, subst, ◌∙◌, ◌+◌, ℕ, Bool, true, false, ◌==◌, ◌||◌, cond, List, [], ◌∷◌, ◌++◌, length, Option, Some, None, is_some, inl, inr, append_assoc, append-nil}
 use Rattle.std.proofs.lemmas.Bool.{cond_both, cond-true, cond-false, cases_Bool, eqb-true, true≢false}
 use Rattle.std.specs.List.{list_any}
 use Rattle.std.proofs.lemmas.List.Folds.{list_any-append}
@@ -14,11 +14,9 @@ use Rattle.ec_history.specs.declared.watch.Watch.{Watch}
 use Rattle.ec_history.specs.declared.shown.Shown.{Shown}
 use Rattle.ec_history.specs.declared.shown.Shown.TheVariants.{Waits, Answered, Durable, Ended, Told, Crashed}
 use Rattle.ec_laws.proofs.More.{watch-step, watch-append}
-use Rattle.ec_laws.proofs.Watching.{from_front, showing, in_session, before_session, answered_as, own_end, other_end, IsHeld, held-from, held-ended}
+use Rattle.ec_laws.proofs.Watching.{from_front, in_session, before_session, answered_as, own_end, other_end, IsHeld, held-from, held-ended}
 use Rattle.ec_base.specs.Options.{or_zero}
-
-pub same_number : (c : ℕ) → (c == c) ≡ true
-same_number c = grind arith
+use Rattle.ec_history.proofs.PlacingLemmas.{showing}
 
 pub ops_in-append : (h g : History) → ops_in (h ++ g) ≡ ops_in h ++ ops_in g
 ops_in-append [] g = refl
@@ -211,7 +209,7 @@ module _ (c : ℕ) (ss : List Shown) (s : Shown) (seen : (ns : List ℕ) → (wa
   still : (ms : List ℕ) → is_end_of c s ≡ false → is_call_of c s ≡ false → (watch c ss).untold ≡ Some ms → Since c (ss ++ s ∷ []) ms
   still ms n k u = extend ms ms n u (sym (append-nil ms) ∙ ap (λ x. ms ++ ops_in (cond x (call_entry ss s) [])) (sym k))
 
-begun-untold : (w : Watch) → (begun w).untold ≡ w.untold
+pub begun-untold : (w : Watch) → (begun w).untold ≡ w.untold
 begun-untold w = cond_both w.running w (record w { starts = w.starts + 1; running = true }) (λ v. v.untold ≡ w.untold) (λ e. refl) (λ e. refl)
 
 answered-untold : (w : Watch) (sh : Bool) (op : Option ℕ) (ms : List ℕ) → (answered w sh op).untold ≡ Some ms → (ks : List ℕ) × (w.untold ≡ Some ks) × (ms ≡ ks ++ listed op)

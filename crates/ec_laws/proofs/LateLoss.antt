@@ -17,22 +17,12 @@ use Rattle.ec_history.specs.declared.entry.Entry.{Entry}
 use Rattle.ec_history.specs.declared.entry.Entry.TheVariants as entry
 use Rattle.ec_laws.proofs.More.{kept-step}
 use Rattle.ec_laws.proofs.Cuts.{throughout-append}
-use Rattle.ec_laws.proofs.Late.{same_number}
-use Rattle.ec_laws.proofs.Numbers.{each-append, each-filter, each-map, kept-each, throughout-issued, count, IsUpTo, issued-up_to, kept-up_to, covers-up_to}
+use Rattle.ec_laws.proofs.Numbers.{each-append, each-filter, kept-each, throughout-issued, count, IsUpTo, issued-up_to, kept-up_to, covers-up_to}
+use Rattle.ec_base.proofs.Numbers.{same-self as same_number}
+use Rattle.ec_base.proofs.Bools.{or-right, both, first, right, or_first}
+use Rattle.ec_laws.proofs.BasesAlike.{each-map}
 
-pub both : (a b : Bool) → T a → T b → T (a && b)
-both true b p q = q
-both false b p q = p
-
-first : (a b : Bool) → T (a && b) → T a
-first true b p = tt
-first false b p = p
-
-second : (a b : Bool) → T (a && b) → T b
-second true b p = p
-second false b p = absurd p
-
-filter-same : (p q : Op → Bool) (ks : List Op) → Each (λ k. p k ≡ q k) ks → filter p ks ≡ filter q ks
+pub filter-same : (p q : Op → Bool) (ks : List Op) → Each (λ k. p k ≡ q k) ks → filter p ks ≡ filter q ks
 filter-same p q [] h = refl
 filter-same p q (k ∷ ks) h = ap (λ b. cond b (k ∷ filter p ks) (filter p ks)) h.0 ∙ ap (λ x. cond (q k) (k ∷ x) x) (filter-same p q ks h.1)
 
@@ -46,15 +36,7 @@ filter-all p (k ∷ ks) h = ap (λ b. cond b (k ∷ filter p ks) (filter p ks)) 
 
 all-more : {A : Type 0} (p q : A → Bool) → ((x : A) → T (p x) → T (q x)) → (xs : List A) → T (list_all p xs) → T (list_all q xs)
 all-more p q f [] h = tt
-all-more p q f (x ∷ xs) h = both (q x) (list_all q xs) (f x (first (p x) (list_all p xs) h)) (all-more p q f xs (second (p x) (list_all p xs) h))
-
-pub or_first : (a b : Bool) → T a → T (a || b)
-or_first true b h = tt
-or_first false b h = absurd h
-
-or_second : (a b : Bool) → T b → T (a || b)
-or_second true b h = tt
-or_second false b h = h
+all-more p q f (x ∷ xs) h = both (q x) (list_all q xs) (f x (first (p x) (list_all p xs) h)) (all-more p q f xs (right (p x) (list_all p xs) h))
 
 -- What is closed stays so with more inside behind it.
 module _ (inside more : Op → Bool) (new : List Op) (fresh : Each (λ k. more k ≡ true) new) where
@@ -65,19 +47,19 @@ module _ (inside more : Op → Bool) (new : List Op) (fresh : Each (λ k. more k
   list-more : (u : Update) (ks : List Op) → Each (λ k. more k ≡ inside k) ks → T (list_all (λ j. inside j || not (before u j.update)) ks) → T (list_all (λ j. more j || not (before u j.update)) (ks ++ new))
   list-more u [] s h = all-inside u new fresh
   list-more u (k ∷ ks) s h =
-      both _ _ (subst (λ b. T (b || not (before u k.update))) (sym s.0) (first _ _ h)) (list-more u ks s.1 (second (inside k || not (before u k.update)) _ h))
+      both _ _ (subst (λ b. T (b || not (before u k.update))) (sym s.0) (first _ _ h)) (list-more u ks s.1 (right (inside k || not (before u k.update)) _ h))
 
   closed-new : (ks : List Op) → Each (λ k. more k ≡ true) ks → T (is_closed more ks)
   closed-new [] h = tt
-  closed-new (k ∷ ks) h = both _ _ (or_second (not (more k)) _ (all-inside k.update ks h.1)) (closed-new ks h.1)
+  closed-new (k ∷ ks) h = both _ _ (or-right (not (more k)) _ (all-inside k.update ks h.1)) (closed-new ks h.1)
 
   closed-more : (ks : List Op) → Each (λ k. more k ≡ inside k) ks → T (is_closed inside ks) → T (is_closed more (ks ++ new))
   closed-more [] s h = closed-new new fresh
   closed-more (k ∷ ks) s h =
-      both _ _ (go (inside k) s.0 (first _ _ h)) (closed-more ks s.1 (second (not (inside k) || list_all (λ j. inside j || not (before k.update j.update)) ks) _ h))
+      both _ _ (go (inside k) s.0 (first _ _ h)) (closed-more ks s.1 (right (not (inside k) || list_all (λ j. inside j || not (before k.update j.update)) ks) _ h))
     where
       go : (b : Bool) → more k ≡ b → T (not b || list_all (λ j. inside j || not (before k.update j.update)) ks) → T (not (more k) || list_all (λ j. more j || not (before k.update j.update)) (ks ++ new))
-      go true e t = or_second (not (more k)) _ (list-more k.update ks s.1 t)
+      go true e t = or-right (not (more k)) _ (list-more k.update ks s.1 t)
       go false e t = or_first (not (more k)) _ (subst (λ b. T (not b)) (sym e) tt)
 
 -- The operation that a call issues, and its number: both or none.
@@ -184,7 +166,7 @@ module _ (c b m : ℕ) (ks : List Op) (ns ms : List ℕ) (new : IsNew c b m ks m
       before_new n h = subst T (sym (list_any-append (is_one_of c b (n ∷ [])) xs ks)) (or_first _ _ h)
 
       in_new : (n : ℕ) → T (list_any (is_one_of c b (n ∷ [])) ks) → T (list_any (is_one_of c b (n ∷ [])) (xs ++ ks))
-      in_new n h = subst T (sym (list_any-append (is_one_of c b (n ∷ [])) xs ks)) (or_second (list_any (is_one_of c b (n ∷ [])) xs) _ h)
+      in_new n h = subst T (sym (list_any-append (is_one_of c b (n ∷ [])) xs ks)) (or-right (list_any (is_one_of c b (n ∷ [])) xs) _ h)
 
 module _ (base : Base) (most c b p l g : ℕ) (cl : Call) (a : Answer) (op : Option ℕ) (ns : List ℕ) (h : History) (legal : IsLegal base most h) (call : IsCall base most h c b p cl a op) where
   abbrev late_call : ℕ × Entry

@@ -6,22 +6,14 @@ use Rattle.std.specs.FinMap.{is_sorted}
 use Rattle.std.specs.FinMap.Entries.{below_all}
 use Rattle.std.specs.List.{filter, list_any, list_all}
 use Rattle.std.proofs.lemmas.Bool.{cases_Bool, and_parts, and_from, or_cases, eqb-true, true≢false}
-use Rattle.std.proofs.lemmas.Bool.Decides.{nat_tests}
 use Rattle.ec_volume.specs.Update.{member}
 use Rattle.ec_volume.specs.declared.update.Update.{Update}
 use Rattle.ec_order.specs.Order.{Issued, Holds, InClosure, ask, need, closure, needs}
 use Rattle.ec_laws.specs.Needs.{holds_needed}
-use Rattle.ec_laws.proofs.Objects.{holds, is-true}
-use Rattle.ec_laws.proofs.Touching.{or_l, or_r}
-use Rattle.ec_laws.proofs.Removed.{both, left, right}
+use Rattle.ec_base.proofs.Bools.{or-right as or_r, both, first as left, right, or_first as or_l, on as holds, is-true}
+use Rattle.ec_base.proofs.Numbers.{less-tested, less}
 
 -- Rising numbers.
-
-less : (m n : ℕ) → is_lt (nat_cmp m n) ≡ true → m < n
-less m n h = grind (arith, nat_tests)
-
-is-less : (m n : ℕ) → m < n → is_lt (nat_cmp m n) ≡ true
-is-less m n h = grind (arith, nat_tests)
 
 abbrev Above : ℕ → Issued → Type 0
 Above m [] = ⊤
@@ -41,7 +33,7 @@ rising-from (x ∷ xs) h = (above-from x.0 xs (left (below_all nat_cmp x.0 xs) (
 
 below-from : (m : ℕ) (xs : Issued) → Above m xs → T (below_all nat_cmp m xs)
 below-from m [] a = tt
-below-from m (x ∷ xs) a = both (is_lt (nat_cmp m x.0)) (below_all nat_cmp m xs) (holds (is-less m x.0 a.0)) (below-from m xs a.1)
+below-from m (x ∷ xs) a = both (is_lt (nat_cmp m x.0)) (below_all nat_cmp m xs) (holds (less-tested m x.0 a.0)) (below-from m xs a.1)
 
 sorted-from : (xs : Issued) → Rising xs → T (is_sorted nat_cmp xs)
 sorted-from [] r = tt

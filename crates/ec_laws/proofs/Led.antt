@@ -6,8 +6,9 @@ use Rattle.ec_volume.specs.Update.{root}
 use Rattle.ec_volume.specs.Volume.{Images, Names, AllReached, reach}
 use Rattle.ec_volume.specs.declared.image.Image.{Image}
 use Rattle.ec_volume.specs.declared.image.Image.TheVariants.{Gone, File, Dir}
-use Rattle.ec_laws.proofs.Entries.{no_entry, one_entry}
+use Rattle.ec_laws.proofs.Entries.{no_entry}
 use Rattle.ec_laws.proofs.Change.{IsLive, Change}
+use Rattle.ec_base.proofs.Options.{one_entry}
 
 -- Directories and names that lead on from them, the last one first.
 abbrev pub Steps : Type 0

@@ -14,9 +14,10 @@ use Rattle.ec_history.specs.declared.entry.Answer.{Answer}
 use Rattle.ec_history.specs.declared.entry.Entry.{Entry}
 use Rattle.ec_history.specs.declared.entry.Entry.TheVariants as entry
 use Rattle.ec_laws.proofs.More.{kept-step}
-use Rattle.ec_laws.proofs.Objects.{holds, fits-next}
-use Rattle.ec_laws.proofs.Removed.{both, left, right, off, removal}
-use Rattle.ec_laws.proofs.Touching.{or_l, or_r, plain-touches}
+use Rattle.ec_laws.proofs.Objects.{fits-next}
+use Rattle.ec_laws.proofs.Removed.{off, removal}
+use Rattle.ec_laws.proofs.Touching.{plain-touches}
+use Rattle.ec_base.proofs.Bools.{or-right as or_r, both, first as left, right, or_first as or_l, on as holds}
 
 module _ (mine lost : Op → Bool) where
   abbrev Apart : List Op → Type 0
@@ -202,7 +203,7 @@ lawful-fits base c b ns past f cl un own = loss-fits base c b ns past f cl (thro
 
 -- Calls.
 
-updates-next : (ks : List Op) (k : Op) → updates (ks ++ k ∷ []) ≡ updates ks ++ k.update ∷ []
+pub updates-next : (ks : List Op) (k : Op) → updates (ks ++ k ∷ []) ≡ updates ks ++ k.update ∷ []
 updates-next [] k = refl
 updates-next (j ∷ ks) k = ap (λ us. j.update ∷ us) (updates-next ks k)
 

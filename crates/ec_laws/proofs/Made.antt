@@ -11,12 +11,12 @@ use Rattle.ec_volume.specs.declared.image.Image.{Image}
 use Rattle.ec_volume.specs.declared.image.Image.TheVariants.{Gone, File, Dir}
 use Rattle.ec_volume.specs.declared.image.Kind.{Kind}
 use Rattle.ec_volume.specs.declared.update.Update.TheVariants.{Make}
-use Rattle.ec_laws.proofs.Late.{same_number}
-use Rattle.ec_laws.proofs.Removed.{left, right}
-use Rattle.ec_laws.proofs.Apart.{apart, member-first, not-both}
+use Rattle.ec_laws.proofs.Apart.{apart, member-first}
 use Rattle.ec_laws.proofs.Change.{Change, IsLive, New, Stay}
 use Rattle.ec_laws.proofs.Edited.{edited}
 use Rattle.ec_laws.proofs.Entries.{at, at-is, at-from, found-with, sorted-with, no_entry, none-is, dir-with, gone-with, entries-gone, entries-new, live-new, dir-live}
+use Rattle.ec_base.proofs.Numbers.{same-self as same_number}
+use Rattle.ec_base.proofs.Bools.{not-both, first as left, right}
 
 -- The image of an object, by whether it is the directory and whether it is the new object.
 module _ (dir obj : ℕ) (name : List ℕ) (k : Kind) where

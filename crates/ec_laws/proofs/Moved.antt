@@ -10,12 +10,12 @@ use Rattle.ec_volume.specs.declared.image.Image.{Image}
 use Rattle.ec_volume.specs.declared.image.Image.TheVariants.{Gone, File, Dir}
 use Rattle.ec_volume.specs.declared.image.Kind.{Kind}
 use Rattle.ec_volume.specs.declared.update.Update.TheVariants.{Move}
-use Rattle.ec_laws.proofs.Late.{same_number}
-use Rattle.ec_laws.proofs.Removed.{left, right}
 use Rattle.ec_laws.proofs.Apart.{apart, member-next, distinct-rest, victim-listed, listed-victim, gives-is, yields-is}
 use Rattle.ec_laws.proofs.Carried.{carried}
 use Rattle.ec_laws.proofs.Change.{Change, New, Stay}
 use Rattle.ec_laws.proofs.Entries.{found-with, found-without, sorted-with, sorted-without, dir-with, gone-with, entries-bare}
+use Rattle.ec_base.proofs.Numbers.{same-self as same_number}
+use Rattle.ec_base.proofs.Bools.{first as left, right}
 
 -- The image of an object, by whether it is the directory, the object that moves and the victim.
 module _ (dir : ℕ) (from to : List ℕ) (obj : ℕ) (k : Kind) (victim : Option ℕ) where

@@ -11,9 +11,8 @@ use Rattle.ec_volume.specs.declared.image.Kind.{Kind}
 use Rattle.ec_volume.specs.declared.update.Update.{Update}
 use Rattle.ec_volume.specs.declared.update.Update.TheVariants.{Move, Shift}
 use Rattle.ec_volume.proofs.Distinct.{distinct_apart}
-use Rattle.ec_laws.proofs.Objects.{holds}
-use Rattle.ec_laws.proofs.Removed.{both}
 use Rattle.ec_laws.proofs.Ways.{gives-named}
+use Rattle.ec_base.proofs.Bools.{both, on as holds}
 
 -- what holds of the victim, if there is one
 abbrev pub OnVictim : Option ℕ → (ℕ → Type 0) → Type 0

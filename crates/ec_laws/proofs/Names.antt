@@ -7,8 +7,8 @@ use Rattle.ec_volume.specs.declared.image.Image.{Image}
 use Rattle.ec_volume.specs.declared.image.Image.TheVariants.{Gone, File, Dir}
 use Rattle.ec_history.specs.History.{Each}
 use Rattle.ec_laws.specs.Renaming.{IsRenaming}
-use Rattle.ec_laws.proofs.Clearing.{live-gone}
 use Rattle.ec_laws.proofs.Swap.{swap, swap-apart, swap-first, swap-other, swap-twice, unlike}
+use Rattle.ec_base.proofs.Bools.{clash as live-gone}
 
 module _ (v : Images) (f : ℕ → ℕ) (n : ℕ) where
   abbrev pub Good : List ℕ → Type 0

@@ -9,6 +9,7 @@ use Rattle.ec_history.specs.Legal.{IsLegal, IsLegalNext, is_op_of}
 use Rattle.ec_history.specs.declared.entry.Entry.{Entry}
 use Rattle.ec_history.specs.declared.entry.Entry.TheVariants as entry
 use Rattle.ec_laws.proofs.More.{issued-append, issued-step, count-step}
+use Rattle.ec_laws.proofs.BasesAlike.{each-map}
 
 module _ {A : Type 0} (P : A → Type 0) where
   pub each-append : (xs ys : List A) → Each P xs → Each P ys → Each P (xs ++ ys)
@@ -29,10 +30,6 @@ module _ {A : Type 0} (P : A → Type 0) where
     | true ↦ (h.0, each-filter p xs h.1)
     | false ↦ each-filter p xs h.1
   ]
-
-pub each-map : {A : Type 0} (P Q : A → Type 0) → ((x : A) → P x → Q x) → (xs : List A) → Each P xs → Each Q xs
-each-map P Q f [] h = tt
-each-map P Q f (x ∷ xs) h = (f x h.0, each-map P Q f xs h.1)
 
 -- What holds of all that is issued holds of all that is kept, and of what was issued before.
 module _ (base : Base) (P : Op → Type 0) where

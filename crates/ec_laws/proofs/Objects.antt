@@ -8,13 +8,8 @@ use Rattle.ec_volume.specs.Volume.{Images, image_next, image_after, after, fits_
 use Rattle.ec_volume.specs.declared.image.Image.{Image}
 use Rattle.ec_volume.specs.declared.update.Update.{Update}
 use Rattle.ec_order.specs.Order.{share}
-
-pub holds : {b : Bool} → b ≡ true → T b
-holds e = subst T (sym e) tt
-
-pub is-true : (b : Bool) → T b → b ≡ true
-is-true true t = refl
-is-true false t = absurd t
+use Rattle.ec_base.proofs.Bools.{on, is-true}
+use Rattle.ec_volume.proofs.Fitting.{turns_joined}
 
 -- One more update, at an operand and elsewhere.
 module _ (o : ℕ) (i : Image) (u : Update) (us : List Update) where
@@ -30,23 +25,9 @@ module _ (o : ℕ) (i : Image) (u : Update) (us : List Update) where
   pub after-no : has_operand o u ≡ false → image_after o i (u ∷ us) ≡ image_after o i us
   after-no e = ap (λ b. image_after o (cond b (effect u o i) i) us) e
 
-pub after-append : (o : ℕ) (i : Image) (us ws : List Update) → image_after o i (us ++ ws) ≡ image_after o (image_after o i us) ws
-after-append o i [] ws = refl
-after-append o i (u ∷ us) ws = after-append o (image_next o i u) us ws
-
-and-assoc : (a b c : Bool) → (a && (b && c)) ≡ ((a && b) && c)
-and-assoc true b c = refl
-and-assoc false b c = refl
-
-pub fits-append : (o : ℕ) (i : Image) (us ws : List Update) → fits_in_turn o i (us ++ ws) ≡ (fits_in_turn o i us && fits_in_turn o (image_after o i us) ws)
-fits-append o i [] ws = refl
-fits-append o i (u ∷ us) ws =
-    ap (λ b. (not (has_operand o u) || fits u o i) && b) (fits-append o (image_next o i u) us ws)
-    ∙ and-assoc (not (has_operand o u) || fits u o i) (fits_in_turn o (image_next o i u) us) (fits_in_turn o (image_after o (image_next o i u) us) ws)
-
 pub fits-next : (base : Images) (us : List Update) (u : Update) → Fits base us → ((o : ℕ) → T (not (has_operand o u) || fits u o (after base us o))) → Fits base (us ++ u ∷ [])
 fits-next base us u f g o =
-    holds (fits-append o (base o) us (u ∷ []) ∙ and_from (fits_in_turn o (base o) us) (fits_in_turn o (after base us o) (u ∷ [])) (is-true _ (f o))
+    on (turns_joined o (base o) us (u ∷ []) ∙ and_from (fits_in_turn o (base o) us) (fits_in_turn o (after base us o) (u ∷ [])) (is-true _ (f o))
     (and_from (not (has_operand o u) || fits u o (after base us o)) true (is-true _ (g o)) refl))
 
 -- The image of an object depends only on the updates that have it as an operand.
@@ -79,7 +60,7 @@ pub stays : (o : ℕ) (i : Image) (us : List Update) → list_any (has_operand o
 stays o i us e = sym (projection o i us) ∙ ap (image_after o i) (filter-none o us e)
 
 pub fits-elsewhere : (o : ℕ) (i : Image) (us : List Update) → list_any (has_operand o) us ≡ false → T (fits_in_turn o i us)
-fits-elsewhere o i us e = holds (sym (projection-fits o i us) ∙ ap (fits_in_turn o i) (filter-none o us e))
+fits-elsewhere o i us e = on (sym (projection-fits o i us) ∙ ap (fits_in_turn o i) (filter-none o us e))
 
 -- It is enough to try the operands.
 member-all : (p : ℕ → Bool) (os : List ℕ) (o : ℕ) → list_all p os ≡ true → member o os ≡ true → p o ≡ true
@@ -102,7 +83,7 @@ tried p (u ∷ us) o h k =
 
 pub fits-tried : (base : Images) (us : List Update) → T (list_all (λ u. list_all (λ o. fits_in_turn o (base o) us) (operands u)) us) → Fits base us
 fits-tried base us h o = elim (cases_Bool (list_any (has_operand o) us)) [
-  | inl e ↦ holds (tried (λ p. fits_in_turn p (base p) us) us o (is-true _ h) e)
+  | inl e ↦ on (tried (λ p. fits_in_turn p (base p) us) us o (is-true _ h) e)
   | inr e ↦ fits-elsewhere o (base o) us e
 ]
 
@@ -121,7 +102,7 @@ pub fits-operands : (v : Images) (u : Update) → first_unfit u v (operands u) �
 fits-operands v u e o = go (has_operand o u) (member-all (λ p. fits u p (v p)) (operands u) o (fits-listed u v (operands u) e))
   where
     go : (b : Bool) → (b ≡ true → fits u o (v o) ≡ true) → T (not b || fits u o (v o))
-    go true h = holds (h refl)
+    go true h = on (h refl)
     go false h = tt
 
 -- Lists with equal projections.

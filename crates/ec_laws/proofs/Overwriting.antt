@@ -12,8 +12,8 @@ use Rattle.ec_plain.specs.Plain.{stat_of}
 use Rattle.ec_plain.specs.declared.call.Reply.TheVariants as reply
 use Rattle.ec_volume.specs.declared.image.Kind.TheVariants as kind
 use Rattle.ec_order.specs.Order.{is_overwrite, meet, under}
-use Rattle.ec_laws.proofs.Objects.{holds, is-true}
 use Rattle.ec_laws.proofs.Ranges.{length-overwritten, ranges-commute, none-commute}
+use Rattle.ec_base.proofs.Bools.{on as holds, is-true}
 
 pub overwrite-is : (u : Update) → is_overwrite u ≡ true → (p : ℕ) × (at : ℕ) × (bs : List ℕ) × (u ≡ Put p at bs true)
 overwrite-is (Put p at bs true) w = (p, at, bs, refl)

@@ -5,8 +5,8 @@ use Rattle.std.specs.List.{list_all, filter}
 use Rattle.ec_volume.specs.declared.update.Update.{Update}
 use Rattle.ec_order.specs.Order.{needs}
 use Rattle.ec_laws.specs.Needs.{holds_needed}
-use Rattle.ec_laws.proofs.Objects.{holds, is-true}
 use Rattle.ec_laws.proofs.Pulled.{needed-part}
+use Rattle.ec_base.proofs.Bools.{on as holds, is-true}
 
 module _ {A : Type 0} (update : A → Update) where
   -- of x, none of these inside needs it

@@ -16,12 +16,12 @@ use Rattle.ec_history.specs.declared.entry.Entry.TheVariants as entry
 use Rattle.ec_history.specs.declared.shown.Shown.{Shown}
 use Rattle.ec_laws.proofs.Fresh.{plain-makes}
 use Rattle.ec_laws.proofs.More.{issued-step, kept-step}
-use Rattle.ec_laws.proofs.Numbers.{each-append, each-front, each-back, each-map}
+use Rattle.ec_laws.proofs.Numbers.{each-append, each-front, each-back}
 use Rattle.ec_laws.proofs.Places.{places-distinct, places-within}
 use Rattle.ec_laws.specs.Renaming.{IsRenaming}
 use Rattle.ec_laws.specs.Renamed.{AreRenamed}
 use Rattle.ec_laws.proofs.Agreeing.{renamed-agree}
-use Rattle.ec_laws.proofs.BasesAlike.{covered-as, legal-as, stored-as}
+use Rattle.ec_laws.proofs.BasesAlike.{covered-as, legal-as, stored-as, each-map}
 use Rattle.ec_laws.proofs.Shapes.{kept-by}
 use Rattle.ec_laws.specs.Placing.{made_ids}
 use Rattle.ec_laws.specs.NewIds.{Clear, IsNewId, MayChange, WouldMake}
@@ -29,14 +29,13 @@ use Rattle.ec_laws.proofs.Clearing.{Unmade, clears}
 use Rattle.ec_laws.proofs.Names.{Good, Named, named, renames}
 use Rattle.ec_laws.proofs.OwedOperands.{parts}
 use Rattle.ec_laws.proofs.IdleIds.{covered-so, fits-so, legal-so, stored-so}
-use Rattle.ec_laws.proofs.Swap.{alike, true-false, unlike}
+use Rattle.ec_laws.proofs.Swap.{unlike}
+use Rattle.ec_base.proofs.Numbers.{same-self as alike}
+use Rattle.ec_base.proofs.Bools.{and_parts-T}
+use Rattle.ec_base.proofs.Equalities.{not_false as true-false}
 
 nil-cons : (p : ℕ) (ps : List ℕ) → [] ≡ p ∷ ps → ⊥
 nil-cons p ps e = cc
-
-and_parts-T : (a b : Bool) → T (a && b) → T a × T b
-and_parts-T true b t = (tt, t)
-and_parts-T false b t = absurd t
 
 -- of none of a start's operations nothing is taken
 without-none : (c b : ℕ) (ks : List Op) → without c b [] ks ≡ ks

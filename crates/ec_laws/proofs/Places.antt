@@ -17,7 +17,7 @@ use Rattle.ec_laws.proofs.Late.{place-no_call, place-ended, place-answer}
 use Rattle.ec_laws.proofs.Held.{place-late}
 use Rattle.ec_base.specs.Options.{or_zero}
 
-abbrev places : History → List ℕ
+abbrev pub places : History → List ℕ
 places h = map (λ e. e.0) h
 
 abbrev IsWithin : ℕ → ℕ → Type 0
@@ -64,7 +64,7 @@ places-put n h g ps ls a e f =
       subst (λ x. T (distinct x)) (sym f) (distinct-put (n + 1) ps ls d (within-fresh n (ps ++ ls) w)),
     )
 
-one_longer : (ss : List Shown) (s : Shown) → length (ss ++ s ∷ []) ≡ length ss + 1
+pub one_longer : (ss : List Shown) (s : Shown) → length (ss ++ s ∷ []) ≡ length ss + 1
 one_longer ss s = length-append ss (s ∷ [])
 
 -- one more entry at the end, or one before others

@@ -21,11 +21,11 @@ use Rattle.ec_plain.specs.declared.call.Call.{Call}
 use Rattle.ec_plain.specs.declared.call.Call.TheVariants as call
 use Rattle.ec_plain.specs.declared.call.Reply.TheVariants as reply
 use Rattle.ec_plain.specs.declared.call.Refusal.TheVariants as no
-use Rattle.ec_laws.proofs.Objects.{holds}
-use Rattle.ec_laws.proofs.Removed.{both, left, right, off}
+use Rattle.ec_laws.proofs.Removed.{off}
 use Rattle.ec_laws.proofs.Walked.{Walked, walked, walked-live}
 use Rattle.ec_laws.proofs.Called.{IsFine, IsGood, weaker, fits_at, unless, on_walk, one, make_good, drop_good}
 use Rattle.ec_laws.proofs.Makes.{answers-makes, refuses-makes, issues-makes, cond-makes, parent-makes, entry-makes}
+use Rattle.ec_base.proofs.Bools.{both, first as left, right, on as holds}
 
 behind : (a b c : Bool) → T (a && b && c) → T (b && c)
 behind true b c t = t

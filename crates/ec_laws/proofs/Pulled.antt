@@ -10,8 +10,10 @@ use Rattle.ec_volume.specs.declared.update.Update.{Update}
 use Rattle.ec_volume.specs.declared.update.Update.TheVariants.{Put}
 use Rattle.ec_order.specs.Order.{is_overwrite, share, before, meet, under, needs}
 use Rattle.ec_laws.specs.Needs.{holds_needed}
-use Rattle.ec_laws.proofs.Objects.{holds, is-true, common, fits-append}
+use Rattle.ec_laws.proofs.Objects.{common}
 use Rattle.ec_laws.proofs.Overwriting.{effects-commute, still-fits, either-order}
+use Rattle.ec_base.proofs.Bools.{on as holds, is-true}
+use Rattle.ec_volume.proofs.Fitting.{turns_joined as fits-append}
 
 -- What an update with an operand of another one says of it, where it isn't before it: both are overwrites.
 pub both-overwrite : (o : ℕ) (a d : Update) → has_operand o a ≡ true → has_operand o d ≡ true → before a d ≡ false → (is_overwrite a ≡ true) × (is_overwrite d ≡ true)

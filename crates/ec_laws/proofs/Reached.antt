@@ -13,13 +13,12 @@ use Rattle.ec_volume.specs.declared.image.Kind.{Kind}
 use Rattle.ec_volume.specs.declared.image.Kind.TheVariants as kind
 use Rattle.ec_volume.specs.declared.update.Update.{Update}
 use Rattle.ec_volume.specs.declared.update.Update.TheVariants.{Make, Drop, Move, Put, Len, Mode, Stamp, Order, Shift, Owner}
-use Rattle.ec_laws.proofs.Objects.{holds, is-true}
-use Rattle.ec_laws.proofs.Removed.{both, left, right, off}
-use Rattle.ec_laws.proofs.Touching.{or_l, or_r}
+use Rattle.ec_laws.proofs.Removed.{off}
 use Rattle.ec_laws.proofs.Change.{IsLive, Change, New, Stay, change_formed}
 use Rattle.ec_laws.proofs.Entries.{entries-gone, entries-bare, dir-live}
-use Rattle.ec_laws.proofs.Apart.{not-both, distinct-rest, gives-is, yields-dir}
+use Rattle.ec_laws.proofs.Apart.{distinct-rest, gives-is, yields-dir}
 use Rattle.ec_laws.proofs.Led.{IsLed, empty-unnamed, led-on, led-all, all-led}
+use Rattle.ec_base.proofs.Bools.{not-both, or-right as or_r, both, first as left, right, or_first as or_l, on as holds, is-true}
 
 self : (n : ℕ) → eqb n n ≡ true
 self n = grind arith

@@ -21,7 +21,7 @@ use Rattle.ec_laws.specs.NewIds.{IsNewId}
 use Rattle.ec_laws.proofs.Names.{Named}
 use Rattle.ec_laws.proofs.Placed.{made_places, m, changed, ren, same}
 use Rattle.ec_laws.proofs.IdleIds.{kept-so}
-use Rattle.ec_laws.proofs.Swap.{true-false}
+use Rattle.ec_base.proofs.Equalities.{not_false as true-false}
 
 module _ (v : Images) (f : ℕ → ℕ) where
   abbrev base : Base

@@ -11,21 +11,11 @@ use Rattle.ec_order.specs.Order.{is_overwrite, before, under, needs}
 use Rattle.ec_history.specs.History.{Op, updates}
 use Rattle.ec_history.specs.Legal.{is_closed}
 use Rattle.ec_laws.specs.Needs.{holds_needed}
-use Rattle.ec_laws.proofs.Objects.{holds, is-true, fits-yes, fits-no, projection-fits}
+use Rattle.ec_laws.proofs.Objects.{fits-yes, fits-no, projection-fits}
 use Rattle.ec_laws.proofs.Overwriting.{overwrite-by, overwrite-kind, overwrite-length}
 use Rattle.ec_laws.proofs.Pulled.{both-overwrite}
-
-pub both : (a b : Bool) → T a → T b → T (a && b)
-both true b p q = q
-both false b p q = p
-
-pub left : (a b : Bool) → T (a && b) → T a
-left true b p = tt
-left false b p = p
-
-pub right : (a b : Bool) → T (a && b) → T b
-right true b p = p
-right false b p = absurd p
+use Rattle.ec_base.proofs.Bools.{both, first, right, on as holds, is-true}
+use Rattle.ec_base.proofs.Lists.{filter-swap}
 
 pub off : {b : Bool} → b ≡ false → T b → ⊥
 off e t = subst T e t
@@ -41,7 +31,7 @@ module _ (o : ℕ) (i : Image) (u : Update) (us : List Update) where
   get-yes : has_operand o u ≡ true → T (fits_in_turn o i (u ∷ us)) → T (fits u o i) × T (fits_in_turn o (effect u o i) us)
   get-yes e h =
       let k : T (fits u o i && fits_in_turn o (effect u o i) us) = subst T (fits-yes o i u us e) h in
-      (left (fits u o i) (fits_in_turn o (effect u o i) us) k, right (fits u o i) (fits_in_turn o (effect u o i) us) k)
+      (first (fits u o i) (fits_in_turn o (effect u o i) us) k, right (fits u o i) (fits_in_turn o (effect u o i) us) k)
 
   get-no : has_operand o u ≡ false → T (fits_in_turn o i (u ∷ us)) → T (fits_in_turn o i us)
   get-no e h = subst T (fits-no o i u us e) h
@@ -86,10 +76,10 @@ module _ (lost : Op → Bool) (o : ℕ) where
   Behind l ks = list_all (λ j. lost j || not (before l j.update)) ks
 
   behind-kept : (l : Update) (k : Op) (ks : List Op) → lost k ≡ false → T (Behind l (k ∷ ks)) → T (not (before l k.update))
-  behind-kept l k ks e h = subst (λ b. T (b || not (before l k.update))) e (left _ _ h)
+  behind-kept l k ks e h = subst (λ b. T (b || not (before l k.update))) e (first _ _ h)
 
   closed-lost : (k : Op) (ks : List Op) → lost k ≡ true → T (is_closed lost (k ∷ ks)) → T (Behind k.update ks)
-  closed-lost k ks e h = subst (λ b. T (not b || Behind k.update ks)) e (left _ _ h)
+  closed-lost k ks e h = subst (λ b. T (not b || Behind k.update ks)) e (first _ _ h)
 
   -- Behind a lost operation on o that is no overwrite nothing on o is kept.
   none-left : (l : Update) → has_operand o l ≡ true → is_overwrite l ≡ false → (i : Image) (ks : List Op) → T (Behind l ks) → T (fits_in_turn o i (rest ks))
@@ -154,17 +144,6 @@ module _ (lost : Op → Bool) (o : ℕ) where
 -- of a volume
 pub removal : (base : Images) (lost : Op → Bool) (ks : List Op) → T (is_closed lost ks) → Fits base (updates ks) → Fits base (updates (filter (λ k. not (lost k)) ks))
 removal base lost ks c f o = removal-at lost o (base o) ks c (f o)
-
--- at one object, where the operations on it are closed
-filter-swap : {A : Type 0} (p q : A → Bool) (xs : List A) → filter p (filter q xs) ≡ filter q (filter p xs)
-filter-swap p q [] = refl
-filter-swap p q (x ∷ xs) = go (p x) (q x) refl refl (filter-swap p q xs)
-  where
-    go : (a b : Bool) → p x ≡ a → q x ≡ b → filter p (filter q xs) ≡ filter q (filter p xs) → filter p (cond b (x ∷ filter q xs) (filter q xs)) ≡ filter q (cond a (x ∷ filter p xs) (filter p xs))
-    go true true e f r = ap (λ z. cond z (x ∷ filter p (filter q xs)) (filter p (filter q xs))) e ∙ ap (λ ys. x ∷ ys) r ∙ sym (ap (λ z. cond z (x ∷ filter q (filter p xs)) (filter q (filter p xs))) f)
-    go true false e f r = r ∙ sym (ap (λ z. cond z (x ∷ filter q (filter p xs)) (filter q (filter p xs))) f)
-    go false true e f r = ap (λ z. cond z (x ∷ filter p (filter q xs)) (filter p (filter q xs))) e ∙ r
-    go false false e f r = r
 
 updates-on : (o : ℕ) (ks : List Op) → filter (has_operand o) (updates ks) ≡ updates (filter (λ k. has_operand o k.update) ks)
 updates-on o [] = refl

@@ -19,13 +19,12 @@ use Rattle.ec_plain.specs.declared.call.Reply.TheVariants as reply
 use Rattle.ec_plain.specs.declared.call.Refusal.{Refusal}
 use Rattle.ec_plain.specs.declared.call.Refusal.TheVariants as no
 use Rattle.ec_plain.specs.declared.call.Outcome.{Outcome}
-use Rattle.ec_laws.proofs.Objects.{holds, is-true}
-use Rattle.ec_laws.proofs.Removed.{both}
 use Rattle.ec_laws.proofs.Walked.{Walked, walked, walked-last, one_way, no_own_entry}
 use Rattle.ec_laws.proofs.Ways.{gives-named, bare-unnamed, above-apart, above-end, above-lacks, above-bare, above-leads, above-way}
 use Rattle.ec_laws.proofs.Lasts.{same_name-is, parent-short, path-same}
 use Rattle.ec_laws.proofs.Makes.{Makes, answers-makes, refuses-makes, issues-makes, cond-makes, entry-makes}
 use Rattle.ec_laws.proofs.Moving.{OnVictim, move-fits, shift-fits, move-sound, shift-sound}
+use Rattle.ec_base.proofs.Bools.{both, on as holds, is-true}
 
 abbrev Fine : Images → Path → Update → Type 0
 Fine v q u = (T (is_short q) → T (is_sound u)) × Fits v (u ∷ [])

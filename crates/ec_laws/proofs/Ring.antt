@@ -1,5 +1,5 @@
 -- A base with a ring that no path reaches.
-use Rattle.std.proofs.Common.{◌≡◌, refl, sym, subst, ◌∙◌, inl, inr, arith, ◌+◌, ◌≤◌, ◌⊎◌, ℕ, T, Bool, true, false, not, ◌==◌, cond, List, [], ◌∷◌, Option, Some, None}
+use Rattle.std.proofs.Common.{◌≡◌, refl, sym, subst, ◌∙◌, inl, inr, arith, ◌+◌, ◌≤◌, ◌⊎◌, ℕ, T, Bool, true, false, not, ◌==◌, cond, List, [], ◌∷◌, Some, None}
 use Rattle.std.proofs.lemmas.Bool.{eqb-true, true≢false}
 use Rattle.std.specs.FinMap.{is_sorted}
 use Rattle.ec_volume.specs.Entries.{by_bytes, same_name, entry}
@@ -11,13 +11,11 @@ use Rattle.ec_volume.specs.declared.image.Image.TheVariants.{Gone, Dir}
 use Rattle.ec_laws.specs.Bases.{IsBase}
 use Rattle.ec_laws.specs.FormedExample.{a, ring}
 use Rattle.ec_laws.proofs.Entries.{same_name-is, found-with}
+use Rattle.ec_base.proofs.Options.{none-number}
 
 -- the image of an object, by whether it is the first, second or third one
 abbrev by : Bool → Bool → Bool → Image
 by x y z = cond x (Dir 493 0 0 []) (cond y (Dir 493 0 0 ((a, 3) ∷ [])) (cond z (Dir 493 0 0 ((a, 2) ∷ [])) Gone))
-
-none_some : (o : ℕ) → ◌≡◌ {A = Option ℕ} None (Some o) → ⊥
-none_some o q = cc
 
 some_is : (m n : ℕ) → Some m ≡ Some n → n ≡ m
 some_is m n q = cc
@@ -30,13 +28,13 @@ leads d n o h = go (d == 1) (d == 2) (d == 3) refl refl h
   where
     one : (k : ℕ) (b : Bool) → same_name n a ≡ b → cond b (Some k) None ≡ Some o → (n ≡ a) × (o ≡ k)
     one k true e q = (same_name-is n a e, some_is k o q)
-    one k false e q = absurd (none_some o q)
+    one k false e q = absurd (none-number o q)
 
     go : (x y z : Bool) → (d == 2) ≡ y → (d == 3) ≡ z → entry (entries_of (by x y z)) n ≡ Some o → Leads d n o
-    go true y z ey ez q = absurd (none_some o q)
+    go true y z ey ez q = absurd (none-number o q)
     go false true z ey ez q = let e = one 3 (same_name n a) refl (sym (found-with [] a 3 n) ∙ q) in inl (eqb-true d 2 ey, e.0, e.1)
     go false false true ey ez q = let e = one 2 (same_name n a) refl (sym (found-with [] a 2 n) ∙ q) in inr (eqb-true d 3 ez, e.0, e.1)
-    go false false false ey ez q = absurd (none_some o q)
+    go false false false ey ez q = absurd (none-number o q)
 
 -- the numbers of an object that is second and third
 apart : (o : ℕ) → o ≡ 3 → o ≡ 2 → ⊥
@@ -94,4 +92,4 @@ ring-unreached all = let way = all 2 tt in lost way.0 way.1
   where
     lost : (path : List (List ℕ)) → reach ring.volume root path ≡ Some 2 → ⊥
     lost [] e = let one : 2 ≡ 1 = some_is 1 2 e in omega (arith, one)
-    lost (n ∷ ns) e = none_some 2 e
+    lost (n ∷ ns) e = none-number 2 e

@@ -4,9 +4,8 @@ use Rattle.std.proofs.lemmas.Bool.{cases_Bool, eqb-true, ltb-true}
 use Rattle.std.specs.List.{list_all}
 use Rattle.ec_volume.specs.Update.{member}
 use Rattle.ec_history.specs.Placing.{same_numbers}
-use Rattle.ec_laws.proofs.Objects.{is-true}
-use Rattle.ec_laws.proofs.Removed.{both, left, right}
 use Rattle.ec_base.specs.SmallLaws.{rises}
+use Rattle.ec_base.proofs.Bools.{both, first as left, right, is-true}
 
 -- a number at the front, and one behind it
 at_front : (x : ℕ) (xs : List ℕ) → T (member x (x ∷ xs))
@@ -15,7 +14,7 @@ at_front x xs = subst (λ c. T (c || member x xs)) (sym (same x)) tt
     same : (x : ℕ) → (x == x) ≡ true
     same x = grind arith
 
-behind : (n x : ℕ) (xs : List ℕ) → T (member n xs) → T (member n (x ∷ xs))
+pub behind : (n x : ℕ) (xs : List ℕ) → T (member n xs) → T (member n (x ∷ xs))
 behind n x xs m = go (n == x)
   where
     go : (b : Bool) → T (b || member n xs)

@@ -11,13 +11,12 @@ use Rattle.ec_volume.specs.declared.image.Image.{Image}
 use Rattle.ec_volume.specs.declared.image.Image.TheVariants.{Gone, File, Dir}
 use Rattle.ec_volume.specs.declared.image.Kind.{Kind}
 use Rattle.ec_volume.specs.declared.update.Update.TheVariants.{Shift}
-use Rattle.ec_laws.proofs.Late.{same_number}
-use Rattle.ec_laws.proofs.Objects.{holds}
-use Rattle.ec_laws.proofs.Removed.{left, right}
 use Rattle.ec_laws.proofs.Apart.{apart, member-first, member-next, distinct-rest, victim-member, gives-is, gives-dir, yields-is, yields-dir}
 use Rattle.ec_laws.proofs.Carried.{carried}
 use Rattle.ec_laws.proofs.Change.{Change, New, Stay}
 use Rattle.ec_laws.proofs.Entries.{id-is, id-from, found-with, found-without, sorted-with, sorted-without, entries-with, dir-with, gone-with, entries-bare}
+use Rattle.ec_base.proofs.Numbers.{same-self as same_number}
+use Rattle.ec_base.proofs.Bools.{first as left, right, on as holds}
 
 -- The image of an object, by whether it is the first directory (a), the second one (b), the object that moves (c), another operand (m) and the victim (e).
 module _ (dir : ℕ) (from : List ℕ) (into : ℕ) (to : List ℕ) (obj : ℕ) (k : Kind) (victim : Option ℕ) where

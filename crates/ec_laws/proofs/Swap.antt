@@ -1,5 +1,5 @@
 -- Two ids change places, and what has neither as an operand stays.
-use Rattle.std.proofs.Common.{◌≡◌, refl, sym, ap, ap₂, subst, ◌∙◌, arith, ◌==◌, ◌||◌, not, ℕ, Bool, true, false, cond, List, [], ◌∷◌, map, Option, Some, None}
+use Rattle.std.proofs.Common.{◌≡◌, refl, sym, ap, ap₂, subst, ◌∙◌, ◌==◌, ◌||◌, not, ℕ, Bool, true, false, cond, List, [], ◌∷◌, map, Option, Some, None}
 use Rattle.std.specs.List.{filter}
 use Rattle.std.proofs.lemmas.Bool.{eqb-true}
 use Rattle.ec_volume.specs.Update.{Above, ids_of, listed, member, operands, root}
@@ -10,12 +10,7 @@ use Rattle.ec_laws.proofs.Numbers.{each-back, each-front}
 use Rattle.ec_laws.specs.Renaming.{IsRenaming}
 use Rattle.ec_laws.specs.Renamed.{above_by, option_by, update_by}
 use Rattle.ec_laws.proofs.OwedOperands.{parts, turn}
-
-pub alike : (a : ℕ) → (a == a) ≡ true
-alike a = grind arith
-
-pub true-false : true ≡ false → ⊥
-true-false e = cc
+use Rattle.ec_base.proofs.Numbers.{same-self}
 
 pub unlike : (a b : ℕ) → (a ≡ b → ⊥) → (a == b) ≡ false
 unlike a b n = go (a == b) refl
@@ -34,7 +29,7 @@ module _ (x y : ℕ) where
   swap z = cond (z == x) y (cond (z == y) x z)
 
   pub swap-first : swap x ≡ y
-  swap-first = ap (λ b. cond b y (cond (x == y) x x)) (alike x)
+  swap-first = ap (λ b. cond b y (cond (x == y) x x)) (same-self x)
 
   pub swap-other : (z : ℕ) → (z == x) ≡ false → (z == y) ≡ false → swap z ≡ z
   swap-other z n m = ap (λ b. cond b y (cond (z == y) x z)) n ∙ ap (λ b. cond b x z) m
@@ -44,7 +39,7 @@ module _ (x y : ℕ) where
     where
       go : (z : Bool) → (y == x) ≡ z → swap y ≡ x
       go true e = ap (λ b. cond b y (cond (y == y) x y)) e ∙ eqb-true y x e
-      go false e = ap (λ b. cond b y (cond (y == y) x y)) e ∙ ap (λ b. cond b x y) (alike y)
+      go false e = ap (λ b. cond b y (cond (y == y) x y)) e ∙ ap (λ b. cond b x y) (same-self y)
 
   pub swap-twice : (z : ℕ) → swap (swap z) ≡ z
   swap-twice z = go (z == x) (z == y) refl refl
@@ -56,8 +51,8 @@ module _ (x y : ℕ) where
 
   pub swap-apart : (a b : ℕ) → (swap a == swap b) ≡ (a == b)
   swap-apart a b =
-      either (swap a == swap b) (a == b) (λ e. subst (λ z. (a == z) ≡ true) (sym (swap-twice a) ∙ ap swap (eqb-true (swap a) (swap b) e) ∙ swap-twice b) (alike a))
-      (λ e. subst (λ z. (swap a == swap z) ≡ true) (eqb-true a b e) (alike (swap a)))
+      either (swap a == swap b) (a == b) (λ e. subst (λ z. (a == z) ≡ true) (sym (swap-twice a) ∙ ap swap (eqb-true (swap a) (swap b) e) ∙ swap-twice b) (same-self a))
+      (λ e. subst (λ z. (swap a == swap z) ≡ true) (eqb-true a b e) (same-self (swap a)))
 
   pub swap-renames : (root == x) ≡ false → (root == y) ≡ false → IsRenaming swap
   swap-renames n m = record { apart = swap-apart; root_stays = swap-other root n m }

@@ -13,11 +13,11 @@ use Rattle.ec_history.specs.declared.entry.Entry.TheVariants as entry
 use Rattle.ec_history.specs.declared.shown.Shown.{Shown}
 use Rattle.ec_laws.proofs.More.{kept-step, issued-append, issued-step, owed-step, owed-others}
 use Rattle.ec_laws.proofs.Cuts.{throughout-append, throughout-front, throughout-back}
-use Rattle.ec_laws.proofs.Late.{same_number}
 use Rattle.ec_laws.proofs.Numbers.{count}
 use Rattle.ec_laws.proofs.LateLoss.{filter-new, late-new, old-kept}
 use Rattle.ec_laws.proofs.Beside.{IsBeside, beside-next, covers-same}
 use Rattle.ec_laws.proofs.Inserted.{kept-both, beside-first}
+use Rattle.ec_base.proofs.Numbers.{same-self as same_number}
 
 -- an entry behind two others, and what follows
 pub past_last : (h : History) (x : ℕ × Entry) (g : History) → h ++ x ∷ g ≡ (h ++ x ∷ []) ++ g

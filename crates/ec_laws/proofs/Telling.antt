@@ -22,12 +22,12 @@ use Rattle.ec_laws.proofs.Numbers.{kept-each}
 use Rattle.ec_laws.proofs.Places.{covered-longer}
 use Rattle.ec_laws.specs.Accounts.{IsUndurable, IsAccounted, LinesTell}
 use Rattle.ec_laws.specs.Laws.{OneMore}
-use Rattle.ec_laws.proofs.Members.{on, is_on}
 use Rattle.ec_laws.proofs.Unlost.{kept-unlost}
 use Rattle.ec_laws.proofs.Watched.{Has, begun-has, has-begun}
 use Rattle.ec_laws.proofs.Accounting.{Accounts, Named, accounts-durable, accounts-quiet, named-durable, named-quiet}
 use Rattle.ec_laws.proofs.Ending.{accounts-ended, named-ended}
 use Rattle.ec_laws.proofs.Answered.{accounts-answered, covered-answered, named-answered}
+use Rattle.ec_base.proofs.Bools.{on, is-true as is_on}
 
 pub nothing-tells : (base : Base) → LinesTell base []
 nothing-tells base = record { accounts = λ c b. tt; apart = λ c b n u. absurd u.among; counted = λ c b n k. elim k [ inl t ↦ absurd t | inr u ↦ absurd u.among ]; covered = tt }

@@ -2,19 +2,17 @@
 use Rattle.std.proofs.Common.{◌≡◌, refl, sym, subst, ◌∙◌, inl, inr, arith, ◌+◌, ℕ, T, Bool, true, false, not, ◌==◌, ◌&&◌, ◌||◌, cond, List, [], ◌∷◌, ◌++◌, eqb, eqb→eq, Option, Some, None}
 use Rattle.std.specs.Prelude.{map, take, drop, length, ◌-◌, nat_le, nat_lt, is_some}
 use Rattle.std.proofs.lemmas.Bool.{or_cases}
-use Rattle.std.proofs.lemmas.List.Folds.{list_any-append}
 use Rattle.std.specs.List.{filter}
 use Rattle.ec_volume.specs.Entries.{Entries, entry}
 use Rattle.ec_volume.specs.Image.{entries_of, bytes_of, is_gone, is_dir}
 use Rattle.ec_volume.specs.Update.{Above, ids_of, listed, operands, member, root}
 use Rattle.ec_volume.specs.Volume.{Images}
-use Rattle.ec_volume.specs.declared.image.Image.{Image}
 use Rattle.ec_volume.specs.declared.image.Image.TheVariants.{Gone, File, Dir}
 use Rattle.ec_volume.specs.declared.image.Kind.{Kind}
 use Rattle.ec_volume.specs.declared.image.Kind.TheVariants as kind
 use Rattle.ec_volume.specs.declared.update.Update.{Update}
 use Rattle.ec_volume.specs.declared.update.Update.TheVariants.{Make, Drop, Move, Put, Len, Mode, Stamp, Order, Shift, Owner}
-use Rattle.ec_plain.specs.Walk.{Path, Reached, At, Not, Walk, walk, walk_from, stop, parent_of, last_of, same_path}
+use Rattle.ec_plain.specs.Walk.{Path, Reached, At, Not, Walk, walk, walk_from, parent_of, last_of, same_path}
 use Rattle.ec_plain.specs.Plain.{on_reached, on_parent, on_entry, answers, refuses, issues, plain, plain_make, plain_drop, plain_rename, plain_forder, once_more, blocked, kind_of, make_in, drop_in, with_names, above, renames, move_into, loops, rename_in, write_in, len_in, read_in, list_in, stat_of}
 use Rattle.ec_plain.specs.declared.call.Call.{Call}
 use Rattle.ec_plain.specs.declared.call.Call.TheVariants as call
@@ -23,21 +21,12 @@ use Rattle.ec_plain.specs.declared.call.Reply.TheVariants as reply
 use Rattle.ec_plain.specs.declared.call.Refusal.{Refusal}
 use Rattle.ec_plain.specs.declared.call.Refusal.TheVariants as no
 use Rattle.ec_plain.specs.declared.call.Outcome.{Outcome}
-use Rattle.ec_laws.proofs.Objects.{holds, is-true}
-
-pub or_l : (p q : Bool) → T p → T (p || q)
-or_l true q h = tt
-or_l false q h = absurd h
-
-pub or_r : (p q : Bool) → T q → T (p || q)
-or_r true q h = tt
-or_r false q h = h
-
-member-append : (o : ℕ) (xs ys : List ℕ) → member o (xs ++ ys) ≡ (member o xs || member o ys)
-member-append o xs ys = list_any-append (λ p. o == p) xs ys
+use Rattle.ec_base.proofs.Bools.{or-right, or_first, on as holds, is-true}
+use Rattle.ec_plain.proofs.WalkLemmas.{entry-step, image-step, not-at, same-at}
+use Rattle.ec_volume.proofs.UpdateLemmas.{member-append}
 
 member-self : (o : ℕ) (os : List ℕ) → T (member o (o ∷ os))
-member-self o os = or_l (eqb o o) _ (self o)
+member-self o os = or_first (eqb o o) _ (self o)
   where
     self : (n : ℕ) → T (eqb n n)
     self n = holds (same n)
@@ -46,28 +35,10 @@ member-self o os = or_l (eqb o o) _ (self o)
         same m = grind arith
 
 member-left : (o : ℕ) (xs ys : List ℕ) → T (member o xs) → T (member o (xs ++ ys))
-member-left o xs ys h = subst T (sym (member-append o xs ys)) (or_l _ _ h)
+member-left o xs ys h = subst T (sym (member-append o xs ys)) (or_first _ _ h)
 
 member-right : (o : ℕ) (xs ys : List ℕ) → T (member o ys) → T (member o (xs ++ ys))
-member-right o xs ys h = subst T (sym (member-append o xs ys)) (or_r (member o xs) _ h)
-
-not-at : {A : Type 0} (r : Refusal) (q : ℕ) → Not r ≡ At q → A
-not-at r q e = absurd (apart e)
-  where
-    apart : Not r ≡ At q → ⊥
-    apart e = cc
-
-same-at : (o q : ℕ) → At o ≡ At q → o ≡ q
-same-at o q e = cc
-
-abbrev entry-step : Images → ℕ → Path → Option ℕ → Walk
-entry-step v i ns None = stop (Not (no.NotFound (i + 1)))
-entry-step v i ns (Some p) = walk_from v (i + 1) p ns
-
-abbrev image-step : Images → ℕ → List ℕ → Path → Image → Walk
-image-step v i n ns Gone = stop (Not (no.NotFound i))
-image-step v i n ns (File m s w bs) = stop (Not (no.NotDir i))
-image-step v i n ns (Dir m s w es) = entry-step v i ns (entry es n)
+member-right o xs ys h = subst T (sym (member-append o xs ys)) (or-right (member o xs) _ h)
 
 -- The object that a walk reached was read.
 walk-read : (v : Images) (i o : ℕ) (p : Path) (q : ℕ) → (walk_from v i o p).to ≡ At q → T (member q (walk_from v i o p).read)
@@ -82,7 +53,7 @@ walk-read v i o (n ∷ ns) q =
       | Dir m s w es ↦ elim (entry es n) as (λ x. (entry-step v i ns x).to ≡ At q
           → T (member q (o ∷ (entry-step v i ns x).read))) [
             | None ↦ λ e. not-at (no.NotFound (i + 1)) q e
-            | Some p ↦ λ e. or_r (eqb q o) _ (walk-read v (i + 1) p ns q e)
+            | Some p ↦ λ e. or-right (eqb q o) _ (walk-read v (i + 1) p ns q e)
           ]
     ]
 
@@ -147,15 +118,15 @@ some-of p [] o h = h
 some-of p (x ∷ xs) o h = go (p x) h (some-of p xs o)
   where
     go : (b : Bool) → T (member o (cond b (x ∷ filter p xs) (filter p xs))) → (T (member o (filter p xs)) → T (member o xs)) → T (member o (x ∷ xs))
-    go true t r = elim (or_cases (o == x) (member o (filter p xs)) (is-true _ t)) [ inl e ↦ or_l (o == x) (member o xs) (holds e) | inr e ↦ or_r (o == x) (member o xs) (r (holds e)) ]
-    go false t r = or_r (o == x) (member o xs) (r t)
+    go true t r = elim (or_cases (o == x) (member o (filter p xs)) (is-true _ t)) [ inl e ↦ or_first (o == x) (member o xs) (holds e) | inr e ↦ or-right (o == x) (member o xs) (r (holds e)) ]
+    go false t r = or-right (o == x) (member o xs) (r t)
 
 ids-named : (os : List ℕ) (ns : Path) → Within (ids_of (with_names os ns)) os
 ids-named [] ns o h = h
 ids-named (x ∷ os) [] o h = absurd h
 ids-named (x ∷ os) (n ∷ ns) o h = elim (or_cases (o == x) (member o (ids_of (with_names os ns))) (is-true _ h)) [
-  | inl e ↦ or_l (o == x) (member o os) (holds e)
-  | inr e ↦ or_r (o == x) (member o os) (ids-named os ns o (holds e))
+  | inl e ↦ or_first (o == x) (member o os) (holds e)
+  | inr e ↦ or-right (o == x) (member o os) (ids-named os ns o (holds e))
 ]
 
 ids-above : (k : Kind) (os : List ℕ) (ns : Path) → Within (ids_of (above k os ns)) os

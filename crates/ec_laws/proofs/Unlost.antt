@@ -12,8 +12,11 @@ use Rattle.ec_history.specs.declared.entry.Entry.{Entry}
 use Rattle.ec_history.specs.declared.entry.Entry.TheVariants as entry
 use Rattle.ec_laws.proofs.Cuts.{legal-step}
 use Rattle.ec_laws.proofs.More.{kept-step, count-step}
-use Rattle.ec_laws.proofs.Numbers.{count, each-append, each-filter, each-map, kept-up_to, IsUpTo}
-use Rattle.ec_laws.proofs.Members.{on, is_on, off, off-from, lost-left, lost-parts, member-all, self}
+use Rattle.ec_laws.proofs.Numbers.{count, each-append, each-filter, kept-up_to, IsUpTo}
+use Rattle.ec_laws.proofs.Members.{lost-left, lost-parts, member-all}
+use Rattle.ec_base.proofs.Numbers.{same-self as self}
+use Rattle.ec_base.proofs.Bools.{clash as off, none as off-from, on, is-true as is_on}
+use Rattle.ec_laws.proofs.BasesAlike.{each-map}
 
 abbrev IsUnlost : History → Op → Type 0
 IsUnlost h k = T (is_lost k.clerk k.boot k.number h) → ⊥

@@ -12,9 +12,8 @@ use Rattle.ec_plain.specs.Walk.{Path, Walk, At, Not, stop, walk_from}
 use Rattle.ec_plain.specs.Plain.{with_names}
 use Rattle.ec_plain.specs.declared.call.Refusal.{Refusal}
 use Rattle.ec_plain.specs.declared.call.Refusal.TheVariants as no
-use Rattle.ec_laws.proofs.Objects.{holds}
-use Rattle.ec_laws.proofs.Removed.{both, left, right}
-use Rattle.ec_laws.proofs.Touching.{or_r}
+use Rattle.ec_base.proofs.Numbers.{same-self}
+use Rattle.ec_base.proofs.Bools.{or-right as or_r, both, first as left, right, on as holds}
 
 -- the names lead from the object o to q, by way of these objects, o first and q last
 abbrev pub Walked : Images → ℕ → Path → List ℕ → ℕ → Type 0
@@ -69,9 +68,6 @@ clash : (b : Bool) → T (not b) → T b → ⊥
 clash true a t = absurd a
 clash false a t = absurd t
 
-pub self : (n : ℕ) → (n == n) ≡ true
-self n = grind arith
-
 module _ (v : Images) where
   pub walked-live : (o : ℕ) (ns : Path) (os : List ℕ) (q : ℕ) → Walked v o ns os q → T (not (is_gone (v q)))
   walked-live o [] os q (e, same, live) = subst (λ x. T (not (is_gone (v x)))) (sym same) live
@@ -84,7 +80,7 @@ module _ (v : Images) where
       ap length e ∙ omega (arith, count)
 
   pub walked-last : (o : ℕ) (ns : Path) (os : List ℕ) (q : ℕ) → Walked v o ns os q → T (member q os)
-  walked-last o [] os q (e, same, live) = subst (λ xs. T (member q xs)) (sym e) (subst (λ b. T (b || false)) (sym (subst (λ x. (x == o) ≡ true) (sym same) (self o))) tt)
+  walked-last o [] os q (e, same, live) = subst (λ xs. T (member q xs)) (sym e) (subst (λ b. T (b || false)) (sym (subst (λ x. (x == o) ≡ true) (sym same) (same-self o))) tt)
   walked-last o (n ∷ ns) os q (dir, p, ps, name, e, rest) = subst (λ xs. T (member q xs)) (sym e) (or_r (q == o) (member q ps) (walked-last p ns ps q rest))
 
   pub walked-starts : (o : ℕ) (ns : Path) (os : List ℕ) (q : ℕ) → Walked v o ns os q → T (not (is_gone (v o)))
@@ -121,7 +117,7 @@ module _ (v : Images) where
       (both (not (x == o) || gives n (first_of (with_names ps ns) q) (v x)) (leads (with_names ps ns) q x (v x)) (here (cases_Bool (x == o))) (walked-leads p ns ps q rest x))
     where
       given : (y : Option ℕ) → y ≡ Some p → T (is_id p y)
-      given y g = subst (λ z. T (is_id p z)) (sym g) (holds (self p))
+      given y g = subst (λ z. T (is_id p z)) (sym g) (holds (same-self p))
 
       at_first : T (gives n (first_of (with_names ps ns) q) (v o))
       at_first = subst (λ y. T (gives n y (v o))) (sym (walked-first p ns ps q rest)) (both (is_dir (v o)) (is_id p (entry (entries_of (v o)) n)) dir (given (entry (entries_of (v o)) n) name))
@@ -176,7 +172,7 @@ Came v o (n ∷ ns) os q = (d : ℕ) × (ds : List ℕ) × Names v d n q × (os 
 
 module _ (x : ℕ) (xs ys : List ℕ) (apart : T (distinct (x ∷ ys))) (none : (z : ℕ) → T (member z (x ∷ ys)) → T (not (member z xs))) where
   none_first : T (not (member x xs))
-  none_first = none x (subst (λ b. T (b || member x ys)) (sym (self x)) tt)
+  none_first = none x (subst (λ b. T (b || member x ys)) (sym (same-self x)) tt)
 
   none_behind : (z : ℕ) → T (member z ys) → ((z == x) ≡ true) ⊎ ((z == x) ≡ false) → T (not (member z (x ∷ xs)))
   none_behind z m (inl s) = absurd (clash (member x ys) (left (not (member x ys)) (distinct ys) apart) (subst (λ y. T (member y ys)) (eqb-true z x s) m))
@@ -269,7 +265,7 @@ module _ (v : Images) (f : WellFormed v) where
   pub no_own_entry : (ns : Path) (os : List ℕ) (d : ℕ) → Walked v root ns os d → (n : List ℕ) → Names v d n d → ⊥
   no_own_entry ns os d w n name =
       let (ds, last, way) = whole_way ns os d w in
-      never_back (n ∷ onto ns []) (d ∷ ds) d (d, ds, name, refl, way) (subst (λ b. T (b || member d ds)) (sym (self d)) tt)
+      never_back (n ∷ onto ns []) (d ∷ ds) d (d, ds, name, refl, way) (subst (λ b. T (b || member d ds)) (sym (same-self d)) tt)
 
   -- Only the empty path leads to the root.
   pub home : (ns : Path) (os : List ℕ) → Walked v root ns os root → ns ≡ []

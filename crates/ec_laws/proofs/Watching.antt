@@ -9,6 +9,7 @@ use Rattle.ec_history.specs.declared.watch.Watch.{Watch}
 use Rattle.ec_history.specs.declared.shown.Shown.{Shown}
 use Rattle.ec_history.specs.declared.shown.Shown.TheVariants.{Waits, Answered, Durable, Ended, Told, Crashed}
 use Rattle.ec_laws.proofs.More.{watch-step}
+use Rattle.ec_history.proofs.PlacingLemmas.{showing}
 
 -- an induction from the front
 pub from_front : (P : List Shown → Type 0) → P [] → ((ss : List Shown) (s : Shown) → P ss → P (ss ++ s ∷ [])) → (ss : List Shown) → P ss
@@ -33,12 +34,8 @@ sound-begun w h =
       opened = λ b o. ((h.opened b o).0, omega (arith, (h.opened b o).1));
     }
 
-runs-begun : (w : Watch) → (begun w).running ≡ true
+pub runs-begun : (w : Watch) → (begun w).running ≡ true
 runs-begun w = cond_both w.running w (record w { starts = w.starts + 1; running = true }) (λ v. v.running ≡ true) (λ e. e) (λ e. refl)
-
--- The watch behind an answer, by what was untold: the answer shows a session; or one is open; or not yet.
-abbrev pub showing : Watch → Option ℕ → Watch
-showing w op = record w { open_start = or_else w.open_start w.starts; undurable = w.early ++ (w.undurable ++ listed op); early = [] }
 
 abbrev pub in_session : Watch → Option ℕ → Watch
 in_session w op = record w { undurable = w.undurable ++ listed op }

@@ -13,9 +13,9 @@ use Rattle.ec_volume.specs.declared.image.Kind.TheVariants as kind
 use Rattle.ec_volume.specs.declared.image.Image.{Image}
 use Rattle.ec_plain.specs.Walk.{Path}
 use Rattle.ec_plain.specs.Plain.{with_names, above}
-use Rattle.ec_laws.proofs.Objects.{holds, is-true}
-use Rattle.ec_laws.proofs.Removed.{both}
-use Rattle.ec_laws.proofs.Walked.{self, Walked, walked-length, walked-first, walked-split, walked-leads, walked-dirs, read_once, home}
+use Rattle.ec_laws.proofs.Walked.{Walked, walked-length, walked-first, walked-split, walked-leads, walked-dirs, read_once, home}
+use Rattle.ec_base.proofs.Numbers.{same-self as self}
+use Rattle.ec_base.proofs.Bools.{both, on as holds, is-true}
 
 pub gives-named : (v : Images) (o : ℕ) (n : List ℕ) (p : ℕ) → T (is_dir (v o)) → Names v o n p → T (gives n p (v o))
 gives-named v o n p dir named = both (is_dir (v o)) (is_id p (entry (entries_of (v o)) n)) dir (subst (λ x. T (is_id p x)) (sym named) (holds (self p)))

@@ -9,16 +9,14 @@ use Rattle.ec_base.specs.Limits.{last_counter}
 use Rattle.ec_volume.specs.Update.{member}
 use Rattle.ec_plain.specs.declared.call.Call.{Call}
 use Rattle.ec_history.specs.declared.shown.Shown.TheVariants as show
-use Rattle.ec_sessions.specs.Slots.{Slots, is_open}
-use Rattle.ec_sessions.specs.declared.slot.Slot.{Slot}
-use Rattle.ec_wire.specs.declared.msg.Msg.TheVariants.{Restarted}
+use Rattle.ec_sessions.specs.Slots.{is_open}
 use Rattle.ec_durable.specs.Durable.{slot, step}
 use Rattle.ec_durable.specs.declared.record.Record.{Record}
 use Rattle.ec_durable.specs.declared.record.Record.TheVariants as record_of
 use Rattle.ec_durable.specs.declared.record.RecordFault.{RecordFault}
 use Rattle.ec_durable.specs.declared.state.Durable.{Durable}
 use Rattle.ec_protocol.specs.Clerk.{Doing, begin, has_issued, push, resend, start, take as take_message}
-use Rattle.ec_protocol.specs.Server.{Serving, commit, epoch, new_server, serving, spend, stay, tell, tell_all, tell_ended, tell_start}
+use Rattle.ec_protocol.specs.Server.{Serving, commit, epoch, new_server, serving, spend, stay, tell_all}
 use Rattle.ec_protocol.specs.Server as server
 use Rattle.ec_protocol.specs.World as world
 use Rattle.ec_protocol.specs.World.{Fate, runs, stops_with, stops_without, Moving, moving, noted, stepped}
@@ -34,7 +32,6 @@ use Rattle.ec_coherence.specs.System.{System}
 use Rattle.ec_coherence.specs.Steps.{Committed, Stands}
 use Rattle.ec_coherence.specs.Makes.{IsMade}
 use Rattle.ec_coherence.proofs.Needs.{each-of}
-use Rattle.ec_coherence.proofs.Tables.{none_some}
 use Rattle.ec_coherence.proofs.TakesMaking.{end-stands, takes-any}
 use Rattle.ec_clerk_steps.proofs.Steps.{epoch-own}
 use Rattle.ec_lawful.specs.Asked.{IsNoBye}
@@ -46,6 +43,8 @@ use Rattle.ec_lawful.proofs.Unended.{EndsNone, EndsOne, end-ends-one, take-ends-
 use Rattle.ec_lease_machine.specs.World.{resume, resume_on}
 use Rattle.ec_lease_laws.specs.Slots.{EndsOf, SlotsGo}
 use Rattle.ec_lease_laws.proofs.RecordSlots.{EndsWithin, record-goes, same-slots}
+use Rattle.ec_base.proofs.Options.{none_some}
+use Rattle.ec_lawful.proofs.ServingAsks.{tells-all}
 
 -- The clerks' steps leave the disk.
 
@@ -177,18 +176,6 @@ module _ (E : ℕ → Type 0) (w : World) where
         go None q f = by-record fate t.rec may (e q)
 
 -- A restart changes the epoch alone.
-
-tells-one : (c : ℕ) (t : Serving) (o : Option Slot) → (tell_start c t o).server ≡ t.server
-tells-one c t None = refl
-tells-one c t (Some sl) = go sl.is_open
-  where
-    go : (z : Bool) → (elim z as (λ y. Serving) [ true ↦ tell c (Restarted sl.session (epoch t)) t | false ↦ tell_ended c sl t ]).server ≡ t.server
-    go true = refl
-    go false = refl
-
-tells-all : (c : ℕ) (slots : Slots) (t : Serving) → (tell_all c slots t).server ≡ t.server
-tells-all c [] t = refl
-tells-all c (o ∷ slots) t = tells-all (c + 1) slots (tell_start c t o) ∙ tells-one c t o
 
 module _ {A : Type 0} (f : Durable → A) (same : (n : ℕ) (d : Durable) → f (record d { epoch = n }) ≡ f d) where
   start-field : (d : Durable) → f (server.start d).server.durable ≡ f d

@@ -10,7 +10,7 @@ use Rattle.ec_sessions.specs.declared.slot.Slot.{Slot}
 use Rattle.ec_durable.specs.Durable.{slot}
 use Rattle.ec_durable.specs.declared.state.Durable.{Durable}
 use Rattle.ec_protocol.specs.declared.world.World.{World}
-use Rattle.ec_coherence.proofs.Tables.{at-put, equal, none_some, same, same_some}
+use Rattle.ec_coherence.proofs.Tables.{at-put, same_some}
 use Rattle.ec_lease_machine.specs.Leases.{greater, in_world, issue, lease, may_receive, moment_in, note, note_slot, note_slots, nth, receive, renew_each, renew_in}
 use Rattle.ec_lease_machine.specs.World.{open_session, session}
 use Rattle.ec_lease_machine.specs.declared.world.Lease.{Lease}
@@ -18,6 +18,8 @@ use Rattle.ec_lease_machine.specs.declared.world.LeaseWorld.{LeaseWorld}
 use Rattle.ec_lease_laws.specs.Agrees.{AllPast, AreNoted, IsIssued, LeasesAgree}
 use Rattle.ec_lease_laws.specs.Slots.{Became, SlotsGo, was, opened, ended}
 use Rattle.ec_protocol.specs.Clerk.{is_session}
+use Rattle.ec_base.proofs.Numbers.{le-same, same-self as same, equal, above, above-limit}
+use Rattle.ec_base.proofs.Options.{none_some}
 
 -- the session is open on the disk
 pub record IsOpenOn (d : Durable) (c s : ℕ) : Type 0 where
@@ -70,30 +72,21 @@ tick-agrees x n a = record { new = a.new; received = a.received; noted = a.noted
 
 -- What is noted.
 
-below : (m n : ℕ) → nat_lt m n ≡ true → m < n
-below m n e = grind (arith, e)
-
-above : (m n : ℕ) → nat_lt m n ≡ false → n ≤ m
-above m n e = grind (arith, e)
-
 weaker : (m n : ℕ) → m < n → m ≤ n
 weaker m n p = omega (arith, p)
-
-itself : (n : ℕ) → n ≤ n
-itself n = omega arith
 
 greater-left : (m n : ℕ) → m ≤ greater m n
 greater-left m n = go (nat_lt m n) refl
   where
     go : (z : Bool) → nat_lt m n ≡ z → m ≤ elim z as (λ y. ℕ) [ true ↦ n | false ↦ m ]
-    go true q = weaker m n (below m n q)
-    go false q = itself m
+    go true q = weaker m n (above-limit m n q)
+    go false q = le-same m
 
 greater-right : (m n : ℕ) → n ≤ greater m n
 greater-right m n = go (nat_lt m n) refl
   where
     go : (z : Bool) → nat_lt m n ≡ z → n ≤ elim z as (λ y. ℕ) [ true ↦ n | false ↦ m ]
-    go true q = itself n
+    go true q = le-same n
     go false q = above m n q
 
 -- the moment of a Lease for its own session
@@ -125,7 +118,7 @@ module _ (c s : ℕ) (x : LeaseWorld) (is : IsOpenOn x.world.durable c s) (a : L
   kept-noted d sl q m p = by (d == c) refl
     where
       by : (z : Bool) → (d == c) ≡ z → (n : ℕ) × (moment_in sl.session (at d (put c entry x.noted)) ≡ Some n) × (m ≤ n)
-      by false e = (m, ap (moment_in sl.session) (at-other d c entry x.noted e) ∙ p, itself m)
+      by false e = (m, ap (moment_in sl.session) (at-other d c entry x.noted e) ∙ p, le-same m)
       by true e =
           let at-session : sl.session ≡ s = sym (ap (λ y. y.session) (own d sl q e)) ∙ is.session in
           let before : moment_in s (at c x.noted) ≡ Some m = ap (λ k. moment_in k (at c x.noted)) (sym at-session) ∙ ap (λ k. moment_in sl.session (at k x.noted)) (sym (equal d c e)) ∙ p in (

@@ -22,16 +22,16 @@ use Rattle.ec_coherence.specs.Sessions as sessions
 use Rattle.ec_coherence.specs.CommitLaws.{AllAgree}
 use Rattle.ec_coherence.proofs.Needs.{each-of}
 use Rattle.ec_coherence.proofs.OpenSlots.{at-open}
-use Rattle.ec_coherence.proofs.Tables.{equal}
 use Rattle.ec_lawful.specs.Doubts.{ComesFrom}
 use Rattle.ec_lease_laws.specs.Timely.{EndsNot, HasSession}
+use Rattle.ec_base.proofs.Numbers.{equal}
 
 -- a step that is refused isn't taken
-abbrev is-ok : Result Durable RecordFault → Bool
+abbrev pub is-ok : Result Durable RecordFault → Bool
 is-ok (Ok d) = true
 is-ok (Err f) = false
 
-refused : {A : Type 0} (x : Result Durable RecordFault) (d : Durable) → is-ok x ≡ false → x ≡ Ok d → A
+pub refused : {A : Type 0} (x : Result Durable RecordFault) (d : Durable) → is-ok x ≡ false → x ≡ Ok d → A
 refused x d n q = absurd (no (sym n ∙ ap is-ok q))
   where
     no : false ≡ true → ⊥

@@ -1,7 +1,7 @@
 -- A call that touches nothing comes to the same on every volume; a clerk without a session answers no other.
 use Rattle.std.proofs.Common.{◌≡◌, refl, sym, ap, subst, ◌∙◌, ◌-◌, ℕ, Bool, true, false, not, ◌&&◌, T, List, [], ◌∷◌, length, None}
 use Rattle.std.proofs.lemmas.Bool.{true≢false}
-use Rattle.std.specs.Prelude.{◌||◌, if◌then◌else◌}
+use Rattle.std.specs.Prelude.{if◌then◌else◌}
 use Rattle.ec_base.specs.Tables.{or_else}
 use Rattle.ec_base.specs.declared.ids.Hold.TheVariants.{Read}
 use Rattle.ec_volume.specs.Entries.{Entries}
@@ -26,10 +26,11 @@ use Rattle.ec_resolve.proofs.Agreeing.{plain-agrees}
 use Rattle.ec_resolve.proofs.Verdicts.{done-ready, done-says}
 use Rattle.ec_protocol.specs.Clerk.{first_id, verdict}
 use Rattle.ec_coherence.specs.Answers.{Gives}
-use Rattle.ec_coherence.proofs.Tables.{same}
 use Rattle.ec_clerk_steps.proofs.OutsideAnswers.{reads-none}
 use Rattle.ec_clerk_steps.proofs.Sessionless.{outside-shows-none}
 use Rattle.ec_lease_laws.specs.Outside.{OutsideAreBare}
+use Rattle.ec_clerk_steps.proofs.Alone.{no-members}
+use Rattle.ec_clerk_steps.proofs.Rootless.{some-touched}
 
 abbrev nothing : Images
 nothing = λ x. Gone
@@ -37,12 +38,6 @@ nothing = λ x. Gone
 walk-nothing : (p : Path) → walk nothing p ≡ record { to = Not (no.NotFound 0); read = root ∷ [] }
 walk-nothing [] = refl
 walk-nothing (n ∷ ns) = refl
-
-some-touched : {A : Type 0} (xs : List ℕ) → xs ≡ root ∷ [] → xs ≡ [] → A
-some-touched xs e f = absurd (apart (sym e ∙ f))
-  where
-    apart : root ∷ [] ≡ [] → ⊥
-    apart e = cc
 
 -- a walk on nothing touches the root
 by-walk : {A : Type 0} (p : Path) (f : ℕ → List ℕ → Outcome) → (on_reached (walk nothing p) f).touched ≡ [] → A
@@ -78,10 +73,6 @@ lost-fixed cl ns q = absurd (true≢false q)
 room-fixed : (cl : Call) (l r : ℕ) → shows cl (answer.NoRoom l r) ≡ false → Fixed cl
 room-fixed call.Sync l r q = (plain nothing call.Sync 0, (λ v x. refl), refl)
 room-fixed cl l r q = absurd (true≢false q)
-
-no-members : (xs : List ℕ) → ((x : ℕ) → T (member x xs) → ⊥) → xs ≡ []
-no-members [] f = refl
-no-members (y ∷ ys) f = absurd (f y (subst (λ b. T (b || member y ys)) (sym (same y)) tt))
 
 pub outside-bare : OutsideAreBare
 outside-bare k none cl bounded most a op rest gives = record { unshown = q.0; issues = q.1; out = fixed.0; everywhere = fixed.1; touched = fixed.2 }

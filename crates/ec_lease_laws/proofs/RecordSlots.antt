@@ -17,19 +17,10 @@ use Rattle.ec_durable.specs.declared.record.RecordFault.TheVariants as fault
 use Rattle.ec_durable.proofs.Batches.{same_Ok, not_Ok}
 use Rattle.ec_machine_laws.specs.Records.{IsRestOf}
 use Rattle.ec_machine_laws.proofs.Recording.{batch-own, batch-rest, batch-session, ids-own, ids-rest, ids-session, open-own, open-rest, open-session}
-use Rattle.ec_coherence.proofs.Tables.{equal, same_some}
+use Rattle.ec_coherence.proofs.Tables.{same_some}
 use Rattle.ec_lease_laws.specs.Slots.{Became, SlotsGo, was, opened, ended}
-
-abbrev is-ok : Result Durable RecordFault → Bool
-is-ok (Ok d) = true
-is-ok (Err f) = false
-
--- a step that is refused isn't taken
-refused : {A : Type 0} (x : Result Durable RecordFault) (d : Durable) → is-ok x ≡ false → x ≡ Ok d → A
-refused x d n q = absurd (no (sym n ∙ ap is-ok q))
-  where
-    no : false ≡ true → ⊥
-    no e = cc
+use Rattle.ec_base.proofs.Numbers.{equal}
+use Rattle.ec_lease_laws.proofs.Open.{is-ok, refused}
 
 least : (m n : ℕ) → n ≡ m → m ≤ n
 least m n p = omega (arith, p)

@@ -1,7 +1,6 @@
 -- At rest the end of a step answers nothing.
 use Rattle.std.proofs.Common.{◌≡◌, refl, sym, ap, subst, ◌∙◌, T, Bool, true, false, not, List, [], ◌∷◌, ◌++◌, length}
 use Rattle.ec_history.specs.History.{Each}
-use Rattle.ec_laws.proofs.Numbers.{each-map}
 use Rattle.ec_protocol.specs.Clerk.{Answered, Doing, Tried, Waits, evict, try, try_all, try_each, try_rounds, with_clerk}
 use Rattle.ec_protocol.specs.declared.clerk.Waiting.{Waiting}
 use Rattle.ec_clerk_steps.specs.CallLaws.{IsStill, IsStillIf, is_answer, prepared}
@@ -9,6 +8,7 @@ use Rattle.ec_clerk_steps.specs.Waits.{does_wait}
 use Rattle.ec_clerk_steps.proofs.Quiets.{quiet-evict}
 use Rattle.ec_clerk_steps.proofs.Still.{begins-still, quiet-then, still-same, still-then, still-waits, tries-answer}
 use Rattle.ec_lease_laws.specs.Resting.{RestingIsQuiet}
+use Rattle.ec_laws.proofs.BasesAlike.{each-map}
 
 abbrev AllWait : Doing → List Waiting → Type 0
 AllWait d ws = Each (λ w. T (does_wait w d.clerk)) ws

@@ -20,7 +20,7 @@ use Rattle.ec_durable.specs.declared.record.Record.TheVariants.{Epoch}
 use Rattle.ec_base.specs.declared.counter.Counter.{Counter}
 use Rattle.ec_lawful.proofs.Pool.{sends-all}
 use Rattle.ec_coherence.specs.Stops.{RunsOn}
-use Rattle.ec_coherence.proofs.Tables.{none_some, same_some}
+use Rattle.ec_coherence.proofs.Tables.{same_some}
 use Rattle.ec_lawful.specs.AskedLaws.{Asks}
 use Rattle.ec_lawful.specs.Steps.{Holds}
 use Rattle.ec_lease_machine.specs.World.{open_in, open_session, resume, session, wait}
@@ -37,15 +37,8 @@ use Rattle.ec_lease_laws.specs.Slots.{EndsOf}
 use Rattle.ec_lease_laws.proofs.EventSlots.{event-goes, resume-stays}
 use Rattle.ec_lease_laws.proofs.Issuing.{AreServed, IsOpenOn, issue-agrees, nth-issued, receive-agrees, renew-agrees, slots-agree, tick-agrees, world-agrees}
 use Rattle.ec_lease_laws.proofs.RecordSlots.{same-slots}
-
-not-below : (m n : ℕ) → nat_lt m n ≡ false → n ≤ m
-not-below m n e = grind (arith, e)
-
-from-zero : (i : ℕ) → 0 + i ≡ i
-from-zero i = omega arith
-
-no-fault : {A : Type 0} {B : Type 0} {f : B} → Some f ≡ None → A
-no-fault q = absurd (none_some (sym q))
+use Rattle.ec_base.proofs.Options.{none_some, no-fault}
+use Rattle.ec_base.proofs.Numbers.{none_more, above}
 
 -- What the server says is open is open on the disk.
 pub served : (first : ℕ → ℕ) (w : World) → Holds (Asks first) w → AreServed w
@@ -186,7 +179,7 @@ module _ (first : ℕ → ℕ) (fate : Fate) (x : LeaseWorld) (h : Holds (Asks f
       checked s m q p false e f = end-agrees c (λ t r. subst (AllPast x c) (same_some (sym q ∙ r)) (noted-past c s q (Some m) p (λ n u. subst (λ k. k + x.most ≤ x.now) (same_some u) late))) f
         where
           late : m + x.most ≤ x.now
-          late = not-below x.now (m + x.most) e
+          late = above x.now (m + x.most) e
 
       at-moment : (s : ℕ) → open_session c x.world ≡ Some s → (o : Option ℕ) → moment_in s (at c x.noted) ≡ o
           → (end fate c (elim o as (λ z. Option ℕ) [ None ↦ None | Some m ↦ Some (m + x.most) ]) x).fault ≡ None → LeasesAgree (end fate c (elim o as (λ z. Option ℕ) [ None ↦ None | Some m ↦ Some (m + x.most) ]) x).world
@@ -241,7 +234,7 @@ module _ (first : ℕ → ℕ) (fate : Fate) (x : LeaseWorld) (h : Holds (Asks f
     where
       noting : (o : Option Server) → m.world.world.server ≡ o → LeasesAgree (note_open o m.world)
       noting None q = b
-      noting (Some v) q = (slots-agree 0 v.durable.sessions m.world (λ i. ap (slot m.world.world.durable) (from-zero i) ∙ ap (λ d. slot d i) (sym (there v q))) b).agrees
+      noting (Some v) q = (slots-agree 0 v.durable.sessions m.world (λ i. ap (slot m.world.world.durable) (none_more i) ∙ ap (λ d. slot d i) (sym (there v q))) b).agrees
 
       by : (z : Bool) → LeasesAgree (elim z as (λ y. LeaseMoving) [ true ↦ record m { world = note_open m.world.world.server m.world } | false ↦ m ]).world
       by true = noting m.world.world.server refl

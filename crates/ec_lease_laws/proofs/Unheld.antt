@@ -10,12 +10,11 @@ use Rattle.ec_durable.specs.declared.state.Durable.{Durable}
 use Rattle.ec_durable.specs.declared.record.Record.{Record}
 use Rattle.ec_protocol.specs.World.{stepped}
 use Rattle.ec_protocol.specs.declared.clerk.Clerk.{Clerk}
-use Rattle.ec_protocol.specs.declared.world.World.{World}
 use Rattle.ec_coherence.specs.System.{System}
 use Rattle.ec_coherence.specs.Steps.{Stands, found}
 use Rattle.ec_coherence.specs.CommitLaws.{AllAgree}
 use Rattle.ec_coherence.specs.Stops.{MayStep}
-use Rattle.ec_coherence.proofs.Tables.{equal, none_some, same_some}
+use Rattle.ec_coherence.proofs.Tables.{same_some}
 use Rattle.ec_lawful.specs.Doubts.{ComesFromAny, DoubtAgrees}
 use Rattle.ec_lease_machine.specs.Leases.{has_run_out, is_held, moment_in, skew}
 use Rattle.ec_lease_machine.specs.World.{session}
@@ -24,17 +23,12 @@ use Rattle.ec_lease_machine.specs.declared.world.LeaseWorld.{LeaseWorld}
 use Rattle.ec_lease_laws.specs.Agrees.{LeasesAgree}
 use Rattle.ec_lease_laws.specs.Timely.{HasSession}
 use Rattle.ec_lease_laws.proofs.Open.{stays, told}
+use Rattle.ec_base.proofs.Options.{none_some}
+use Rattle.ec_base.proofs.Numbers.{equal}
+use Rattle.ec_lawful.proofs.Events.{runs-in}
 
 pair-is : (c d : ℕ) (a b : Age) → ◌≡◌ {A = Option (ℕ × Age)} (Some (c, a)) (Some (d, b)) → a ≡ b
 pair-is c d a b q = ap (λ z. z.1) (same_some q)
-
--- the start that runs, of a running clerk
-runs-in : (w : World) (g : System) → Stands w g → (c : ℕ) (k : Clerk) → at c w.clerks ≡ Some k → (b : ℕ) × (g.running c ≡ Some b) × (g.clerks c b ≡ Some k)
-runs-in w g st c k q = go (g.running c) refl (sym (st.clerks c) ∙ q)
-  where
-    go : (o : Option ℕ) → g.running c ≡ o → elim o as (λ z. Option Clerk) [ None ↦ None | Some b ↦ g.clerks c b ] ≡ Some k → (b : ℕ) × (g.running c ≡ Some b) × (g.clerks c b ≡ Some k)
-    go None e p = absurd (none_some p)
-    go (Some b) e p = (b, e, p)
 
 module _ (g : System) (all : AllAgree g) (doubt : DoubtAgrees g) (x : LeaseWorld) (st : Stands x.world g) (a : LeasesAgree x) (c s : ℕ) where
   -- its Lease runs

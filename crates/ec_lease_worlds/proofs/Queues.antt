@@ -1,5 +1,5 @@
 -- Queued calls may begin behind each step of a world with leases, whose world is one that the machine without leases reaches.
-use Rattle.std.proofs.Common.{◌≡◌, refl, sym, ap, subst, ◌∙◌, inl, inr, arith, ℕ, Bool, true, false, ◌==◌, ◌||◌, cond, List, [], ◌∷◌, ◌++◌, Some, None}
+use Rattle.std.proofs.Common.{◌≡◌, refl, sym, ap, subst, ◌∙◌, inl, inr, ℕ, Bool, true, false, ◌==◌, ◌||◌, cond, List, [], ◌∷◌, ◌++◌, Some, None}
 use Rattle.std.specs.Prelude.{Contains}
 use Rattle.std.specs.Bool.{OnTrue}
 use Rattle.std.specs.List.{list_any}
@@ -16,20 +16,19 @@ use Rattle.ec_protocol.specs.declared.world.Event.{Event}
 use Rattle.ec_protocol.specs.declared.world.Event.TheVariants as of_world
 use Rattle.ec_protocol.specs.declared.world.World.{World}
 use Rattle.ec_coherence.proofs.Needs.{each-of}
-use Rattle.ec_coherence.proofs.Tables.{at-put, at-without, equal, same}
+use Rattle.ec_coherence.proofs.Tables.{at-put, at-without}
 use Rattle.ec_clerk_steps.proofs.CallFrames.{lines-append}
 use Rattle.ec_lawful.specs.Calls.{EachCall, IsOf}
 use Rattle.ec_queues.specs.Queued.{MayResume}
 use Rattle.ec_lawful.specs.Steps.{IsNewIn, MayHappen}
 use Rattle.ec_queues.specs.Adds.{Adds, MayBe}
 use Rattle.ec_lease_worlds.specs.Queues.{AreApart, QueuesAgree}
+use Rattle.ec_base.proofs.Numbers.{same-self as same, flip, equal}
+use Rattle.ec_history.proofs.PlacingLemmas.{each-turn}
 
 -- numbers that differ
 abbrev pub Apart : ℕ → ℕ → ℕ → Call → Type 0
 Apart l k c cl = (k == l) ≡ false
-
-turned : (j k : ℕ) → (j == k) ≡ false → (k == j) ≡ false
-turned j k p = grind (arith, p)
 
 pub true-false : {A : Type 0} → true ≡ false → A
 true-false e = absurd (no e)
@@ -72,10 +71,6 @@ other-unanswered l (show.Bad n k) p = tt
 other-unanswered l (show.DiskBad n) p = tt
 other-unanswered l (show.Limit n k) p = tt
 other-unanswered l (show.Spent n) p = tt
-
-each-turn : (P Q : Shown → Type 0) → ((s : Shown) → P s → Q s) → (ss : List Shown) → EachLine P ss → EachLine Q ss
-each-turn P Q f [] e = tt
-each-turn P Q f (s ∷ ss) e = (f s e.0, each-turn P Q f ss e.1)
 
 -- A call that may begin may still, where a step shows lines of other numbers.
 module _ (w : World) (c l : ℕ) (cl : Call) (may : MayResume w c l cl) where
@@ -198,7 +193,7 @@ module _ (f : ℕ → Queue) (w : World) (c : ℕ) (q : ℕ × Call) (qs : Queue
           true-false (sym (ap (λ j. d == j) is ∙ same d) ∙ n)
 
       by : (z : Bool) → (d == c) ≡ z → (q.0 == l) ≡ false
-      by true e = turned l q.0 (each-of (λ r. (r.0 == q.0) ≡ false) qs (l, cl) apart-own.0 (subst (λ z. Contains (cond z qs (f d)) (l, cl)) e i))
+      by true e = flip l q.0 (each-of (λ r. (r.0 == q.0) ≡ false) qs (l, cl) apart-own.0 (subst (λ z. Contains (cond z qs (f d)) (l, cl)) e i))
       by false e = differ (q.0 == l) refl e
 
   pub rest-agrees : QueuesAgree (but c qs f) w

@@ -23,7 +23,6 @@ use Rattle.ec_protocol.specs.declared.world.Event.{Event}
 use Rattle.ec_protocol.specs.declared.world.Event.TheVariants as of_world
 use Rattle.ec_protocol.specs.declared.world.World.{World}
 use Rattle.ec_protocol.specs.declared.world.WorldFault.{WorldFault}
-use Rattle.ec_coherence.proofs.Tables.{equal, none_some, same}
 use Rattle.ec_clerk_steps.proofs.Begin.{fresh-lines}
 use Rattle.ec_clerk_steps.proofs.CallFrames.{lines-append}
 use Rattle.ec_queues.specs.Queued.{MayResume, MayWait}
@@ -69,9 +68,8 @@ use Rattle.ec_lease_laws.proofs.EventSlots.{resume-stays}
 use Rattle.ec_lease_laws.proofs.Steps.{begun, each-agrees, gone_on, opening-agrees, quiet-agrees}
 use Rattle.ec_lease_laws.proofs.Unheld.{unheld-told}
 use Rattle.ec_protocol.specs.Clerk.{is_session}
-
-no-fault : {A : Type 0} {B : Type 0} {f : B} → Some f ≡ None → A
-no-fault q = absurd (none_some (sym q))
+use Rattle.ec_base.proofs.Numbers.{same-self as same, equal}
+use Rattle.ec_base.proofs.Options.{none_some, no-fault}
 
 -- what is noted leaves the world and the queues
 pub note-leaves : (c : ℕ) (slots : Slots) (y : LeaseWorld) → ((note_slots c slots y).world ≡ y.world) × ((note_slots c slots y).queued ≡ y.queued)

@@ -26,7 +26,7 @@ use Rattle.ec_protocol.specs.declared.world.WorldFault.TheVariants as world_faul
 use Rattle.ec_protocol.specs.Drill.{Fates, this_fate, later_fates, first_fates, rest_fates, Ending, Done, BadLine, TooMany, IsSpent, max_pending}
 use Rattle.ec_protocol.specs.declared.script.Line.{Line as Scripted}
 use Rattle.ec_protocol.specs.declared.script.Line.TheVariants as line
-use Rattle.ec_coherence.proofs.Tables.{none_some, same_some}
+use Rattle.ec_coherence.proofs.Tables.{same_some}
 use Rattle.ec_lawful.specs.Calls.{AreOf, IsOf}
 use Rattle.ec_lawful.specs.Headline.{FrontsAreLawful, placed_on}
 use Rattle.ec_lawful.specs.Olds.{opened_in}
@@ -58,6 +58,8 @@ use Rattle.ec_lease_laws.proofs.Steps.{begun, each-agrees, gone_on, opening-agre
 use Rattle.ec_lease_worlds.specs.Queues.{MayAsk, MayStep, queues}
 use Rattle.ec_lease_worlds.specs.Runs.{AreLeased, IsCallIn, IsFit, lease_run, unheld}
 use Rattle.ec_lease_worlds.proofs.Reaching.{Begins, Both, asks, begins-all, forgets-good, happens-good, left-good, next, note-leaves, opens-good, renew-leaves, unsettles-good}
+use Rattle.ec_base.proofs.Options.{none_some}
+use Rattle.ec_history.proofs.PlacingLemmas.{each-turn}
 
 no-fault : {A : Type 0} {B : Type 0} {f : B} → Some f ≡ None → A
 no-fault q = absurd (none_some (sym q))
@@ -200,10 +202,6 @@ resume-spent {A} c l cl w f q g = by (at c w.clerks) q
     by (Some k) q = spent k (begin cl k).spent refl q
 
 -- Facts with a name for all calls.
-
-each-turn : (P Q : Shown → Type 0) → ((s : Shown) → P s → Q s) → (ss : List Shown) → EachLine P ss → EachLine Q ss
-each-turn P Q f [] e = tt
-each-turn P Q f (s ∷ ss) e = (f s e.0, each-turn P Q f ss e.1)
 
 of-turn : (P Q : ℕ → ℕ → Call → Type 0) → ((l c : ℕ) (cl : Call) → P l c cl → Q l c cl) → (s : Shown) → IsOf P s → IsOf Q s
 of-turn P Q f (show.Waits k d dl) p = f k d dl p

@@ -2,13 +2,9 @@
 use Rattle.std.proofs.Common.{◌≡◌, refl, sym, ap, subst, ◌∙◌, arith, ◌≤◌, ℕ, zero, suc, List, [], ◌∷◌, ◌++◌, length, take}
 use Rattle.ec_history.specs.declared.shown.Shown.{Shown}
 use Rattle.ec_lines.specs.Index.{AreBegins}
-use Rattle.ec_legal.proofs.Entries.{front-length}
 use Rattle.ec_legal.proofs.Told.{front-of}
-
-begins-count : (past ss : List Shown) (bs : List ℕ) → AreBegins past ss bs → length bs ≡ length ss
-begins-count past [] bs h = ap length h
-begins-count past (s ∷ ss) [] h = absurd h
-begins-count past (s ∷ ss) (b ∷ bs) h = ap suc (begins-count (past ++ s ∷ []) ss bs h.1)
+use Rattle.ec_lines.proofs.Onward.{as-many}
+use Rattle.ec_base.proofs.Lists.{front-length}
 
 take-none : (n : ℕ) → ◌≡◌ {A = List ℕ} (take n []) []
 take-none zero = refl
@@ -26,5 +22,5 @@ begins-above ss bs n m l h = subst (λ p. AreBegins [] p (take n bs)) (front-of 
 
 pub begins-reach : (ss : List Shown) (bs : List ℕ) (n m : ℕ) → n ≤ m → m ≤ length ss → AreBegins [] (take m ss) bs → n ≡ length (take n bs)
 begins-reach ss bs n m l k h =
-    let count = begins-count [] (take m ss) bs h ∙ front-length ss m k in
+    let count = as-many [] (take m ss) bs h ∙ front-length ss m k in
     sym (front-length bs n (omega (arith, l, count)))

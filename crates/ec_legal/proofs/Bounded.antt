@@ -2,7 +2,6 @@
 use Rattle.std.proofs.Common.{arith, ◌<◌, ◌≤◌, ℕ, T, Bool, true, false, cond, map, List, [], ◌∷◌, ◌++◌, length}
 use Rattle.std.specs.Prelude.{is_some}
 use Rattle.std.specs.List.{list_all}
-use Rattle.ec_laws.proofs.Removed.{both, left, right}
 use Rattle.ec_laws.proofs.Places.{places-within, places-distinct}
 use Rattle.ec_laws.specs.Bases.{is_bounded_entry}
 use Rattle.ec_history.specs.History.{History, Each}
@@ -10,6 +9,7 @@ use Rattle.ec_history.specs.Placing.{watch, owner, is_running, is_end_of, is_cal
 use Rattle.ec_history.specs.declared.shown.Shown.{Shown}
 use Rattle.ec_history.specs.declared.shown.Shown.TheVariants.{Answered, Ended}
 use Rattle.ec_legal.specs.Bounded.{is_bounded_line, AreEntries}
+use Rattle.ec_base.proofs.Bools.{both, first as left, right}
 
 abbrev are_bounded : History → Bool
 are_bounded h = list_all (λ e. is_bounded_entry e.1) h

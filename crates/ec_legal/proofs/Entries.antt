@@ -1,5 +1,5 @@
 -- The entries of one line, by what stands above it.
-use Rattle.std.proofs.Common.{◌≡◌, refl, sym, ap, subst, ◌∙◌, arith, ◌≤◌, ◌<◌, ◌+◌, ℕ, zero, suc, true, cond, List, [], ◌∷◌, ◌++◌, length, take, drop, Option, Some, append_assoc}
+use Rattle.std.proofs.Common.{◌≡◌, refl, sym, ap, subst, ◌∙◌, arith, ◌≤◌, ◌<◌, ◌+◌, ℕ, true, cond, List, [], ◌∷◌, ◌++◌, length, take, drop, Option, Some, append_assoc}
 use Rattle.std.specs.Prelude.{slice_get}
 use Rattle.std.proofs.lemmas.Option.{get_or_from_slice_get, slice_get_within}
 use Rattle.ec_laws.proofs.More.{watch-step}
@@ -17,17 +17,13 @@ use Rattle.ec_base.specs.Limits.{clerk_count}
 use Rattle.ec_legal.specs.Watches.{IsHeld}
 use Rattle.ec_watch.specs.Watches.{AreWatched}
 use Rattle.ec_base.specs.Options.{or_zero}
+use Rattle.ec_base.proofs.Lists.{front-length}
 
 pub front-at : (ss : List Shown) (i : ℕ) (s : Shown) → slice_get ss i ≡ Some s → take (i + 1) ss ≡ take i ss ++ s ∷ []
 front-at ss i s g = above-at ss i s s (slice_get_within ss i s g) (sym (get_or_from_slice_get ss i s s g))
 
 pub rest-at : (ss : List Shown) (i : ℕ) (s : Shown) → slice_get ss i ≡ Some s → drop i ss ≡ s ∷ drop (i + 1) ss
 rest-at ss i s g = line-at ss i s s (slice_get_within ss i s g) (sym (get_or_from_slice_get ss i s s g))
-
-pub front-length : {A : Type 0} (ss : List A) (i : ℕ) → i ≤ length ss → length (take i ss) ≡ i
-front-length ss zero l = refl
-front-length [] (suc i) l = absurd (omega (arith, l))
-front-length (s ∷ ss) (suc i) l = ap suc (front-length ss i (omega (arith, l)))
 
 pub loss-held : (c : ℕ) (w : Watch) (ns : List ℕ) (ss : List Shown) (i : ℕ) (s : Shown) → slice_get ss i ≡ Some s → s ≡ Ended c ns → w ≡ watch c (take i ss) → is_running w (owner w) ≡ true → IsHeld w.starts (watch c (take (i + 1) ss))
 loss-held c w ns ss i s g e v r =

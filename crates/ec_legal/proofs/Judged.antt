@@ -1,12 +1,10 @@
 -- Entries that are judged block by block.
-use Rattle.std.proofs.Common.{◌≡◌, refl, sym, ap, subst, ◌∙◌, arith, inl, inr, ◌≤◌, ◌<◌, ℕ, T, Bool, true, false, not, ◌||◌, ◌==◌, map, List, [], ◌∷◌, ◌++◌, length, take, append_assoc, append-nil}
-use Rattle.std.specs.Prelude.{Result, Ok, Err, OnOk, IfErr}
+use Rattle.std.proofs.Common.{◌≡◌, refl, sym, ap, subst, ◌∙◌, arith, inl, inr, ◌≤◌, ◌<◌, ℕ, T, Bool, true, false, List, [], ◌∷◌, ◌++◌, length, take, append_assoc, append-nil}
+use Rattle.std.specs.Prelude.{Result, Ok, OnOk}
 use Rattle.std.specs.List.{list_all}
 use Rattle.std.proofs.lemmas.List.{take_all, drop_all}
-use Rattle.ec_volume.specs.Update.{member, distinct}
 use Rattle.ec_laws.proofs.Numbers.{each-front, each-back}
-use Rattle.ec_laws.proofs.Removed.{both, left, right}
-use Rattle.ec_laws.specs.Bases.{AreAtLines, is_bounded_entry}
+use Rattle.ec_laws.specs.Bases.{AreAtLines}
 use Rattle.ec_history.specs.History.{Base, History, Each}
 use Rattle.ec_history.specs.Legal.{from_formatted}
 use Rattle.ec_history.specs.Placing.{place, place_from, ArePlaceable}
@@ -21,38 +19,9 @@ use Rattle.ec_legal.specs.declared.ahead.Ahead.{Ahead}
 use Rattle.ec_legal.specs.Bounded.{is_bounded_line}
 use Rattle.ec_legal.specs.Placed.{IsPlaceFault, IsJudgeFault}
 use Rattle.ec_legal.proofs.Bounded.{placed-entries}
+use Rattle.ec_judge.proofs.Checks.{lines-front}
 
 -- The first entries of some that stand at lines.
-
-abbrev places : History → List ℕ
-places h = map (λ e. e.0) h
-
-places-append : (h g : History) → places (h ++ g) ≡ places h ++ places g
-places-append [] g = refl
-places-append (e ∷ h) g = ap (λ l. e.0 ∷ l) (places-append h g)
-
-member-more : (n : ℕ) (xs ys : List ℕ) → T (not (member n (xs ++ ys))) → T (not (member n xs))
-member-more n [] ys t = tt
-member-more n (x ∷ xs) ys t = go (n == x) t (member-more n xs ys)
-  where
-    go : (b : Bool) → T (not (b || member n (xs ++ ys))) → (T (not (member n (xs ++ ys))) → T (not (member n xs))) → T (not (b || member n xs))
-    go true t f = absurd t
-    go false t f = f t
-
-distinct-front : (xs ys : List ℕ) → T (distinct (xs ++ ys)) → T (distinct xs)
-distinct-front [] ys t = tt
-distinct-front (x ∷ xs) ys t = both (not (member x xs)) _ (member-more x xs ys (left (not (member x (xs ++ ys))) _ t)) (distinct-front xs ys (right (not (member x (xs ++ ys))) _ t))
-
-all-front : (h g : History) → T (list_all (λ e. is_bounded_entry e.1) (h ++ g)) → T (list_all (λ e. is_bounded_entry e.1) h)
-all-front [] g t = tt
-all-front (e ∷ h) g t = both (is_bounded_entry e.1) _ (left (is_bounded_entry e.1) _ t) (all-front h g (right (is_bounded_entry e.1) _ t))
-
-pub lines-front : (h g : History) → AreAtLines (h ++ g) → AreAtLines h
-lines-front h g a = record {
-  from_one = each-front (λ p. 1 ≤ p) (places h) (places g) (subst (Each (λ p. 1 ≤ p)) (places-append h g) a.from_one);
-  apart = distinct-front (places h) (places g) (subst (λ l. T (distinct l)) (places-append h g) a.apart);
-  bounded = all-front h g a.bounded;
-}
 
 -- What was judged, the entries that are next, and those of the lines from a place on.
 pub record Judges (ss : List Shown) (past next : History) (n : ℕ) : Type 0 where
@@ -130,11 +99,3 @@ placed-now ss settled n m next h f =
 
 pub on-ok : {A B X : Type 0} (r : Result A B) (x : A) → r ≡ Ok x → OnOk r X → X
 on-ok {X = X} r x e h = subst (λ q. OnOk q X) e h
-
-pub on-not : {A B X : Type 0} (r : Result A B) → ((f : B) → r ≡ Err f → ⊥) → OnOk r X → X
-on-not (Ok x) n h = h
-on-not (Err f) n h = absurd (n f refl)
-
-pub if-err : {A B : Type 0} (P Q : B → Type 0) (r : Result A B) → ((f : B) → P f → Q f) → IfErr r P → IfErr r Q
-if-err P Q (Ok x) k h = h
-if-err P Q (Err f) k h = k f h

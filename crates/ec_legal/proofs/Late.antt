@@ -5,10 +5,7 @@ use Rattle.std.proofs.lemmas.List.{take_more}
 use Rattle.std.proofs.Math.Seq.{drop-cons}
 use Rattle.ec_laws.proofs.More.{watch-step}
 use Rattle.ec_laws.proofs.Watching as laws
-use Rattle.ec_volume.specs.Update.{listed}
-use Rattle.ec_history.specs.History.{History}
-use Rattle.ec_history.specs.declared.entry.Entry.TheVariants as entry
-use Rattle.ec_history.specs.Placing.{watch, begun, late, ops_in, call_entry, is_end_of, is_call_of}
+use Rattle.ec_history.specs.Placing.{watch, begun, late, call_entry, is_end_of, is_call_of}
 use Rattle.ec_history.specs.declared.shown.Shown.{Shown}
 use Rattle.ec_history.specs.declared.shown.Shown.TheVariants.{Answered}
 use Rattle.ec_history.specs.declared.watch.Watch.{Watch}
@@ -54,11 +51,6 @@ late-end c ss i s d l e n = ap (late c (take i ss)) (line-at ss i s d l e) ∙ c
 
 pub held-step : (c b : ℕ) (ss : List Shown) (i : ℕ) (s d : Shown) → i < length ss → s ≡ get_or ss i d → is_end_of c s ≡ false → IsHeld b (watch c (take i ss)) → IsHeld b (watch c (take (i + 1) ss))
 held-step c b ss i s d l e n h = subst (λ p. IsHeld b (watch c p)) (sym (above-at ss i s d l e)) (subst (IsHeld b) (sym (watch-step c (take i ss) s)) (from-laws b _ (laws.held-next c b (watch c (take i ss)) s n (to-laws b _ h))))
-
-pub ops-append : (h g : History) → ops_in (h ++ g) ≡ ops_in h ++ ops_in g
-ops-append [] g = refl
-ops-append ((p, entry.Call c b l begun cl a op) ∷ h) g = ap (λ ns. listed op ++ ns) (ops-append h g) ∙ sym (append_assoc (listed op) (ops_in h) (ops_in g))
-ops-append ((p, entry.Loss c b ns) ∷ h) g = ops-append h g
 
 -- one more call, of the entries and of the operations
 pub carry : {A : Type 0} (all xs ys zs one rest : List A) → all ≡ xs ++ zs → ys ≡ xs ++ one → zs ≡ one ++ rest → all ≡ ys ++ rest

@@ -16,6 +16,7 @@ use Rattle.ec_legal.specs.Ahead.{IsSettled, AreTold}
 use Rattle.ec_legal.specs.Watches.{IsHeld}
 use Rattle.ec_legal.proofs.Late.{to-laws, from-laws}
 use Rattle.ec_base.specs.Options.{or_zero}
+use Rattle.ec_lines.proofs.Indexed.{get-front}
 
 untold-told : (u : Option (List ℕ)) → is_some u ≡ true → T (is_none u) → ⊥
 untold-told (Some ns) e t = t
@@ -81,11 +82,6 @@ line-of ss i n s l g =
 
 -- Lines with more behind them.
 
-get-more : (ss more : List Shown) (i : ℕ) (d : Shown) → i < length ss → get_or (ss ++ more) i d ≡ get_or ss i d
-get-more [] more i d l = absurd (omega (arith, l))
-get-more (s ∷ ss) more zero d l = refl
-get-more (s ∷ ss) more (suc i) d l = get-more ss more i d (omega (arith, l))
-
 within-more : (ss more : List Shown) (i : ℕ) → i < length ss → i < length (ss ++ more)
 within-more [] more i l = absurd (omega (arith, l))
 within-more (s ∷ ss) more zero l = omega arith
@@ -94,7 +90,7 @@ within-more (s ∷ ss) more (suc i) l = omega (arith, within-more ss more i (ome
 pub line-more : (ss more : List Shown) (i : ℕ) (s : Shown) → slice_get ss i ≡ Some s → slice_get (ss ++ more) i ≡ Some s
 line-more ss more i s g =
     let within = slice_get_within ss i s g in
-    slice_get-get_or (ss ++ more) i s (within-more ss more i within) ∙ ap Some (get-more ss more i s within ∙ get_or_from_slice_get ss i s s g)
+    slice_get-get_or (ss ++ more) i s (within-more ss more i within) ∙ ap Some (get-front ss more i s within ∙ get_or_from_slice_get ss i s s g)
 
 pub told-more : (ss more : List Shown) (n : ℕ) → n ≤ length ss → AreTold ss n → AreTold (ss ++ more) n
 told-more ss more n l t c k = subst (λ p. T (is_none (watch c p).untold)) (sym (take-append-le n ss more l)) (t c k)

@@ -1,5 +1,5 @@
 -- The call lines so far, by their numbers: what a look-up tells, and one more line.
-use Rattle.std.proofs.Common.{◌≡◌, refl, sym, ap, subst, ◌∙◌, arith, inl, inr, ◌≤◌, ◌<◌, ◌+◌, ℕ, zero, suc, Bool, true, false, ◌==◌, cond, List, [], ◌∷◌, ◌++◌, length, get_or, Option, Some, None, length-append}
+use Rattle.std.proofs.Common.{◌≡◌, refl, sym, ap, subst, ◌∙◌, arith, inl, inr, ◌≤◌, ◌<◌, ◌+◌, ℕ, zero, suc, Bool, true, false, ◌==◌, cond, List, [], ◌∷◌, ◌++◌, length, get_or, Option, Some, None}
 use Rattle.std.specs.Prelude.{slice_get, MatchBool, MatchOption}
 use Rattle.std.specs.Bool.{OnTrue}
 use Rattle.std.proofs.lemmas.Bool.{cond-true, cond-false, cases_eq, ne_eqb, true≢false}
@@ -12,6 +12,9 @@ use Rattle.ec_lines.specs.Faults.{HasShape}
 use Rattle.ec_lines.specs.Index.{IsIndex, IsCalled, IsNew, Renews, called_next, start_of, last_entry}
 use Rattle.ec_lines.specs.declared.index.CallLines.{CallLines}
 use Rattle.ec_lines.proofs.Starts.{start-rises, none-later}
+use Rattle.ec_base.proofs.Numbers.{same-self}
+use Rattle.ec_laws.proofs.Places.{one_longer}
+use Rattle.ec_history.proofs.PlacingLemmas.{each-turn}
 
 -- Each line.
 
@@ -35,13 +38,9 @@ each-get P (s ∷ ss) (suc i) d h l = each-get P ss i d h.1 (omega (arith, l))
 pub each-at : (P : Shown → Type 0) (ss : List Shown) (i : ℕ) (s : Shown) → EachLine P ss → slice_get ss i ≡ Some s → P s
 each-at P ss i s h g = subst P (get_or_from_slice_get ss i s s g) (each-get P ss i s h (slice_get_within ss i s g))
 
-each-of : (P Q : Shown → Type 0) → ((s : Shown) → P s → Q s) → (ss : List Shown) → EachLine P ss → EachLine Q ss
-each-of P Q f [] h = tt
-each-of P Q f (s ∷ ss) h = (f s h.0, each-of P Q f ss h.1)
-
 -- Places.
 
-get-front : (ss ts : List Shown) (i : ℕ) (d : Shown) → i < length ss → get_or (ss ++ ts) i d ≡ get_or ss i d
+pub get-front : (ss ts : List Shown) (i : ℕ) (d : Shown) → i < length ss → get_or (ss ++ ts) i d ≡ get_or ss i d
 get-front [] ts i d l = absurd (omega (arith, l))
 get-front (s ∷ ss) ts zero d l = refl
 get-front (s ∷ ss) ts (suc i) d l = get-front ss ts i d (omega (arith, l))
@@ -50,17 +49,14 @@ get-last : (ss : List Shown) (s d : Shown) → get_or (ss ++ s ∷ []) (length s
 get-last [] s d = refl
 get-last (t ∷ ss) s d = get-last ss s d
 
-longer : (ss : List Shown) (s : Shown) → length (ss ++ s ∷ []) ≡ length ss + 1
-longer ss s = length-append ss (s ∷ [])
-
 at-front : (ss : List Shown) (s t : Shown) (i : ℕ) → slice_get ss i ≡ Some t → slice_get (ss ++ s ∷ []) i ≡ Some t
 at-front ss s t i g =
     let within : i < length ss = slice_get_within ss i t g in
-    let more : length (ss ++ s ∷ []) ≡ length ss + 1 = longer ss s in
+    let more : length (ss ++ s ∷ []) ≡ length ss + 1 = one_longer ss s in
     slice_get-get_or (ss ++ s ∷ []) i t (omega (arith, within, more)) ∙ ap Some (get-front ss (s ∷ []) i t within ∙ get_or_from_slice_get ss i t t g)
 
 at-last : (ss : List Shown) (s : Shown) → slice_get (ss ++ s ∷ []) (length ss) ≡ Some s
-at-last ss s = let more : length (ss ++ s ∷ []) ≡ length ss + 1 = longer ss s in slice_get-get_or (ss ++ s ∷ []) (length ss) s (omega (arith, more)) ∙ ap Some (get-last ss s s)
+at-last ss s = let more : length (ss ++ s ∷ []) ≡ length ss + 1 = one_longer ss s in slice_get-get_or (ss ++ s ∷ []) (length ss) s (omega (arith, more)) ∙ ap Some (get-last ss s s)
 
 -- The lines before the first one of a number.
 
@@ -99,10 +95,10 @@ unanswered-off n (Answered k d dl a op) e = e
 unanswered-off n s e = tt
 
 pub new-agrees : (n c : ℕ) (cl : Call) (ss : List Shown) → IsNew n ss → EachLine (Agrees n c cl) ss
-new-agrees n c cl ss h = each-of (λ s. is_numbered n s ≡ false) (Agrees n c cl) (agrees-off n c cl) ss h
+new-agrees n c cl ss h = each-turn (λ s. is_numbered n s ≡ false) (Agrees n c cl) (agrees-off n c cl) ss h
 
 pub new-unanswered : (n : ℕ) (ss : List Shown) → IsNew n ss → EachLine (Unanswered n) ss
-new-unanswered n ss h = each-of (λ s. is_numbered n s ≡ false) (Unanswered n) (unanswered-off n) ss h
+new-unanswered n ss h = each-turn (λ s. is_numbered n s ≡ false) (Unanswered n) (unanswered-off n) ss h
 
 -- a line of the number has one clerk and one call
 one-call : (n c d : ℕ) (cl dl : Call) (s : Shown) → is_numbered n s ≡ true → Agrees n c cl s → Agrees n d dl s → (d ≡ c) × (dl ≡ cl)
@@ -172,9 +168,6 @@ of-no-call (Waits l c cl) f g n = absurd (f l c cl refl)
 of-no-call (Answered l c cl a op) f g n = absurd (g l c cl a op refl)
 of-no-call s f g n = refl
 
-self-equal : (n : ℕ) → (n == n) ≡ true
-self-equal n = grind arith
-
 -- the first line of a number
 called-first : (past : List Shown) (n c : ℕ) (cl : Call) (s : Shown) (a : Bool) → IsNew n past → is_numbered n s ≡ true → Agrees n c cl s
     → MatchBool a (¬ (EachLine (Unanswered n) (past ++ s ∷ []))) (EachLine (Unanswered n) (past ++ s ∷ []))
@@ -193,7 +186,7 @@ called-first past n c cl s a new own g m = record {
   where
     at-start : (b : ℕ) → start_of c past ≤ b → last_place c b unwatched 1 0 past ≡ cond (b == start_of c past) (last_entry c past) 0
     at-start b l = elim (cases_eq b (start_of c past)) [
-      | inl e ↦ ap (λ k. last_place c k unwatched 1 0 past) e ∙ sym (cond-true (b == start_of c past) (last_entry c past) 0 (ap (λ k. k == start_of c past) e ∙ self-equal (start_of c past)))
+      | inl e ↦ ap (λ k. last_place c k unwatched 1 0 past) e ∙ sym (cond-true (b == start_of c past) (last_entry c past) 0 (ap (λ k. k == start_of c past) e ∙ same-self (start_of c past)))
       | inr n ↦ none-later c b past (below b (start_of c past) l n) ∙ sym (cond-false (b == start_of c past) (last_entry c past) 0 (ne_eqb b (start_of c past) n))
     ]
       where
@@ -217,7 +210,7 @@ index-on : (g h : ℕ → Option CallLines) (past : List Shown) (n c : ℕ) (cl 
     → ((a : Bool) → MatchBool a (¬ (EachLine (Unanswered n) past)) (EachLine (Unanswered n) past) → MatchBool (cond answers true a) (¬ (EachLine (Unanswered n) (past ++ s ∷ []))) (EachLine (Unanswered n) (past ++ s ∷ [])))
     → Renews g h past n c answers → IsIndex g past → IsIndex h (past ++ s ∷ [])
 index-on g h past n c cl s answers others own agrees each answered new i q = subst (λ o. MatchOption o (IsNew q (past ++ s ∷ [])) (IsCalled (past ++ s ∷ []) q)) (sym (new q)) (elim (cases_eq n q) [
-  | inl e ↦ subst (λ o. MatchOption o (IsNew q (past ++ s ∷ [])) (IsCalled (past ++ s ∷ []) q)) (sym (cond-true (n == q) _ (g q) (ap (λ k. n == k) (sym e) ∙ self-equal n)))
+  | inl e ↦ subst (λ o. MatchOption o (IsNew q (past ++ s ∷ [])) (IsCalled (past ++ s ∷ []) q)) (sym (cond-true (n == q) _ (g q) (ap (λ k. n == k) (sym e) ∙ same-self n)))
       (subst (λ k. IsCalled (past ++ s ∷ []) k (called_next (g n) (length past) (start_of c past) (last_entry c past) answers)) e (renewed past n c cl s answers (g n) own agrees each answered (i n)))
   | inr f ↦ subst (λ o. MatchOption o (IsNew q (past ++ s ∷ [])) (IsCalled (past ++ s ∷ []) q)) (sym (cond-false (n == q) _ (g q) (ne_eqb n q f))) (elsewhere past q s (g q) (others q (ne_eqb n q f)) (i q))
 ])
@@ -225,10 +218,10 @@ index-on g h past n c cl s answers others own agrees each answered new i q = sub
 pub index-waits : (g h : ℕ → Option CallLines) (past : List Shown) (n c : ℕ) (cl : Call) (s : Shown) → s ≡ Waits n c cl → HasShape past s → Renews g h past n c false → IsIndex g past → IsIndex h (past ++ s ∷ [])
 index-waits g h past n c cl s e shape new i =
     subst (λ t. IsIndex h (past ++ t ∷ [])) (sym e)
-    (index-on g h past n c cl (Waits n c cl) false (λ q f. f) (self-equal n) (on (n == n) _ (refl, refl)) (subst (HasShape past) e shape) (λ a m. still-answered past n (Waits n c cl) a tt m) new i)
+    (index-on g h past n c cl (Waits n c cl) false (λ q f. f) (same-self n) (on (n == n) _ (refl, refl)) (subst (HasShape past) e shape) (λ a m. still-answered past n (Waits n c cl) a tt m) new i)
 
 pub index-answered : (g h : ℕ → Option CallLines) (past : List Shown) (n c : ℕ) (cl : Call) (a : _) (op : Option ℕ) (s : Shown) → s ≡ Answered n c cl a op → HasShape past s → Renews g h past n c true → IsIndex g past → IsIndex h (past ++ s ∷ [])
 index-answered g h past n c cl a op s e shape new i =
     subst (λ t. IsIndex h (past ++ t ∷ [])) (sym e)
-    (index-on g h past n c cl (Answered n c cl a op) true (λ q f. f) (self-equal n) (on (n == n) _ (refl, refl)) (subst (HasShape past) e shape).0
-    (λ b m each. true≢false (sym (self-equal n) ∙ each-last (Unanswered n) past (Answered n c cl a op) each)) new i)
+    (index-on g h past n c cl (Answered n c cl a op) true (λ q f. f) (same-self n) (on (n == n) _ (refl, refl)) (subst (HasShape past) e shape).0
+    (λ b m each. true≢false (sym (same-self n) ∙ each-last (Unanswered n) past (Answered n c cl a op) each)) new i)

@@ -1,17 +1,15 @@
 -- What a line names, behind the watch of its clerk.
-use Rattle.std.proofs.Common.{◌≡◌, sym, subst, ◌∙◌, ℕ, T, Bool, List, Some, None, ◌<◌}
-use Rattle.std.specs.Prelude.{slice_get, Decides}
+use Rattle.std.proofs.Common.{◌≡◌, sym, subst, ◌∙◌, ℕ, T, Bool, List, Some, None}
+use Rattle.std.specs.Prelude.{Decides}
 use Rattle.std.proofs.lemmas.Float.{T_from_true}
-use Rattle.ec_base.specs.Limits.{clerk_count}
-use Rattle.ec_laws.proofs.Objects.{is-true}
 use Rattle.ec_history.specs.Placing.{watch, MayFollow}
 use Rattle.ec_history.specs.declared.watch.Watch.{Watch}
 use Rattle.ec_history.specs.declared.shown.Shown.{Shown}
 use Rattle.ec_history.specs.declared.shown.Shown.TheVariants.{Waits, Answered, Durable, Ended, Unseen, Told, Crashed}
-use Rattle.ec_watch.specs.Watches.{AreWatched, clerk_of}
-use Rattle.ec_watch.proofs.Watched.{got}
+use Rattle.ec_watch.specs.Watches.{clerk_of}
 use Rattle.ec_lines.specs.Faults.{HasShape}
 use Rattle.ec_lines.specs.Named.{IsNamed}
+use Rattle.ec_base.proofs.Bools.{is-true}
 
 pub tells : (r b : Bool) → r ≡ b → Decides r (T b)
 tells r b e = (λ t. T_from_true b (sym e ∙ t), λ t. e ∙ is-true b t)
@@ -48,6 +46,3 @@ may-nobody past (Unseen e) p = absurd (cc)
 may-nobody past (Told e ns) p = absurd (cc)
 may-nobody past (Crashed e) p = absurd (cc)
 may-nobody past s p = tt
-
-pub named-at : (ws : List Watch) (past : List Shown) (c : ℕ) (w : Watch) → AreWatched ws past → c < clerk_count → slice_get ws c ≡ Some w → w ≡ watch c past
-named-at ws past c w h l g = sym (got w (watch c past) (sym g ∙ h.each c l))

@@ -1,8 +1,7 @@
 -- One more line: of the last entries, of where calls began, and of what may follow.
-use Rattle.std.proofs.Common.{◌≡◌, refl, sym, ap, subst, ◌∙◌, arith, inl, inr, ◌≤◌, ◌<◌, ◌+◌, ℕ, T, zero, suc, Bool, List, [], ◌∷◌, ◌++◌, length, take, drop, set, get_or, Some, None, append-nil, append_assoc, add-one, length-set, get_or-set_same, get_or-set_other}
+use Rattle.std.proofs.Common.{◌≡◌, refl, sym, ap, subst, ◌∙◌, arith, inl, inr, ◌<◌, ◌+◌, ℕ, T, zero, suc, Bool, List, [], ◌∷◌, ◌++◌, length, take, drop, set, get_or, Some, None, append-nil, append_assoc, add-one, length-set, get_or-set_same, get_or-set_other}
 use Rattle.std.specs.Prelude.{slice_get, is_none}
 use Rattle.std.specs.List.{list_all}
-use Rattle.ec_laws.proofs.Removed.{left, right}
 use Rattle.ec_history.specs.declared.watch.Watch.{Watch}
 use Rattle.std.proofs.lemmas.Bool.{cases_eq, ne_eqb}
 use Rattle.std.proofs.lemmas.List.{take_more, take-append-drop}
@@ -17,17 +16,14 @@ use Rattle.ec_watch.specs.Watches.{clerk_of, AreWatched}
 use Rattle.ec_lines.specs.Faults.{HasShape, BreaksLine, IsFirstLine}
 use Rattle.ec_lines.specs.Index.{AreLast, AreBegins, begins, last_entry, last_after, start_of}
 use Rattle.ec_lines.proofs.Starts.{last-step, last-other, last-nobody}
+use Rattle.ec_base.proofs.Bools.{first as left, right}
+use Rattle.ec_base.proofs.Lists.{front-length}
 
 pub front-at : (ss : List Shown) (i : ℕ) (s : Shown) → slice_get ss i ≡ Some s → take (i + 1) ss ≡ take i ss ++ s ∷ []
 front-at ss i s g = take_more ss i s (slice_get_within ss i s g) ∙ ap (λ x. take i ss ++ x ∷ []) (get_or_from_slice_get ss i s s g)
 
 pub rest-at : (ss : List Shown) (i : ℕ) (s : Shown) → slice_get ss i ≡ Some s → drop i ss ≡ s ∷ drop (i + 1) ss
 rest-at ss i s g = drop-cons ss i s (slice_get_within ss i s g) ∙ ap (λ x. x ∷ drop (suc i) ss) (get_or_from_slice_get ss i s s g) ∙ ap (λ k. s ∷ drop k ss) (sym (add-one i))
-
-pub front-length : {A : Type 0} (ss : List A) (i : ℕ) → i ≤ length ss → length (take i ss) ≡ i
-front-length ss zero l = refl
-front-length [] (suc i) l = absurd (omega (arith, l))
-front-length (s ∷ ss) (suc i) l = ap suc (front-length ss i (omega (arith, l)))
 
 -- The last entries.
 

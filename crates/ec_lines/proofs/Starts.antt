@@ -4,13 +4,16 @@ use Rattle.std.specs.Prelude.{◌⊎◌, is_none}
 use Rattle.std.proofs.lemmas.Bool.{cond_both, cond-true, cond-false, cases_eq, ne_eqb}
 use Rattle.ec_volume.specs.Image.{is_id}
 use Rattle.ec_laws.proofs.More.{watch-step, last_place-step}
-use Rattle.ec_laws.proofs.Watching.{from_front, IsSound, sound, answered_as, showing, in_session, before_session, own_end, other_end}
+use Rattle.ec_laws.proofs.Watching.{from_front, IsSound, sound, answered_as, in_session, before_session, own_end, other_end, runs-begun}
 use Rattle.ec_history.specs.Placing.{watch, watch_next, unwatched, begun, answered, ended, owner, is_running, shows, last_place, gives_entry}
 use Rattle.ec_history.specs.declared.watch.Watch.{Watch}
 use Rattle.ec_history.specs.declared.shown.Shown.{Shown}
-use Rattle.ec_history.specs.declared.shown.Shown.TheVariants.{Waits, Answered, Durable, Ended, Unseen, Told, Crashed}
+use Rattle.ec_history.specs.declared.shown.Shown.TheVariants.{Waits, Answered, Durable, Ended, Told, Crashed}
 use Rattle.ec_watch.specs.Watches.{clerk_of}
 use Rattle.ec_lines.specs.Index.{start_of, last_entry, last_after}
+use Rattle.ec_history.proofs.PlacingLemmas.{showing}
+use Rattle.ec_base.proofs.Options.{other-clerk}
+use Rattle.ec_watch.proofs.Watched.{unchanged, unmoved}
 
 -- the start that runs or comes next, by whether the last one of so many runs
 abbrev next_start : Bool → ℕ → ℕ
@@ -23,9 +26,6 @@ begun-starts w = go w.running
     go : (r : Bool) → (cond r w (record w { starts = w.starts + 1; running = true })).starts ≡ next_start r w.starts
     go true = refl
     go false = refl
-
-runs-begun : (w : Watch) → (begun w).running ≡ true
-runs-begun w = cond_both w.running w (record w { starts = w.starts + 1; running = true }) (λ v. v.running ≡ true) (λ e. e) (λ e. refl)
 
 answered-keeps : (P : Bool → ℕ → Type 0) (w : Watch) (sh : Bool) (op : Option ℕ) → P w.running w.starts → P (answered w sh op).running (answered w sh op).starts
 answered-keeps P w sh op h = go w.untold
@@ -134,22 +134,6 @@ last-step c ss s = elim (cases_eq (start_of c ss) (start_of c (ss ++ s ∷ [])))
 
 -- A line of another clerk.
 
-other-clerk : (e c d : ℕ) → Some e ≡ Some c → (d == c) ≡ false → (d == e) ≡ false
-other-clerk e c d p n = subst (λ k. (d == k) ≡ false) (sym (it p)) n
-  where
-    it : Some e ≡ Some c → e ≡ c
-    it q = cc
-
-unmoved : (d c : ℕ) (w : Watch) (s : Shown) → clerk_of s ≡ Some c → (d == c) ≡ false → watch_next d w s ≡ w
-unmoved d c w (Waits l e cl) p n = cond-false (d == e) _ w (other-clerk e c d p n)
-unmoved d c w (Answered l e cl a op) p n = cond-false (d == e) _ w (other-clerk e c d p n)
-unmoved d c w (Durable e ns) p n = cond-false (d == e) _ w (other-clerk e c d p n)
-unmoved d c w (Ended e ns) p n = cond-false (d == e) _ w (other-clerk e c d p n)
-unmoved d c w (Unseen e) p n = refl
-unmoved d c w (Told e ns) p n = cond-false (d == e) _ w (other-clerk e c d p n)
-unmoved d c w (Crashed e) p n = cond-false (d == e) _ w (other-clerk e c d p n)
-unmoved d c w s p n = refl
-
 gives-none : (d c b : ℕ) (w : Watch) (s : Shown) → clerk_of s ≡ Some c → (d == c) ≡ false → gives_entry d b w s ≡ false
 gives-none d c b w (Answered l e cl a op) p n = ap (λ q. q && (b == (begun w).starts)) (other-clerk e c d p n)
 gives-none d c b w (Ended e ns) p n = ap (λ q. q && is_id b (owner w)) (other-clerk e c d p n)
@@ -157,20 +141,10 @@ gives-none d c b w s p n = refl
 
 pub last-other : (d c : ℕ) (ss : List Shown) (s : Shown) → clerk_of s ≡ Some c → (d == c) ≡ false → last_entry d (ss ++ s ∷ []) ≡ last_entry d ss
 last-other d c ss s p n =
-    let here : watch d (ss ++ s ∷ []) ≡ watch d ss = watch-step d ss s ∙ unmoved d c (watch d ss) s p n in
+    let here : watch d (ss ++ s ∷ []) ≡ watch d ss = watch-step d ss s ∙ unchanged d c (watch d ss) s p n in
     ap (λ w. last_place d (begun w).starts unwatched 1 0 (ss ++ s ∷ [])) here ∙ last_place-step d (start_of d ss) ss s ∙ cond-false (gives_entry d (start_of d ss) (watch d ss) s) _ _ (gives-none d c (start_of d ss) (watch d ss) s p n)
 
 -- a line of no clerk
-
-still : (d : ℕ) (w : Watch) (s : Shown) → clerk_of s ≡ None → watch_next d w s ≡ w
-still d w (Waits l e cl) p = absurd (cc)
-still d w (Answered l e cl a op) p = absurd (cc)
-still d w (Durable e ns) p = absurd (cc)
-still d w (Ended e ns) p = absurd (cc)
-still d w (Unseen e) p = refl
-still d w (Told e ns) p = absurd (cc)
-still d w (Crashed e) p = absurd (cc)
-still d w s p = refl
 
 gives-nothing : (d b : ℕ) (w : Watch) (s : Shown) → clerk_of s ≡ None → gives_entry d b w s ≡ false
 gives-nothing d b w (Answered l e cl a op) p = absurd (cc)
@@ -179,5 +153,5 @@ gives-nothing d b w s p = refl
 
 pub last-nobody : (d : ℕ) (ss : List Shown) (s : Shown) → clerk_of s ≡ None → last_entry d (ss ++ s ∷ []) ≡ last_entry d ss
 last-nobody d ss s p =
-    let here : watch d (ss ++ s ∷ []) ≡ watch d ss = watch-step d ss s ∙ still d (watch d ss) s p in
+    let here : watch d (ss ++ s ∷ []) ≡ watch d ss = watch-step d ss s ∙ unmoved d (watch d ss) s p in
     ap (λ w. last_place d (begun w).starts unwatched 1 0 (ss ++ s ∷ [])) here ∙ last_place-step d (start_of d ss) ss s ∙ cond-false (gives_entry d (start_of d ss) (watch d ss) s) _ _ (gives-nothing d (start_of d ss) (watch d ss) s p)

@@ -1,3 +1,4 @@
 pub mod Pushed
 pub mod Framed
 pub mod Promised
+pub mod HappeningsLemmas

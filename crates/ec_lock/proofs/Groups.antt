@@ -12,8 +12,8 @@ use Rattle.ec_lock.specs.declared.view.Stage.TheVariants.{Idle, Waiting, Holding
 use Rattle.ec_lock.specs.declared.view.View.{View}
 use Rattle.ec_lock.specs.Steps.{Member, Distinct, of}
 use Rattle.ec_lock.specs.Rule.{ticket_of, waits, IsOut, Stands, waiting, Tickets, Slot, Knows, Fronts, Numbers, Marks}
-use Rattle.ec_lock.proofs.Fronts.{prefix_self, prefix_trans}
 use Rattle.ec_lock.proofs.Seats.{there, elsewhere, each_set, each_more, alone_set, alone_more, alone_joined}
+use Rattle.ec_base.proofs.Lists.{prefix_self, prefix_trans}
 
 pub is_some : (a b : ℕ) → Some a ≡ Some b → a ≡ b
 is_some a b e = cc e

@@ -17,13 +17,12 @@ use Rattle.ec_lock.specs.declared.view.View.{View}
 use Rattle.ec_lock.specs.Steps.{Member, Distinct, of}
 use Rattle.ec_lock.specs.Rule.{ticket_of, waits, IsOut, Stands, Tickets, Knows, Marks, Kept}
 use Rattle.ec_lock.specs.Told.{opened, at_stage, holding, with_front, drawn, noted, Got, looked, ended, met, raises, answers, kept, cut, copy, both, spent}
-use Rattle.ec_lock.proofs.Fronts.{prefix_self, prefix_shorter}
+use Rattle.ec_lock.proofs.Fronts.{prefix_shorter}
 use Rattle.ec_lock.proofs.Seats.{elsewhere}
 use Rattle.ec_lock.proofs.Numbers.{of_between, member_append, member_left, member_right, distinct_append}
 use Rattle.ec_lock.proofs.Groups.{not_out, not_out_yet, Nobody, others_in, tickets_same, tickets_draw, tickets_look, tickets_next, tickets_more, slot_same, slot_more, slot_takes, slot_works, slot_gives, fronts_set, fronts_more, fronts_grow, fronts_joined, numbers_set, numbers_more, marks_set, marks_more}
-
-some_same : {A : Type 0} (a b : A) → Some a ≡ Some b → a ≡ b
-some_same a b e = cc e
+use Rattle.ec_base.proofs.Lists.{prefix_self}
+use Rattle.ec_base.proofs.Options.{some_same}
 
 pub same_held : {A : Type 0} (a b : A) (c : List (ℕ × Option A)) → c ≡ (0, Some a) ∷ [] → c ≡ (0, Some b) ∷ [] → a ≡ b
 same_held a b c e f =

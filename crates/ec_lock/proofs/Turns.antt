@@ -9,6 +9,7 @@ use Rattle.ec_lock.specs.declared.view.Stage.TheVariants.{Idle, Waiting, Holding
 use Rattle.ec_lock.specs.declared.view.View.{View}
 use Rattle.ec_lock.specs.Steps.{Member, of}
 use Rattle.ec_lock.specs.Told.{at_stage, holding, with_front, noted, Got, looked, both}
+use Rattle.ec_base.proofs.Options.{some_same}
 
 abbrev M : Type 0 → Type 0 → Type 0
 M V S = Me (Option (Held V)) (View V S)
@@ -23,9 +24,6 @@ found_there {A} c a b e f =
     let y : ℕ × A = (0, b) in
     let pair : x ≡ y = cc (e, f) in
     ap (λ p. p.1) pair
-
-some_same : {A : Type 0} (x y : A) → Some x ≡ Some y → x ≡ y
-some_same x y e = cc e
 
 module _ {V S : Type 0} where
   pub both_le : (v w : View V S) → length (both v w).other ≤ length (both v w).front

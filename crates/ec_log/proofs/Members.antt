@@ -22,9 +22,7 @@ use Rattle.ec_log.specs.declared.state.Asked.{Asked}
 use Rattle.ec_log.specs.declared.state.Pick.{Pick}
 use Rattle.ec_log.specs.declared.state.Pick.TheVariants.{Batch, Settled, Behind, Window}
 use Rattle.ec_base.specs.SmallLaws.{rises}
-
-lower : (m n : ℕ) → T (is_lt (nat_cmp m n)) → m < n
-lower m n l = grind (arith, nat_tests, l)
+use Rattle.ec_base.proofs.Bools.{below}
 
 -- Of rising operations the numbers of a closure rise.
 
@@ -34,7 +32,7 @@ module _ (q : ℕ → Bool) where
   above_closure m (x ∷ xs) b = go (q x.0 || list_any (λ y. needs x.1 y.1) (closure q xs)) (above_closure m xs (second _ _ b))
     where
       go : (t : Bool) → list_all (λ k. nat_lt m k) (keys (closure q xs)) ≡ true → list_all (λ k. nat_lt m k) (keys (cond t (x ∷ closure q xs) (closure q xs))) ≡ true
-      go true r = and_from (nat_lt m x.0) (list_all (λ k. nat_lt m k) (keys (closure q xs))) (lt-ltb m x.0 (lower m x.0 (first _ _ b))) r
+      go true r = and_from (nat_lt m x.0) (list_all (λ k. nat_lt m k) (keys (closure q xs))) (lt-ltb m x.0 (below m x.0 (first _ _ b))) r
       go false r = r
 
   closure_rises : (xs : Issued) → T (is_sorted nat_cmp xs) → rises (keys (closure q xs)) ≡ true

@@ -18,17 +18,12 @@ use Rattle.ec_history.specs.declared.shown.Shown.{Shown}
 use Rattle.ec_history.specs.declared.shown.Shown.TheVariants as show
 use Rattle.ec_machine_laws.specs.Answers.{Plainly, after_call, answers_in, answers_to, none_yet, number_of, outcome_on}
 use Rattle.ec_machine_laws.specs.PlainLines.{IsPlain, asked_in, ids_from}
-use Rattle.ec_machine_laws.proofs.Watching.{IsOne, stays-one, watch-push}
+use Rattle.ec_machine_laws.proofs.Watching.{IsOne, stays-one}
+use Rattle.ec_history.proofs.HistoryLemmas.{updates-append}
+use Rattle.ec_base.proofs.Lists.{no-more}
+use Rattle.ec_history.proofs.PlacingLemmas.{watch-push}
 
 -- Lists.
-
-no-more : {A : Type 0} (xs : List A) → xs ++ [] ≡ xs
-no-more [] = refl
-no-more (x ∷ xs) = ap (λ l. x ∷ l) (no-more xs)
-
-updates-both : (ks ls : List Op) → updates (ks ++ ls) ≡ updates ks ++ updates ls
-updates-both [] ls = refl
-updates-both (k ∷ ks) ls = ap (λ us. k.update ∷ us) (updates-both ks ls)
 
 kept-more : (base : Base) (ks : List Op) (h : History) (e : ℕ × Entry) → kept_from base ks (h ++ e ∷ []) ≡ kept_next base (kept_from base ks h) e
 kept-more base ks [] e = refl
@@ -102,7 +97,7 @@ module _ (base : Base) (most : ℕ) where
     replies legal e = record {
       said-is = (λ z. show.Answered l c cl (answer.Reply ((legal.reply.0 ∙ ap (λ (o : Outcome). o.reply) outcome-is) z)) (sym (ap (number_of s c) e) z));
       next = subst (Sofar (past ++ said None ∷ []) (h ++ entry-of None ∷ [])) (sym (ap (after_call s c) e)) (record {
-        updated = ap updates (kept-more base [] h (entry-of None)) ∙ updates-both (kept base h) [] ∙ no-more (updates (kept base h)) ∙ f.updated;
+        updated = ap updates (kept-more base [] h (entry-of None)) ∙ updates-append (kept base h) [] ∙ no-more (updates (kept base h)) ∙ f.updated;
         issued = λ d. omega (arith, filter-more (is_op_of d 1) h (entry-of None), none-counts (same_start d 1 c b), f.issued d);
         one = still-one None;
       });
@@ -130,7 +125,7 @@ module _ (base : Base) (most : ℕ) where
     issues n u legal e = record {
       said-is = (λ z. show.Answered l c cl (answer.Reply ((legal.reply.0 ∙ ap (λ (o : Outcome). o.reply) outcome-is) z)) ((ap Some number ∙ sym (ap (number_of s c) e)) z));
       next = subst (Sofar (past ++ said (Some n) ∷ []) (h ++ entry-of (Some n) ∷ [])) (sym (ap (after_call s c) e)) (record {
-        updated = ap updates (kept-more base [] h (entry-of (Some n))) ∙ updates-both (kept base h) (issued_by base (kept base h) (entry-of (Some n))) ∙ (λ z. f.updated z ++ issued-op n u e z);
+        updated = ap updates (kept-more base [] h (entry-of (Some n))) ∙ updates-append (kept base h) (issued_by base (kept base h) (entry-of (Some n))) ∙ (λ z. f.updated z ++ issued-op n u e z);
         issued = λ d. omega (arith, filter-more (is_op_of d 1) h (entry-of (Some n)), counts n d, f.issued d, counted d u);
         one = still-one (Some n);
       });

@@ -9,10 +9,8 @@ use Rattle.std.specs.List.{list_any, list_all}
 use Rattle.std.proofs.lemmas.Bool.{cases_Bool}
 use Rattle.std.proofs.lemmas.Bool.Decides.{nat_tests}
 use Rattle.ec_base.specs.Tables.{Table, at, put, without}
-use Rattle.ec_laws.proofs.Objects.{holds, is-true}
-use Rattle.ec_laws.proofs.Touching.{or_l, or_r}
-use Rattle.ec_laws.proofs.Removed.{left, right}
-use Rattle.ec_machine_laws.proofs.Holding.{less}
+use Rattle.ec_base.proofs.Bools.{or-right as or_r, first as left, right, or_first as or_l, on as holds, is-true}
+use Rattle.ec_base.proofs.Numbers.{less}
 
 pub same-key : (c b : ℕ) → eq_by_cmp nat_cmp c b ≡ true → c ≡ b
 same-key c b h = grind (arith, nat_tests)

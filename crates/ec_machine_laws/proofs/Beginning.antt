@@ -6,12 +6,12 @@ use Rattle.ec_order.specs.Order.{Holds}
 use Rattle.ec_sessions.specs.Windows.{new_window}
 use Rattle.ec_sessions.specs.WindowLaws.{new_has}
 use Rattle.ec_sessions.specs.declared.window.Window.{Window}
-use Rattle.ec_laws.proofs.Objects.{is-true}
 use Rattle.ec_log.specs.Log.{empty}
 use Rattle.ec_log.specs.declared.state.LogState.{LogState}
 use Rattle.ec_machine_laws.specs.Logs.{Agrees, TellsDurable}
 use Rattle.ec_machine_laws.specs.Picks.{IsRest}
 use Rattle.ec_machine_laws.proofs.Batches.{none-some}
+use Rattle.ec_base.proofs.Bools.{is-true}
 
 pub empty-rest : (done : ℕ → Bool) → IsRest [] done empty
 empty-rest done = record { sorted = tt; rest = refl; closed = tt }

@@ -16,6 +16,7 @@ use Rattle.ec_tokens.specs.SoundTokens.{IsSound}
 use Rattle.ec_tokens.specs.declared.token.Token.{Token}
 use Rattle.ec_machine_laws.specs.Holding.{IsWriter, AreReaders}
 use Rattle.ec_machine_laws.proofs.Rows.{absent}
+use Rattle.ec_base.proofs.Options.{none-some}
 
 -- No two holders conflict.
 
@@ -26,12 +27,6 @@ AreCalm (g ∷ gs) = ((f : Holder) → Contains gs f → clash g.1 f.1 ≡ false
 -- what the later rows have is what all have
 abbrev AreInside : Tokens → Tokens → ℕ → Type 0
 AreInside ts rs x = (u : ℕ) (k : Token) → token rs u x ≡ Some k → token ts u x ≡ Some k
-
-none-some : {A : Type 0} {B : Type 0} (k : A) → ◌≡◌ {A = Option A} None (Some k) → B
-none-some {A} k e = absurd (apart e)
-  where
-    apart : ◌≡◌ {A = Option A} None (Some k) → ⊥
-    apart e = cc
 
 calm-from : (ts : Tokens) → IsSound ts → (x : ℕ) (rs : Tokens) → T (is_sorted nat_cmp rs) → AreInside ts rs x → AreCalm (holders rs x)
 calm-from ts sound x [] sorted inside = tt

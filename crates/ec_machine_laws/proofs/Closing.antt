@@ -8,8 +8,6 @@ use Rattle.ec_volume.specs.Update.{member}
 use Rattle.ec_volume.specs.declared.update.Update.{Update}
 use Rattle.ec_order.specs.Order.{Issued, Holds, InClosure, ask, need, closure, needs}
 use Rattle.ec_laws.proofs.Least.{list-complete, list-least, list-part}
-use Rattle.ec_laws.proofs.Objects.{holds, is-true}
-use Rattle.ec_laws.proofs.Touching.{or_l}
 use Rattle.ec_log.specs.Log.{is_asked, asked_for, first_number, first, closure_of, has_one_of, in_window, least, new_batch, pick_from, pick}
 use Rattle.ec_log.specs.declared.state.Asked.{Asked}
 use Rattle.ec_log.specs.declared.state.LogState.{LogState}
@@ -18,6 +16,7 @@ use Rattle.ec_log.specs.declared.state.Pick.TheVariants.{Batch, Settled, Behind,
 use Rattle.ec_machine_laws.specs.Needs.{IsPart, AreAskedToo}
 use Rattle.ec_machine_laws.specs.Picks.{IsRest}
 use Rattle.ec_machine_laws.proofs.Holding.{number-of, held-by, holds-front, holds-passed, holds-kept, one-update, sorted-part, take-holds}
+use Rattle.ec_base.proofs.Bools.{or_first as or_l, on as holds, is-true}
 
 -- More operations, and more that is asked.
 

@@ -14,16 +14,13 @@ use Rattle.ec_cache.specs.Cache.{evicted, evict}
 use Rattle.ec_cache.specs.Held.{unpinned}
 use Rattle.ec_cache.specs.declared.state.CacheState.{CacheState}
 use Rattle.ec_cache.specs.declared.state.Held.{Held}
-use Rattle.ec_laws.proofs.Removed.{left, right}
 use Rattle.ec_machine_laws.specs.Needs.{AreRoomy}
 use Rattle.ec_machine_laws.proofs.Once.{AreOnce, fewer, keys-length}
+use Rattle.ec_base.proofs.Numbers.{same-self}
+use Rattle.ec_base.proofs.Bools.{or-right, first as left, right, not-true, or_first, is-true}
+use Rattle.ec_base.proofs.Lists.{take-few}
 
 -- Lists.
-
-take-few : {A : Type 0} (c : ℕ) (xs : List A) → length (take c xs) ≤ c
-take-few zero xs = omega arith
-take-few (suc c) [] = omega arith
-take-few (suc c) (x ∷ xs) = omega (arith, take-few c xs)
 
 both-parts : {A : Type 0} (p : A → Bool) (xs : List A) → length (filter p xs) + length (filter (λ x. not (p x)) xs) ≡ length xs
 both-parts p [] = refl
@@ -35,17 +32,6 @@ both-parts p (x ∷ xs) = go (p x) (both-parts p xs)
     go false e = omega (arith, e)
 
 -- Keys of parts.
-
-or-left : (a b : Bool) → T a → T (a || b)
-or-left true b h = tt
-or-left false b h = absurd h
-
-or-right : (a b : Bool) → T b → T (a || b)
-or-right true b h = tt
-or-right false b h = h
-
-same-self : (n : ℕ) → (n == n) ≡ true
-same-self n = grind arith
 
 taken-key : (c : ℕ) (es : Table Held) (x : ℕ) → T (member x (keys (take c es))) → T (member x (keys es))
 taken-key zero es x m = absurd m
@@ -81,10 +67,6 @@ passed-key p (e ∷ es) x m = go (p e.0) refl m (passed-key p es x)
     go true t m r = inside (x == e.0) refl t m r
     go false t m r = r m
 
-off : (b : Bool) → not b ≡ true → b ≡ false
-off true e = sym e
-off false e = refl
-
 -- Evictions.
 
 pub evicted-few : (k : CacheState) (pinned : List ℕ) → length (evicted pinned k) ≤ length k.held - k.capacity
@@ -94,7 +76,7 @@ pub evicted-held : (k : CacheState) (pinned : List ℕ) (x : ℕ) → T (member 
 evicted-held k pinned x m = part-key (λ o. not (member o pinned)) k.held x (taken-key (length k.held - k.capacity) (unpinned pinned k.held) x m)
 
 pub evicted-free : (k : CacheState) (pinned : List ℕ) (x : ℕ) → T (member x (keys (evicted pinned k))) → member x pinned ≡ false
-evicted-free k pinned x m = off (member x pinned) (passed-key (λ o. not (member o pinned)) k.held x (taken-key (length k.held - k.capacity) (unpinned pinned k.held) x m))
+evicted-free k pinned x m = not-true (member x pinned) (passed-key (λ o. not (member o pinned)) k.held x (taken-key (length k.held - k.capacity) (unpinned pinned k.held) x m))
 
 module _ (k : CacheState) (pinned : List ℕ) (olds news : Table Held) (r : AreRoomy k pinned olds news) where
   enough : length k.held - k.capacity ≤ length (unpinned pinned olds)
@@ -126,10 +108,6 @@ kept-at gone es x = find-where_key nat_cmp (λ o. not (member o gone)) x (λ y e
 pub stays-held : (k : CacheState) (pinned : List ℕ) (x : ℕ) → member x (keys (evicted pinned k)) ≡ false → at x (evict pinned k).held ≡ at x k.held
 stays-held k pinned x e = kept-at (keys (evicted pinned k)) k.held x ∙ ap (λ b. cond (not b) (at x k.held) None) e
 
-is-true : (b : Bool) → T b → b ≡ true
-is-true true h = refl
-is-true false h = absurd h
-
 pub goes-back : (k : CacheState) (pinned : List ℕ) (x : ℕ) → T (member x (keys (evicted pinned k))) → at x (evict pinned k).held ≡ None
 goes-back k pinned x m = kept-at (keys (evicted pinned k)) k.held x ∙ ap (λ b. cond (not b) (at x k.held) None) (is-true (member x (keys (evicted pinned k))) m)
 
@@ -157,7 +135,7 @@ sub-few p q (suc c) (e ∷ es) h = go (p e) h (λ i. sub-few p q c es i) (λ i. 
 
 own-keys : (gone : List ℕ) (es : Table Held) → ((x : ℕ) → T (member x (keys es)) → T (member x gone)) → T (list_all (λ e. member e.0 gone) es)
 own-keys gone [] h = tt
-own-keys gone (e ∷ es) h = joined (member e.0 gone) (list_all (λ e. member e.0 gone) es) (h e.0 (or-left (e.0 == e.0) (member e.0 (keys es)) (subst T (sym (same-self e.0)) tt))) (own-keys gone es (λ x m. h x (or-right (x == e.0) (member x (keys es)) m)))
+own-keys gone (e ∷ es) h = joined (member e.0 gone) (list_all (λ e. member e.0 gone) es) (h e.0 (or_first (e.0 == e.0) (member e.0 (keys es)) (subst T (sym (same-self e.0)) tt))) (own-keys gone es (λ x m. h x (or-right (x == e.0) (member x (keys es)) m)))
   where
     joined : (a b : Bool) → T a → T b → T (a && b)
     joined true b h i = i
@@ -194,7 +172,7 @@ apart-keys (e ∷ es) fs d x m = go (x == e.0) refl m (apart-keys es fs (right (
 all-kept : (gone : List ℕ) (es : Table Held) → ((x : ℕ) → T (member x (keys es)) → member x gone ≡ false) → unpinned gone es ≡ es
 all-kept gone [] h = refl
 all-kept gone (e ∷ es) h =
-    ap (λ b. cond (not b) (e ∷ unpinned gone es) (unpinned gone es)) (h e.0 (or-left (e.0 == e.0) (member e.0 (keys es)) (subst T (sym (same-self e.0)) tt)))
+    ap (λ b. cond (not b) (e ∷ unpinned gone es) (unpinned gone es)) (h e.0 (or_first (e.0 == e.0) (member e.0 (keys es)) (subst T (sym (same-self e.0)) tt)))
     ∙ ap (λ zs. e ∷ zs) (all-kept gone es (λ x m. h x (or-right (x == e.0) (member x (keys es)) m)))
 
 pub order-stays : (k : CacheState) (pinned : List ℕ) (olds news : Table Held) → AreRoomy k pinned olds news → T (distinct (keys k.held)) → (evict pinned k).held ≡ unpinned (keys (evicted pinned k)) olds ++ news

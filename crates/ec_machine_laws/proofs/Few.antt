@@ -1,5 +1,5 @@
 -- How many objects a call touches.
-use Rattle.std.proofs.Common.{◌≡◌, arith, ◌≤◌, ◌+◌, ◌-◌, ◌*◌, ℕ, zero, suc, T, Bool, true, false, not, ◌==◌, ◌&&◌, cond, List, [], ◌∷◌, ◌++◌, map, length, take, drop, Option, Some, None, length-append}
+use Rattle.std.proofs.Common.{◌≡◌, arith, ◌≤◌, ◌+◌, ◌-◌, ◌*◌, ℕ, T, Bool, true, false, not, ◌==◌, ◌&&◌, cond, List, [], ◌∷◌, ◌++◌, map, length, take, drop, Option, Some, None, length-append}
 use Rattle.std.specs.Prelude.{is_some, nat_lt, nat_le}
 use Rattle.std.specs.List.{list_all}
 use Rattle.std.proofs.lemmas.Bool.Decides.{nat_tests}
@@ -7,13 +7,12 @@ use Rattle.ec_volume.specs.Entries.{Entries, entry}
 use Rattle.ec_volume.specs.Image.{entries_of, bytes_of, is_gone, is_dir}
 use Rattle.ec_volume.specs.Update.{Above, root}
 use Rattle.ec_volume.specs.Volume.{Images}
-use Rattle.ec_volume.specs.declared.image.Image.{Image}
 use Rattle.ec_volume.specs.declared.image.Image.TheVariants.{Gone, File, Dir}
 use Rattle.ec_volume.specs.declared.image.Kind.{Kind}
 use Rattle.ec_volume.specs.declared.image.Kind.TheVariants as kind
 use Rattle.ec_volume.specs.declared.update.Update.TheVariants.{Make, Drop, Move, Put, Len, Mode, Stamp, Shift, Owner}
 use Rattle.ec_plain.specs.BoundedCalls.{is_short, is_bounded}
-use Rattle.ec_plain.specs.Walk.{Path, Reached, At, Not, Walk, walk, walk_from, stop, parent_of, last_of, same_path}
+use Rattle.ec_plain.specs.Walk.{Path, Reached, At, Not, Walk, walk, walk_from, parent_of, last_of, same_path}
 use Rattle.ec_plain.specs.Plain.{on_reached, on_parent, on_entry, answers, refuses, issues, plain, plain_make, plain_drop, plain_rename, plain_forder, once_more, blocked, kind_of, make_in, drop_in, above, renames, move_into, loops, rename_in, write_in, len_in, read_in, list_in, stat_of}
 use Rattle.ec_plain.specs.declared.call.Call.{Call}
 use Rattle.ec_plain.specs.declared.call.Call.TheVariants as call
@@ -21,19 +20,12 @@ use Rattle.ec_plain.specs.declared.call.Reply.TheVariants as reply
 use Rattle.ec_plain.specs.declared.call.Refusal.{Refusal}
 use Rattle.ec_plain.specs.declared.call.Refusal.TheVariants as no
 use Rattle.ec_plain.specs.declared.call.Outcome.{Outcome}
-use Rattle.ec_laws.proofs.Removed.{left, right}
 use Rattle.ec_machine_laws.specs.Needs.{max_touched}
+use Rattle.ec_base.proofs.Bools.{first as left, right}
+use Rattle.ec_plain.proofs.WalkLemmas.{entry-step, image-step}
+use Rattle.ec_base.proofs.Lists.{take-few}
 
 -- Walks.
-
-abbrev entry-step : Images → ℕ → Path → Option ℕ → Walk
-entry-step v i ns None = stop (Not (no.NotFound (i + 1)))
-entry-step v i ns (Some p) = walk_from v (i + 1) p ns
-
-abbrev image-step : Images → ℕ → List ℕ → Path → Image → Walk
-image-step v i n ns Gone = stop (Not (no.NotFound i))
-image-step v i n ns (File m s w bs) = stop (Not (no.NotDir i))
-image-step v i n ns (Dir m s w es) = entry-step v i ns (entry es n)
 
 walk-few : (v : Images) (i o : ℕ) (p : Path) → length (walk_from v i o p).read ≤ length p + 1
 walk-few v i o [] = omega arith
@@ -49,11 +41,6 @@ walk-few v i o (n ∷ ns) =
 
 pub walks-few : (v : Images) (p : Path) → length (walk v p).read ≤ length p + 1
 walks-few v p = walk-few v 0 root p
-
-take-few : {A : Type 0} (k : ℕ) (xs : List A) → length (take k xs) ≤ k
-take-few zero xs = omega arith
-take-few (suc k) [] = omega arith
-take-few (suc k) (x ∷ xs) = omega (arith, take-few k xs)
 
 -- the walk to the parent of a path that has names
 parent-few : (v : Images) (n : List ℕ) (ns : Path) → length (walk v (parent_of (n ∷ ns))).read ≤ length (n ∷ ns)

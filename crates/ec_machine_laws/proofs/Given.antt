@@ -15,7 +15,9 @@ use Rattle.ec_tokens.specs.SoundTokens.{IsSound}
 use Rattle.ec_tokens.specs.declared.token.Token.{Token}
 use Rattle.ec_protocol.specs.Server.{with_ids}
 use Rattle.ec_machine_laws.specs.Holding.{left_at, AreOwn}
-use Rattle.ec_machine_laws.proofs.Rows.{found-put, found-without, same-self, found-lowered, row-of-found}
+use Rattle.ec_machine_laws.proofs.Rows.{found-put, found-without, found-lowered, row-of-found}
+use Rattle.ec_base.proofs.Numbers.{same-self}
+use Rattle.ec_laws.proofs.Sets.{behind}
 
 -- Tokens given back.
 
@@ -51,20 +53,13 @@ own-clear ts s x sound own = ap (λ gs. is_none (first gs)) (none-pass (is_confl
         apart : ◌≡◌ {A = Option Token} None (Some (record { hold = g.1; number = g.2 })) → ⊥
         apart e = cc
 
-or-left : (x : ℕ) (xs : List ℕ) → T (member x (x ∷ xs))
+pub or-left : (x : ℕ) (xs : List ℕ) → T (member x (x ∷ xs))
 or-left x xs = subst (λ b. T (b || member x xs)) (sym (same-self x)) tt
-
-or-right : (y x : ℕ) (xs : List ℕ) → T (member y xs) → T (member y (x ∷ xs))
-or-right y x xs h = go (y == x)
-  where
-    go : (b : Bool) → T (b || member y xs)
-    go true = tt
-    go false = h
 
 -- a grant to the session leaves the others without tokens
 still-own : (ts : Tokens) (s n x : ℕ) (xs : List ℕ) → AreOwn s (x ∷ xs) ts → AreOwn s xs (granted s x Write n ts)
 still-own ts s n x xs own y m t e =
-    token-granted ts s x Write n t y ∙ ap (λ b. cond {A = Option Token} (b && (y == x)) (Some (record { hold = Write; number = n })) (token ts t y)) e ∙ own y (or-right y x xs m) t e
+    token-granted ts s x Write n t y ∙ ap (λ b. cond {A = Option Token} (b && (y == x)) (Some (record { hold = Write; number = n })) (token ts t y)) e ∙ own y (behind y x xs m) t e
 
 first-clear : (ts : Tokens) (s x : ℕ) (xs : List ℕ) → IsSound ts → AreOwn s (x ∷ xs) ts → is_clear ts s x Write ≡ true
 first-clear ts s x xs sound own = own-clear ts s x sound (own x (or-left x xs))

@@ -1,6 +1,6 @@
 -- How a clerk's counters grow in a step: by the messages that it sends and the calls that it answers.
 use Rattle.std.proofs.Common.{◌≡◌, refl, ◌∙◌, arith, ◌≤◌, ◌<◌, ◌+◌, ℕ, Bool, true, false, not, ◌&&◌, List, [], ◌∷◌, ◌++◌, length}
-use Rattle.std.specs.Prelude.{Option, None, Some, nat_le, nat_lt, is_none, take as front}
+use Rattle.std.specs.Prelude.{Option, None, Some, nat_le, is_none, take as front}
 use Rattle.std.specs.List.{list_any}
 use Rattle.ec_base.specs.Limits.{last_counter}
 use Rattle.ec_base.specs.Tables.{Table, at, first as first_of, keys, or_else}
@@ -24,6 +24,7 @@ use Rattle.ec_protocol.specs.declared.clerk.Out.{Out}
 use Rattle.ec_protocol.specs.declared.clerk.Out.TheVariants as out
 use Rattle.ec_protocol.specs.declared.clerk.Recalled.{Recalled}
 use Rattle.ec_machine_laws.specs.Unspent.{sent}
+use Rattle.ec_base.proofs.Numbers.{above-limit, at-limit}
 
 -- the counters are below their limits
 pub record IsFine (k : Clerk) : Type 0 where
@@ -70,12 +71,6 @@ as-sent (out.OldBoot a ∷ os) ps = as-sent os ps
 
 pub still : (d : Doing) → Same d d
 still d = record { grows = alike d d refl refl refl refl (omega arith); waits = refl; next = refl }
-
-at-limit : (a b : ℕ) → nat_le a b ≡ true → a ≤ b
-at-limit a b e = grind (arith, e)
-
-pub above-limit : (a b : ℕ) → nat_lt a b ≡ true → a < b
-above-limit a b e = grind (arith, e)
 
 -- Batches.
 

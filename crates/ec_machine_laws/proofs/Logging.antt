@@ -14,8 +14,6 @@ use Rattle.ec_order.specs.Order.{Issued, Holds}
 use Rattle.ec_sessions.specs.Windows.{has, after_mark}
 use Rattle.ec_sessions.specs.WindowLaws.{has-after_other, kept_over}
 use Rattle.ec_sessions.specs.declared.window.Window.{Window}
-use Rattle.ec_laws.proofs.Objects.{holds, is-true}
-use Rattle.ec_laws.proofs.Removed.{both, left, right}
 use Rattle.ec_log.specs.Log.{empty, issue, pick, after_pick, ops_in, batch, kept, end}
 use Rattle.ec_log.specs.declared.state.Asked.{Asked}
 use Rattle.ec_log.specs.declared.state.Pick.{Pick}
@@ -23,9 +21,11 @@ use Rattle.ec_log.specs.declared.state.Pick.TheVariants.{Batch, Settled, Behind,
 use Rattle.ec_log.specs.declared.state.LogState.{LogState}
 use Rattle.ec_machine_laws.specs.Picks.{IsPicked, Says}
 use Rattle.ec_machine_laws.specs.Logs.{IsUnderWay, IsLog, Agrees}
-use Rattle.ec_machine_laws.proofs.Holding.{is-less, holds-front, holds-kept, sorted-part}
+use Rattle.ec_machine_laws.proofs.Holding.{holds-front, holds-kept, sorted-part}
 use Rattle.ec_machine_laws.proofs.Picking.{pick-says}
 use Rattle.ec_machine_laws.proofs.Batches.{none-some, at-put_same, at-put_other, at-without_same, at-without_other, least-found, all-found}
+use Rattle.ec_base.proofs.Bools.{both, first as left, right, on as holds, is-true}
+use Rattle.ec_base.proofs.Numbers.{less-tested as is-less}
 
 -- One more operation.
 

@@ -7,14 +7,13 @@ use Rattle.ec_volume.specs.declared.update.Update.{Update}
 use Rattle.ec_order.specs.Order.{Issued, Holds}
 use Rattle.ec_sessions.specs.Windows.{has}
 use Rattle.ec_sessions.specs.declared.window.Window.{Window}
-use Rattle.ec_laws.proofs.Objects.{holds, is-true}
-use Rattle.ec_laws.proofs.Removed.{both, left, right}
 use Rattle.ec_log.specs.Log.{is_kept_by, lost}
 use Rattle.ec_log.specs.declared.state.LogState.{LogState}
 use Rattle.ec_machine_laws.specs.Picks.{IsRest}
 use Rattle.ec_machine_laws.specs.Logs.{IsUnderWay, IsLog, TellsDurable}
 use Rattle.ec_machine_laws.proofs.Holding.{holds-front, holds-passed, holds-kept}
 use Rattle.ec_machine_laws.proofs.Batches.{any-found, found-any}
+use Rattle.ec_base.proofs.Bools.{both, first as left, right, on as holds, is-true}
 
 module _ (w : Window) (l : LogState) where
   kept-in : (n b : ℕ) (ns : List ℕ) → IsUnderWay l b ns → T (has w b) → T (member n ns) → is_kept_by w l n ≡ true

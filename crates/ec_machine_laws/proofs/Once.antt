@@ -4,9 +4,7 @@ use Rattle.std.specs.Prelude.{⊤}
 use Rattle.std.proofs.lemmas.Bool.{eqb-true, true≢false}
 use Rattle.ec_base.specs.Tables.{Table, keys}
 use Rattle.ec_volume.specs.Update.{member}
-
-pub same-self : (n : ℕ) → (n == n) ≡ true
-same-self n = grind arith
+use Rattle.ec_base.proofs.Numbers.{same-self}
 
 abbrev pub AreOnce : List ℕ → Type 0
 AreOnce [] = ⊤

@@ -10,16 +10,15 @@ use Rattle.ec_volume.specs.Update.{member}
 use Rattle.ec_volume.specs.declared.update.Update.{Update}
 use Rattle.ec_order.specs.Order.{Issued, Holds, InClosure, ask, closure, needs}
 use Rattle.ec_laws.proofs.Least.{list-complete, list-part, list-sorted, needed-by_number, closure-needed, closure-within, closure-rest, taken-needed}
-use Rattle.ec_laws.proofs.Objects.{holds, is-true}
-use Rattle.ec_laws.proofs.Touching.{or_l, or_r}
-use Rattle.ec_laws.proofs.Removed.{both, left, right}
 use Rattle.ec_log.specs.Log.{is_asked, asked_for, first_number, first, closure_of, has_one_of, in_window, least, new_batch, pick_from, pick}
 use Rattle.ec_log.specs.declared.state.Asked.{Asked}
 use Rattle.ec_log.specs.declared.state.Pick.{Pick}
 use Rattle.ec_log.specs.declared.state.Pick.TheVariants.{Batch, Settled, Behind, Window}
 use Rattle.ec_log.specs.declared.state.LogState.{LogState}
 use Rattle.ec_machine_laws.specs.Picks.{IsAskedIn, IsPicked, IsAtWindow, Says, IsRest, HoldNeeds}
-use Rattle.ec_machine_laws.proofs.Holding.{same-self, number-of, held-by, holds-front, holds-passed, holds-kept, sorted-part, take-holds, above-holds}
+use Rattle.ec_machine_laws.proofs.Holding.{number-of, held-by, holds-front, holds-passed, holds-kept, sorted-part, take-holds, above-holds}
+use Rattle.ec_base.proofs.Numbers.{same-self}
+use Rattle.ec_base.proofs.Bools.{or-right as or_r, both, first as left, right, or_first as or_l, on as holds, is-true}
 
 -- Nothing is asked for exactly where the closure is empty.
 

@@ -14,8 +14,6 @@ use Rattle.ec_order.specs.Order.{Holds}
 use Rattle.ec_history.specs.History.{Base, History, Op, updates, numbers, of_start, kept, issued, of_issue, asks, Covers}
 use Rattle.ec_history.specs.declared.entry.Answer.TheVariants as answer
 use Rattle.ec_history.specs.declared.entry.Entry.TheVariants as entry
-use Rattle.ec_laws.proofs.Objects.{holds, is-true}
-use Rattle.ec_laws.proofs.Removed.{left, right}
 use Rattle.ec_log.specs.Log.{is_asked, first}
 use Rattle.ec_log.specs.declared.state.Asked.{Asked}
 use Rattle.ec_log.specs.declared.state.Asked.TheVariants.{Object, All}
@@ -24,6 +22,7 @@ use Rattle.ec_machine_laws.specs.Picks.{IsRest}
 use Rattle.ec_machine_laws.specs.Covers.{AreIssuedBy, IsFirstAfter}
 use Rattle.ec_machine_laws.proofs.Holding.{one-update}
 use Rattle.ec_machine_laws.proofs.Picking.{done-before}
+use Rattle.ec_base.proofs.Bools.{first as left, right, on as holds, implied, is-true}
 
 -- an operation of this number that passes the test q; it passes each test p that all pass
 record Asked-op (c b n : ℕ) (q p : Op → Bool) (ks : List Op) : Type 0 where
@@ -65,11 +64,6 @@ asked-op c b n q p (k ∷ ks) h = go (q k) refl h (asked-op c b n q p ks)
       | inr s ↦ later (r (holds s))
     ]
     go false e m r = later (r m)
-
--- of a test in two parts that all pass
-implied : (a d : Bool) → T (not a || d) → T a → T d
-implied true d h t = h
-implied false d h t = absurd t
 
 module _ (base : Base) (past : History) (c b begun begop : ℕ) (l : LogState) (done : ℕ → Bool) (r : IsRest (of_issue c b (issued base past)) done l) (i : AreIssuedBy base past c b begun begop) where
   -- operations that pass a test within those issued in time

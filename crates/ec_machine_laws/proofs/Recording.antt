@@ -14,17 +14,12 @@ use Rattle.ec_durable.specs.declared.record.RecordFault.TheVariants.{NoSession, 
 use Rattle.ec_durable.specs.declared.state.Durable.{Durable}
 use Rattle.ec_durable.proofs.Batches.{same_Ok, not_Ok}
 use Rattle.ec_machine_laws.specs.Records.{IsRestOf}
-use Rattle.ec_machine_laws.proofs.Rows.{same-self}
+use Rattle.ec_base.proofs.Numbers.{same-self}
+use Rattle.ec_base.proofs.Options.{none-some}
 
 -- Slots.
 
-none-some : {A : Type 0} {B : Type 0} (k : A) → ◌≡◌ {A = Option A} None (Some k) → B
-none-some {A} k e = absurd (apart e)
-  where
-    apart : ◌≡◌ {A = Option A} None (Some k) → ⊥
-    apart e = cc
-
-in-range : (ss : slots.Slots) (c : ℕ) (sl : Slot) → slots.slot_at ss c ≡ Some sl → c < length ss
+pub in-range : (ss : slots.Slots) (c : ℕ) (sl : Slot) → slots.slot_at ss c ≡ Some sl → c < length ss
 in-range [] c sl e = none-some sl e
 in-range (o ∷ ss) zero sl e = omega arith
 in-range (o ∷ ss) (suc c) sl e = omega (arith, in-range ss c sl e)
@@ -113,11 +108,11 @@ batch-marked c b ops d e sl at ok = go (operations c ops d) refl ok
         })
 
 -- a record that was taken passed its tests
-passed-false : (t : Bool) (f : RecordFault) (r : Result Durable RecordFault) (e : Durable) → elim t as (λ z. Result Durable RecordFault) [ false ↦ Err f | true ↦ r ] ≡ Ok e → r ≡ Ok e
+pub passed-false : (t : Bool) (f : RecordFault) (r : Result Durable RecordFault) (e : Durable) → elim t as (λ z. Result Durable RecordFault) [ false ↦ Err f | true ↦ r ] ≡ Ok e → r ≡ Ok e
 passed-false true f r e p = p
 passed-false false f r e p = absurd (not_Ok p)
 
-passed-true : (t : Bool) (f : RecordFault) (r : Result Durable RecordFault) (e : Durable) → elim t as (λ z. Result Durable RecordFault) [ true ↦ Err f | false ↦ r ] ≡ Ok e → r ≡ Ok e
+pub passed-true : (t : Bool) (f : RecordFault) (r : Result Durable RecordFault) (e : Durable) → elim t as (λ z. Result Durable RecordFault) [ true ↦ Err f | false ↦ r ] ≡ Ok e → r ≡ Ok e
 passed-true false f r e p = p
 passed-true true f r e p = absurd (not_Ok p)
 

@@ -14,8 +14,6 @@ use Rattle.ec_sessions.specs.WindowLaws.{has-after_same, has-after_other}
 use Rattle.ec_sessions.specs.declared.window.Window.{Window}
 use Rattle.ec_laws.specs.Needs.{holds_needed}
 use Rattle.ec_laws.proofs.Least.{needed-by_number, needed-from_numbers}
-use Rattle.ec_laws.proofs.Objects.{holds, is-true}
-use Rattle.ec_laws.proofs.Touching.{or_l, or_r}
 use Rattle.ec_log.specs.Log.{issue, pick, after_pick, ops_in, kept, end}
 use Rattle.ec_log.specs.declared.state.Asked.{Asked}
 use Rattle.ec_log.specs.declared.state.Pick.{Pick}
@@ -27,6 +25,7 @@ use Rattle.ec_machine_laws.proofs.Holding.{holds-front, holds-passed}
 use Rattle.ec_machine_laws.proofs.Picking.{pick-says, needs-all}
 use Rattle.ec_machine_laws.proofs.Batches.{at-put_other, at-without_other, all-found}
 use Rattle.ec_machine_laws.proofs.Logging.{holds-either, sorted-more, was, was-kept}
+use Rattle.ec_base.proofs.Bools.{or-right as or_r, or_first as or_l, on as holds, is-true}
 
 off : {A : Type 0} (b : Bool) → T (not b) → T b → A
 off true p q = absurd p

@@ -16,9 +16,8 @@ use Rattle.ec_tokens.specs.Laws.{holder_has, sound_lowered}
 use Rattle.ec_tokens.specs.Tokens.{Row, Tokens, Holder, row_of, row, token, mode, held_by, holders, is_conflict, conflicts, granted, fits_back, lowered_in, with_row, lowered}
 use Rattle.ec_tokens.specs.SoundTokens.{IsSound}
 use Rattle.ec_tokens.specs.declared.token.Token.{Token}
-
-pub same-self : (n : ℕ) → (n == n) ≡ true
-same-self n = grind arith
+use Rattle.ec_base.proofs.Numbers.{same-self}
+use Rattle.ec_base.proofs.Bools.{higher}
 
 -- Keys.
 
@@ -36,9 +35,6 @@ apart-less j k e = grind (arith, nat_tests)
 
 tied : (j k : ℕ) → nat_cmp j k ≡ Equal → eq_by_cmp nat_cmp j k ≡ true
 tied j k e = grind (arith, nat_tests)
-
-higher : (s m k : ℕ) → s ≤ m → T (is_lt (nat_cmp m k)) → eq_by_cmp nat_cmp s k ≡ false
-higher s m k l h = grind (arith, nat_tests, l, h)
 
 -- a key is not among higher ones
 pub absent : {X : Type 0} (s m : ℕ) (es : List (ℕ × X)) → s ≤ m → T (below_all nat_cmp m es) → find nat_cmp s es ≡ None

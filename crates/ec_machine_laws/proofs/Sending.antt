@@ -10,17 +10,17 @@ use Rattle.ec_volume.specs.Update.{member}
 use Rattle.ec_volume.specs.declared.update.Update.{Update}
 use Rattle.ec_order.specs.Order.{Issued, closure, needs}
 use Rattle.ec_laws.proofs.Least.{list-part}
-use Rattle.ec_laws.proofs.Objects.{holds}
-use Rattle.ec_laws.proofs.Removed.{left, right}
 use Rattle.ec_log.specs.Log.{asked_for, closure_of, pick, after_pick, batch}
 use Rattle.ec_log.specs.declared.state.Asked.{Asked}
 use Rattle.ec_log.specs.declared.state.Pick.TheVariants.{Batch}
 use Rattle.ec_log.specs.declared.state.LogState.{LogState}
 use Rattle.ec_machine_laws.specs.Picks.{IsPicked, Says}
-use Rattle.ec_machine_laws.proofs.Holding.{same-self, held-by, take-holds, above-holds}
+use Rattle.ec_machine_laws.proofs.Holding.{held-by, take-holds, above-holds}
 use Rattle.ec_machine_laws.proofs.Picking.{pick-says}
 use Rattle.ec_machine_laws.proofs.Batches.{at-put_same}
 use Rattle.ec_machine_laws.proofs.Losing.{filter-held}
+use Rattle.ec_base.proofs.Numbers.{same-self}
+use Rattle.ec_base.proofs.Bools.{first as left, right, on as holds}
 
 none-in : (xs : Issued) → filter (λ y. member y.0 []) xs ≡ []
 none-in [] = refl

@@ -27,6 +27,7 @@ use Rattle.ec_durable.specs.declared.state.Durable.{Durable}
 use Rattle.ec_protocol.specs.Server.{Serving, act, act_all, all_claimed, back, claim, commit, epoch, finish, flush, forget, grant, grant_ids, greet, has_claimed, hello, ids_are_spent, in_session, is_grant, is_last_number, may_write, next_number, note, open_new, record_ids, resend_ids, room, send_grant, send_ids, serve, serve_rounds, serving, slot_of, spend, stay, take, taken, tell, tell_ended, tell_opened, want, with_server}
 use Rattle.ec_protocol.specs.declared.server.Server.{Server}
 use Rattle.ec_machine_laws.specs.Unspent.{MayCount}
+use Rattle.ec_base.proofs.Numbers.{at-limit}
 
 -- Between two moments of a step no number is taken back, and where the last one isn't given out none is spent.
 record Goes (t u : Serving) : Type 0 where
@@ -38,9 +39,6 @@ alike t u n s = record { number = omega (arith, n); unspent = λ l e. s ∙ e }
 
 on-from : (t u w : Serving) → Goes t u → Goes u w → Goes t w
 on-from t u w a b = record { number = omega (arith, a.number, b.number); unspent = λ l e. b.unspent l (a.unspent (omega (arith, l, b.number)) e) }
-
-at-limit : (a b : ℕ) → nat_le a b ≡ true → a ≤ b
-at-limit a b e = grind (arith, e)
 
 numbered : (t : Serving) → Goes t (next_number t)
 numbered t = go (is_last_number t) refl

@@ -26,8 +26,9 @@ use Rattle.ec_durable.specs.declared.state.Durable.{Durable}
 use Rattle.ec_protocol.specs.Server.{Serving, serving, serve, take, tell, grant, act_all, is_last_number, spend, with_server, in_session, epoch, all_claimed, has_claimed, tell_ended, may_write, commit, stay, finish, add_claimed, forget_old, tell_opened, greet, note, want, send_grant, back, flush, claim, resend_ids, ids_are_spent, send_ids, record_ids, clerk_of, room, with_ids}
 use Rattle.ec_protocol.specs.declared.server.Server.{Server}
 use Rattle.ec_machine_laws.specs.Serving.{with_wants, new_want, telling, recalls_of, granting, lowering, giving_ids, IsAtWork, IsKnown}
-use Rattle.ec_machine_laws.proofs.Rows.{same-self, found-put}
+use Rattle.ec_machine_laws.proofs.Rows.{found-put}
 use Rattle.ec_machine_laws.proofs.Wanting.{no-want, none-due, serve-granted, serve-recalled, all-news, no-news}
+use Rattle.ec_base.proofs.Numbers.{same-self}
 
 -- What is sent.
 

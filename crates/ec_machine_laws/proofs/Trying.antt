@@ -15,7 +15,8 @@ use Rattle.ec_resolve.specs.declared.verdict.Verdict.TheVariants.{Need, Lost, Ne
 use Rattle.ec_protocol.specs.Clerk.{Doing, Tried, Answered, Waits, answer_with, ask_for, ask_pushes, answer_recalls, await, awaited, evict, has_session, is_owing, issue, issue_if_room, settle, settle_outcome, spend, suits, try, try_all, try_each, try_rounds, try_verdict, verdict, with_clerk, with_update}
 use Rattle.ec_protocol.specs.declared.clerk.Out.TheVariants as out
 use Rattle.ec_protocol.specs.declared.clerk.Waiting.{Waiting}
-use Rattle.ec_machine_laws.proofs.Growing.{Grows, Same, above-limit, alike, as-sent, asked, asks-room, evicts, grows-on, prepares, same-on, still, wants}
+use Rattle.ec_machine_laws.proofs.Growing.{Grows, Same, alike, as-sent, asked, asks-room, evicts, grows-on, prepares, same-on, still, wants}
+use Rattle.ec_base.proofs.Numbers.{above-limit}
 
 -- an answer, by which perhaps an operation was issued
 record Answers (d e : Doing) : Type 0 where

@@ -13,12 +13,10 @@ use Rattle.ec_recall.specs.declared.want.Action.TheVariants.{Grant, Recall}
 use Rattle.ec_recall.specs.declared.want.Want.{Want}
 use Rattle.ec_protocol.specs.Server.{Serving, serve, serve_rounds, all_claimed, grant, act, act_all, is_grant, is_last_number, next_number, spend, with_server}
 use Rattle.ec_machine_laws.specs.Serving.{with_wants, telling}
+use Rattle.ec_base.proofs.Numbers.{same-self}
+use Rattle.ec_base.proofs.Bools.{and-true}
 
 -- One want.
-
-and-true : (b : Bool) → (b && true) ≡ b
-and-true true = refl
-and-true false = refl
 
 due : (ts : Tokens) (w : Want) (b : Bool) → is_clear ts w.session w.obj w.hold ≡ b → is_due ts [] w ≡ b
 due ts w b e = and-true (is_clear ts w.session w.obj w.hold) ∙ e
@@ -43,9 +41,6 @@ none-told (g ∷ gs) = ap (λ zs. g ∷ zs) (none-told gs)
 
 pub all-news : (ts : Tokens) (w : Want) → w.told ≡ [] → news ts w ≡ conflicts ts w.session w.obj w.hold
 all-news ts w e = ap (λ told. filter (λ g. not (is_told told g)) (conflicts ts w.session w.obj w.hold)) e ∙ none-told (conflicts ts w.session w.obj w.hold)
-
-same-self : (n : ℕ) → (n == n) ≡ true
-same-self n = grind arith
 
 self-told : (g : Holder) (told : List (ℕ × ℕ)) → is_told (told_of g ∷ told) g ≡ true
 self-told g told = ap (λ b. b && (g.2 == g.2) || is_told told g) (same-self g.0) ∙ ap (λ b. b || is_told told g) (same-self g.2)

@@ -1,18 +1,14 @@
 -- What plain lines show of a clerk: one start, and no loss that it's to be told.
-use Rattle.std.proofs.Common.{◌≡◌, refl, sym, ap, ◌∙◌, subst, ◌+◌, ℕ, Bool, true, false, cond, List, [], ◌∷◌, ◌++◌}
+use Rattle.std.proofs.Common.{◌≡◌, refl, sym, ap, ◌∙◌, subst, ◌+◌, ℕ, Bool, true, false, cond, [], ◌++◌}
 use Rattle.std.specs.Prelude.{Option, None, Some, ◌==◌, filter, not}
 use Rattle.ec_volume.specs.Image.{is_id}
 use Rattle.ec_volume.specs.Update.{listed, member}
-use Rattle.ec_history.specs.Placing.{answered, begun, or_else, shows, watch_from, watch_next}
+use Rattle.ec_history.specs.Placing.{answered, begun, or_else, shows, watch_next}
 use Rattle.ec_history.specs.declared.entry.Answer.TheVariants as answer
 use Rattle.ec_history.specs.declared.shown.Shown.{Shown}
 use Rattle.ec_history.specs.declared.shown.Shown.TheVariants as show
 use Rattle.ec_history.specs.declared.watch.Watch.{Watch}
 use Rattle.ec_machine_laws.specs.PlainLines.{IsPlain}
-
-pub watch-push : (c : ℕ) (w : Watch) (ss : List Shown) (s : Shown) → watch_from c w (ss ++ s ∷ []) ≡ watch_next c (watch_from c w ss) s
-watch-push c w [] s = refl
-watch-push c w (r ∷ ss) s = watch-push c (watch_next c w r) ss s
 
 -- one start has begun, or is to begin, and nothing is to be told
 pub record IsOne (w : Watch) : Type 0 where

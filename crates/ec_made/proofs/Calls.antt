@@ -21,6 +21,7 @@ use Rattle.ec_script.specs.declared.line.Line.TheVariants as line
 use Rattle.ec_made.specs.Made.{IsCalling, is_making, makes}
 use Rattle.ec_made.proofs.Names.{four-digits, is_path, number-some, number-word, path-is-word, path-word}
 use Rattle.ec_made.proofs.Words.{at-below, below, is_line, is_word, line-two, text-word, word-line, words-more, words-one}
+use Rattle.ec_base.proofs.Numbers.{at-limit}
 
 -- Directories, files and numbers.
 
@@ -47,20 +48,17 @@ dir-place n = at-below (λ d. is_place (dir_at d)) 8 (n % 8) (omega arith) dirs
 file-place : (n m : ℕ) → is_place (file_text n m) ≡ true
 file-place n m = at-below (λ f. is_place (file_at (n % 8) f)) 16 (m % 16) (omega arith) (at-below (λ d. list_all (λ f. is_place (file_at d f)) (below 16)) 8 (n % 8) (omega arith) files)
 
-at-most : (m most : ℕ) → nat_le m most ≡ true → m ≤ most
-at-most m most e = grind (arith, e)
-
 dir-path : (n : ℕ) → is_path (dir_text n) ≡ true
 dir-path n = (and_parts (is_path (dir_text n)) (nat_le (length (dir_text n)) 7) (dir-place n)).0
 
 dir-few : (n : ℕ) → length (dir_text n) ≤ 7
-dir-few n = at-most _ 7 (and_parts (is_path (dir_text n)) (nat_le (length (dir_text n)) 7) (dir-place n)).1
+dir-few n = at-limit _ 7 (and_parts (is_path (dir_text n)) (nat_le (length (dir_text n)) 7) (dir-place n)).1
 
 file-path : (n m : ℕ) → is_path (file_text n m) ≡ true
 file-path n m = (and_parts (is_path (file_text n m)) (nat_le (length (file_text n m)) 7) (file-place n m)).0
 
 file-few : (n m : ℕ) → length (file_text n m) ≤ 7
-file-few n m = at-most _ 7 (and_parts (is_path (file_text n m)) (nat_le (length (file_text n m)) 7) (file-place n m)).1
+file-few n m = at-limit _ 7 (and_parts (is_path (file_text n m)) (nat_le (length (file_text n m)) 7) (file-place n m)).1
 
 -- What a line calls.
 record IsMadeCall (t : List ℕ) (making : Bool) : Type 0 where

@@ -1,5 +1,1 @@
 -- A fact of values that other names have too.
-use Rattle.std.proofs.Common.{◌≡◌, subst}
-
-pub moved : {A B C : Type 0} (P : A → B → C → Type 0) (a : A) (b : B) (c : C) (x : A) (y : B) (z : C) → P a b c → a ≡ x → b ≡ y → c ≡ z → P x y z
-moved P a b c x y z h p q r = subst (λ v. P x y v) r (subst (λ v. P x v c) q (subst (λ v. P v b c) p h))

@@ -1,7 +1,6 @@
 -- What an opening makes of two disks.
-use Rattle.std.proofs.Common.{◌≡◌, ◌≤◌, ◌<◌, ◌+◌, ◌-◌, ℕ, List, length, replicate, Bool, true, false, refl, sym, ◌∙◌, ap, subst, arith, length-append}
+use Rattle.std.proofs.Common.{◌≡◌, ◌≤◌, ◌<◌, ◌+◌, ℕ, List, length, Bool, true, false, refl, sym, ◌∙◌, ap, subst, arith}
 use Rattle.std.specs.Prelude.{max}
-use Rattle.std.proofs.lemmas.List.{length-replicate}
 use Rattle.std.proofs.lemmas.Bool.Decides.{nat_tests}
 use Rattle.ec_half.specs.Contents.{Content, Rested}
 use Rattle.ec_half.specs.Headers.{IsFound}
@@ -13,6 +12,7 @@ use Rattle.ec_mirror.specs.declared.kept.Kept.TheVariants as left
 use Rattle.ec_slots.specs.Contents.{filled}
 use Rattle.ec_slots.specs.SlotLaws.{generation_is}
 use Rattle.ec_slots.specs.Slots.{Holds, generation}
+use Rattle.ec_half.proofs.Fills.{length-filled}
 
 either : (b : Bool) (P N : Type 0) → (b ≡ true → N) → (b ≡ false → P → ⊥) → P → N
 either true P N if_open if_shut p = if_open refl
@@ -77,10 +77,6 @@ first-alone e = first_not_both e
 
 pub second-alone : left.Second ≡ left.Both → ⊥
 second-alone e = second_not_both e
-
--- a source that got zeros up to the other one's length, and what the other one has behind it
-length-filled : (bytes : List ℕ) (len : ℕ) → length (filled bytes len) ≡ max (length bytes) len
-length-filled bytes len = omega (arith, length-append bytes (replicate (len - length bytes) 0), length-replicate {A = ℕ} (len - length bytes) 0)
 
 pub filled-joined : (first second third fourth other : List ℕ) (n : ℕ) → second ≡ first → third ≡ filled second n → fourth ≡ third → n ≡ length other → fourth ≡ filled first (length other)
 filled-joined first second third fourth other n same more still is = still ∙ more ∙ ap (λ (l : List ℕ). filled l n) same ∙ ap (λ (k : ℕ). filled first k) is

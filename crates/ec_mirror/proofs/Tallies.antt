@@ -10,14 +10,7 @@ use Rattle.ec_disk.specs.declared.disk.DiskAnswer.{DiskAnswer}
 use Rattle.ec_disk.specs.declared.disk.DiskAnswer.TheVariants as said
 use Rattle.ec_mirror.specs.Tally.{counts_of, told, behind_cut, Turned}
 use Rattle.ec_mirror.specs.declared.tally.Tally.{Tally}
-
-less_armed : (armed : Option ℕ) → IsSome (after_calls 1 armed) → IsSome armed
-less_armed None is = is
-less_armed (Some n) is = grind arith
-
-less_over : (armed : Option ℕ) → IsOver armed → IsOver (after_calls 1 armed)
-less_over None over = tt
-less_over (Some n) over = omega (arith, over)
+use Rattle.ec_disk.proofs.TurnLaws.{less_armed, less_over}
 
 due_armed : (armed : Option ℕ) → IsDue armed → IsSome armed
 due_armed None due = absurd due

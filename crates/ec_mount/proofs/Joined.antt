@@ -13,11 +13,13 @@ use Rattle.ec_clerknode.specs.declared.state.Node.{Node}
 use Rattle.ec_clerknode.specs.declared.step.Step.{Step}
 use Rattle.ec_clerknode.specs.Run.{calls}
 use Rattle.ec_clerknode.specs.Turns.{number_of, calls_by, Replied, SaidBye}
-use Rattle.ec_clerknode.proofs.Lists.{prefix_get, prefix_trans, member_left}
+use Rattle.ec_clerknode.proofs.Lists.{prefix_get}
 use Rattle.ec_mount.specs.Run.{Holds}
 use Rattle.ec_mount.specs.Calls.{Drew, HoldsAll, FrontsStand, CallsEnd, Called}
 use Rattle.ec_mount.proofs.Causes.{has_longer}
 use Rattle.ec_mount.proofs.Passing.{Joins, said_more}
+use Rattle.ec_base.proofs.Lists.{prefix_trans}
+use Rattle.ec_lock.proofs.Numbers.{member_left}
 
 -- a pass has begun no call where its list was empty
 pub no_calls : {L : Type 0} (old own : Pass (Node L) Step) → front old ≡ [] → own.number ≡ old.number → of number_of old.number (front old) ≡ of number_of old.number (front own) → calls_by own.number (front own) ≡ []

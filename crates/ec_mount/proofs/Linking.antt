@@ -19,11 +19,12 @@ use Rattle.ec_clerknode.specs.Run.{heard_of, heard_by, said_in, said_by}
 use Rattle.ec_clerknode.specs.RunEnds.{net_of, nets}
 use Rattle.ec_clerknode.specs.Turns.{number_of}
 use Rattle.ec_clerknode.specs.PassTurns.{Turned, Relinked}
-use Rattle.ec_clerknode.proofs.Lists.{prefix_self, prefix_trans, member_right}
 use Rattle.ec_clerknode.proofs.Parts.{went_on, some_parts, parts_more, parts_new, part_new, has_two, has_parts}
 use Rattle.ec_mount.specs.Run.{NetSeen, AreTold}
 use Rattle.ec_mount.specs.Linking.{AreToldFrom, nets_in, Linked, Handed, HandedBy, LinkedMore, HasLinked}
 use Rattle.ec_base.specs.Lists.{Tells}
+use Rattle.ec_base.proofs.Lists.{prefix_self, prefix_trans}
+use Rattle.ec_lock.proofs.Numbers.{member_right}
 
 -- A pass had turns, or none.
 

@@ -21,12 +21,13 @@ use Rattle.ec_clerknode.specs.declared.jobs.AllReplied.{AllReplied}
 use Rattle.ec_clerknode.specs.Lanes.{AreFronts}
 use Rattle.ec_clerknode.specs.LaneRuns.{IfTold, LanesCame, LanesMade}
 use Rattle.ec_clerknode.proofs.LanePasses.{whole_fronts}
-use Rattle.ec_clerknode.proofs.Lists.{prefix_self, prefix_trans, member_left, member_right}
 use Rattle.ec_mount.specs.Run.{Has, Holds}
 use Rattle.ec_mount.specs.declared.calls.Met.{Met}
 use Rattle.ec_mount.specs.declared.calls.Met.TheVariants as met
 use Rattle.ec_mount.specs.Calls.{IfSaid, Judges, Flushed, SideRan, Drew, LanesStand, FrontsStand, LanesEnd, RanBeside, Ended, Called}
 use Rattle.ec_mount.proofs.Causes.{has_longer, failed_has, lane_has}
+use Rattle.ec_base.proofs.Lists.{prefix_self, prefix_trans}
+use Rattle.ec_lock.proofs.Numbers.{member_left, member_right}
 
 -- What is said of the answers that came before a fault.
 

@@ -25,7 +25,7 @@ use Rattle.ec_clerknode.specs.Run.{IsRun, AreSaid, calls, heard_by, said_by, tol
 use Rattle.ec_clerknode.specs.RunEnds.{nets}
 use Rattle.ec_clerknode.specs.Turns.{number_of}
 use Rattle.ec_clerknode.specs.PassTurns.{Finished}
-use Rattle.ec_clerknode.proofs.Lists.{prefix_get, prefix_trans}
+use Rattle.ec_clerknode.proofs.Lists.{prefix_get}
 use Rattle.ec_clerknode.proofs.Parts.{part_whole, parts_more, has_two, has_parts}
 use Rattle.ec_outs.proofs.Told.{added-nil}
 use Rattle.ec_mount.specs.Run.{NetSeen, AreTold, Ran, Holds, HoldsFronts, Has, Met, Lost, Spends, Unheard}
@@ -37,6 +37,7 @@ use Rattle.ec_mount.specs.Linking.{AreToldFrom, HasLinked, nets_in}
 use Rattle.ec_mount.proofs.Causes.{has_longer, net_counted}
 use Rattle.ec_mount.proofs.Linking.{whole_now, told_now, told_behind, told_all, told_from, nets_parts, nets_last, some_of, bad_of}
 use Rattle.ec_base.specs.Lists.{Tells as run_Tells}
+use Rattle.ec_base.proofs.Lists.{all-taken, prefix_trans}
 
 -- a link, by what is told of it
 abbrev pub seen_of : {L : Type 0} → (L → ℕ) → (L → Option (List Heard)) → (L → Option (List (List ℕ))) → L → LinkSeen
@@ -271,14 +272,10 @@ ran_one id boot before after steps e one r =
 
 -- Over a link that greeted first.
 
-take_all : {A : Type 0} (xs : List A) → take (length xs) xs ≡ xs
-take_all [] = refl
-take_all (x ∷ xs) = ap (λ l. x ∷ l) (take_all xs)
-
 pub sent_all : (n : ℕ) (old bell new : Option (List (List ℕ))) (outs shown : List Out) → shown ≡ outs → bell ≡ old → new ≡ added bell (map encoded (take n (sends shown))) → n ≡ length (sends shown) → new ≡ added old (map encoded (sends outs))
 sent_all n old bell new outs shown same was e is =
     subst (λ o. new ≡ added o (map encoded (sends outs))) was
-    (subst (λ l. new ≡ added bell (map encoded (sends l))) same (e ∙ ap (λ l. added bell (map encoded l)) (ap (λ k. take k (sends shown)) is ∙ take_all (sends shown))))
+    (subst (λ l. new ≡ added bell (map encoded (sends l))) same (e ∙ ap (λ l. added bell (map encoded l)) (ap (λ k. take k (sends shown)) is ∙ all-taken (sends shown))))
 
 -- what a run says that came back
 pub some_greeted : {L A : Type 0} (P Q : L → Given → Type 0) (seen : A → Given) (o : Option (L × A)) → ((l : L) (r : Given) → P l r → Q l r) → IfSome o (λ r. P r.0 (seen r.1)) → IfSome o (λ r. Q r.0 (seen r.1))

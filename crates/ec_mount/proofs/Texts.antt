@@ -5,8 +5,6 @@ use Rattle.std.proofs.KnownBytes.{Appends-nil, Appends-trans}
 use Rattle.std.specs.Io.KnownBytes.{Appends}
 use Rattle.std.specs.declared.alloc.Global.{Global}
 use Rattle.std.specs.List.{flat_map}
-use Rattle.ec_base.specs.Limits.{last_count}
-use Rattle.ec_base.specs.Outside.{Rose}
 use Rattle.ec_streams.specs.Writes.{WriteFailed, WrotePart}
 use Rattle.ec_streams.specs.declared.streams.WriteFault.{WriteFault}
 use Rattle.ec_streams.specs.declared.streams.WriteFault.TheVariants as write
@@ -17,12 +15,8 @@ use Rattle.ec_mount.specs.Writes.{Wrote, WroteAs}
 use Rattle.ec_mount.specs.declared.script.Row.{Row}
 use Rattle.ec_mount.specs.declared.status.Status.{Status}
 use Rattle.ec_outs.specs.Outs.{Reply}
-
-rose_later : (f g h : ℕ) → f ≤ g → Rose g h → Rose f h
-rose_later f g h le r = later last_count f g h le r
-  where
-    later : (last f g h : ℕ) → f ≤ g → cond (g == last) g (g + 1) ≤ h → cond (f == last) f (f + 1) ≤ h
-    later last f g h le r = grind arith
+use Rattle.ec_base.proofs.Numbers.{differ}
+use Rattle.ec_base.proofs.OutsideLemmas.{rose_later}
 
 failed_later : (f g h : ℕ) (e : WriteFault) → f ≤ g → WriteFailed g h e → WriteFailed f h e
 failed_later f g h write.Failed le r = rose_later f g h le r
@@ -152,15 +146,12 @@ end_some reply = omega arith
 are_same : (a b : ℕ) → a ≡ b → (a == b) ≡ true
 are_same a b e = grind arith
 
-are_other : (a b : ℕ) → (a ≡ b → ⊥) → (a == b) ≡ false
-are_other a b e = grind arith
-
 pub row_next : (lane : ℕ) (row : Row) (here rest : List Row) (replies : List Reply) (reply : Reply) (more : List Reply) → here ≡ row ∷ rest → row.lane ≡ lane → replies ≡ reply ∷ more
     → answers_text (rows_of lane here) replies ≡ row_text row reply ++ answers_text (rows_of lane rest) more
 row_next lane row here rest replies reply more e is next = ap (λ l. answers_text (rows_of lane l) replies) e ∙ (ap (λ l. answers_text l replies) (this_lane lane row rest (are_same row.lane lane is)) ∙ ap (λ l. answers_text (row ∷ rows_of lane rest) l) next)
 
 pub row_other : (lane : ℕ) (row : Row) (here rest : List Row) (replies : List Reply) → here ≡ row ∷ rest → (row.lane ≡ lane → ⊥) → answers_text (rows_of lane here) replies ≡ answers_text (rows_of lane rest) replies
-row_other lane row here rest replies e is = ap (λ l. answers_text (rows_of lane l) replies) e ∙ ap (λ l. answers_text l replies) (other_lane lane row rest (are_other row.lane lane is))
+row_other lane row here rest replies e is = ap (λ l. answers_text (rows_of lane l) replies) e ∙ ap (λ l. answers_text l replies) (other_lane lane row rest (differ row.lane lane is))
 
 pub lanes_next : (lane : ℕ) (rows : List Row) (here : List (Vec Reply Global)) (one : Vec Reply Global) (rest : List (Vec Reply Global)) → here ≡ one ∷ rest
     → lanes_text lane rows (map (λ w. w.items) here) ≡ answers_text (rows_of lane rows) one.items ++ lanes_text (lane + 1) rows (map (λ w. w.items) rest)

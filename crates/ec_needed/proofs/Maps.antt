@@ -1,15 +1,9 @@
 -- Maps by number, with a key changed.
-use Rattle.std.proofs.Common.{◌≡◌, refl, sym, ap, subst, ◌∙◌, ℕ, Bool, true, false, cond, List, [], ◌∷◌, ◌++◌, Option, Some, length, take, drop, get_or, arith}
-use Rattle.std.specs.Prelude.{◌==◌, ◌||◌, ◌-◌, ◌≤◌, is_some, OnSome}
-use Rattle.std.specs.Ordering.{nat_cmp}
-use Rattle.std.specs.Cmp.{nat_cmp_total, unsigned_ties}
-use Rattle.std.specs.FinMap.Entries.{find-put}
-use Rattle.std.proofs.lemmas.List.{take_all}
+use Rattle.std.proofs.Common.{◌≡◌, refl, sym, ap, subst, ◌∙◌, ℕ, Bool, true, false, cond, List, [], ◌∷◌, ◌++◌, Option, Some}
+use Rattle.std.specs.Prelude.{◌==◌, ◌||◌, is_some, OnSome}
 use Rattle.ec_base.specs.Tables.{Table, at, at_or, put}
 use Rattle.ec_volume.specs.Update.{member}
-
-pub at-put : {X : Type 0} (j k : ℕ) (x : X) (es : Table X) → at j (put k x es) ≡ cond (j == k) (Some x) (at j es)
-at-put j k x es = find-put nat_cmp nat_cmp_total j k x es ∙ ap (λ b. cond b (Some x) (at j es)) (sym (unsigned_ties j k))
+use Rattle.ec_objmap.proofs.Entries.{at-put}
 
 -- an empty value stands for the one that is taken out
 pub taken : {X : Type 0} (k : ℕ) (none some : X) (old new : Table X) (was : Option X) → was ≡ Some some → OnSome was (new ≡ put k none old) → (j : ℕ) → (j == k) ≡ false → at j new ≡ at j old
@@ -38,8 +32,3 @@ noted k ks old middle new is rest j = rest j ∙ ap (λ m. member j ks || is_som
 pub noted_first : (ks rest : List ℕ) (k : ℕ) (old middle new : Table (Unit {0})) → ks ≡ k ∷ rest → middle ≡ put k tt old → ((j : ℕ) → is_some (at j new) ≡ (member j rest || is_some (at j middle)))
     → (j : ℕ) → is_some (at j new) ≡ (member j ks || is_some (at j old))
 noted_first ks rest k old middle new split is h j = noted k rest old middle new is h j ∙ ap (λ l. member j l || is_some (at j old)) (sym split)
-
--- the first of a list and the others
-pub split_first : (ks : List ℕ) (k : ℕ) → k ≡ get_or ks 0 k → 1 ≤ length ks → ks ≡ k ∷ take (length ks - 1) (drop 1 ks)
-split_first [] k e l = absurd (omega (arith, l))
-split_first (j ∷ ks) k e l = ap (λ i. i ∷ ks) (sym e) ∙ ap (λ r. k ∷ r) (sym (take_all (length (j ∷ ks) - 1) ks (omega arith)))

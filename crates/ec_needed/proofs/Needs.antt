@@ -11,6 +11,7 @@ use Rattle.ec_volume.specs.declared.update.Update.TheVariants.{Make, Drop, Move,
 use Rattle.ec_order.specs.Order.{is_overwrite, share, under, needs, meet}
 use Rattle.ec_needed.specs.declared.needed.Range.{Range}
 use Rattle.ec_needed.specs.Needed.{Others, Ranges, range_of, is_on, is_needed}
+use Rattle.ec_base.proofs.Bools.{or_false}
 
 -- An update is an overwrite of a range or none.
 
@@ -45,10 +46,6 @@ look (Owner obj owner) = inr (record { is = refl; none = refl; lower = λ y. ref
 and_true : (s : Bool) → ((s && true) || false) ≡ s
 and_true true = refl
 and_true false = refl
-
-or_false : (s : Bool) → (s || false) ≡ s
-or_false true = refl
-or_false false = refl
 
 and_false : (s u : Bool) → ((s && false) || u) ≡ u
 and_false true u = refl

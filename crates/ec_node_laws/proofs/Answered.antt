@@ -34,7 +34,7 @@ use Rattle.ec_protocol.specs.declared.clerk.Out.TheVariants as out
 use Rattle.ec_protocol.specs.declared.clerk.Recalled.{Recalled}
 use Rattle.ec_protocol.specs.declared.clerk.Waiting.{Waiting}
 use Rattle.ec_node_laws.specs.Rooms.{PassesOn, counts_in}
-use Rattle.ec_node_laws.proofs.Taken.{each-more}
+use Rattle.ec_history.proofs.HistoryLemmas.{each-more}
 
 module _ (counts : Option (ℕ × ℕ)) where
   abbrev IsOwn : Out → Type 0

@@ -23,7 +23,8 @@ use Rattle.ec_durable.specs.declared.state.Durable.{Durable}
 use Rattle.ec_protocol.specs.Server.{Serving, act, act_all, all_claimed, clerk_of, end, end_open, epoch, is_grant, is_last_number, new_server, next_number, serve, serve_rounds, serving, spend, start, stay, take, taken, tell, tell_all, tell_ended, tell_start, with_server}
 use Rattle.ec_protocol.specs.declared.server.Server.{Server}
 use Rattle.ec_node_laws.specs.Rooms.{RefusesNone, TellsCounts}
-use Rattle.ec_node_laws.proofs.Taken.{IsKept, IsPlain, MayCome, each-more, ended-goes, taken-goes}
+use Rattle.ec_node_laws.proofs.Taken.{IsKept, IsPlain, MayCome, ended-goes, taken-goes}
+use Rattle.ec_history.proofs.HistoryLemmas.{each-more}
 
 -- Reserved ids are unspent ones of open sessions.
 few-reserved : (ss : Slots) → slots.reserved ss ≤ length (all_unspent ss)

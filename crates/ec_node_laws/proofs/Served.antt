@@ -10,9 +10,9 @@ use Rattle.ec_recall.specs.declared.want.Action.{Action}
 use Rattle.ec_recall.specs.declared.want.Action.TheVariants.{Grant, Recall}
 use Rattle.ec_protocol.specs.Server.{Serving, act, act_all, all_claimed, is_claimed, is_grant, is_last_number, next_number, serve, serve_rounds, spend, with_server}
 use Rattle.ec_protocol.specs.declared.server.Server.{Server}
-use Rattle.ec_once.proofs.Moves.{none_some}
 use Rattle.ec_node_laws.specs.Claims.{IsOpen}
 use Rattle.ec_node_laws.proofs.Unclaimed.{HasNot}
+use Rattle.ec_base.proofs.Options.{none-some as none_some}
 
 -- sessions and claims are the same
 record SameIn (t u : Serving) : Type 0 where

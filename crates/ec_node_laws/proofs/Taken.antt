@@ -1,5 +1,5 @@
 -- What a server does with a message before it serves wants: what its changes keep, and what it sends.
-use Rattle.std.proofs.Common.{◌≡◌, refl, ◌+◌, ◌==◌, ◌&&◌, ◌||◌, ℕ, Bool, true, false, List, [], ◌∷◌, ◌++◌, Option, Some, None}
+use Rattle.std.proofs.Common.{◌≡◌, refl, ◌+◌, ◌==◌, ◌&&◌, ◌||◌, ℕ, Bool, true, false, List, [], ◌∷◌, Option, Some, None}
 use Rattle.std.specs.Prelude.{nat_le, nat_lt, is_none, is_some, Result, Ok, Err, ⊤}
 use Rattle.ec_base.specs.Limits.{last_counter}
 use Rattle.ec_base.specs.Tables.{Table, at, at_or, put}
@@ -28,10 +28,7 @@ use Rattle.ec_durable.specs.declared.record.RecordFault.{RecordFault}
 use Rattle.ec_durable.specs.declared.state.Durable.{Durable}
 use Rattle.ec_protocol.specs.Server.{Serving, add_claimed, back, claim, commit, end_open, epoch, finish, flush, forget, forget_old, grant_ids, greet, has_claimed, ids_are_spent, in_session, is_last_number, may_write, next_number, note, open_new, record_ids, resend_ids, room, send_grant, send_ids, slot_of, spend, stay, taken, tell, tell_ended, tell_opened, want, with_ids, with_server}
 use Rattle.ec_protocol.specs.declared.server.Server.{Server}
-
-pub each-more : {A : Type 0} (P : A → Type 0) (xs ys : List A) → Each P xs → Each P ys → Each P (xs ++ ys)
-each-more P [] ys h k = k
-each-more P (x ∷ xs) ys h k = (h.0, each-more P xs ys h.1 k)
+use Rattle.ec_history.proofs.HistoryLemmas.{each-more}
 
 -- it neither grants nor recalls, and refuses no room
 abbrev pub IsPlain : Msg → Type 0

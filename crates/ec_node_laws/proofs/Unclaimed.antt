@@ -12,6 +12,8 @@ use Rattle.ec_protocol.specs.Server.{add_claimed, forget_old}
 use Rattle.ec_protocol.specs.declared.server.Server.{Server}
 use Rattle.ec_once.proofs.Moves.{moves}
 use Rattle.ec_node_laws.proofs.Taken.{IsKept}
+use Rattle.ec_base.proofs.Bools.{or-right}
+use Rattle.ec_base.proofs.Numbers.{other-number}
 
 pub record HasNot (s : ℕ) (v : Server) : Type 0 where
   pub unclaimed : T (member s v.claimed) → ⊥
@@ -21,26 +23,19 @@ or-one : (a b c : Bool) → T (a || b) → (T b → T c) → T (a || c)
 or-one true b c h f = tt
 or-one false b c h f = f h
 
-or-other : (a c : Bool) → T c → T (a || c)
-or-other true c h = tt
-or-other false c h = h
-
 in-part : (test : ℕ → Bool) (s : ℕ) (xs : List ℕ) → T (member s (filter test xs)) → T (member s xs)
 in-part test s [] h = h
 in-part test s (x ∷ xs) h = go (test x) h (in-part test s xs)
   where
     go : (b : Bool) → T (member s (cond b (x ∷ filter test xs) (filter test xs))) → (T (member s (filter test xs)) → T (member s xs)) → T ((s == x) || member s xs)
     go true h f = or-one (s == x) (member s (filter test xs)) (member s xs) h f
-    go false h f = or-other (s == x) (member s xs) (f h)
-
-not-later : (s n : ℕ) → s < n → (s == n) ≡ false
-not-later s n lt = grind (arith, lt)
+    go false h f = or-right (s == x) (member s xs) (f h)
 
 pub next-later : (r : Record) (d e : Durable) → step r d ≡ Ok e → (s : ℕ) → s < d.next_session → s < e.next_session
 next-later r d e ok s lt = let le = (moves r d e ok).1.later in omega (arith, lt, le)
 
 added : (s n : ℕ) (xs : List ℕ) → s < n → (T (member s xs) → ⊥) → T (member s (n ∷ xs)) → ⊥
-added s n xs lt f m = f (subst (λ b. T (b || member s xs)) (not-later s n lt) m)
+added s n xs lt f m = f (subst (λ b. T (b || member s xs)) (other-number s n lt) m)
 
 module _ (s : ℕ) where
   abbrev pub IsOther : ℕ → Type 0

@@ -7,7 +7,7 @@ use Rattle.std.proofs.lemmas.List.{take_more, take_all}
 use Rattle.ec_volume.specs.Update.{member}
 use Rattle.ec_numbers.specs.Numbers.{IsIndex}
 
-member-append : (n : ℕ) (xs ys : List ℕ) → member n (xs ++ ys) ≡ (member n xs || member n ys)
+pub member-append : (n : ℕ) (xs ys : List ℕ) → member n (xs ++ ys) ≡ (member n xs || member n ys)
 member-append n [] ys = refl
 member-append n (x ∷ xs) ys = ap (λ z. (n == x) || z) (member-append n xs ys) ∙ go (n == x)
   where

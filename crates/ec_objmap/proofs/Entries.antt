@@ -6,18 +6,18 @@ use Rattle.std.specs.Cmp.{nat_cmp_total, unsigned_ties}
 use Rattle.std.specs.FinMap.{is_sorted}
 use Rattle.std.specs.FinMap.Entries.{is_sorted-put, find-put, same_entries}
 use Rattle.std.specs.declared.cmp.Reverse.{Reverse}
-use Rattle.std.specs.declared.cmp.Ordering.TheVariants.{Equal}
 use Rattle.std.specs.BTreeMap.{is_at}
 use Rattle.std.specs.Map.{lookup}
 use Rattle.std.proofs.lemmas.Bool.Decides.{nat_tests}
 use Rattle.ec_base.specs.Tables.{Table, at, put}
 use Rattle.ec_objmap.specs.Objects.{by_object}
+use Rattle.ec_base.proofs.Numbers.{tied}
 
 -- the value of the object
 abbrev pub found : {X : Type 0} → ℕ → List (Reverse ℕ × X) → Option X
 found k es = lookup (is_at (λ r. nat_cmp r.0 k)) es
 
-at-put : {X : Type 0} (j k : ℕ) (x : X) (es : Table X) → at j (put k x es) ≡ cond (j == k) (Some x) (at j es)
+pub at-put : {X : Type 0} (j k : ℕ) (x : X) (es : Table X) → at j (put k x es) ≡ cond (j == k) (Some x) (at j es)
 at-put j k x es = find-put nat_cmp nat_cmp_total j k x es ∙ ap (λ b. cond b (Some x) (at j es)) (sym (unsigned_ties j k))
 
 turned : (j k : ℕ) → is_eq (nat_cmp k j) ≡ (j == k)
@@ -38,12 +38,9 @@ IsWith k w old new = (q : Reverse ℕ) → found q.0 new ≡ cond (is_at (λ r. 
 pub at-with : {X : Type 0} (k : ℕ) (w : Option X) (old new : List (Reverse ℕ × X)) → IsWith k w old new → (o : ℕ) → at o (by_object new) ≡ cond (o == k) w (at o (by_object old))
 at-with k w old new h o = sym (at-is o new) ∙ h (record { 0 = o }) ∙ ap (λ b. cond b w (found o old)) (sym (unsigned_ties o k)) ∙ ap (cond (o == k) w) (at-is o old)
 
-same : (j k : ℕ) → nat_cmp j k ≡ Equal → j ≡ k
-same j k e = grind (arith, nat_tests, e)
-
 pub put-with : {X : Type 0} (k : ℕ) (x : X) (old new : List (Reverse ℕ × X)) → IsWith k (Some x) old new → by_object new ≡ put k x (by_object old)
 put-with k x old new h =
-    same_entries nat_cmp nat_cmp_total same (by_object new) (put k x (by_object old)) (rising new) (is_sorted-put nat_cmp nat_cmp_total k x (by_object old) (rising old))
+    same_entries nat_cmp nat_cmp_total tied (by_object new) (put k x (by_object old)) (rising new) (is_sorted-put nat_cmp nat_cmp_total k x (by_object old) (rising old))
     (λ o. at-with k (Some x) old new h o ∙ sym (at-put o k x (by_object old)))
 
 pub on-none : {A : Type 0} (P : Type 0) (r : Option A) → r ≡ None → OnSome r P

@@ -1,5 +1,5 @@
 -- What a record that steps makes of the slots' sessions and windows.
-use Rattle.std.proofs.Common.{◌≡◌, ◌≢◌, refl, sym, ap, subst, ◌∙◌, inl, inr, ◌⊎◌, arith, ◌≤◌, ◌<◌, ◌+◌, ℕ, zero, suc, T, Bool, true, false, cond, ◌==◌, ◌&&◌, ◌||◌, List, [], ◌∷◌, length, Option, Some, None}
+use Rattle.std.proofs.Common.{◌≡◌, ◌≢◌, refl, sym, ap, subst, ◌∙◌, inl, inr, ◌⊎◌, arith, ◌≤◌, ◌<◌, ◌+◌, ℕ, T, Bool, true, false, cond, ◌==◌, ◌&&◌, ◌||◌, List, [], ◌∷◌, Option, Some, None}
 use Rattle.std.specs.Prelude.{nat_lt, nat_le, Result, Ok, Err}
 use Rattle.std.proofs.lemmas.List.{get_or-set_same, get_or-set_other}
 use Rattle.std.proofs.lemmas.Bool.{eqb-true, eqb-false, ne_eqb, and_parts}
@@ -20,7 +20,7 @@ use Rattle.ec_durable.specs.declared.record.RecordFault.TheVariants as fault
 use Rattle.ec_durable.specs.declared.state.Durable.{Durable}
 use Rattle.ec_durable.proofs.Batches.{same_Ok, not_Ok}
 use Rattle.ec_machine_laws.specs.Records.{IsRestOf}
-use Rattle.ec_machine_laws.proofs.Recording.{batch-own, batch-rest, batch-session, ids-own, ids-rest, ids-session, open-own, open-rest, open-session}
+use Rattle.ec_machine_laws.proofs.Recording.{batch-own, batch-rest, batch-session, ids-own, ids-rest, ids-session, open-own, open-rest, open-session, in-range, passed-false, passed-true}
 
 -- Where a slot of the new state comes from: from the same clerk's one, with its session and no fewer batches; or it's the one that was opened.
 pub record IsKept (old new : Slot) : Type 0 where
@@ -41,12 +41,6 @@ pub record Moves (c : ℕ) (d e : Durable) : Type 0 where
 
 pub same_some : {A : Type 0} {x y : A} → Some x ≡ Some y → x ≡ y
 same_some {x = x} {y = y} e = cc
-
-pub none_some : {A : Type 0} {B : Type 0} (k : A) → ◌≡◌ {A = Option A} None (Some k) → B
-none_some {A} k e = absurd (apart e)
-  where
-    apart : ◌≡◌ {A = Option A} None (Some k) → ⊥
-    apart e = cc
 
 kept-self : (sl : Slot) → IsKept sl sl
 kept-self sl = record { session = refl; more = λ b h. h }
@@ -71,17 +65,9 @@ tested : (t : Bool) (f : RecordFault) (r : Result Durable RecordFault) (e : Dura
 tested true f r e p = refl
 tested false f r e p = absurd (not_Ok p)
 
-past-test : (t : Bool) (f : RecordFault) (r : Result Durable RecordFault) (e : Durable) → elim t as (λ z. Result Durable RecordFault) [ false ↦ Err f | true ↦ r ] ≡ Ok e → r ≡ Ok e
-past-test true f r e p = p
-past-test false f r e p = absurd (not_Ok p)
-
 untested : (t : Bool) (f : RecordFault) (r : Result Durable RecordFault) (e : Durable) → elim t as (λ z. Result Durable RecordFault) [ true ↦ Err f | false ↦ r ] ≡ Ok e → t ≡ false
 untested false f r e p = refl
 untested true f r e p = absurd (not_Ok p)
-
-past-untest : (t : Bool) (f : RecordFault) (r : Result Durable RecordFault) (e : Durable) → elim t as (λ z. Result Durable RecordFault) [ true ↦ Err f | false ↦ r ] ≡ Ok e → r ≡ Ok e
-past-untest false f r e p = p
-past-untest true f r e p = absurd (not_Ok p)
 
 -- A batch that steps is of its clerk's open session, and its number is neither in the window nor beyond it.
 pub record IsNew (c s b : ℕ) (d : Durable) : Type 0 where
@@ -95,8 +81,8 @@ batch-tests : (c s b : ℕ) (ops : List (ℕ × Update)) (d e : Durable) → ste
 batch-tests c s b ops d e ok =
     let far : Result Durable RecordFault = elim (is_beyond b (slot d c)) as (λ z. Result Durable RecordFault) [ true ↦ Err (fault.Beyond (low (slot d c))) | false ↦ batch_step c b ops d ] in
     let done : Result Durable RecordFault = elim (has_batch b (slot d c)) as (λ z. Result Durable RecordFault) [ true ↦ Err (fault.Done b) | false ↦ far ] in
-    let first = past-test (is_session s (slot d c)) fault.NoSession done e ok in
-    let second = past-untest (has_batch b (slot d c)) (fault.Done b) far e first in
+    let first = passed-false (is_session s (slot d c)) fault.NoSession done e ok in
+    let second = passed-true (has_batch b (slot d c)) (fault.Done b) far e first in
     (tested (is_session s (slot d c)) fault.NoSession done e ok, untested (has_batch b (slot d c)) (fault.Done b) far e first, untested (is_beyond b (slot d c)) (fault.Beyond (low (slot d c))) (batch_step c b ops d) e second)
 
 or_false : (a b : Bool) → (a || b) ≡ false → a ≡ false
@@ -133,16 +119,11 @@ ids-moves c s got first d e ok =
       subst (IsKept o.0) (same_some (sym (ids-own c s got first d e o.0 o.1 ok) ∙ at)) (record { session = refl; more = λ k h. h }),
     ))
 
-in-range : (ss : slots.Slots) (c : ℕ) (sl : Slot) → slots.slot_at ss c ≡ Some sl → c < length ss
-in-range [] c sl e = none_some sl e
-in-range (o ∷ ss) zero sl e = omega arith
-in-range (o ∷ ss) (suc c) sl e = omega (arith, in-range ss c sl e)
-
 open-moves : (c s : ℕ) (age : Age) (d e : Durable) → step (Open c age s) d ≡ Ok e → Moves c d e
 open-moves c s age d e ok =
     let rest = open-rest c s age d e ok in
     let next = open-session c s age d e ok in
-    let second = past-test (slots.is_greater (slot d c) age) fault.BadAge _ e ok in
+    let second = passed-false (slots.is_greater (slot d c) age) fault.BadAge _ e ok in
     let number : is_next_session s d ≡ true = tested (is_next_session s d) fault.BadNumber _ e second in
     let is : s ≡ d.next_session = eqb-true s d.next_session ((and_parts (s == d.next_session) (nat_lt s last_counter) number).0) in
     changed c d e rest (omega (arith, next, is)) (λ new at.
@@ -153,7 +134,7 @@ end-moves : (c s : ℕ) (d e : Durable) → step (End c s) d ≡ Ok e → Moves 
 end-moves c s d e ok =
     let yes = tested (is_session s (slot d c)) fault.NoSession _ e ok in
     let o = open-slot s (slot d c) yes in
-    let is : with_slot c (slots.ended (slot d c)) d ≡ e = same_Ok (past-test (is_session s (slot d c)) fault.NoSession _ e ok) in
+    let is : with_slot c (slots.ended (slot d c)) d ≡ e = same_Ok (passed-false (is_session s (slot d c)) fault.NoSession _ e ok) in
     subst (Moves c d) is (moved o.0 o.1)
   where
     ended-kept : (sl new : Slot) → slots.ended (Some sl) ≡ Some new → IsKept sl new
@@ -175,7 +156,7 @@ end-moves c s d e ok =
 
 epoch-moves : (n : ℕ) (d e : Durable) → step (Epoch n) d ≡ Ok e → Moves 0 d e
 epoch-moves n d e ok =
-    let is : record d { epoch = n } ≡ e = same_Ok (past-test (n == d.epoch + 1) fault.BadNumber _ e ok) in
+    let is : record d { epoch = n } ≡ e = same_Ok (passed-false (n == d.epoch + 1) fault.BadNumber _ e ok) in
     subst (Moves 0 d) is (record { later = omega arith; from = λ j new at. inl (new, at, kept-self new) })
 
 pub moves : (r : Record) (d e : Durable) → step r d ≡ Ok e → (c : ℕ) × Moves c d e

@@ -17,7 +17,9 @@ use Rattle.ec_durable.specs.declared.record.RecordFault.{RecordFault}
 use Rattle.ec_durable.specs.declared.state.Durable.{Durable}
 use Rattle.ec_durable.proofs.Batches.{same_Ok, not_Ok}
 use Rattle.ec_once.specs.Once.{applies, applied, IsPast, NoneAgain, AllPast}
-use Rattle.ec_once.proofs.Moves.{Moves, From, IsKept, IsOpened, moves, new-batch, applied-has, same_some, none_some}
+use Rattle.ec_once.proofs.Moves.{Moves, From, IsKept, IsOpened, moves, new-batch, applied-has, same_some}
+use Rattle.ec_base.proofs.Bools.{left as first, right}
+use Rattle.ec_base.proofs.Options.{none-some as none_some}
 
 -- Each slot's session is below the next one, and no two slots have the same.
 record AreSessions (d : Durable) : Type 0 where
@@ -132,14 +134,6 @@ counts s b (r ∷ rs) d e ok = go (step r d) refl ok (λ m. counts s b rs m e)
 
 -- The sessions of a state in order.
 
-first : (a b : Bool) → T (a && b) → T a
-first true b h = tt
-first false b h = absurd h
-
-second : (a b : Bool) → T (a && b) → T b
-second true b h = h
-second false b h = absurd h
-
 none-both : (a b : Bool) → T (not a && b) → a ≡ true → ⊥
 none-both true b h p = absurd h
 none-both false b h p = absurd (apart p)
@@ -170,14 +164,14 @@ one-place (None ∷ slots) (suc c) (suc e) sl tl d p q same = ap suc (one-place 
 one-place (Some a ∷ slots) zero zero sl tl d p q same = refl
 one-place (Some a ∷ slots) zero (suc e) sl tl d p q same = absurd (not-later a slots e tl d q (ap (λ z. z.session) (same_some p) ∙ same))
 one-place (Some a ∷ slots) (suc c) zero sl tl d p q same = absurd (not-later a slots c sl d p (ap (λ z. z.session) (same_some q) ∙ sym same))
-one-place (Some a ∷ slots) (suc c) (suc e) sl tl d p q same = ap suc (one-place slots c e sl tl (second (not (member a.session (sessions_of slots))) (distinct (sessions_of slots)) d) p q same)
+one-place (Some a ∷ slots) (suc c) (suc e) sl tl d p q same = ap suc (one-place slots c e sl tl (right (not (member a.session (sessions_of slots))) (distinct (sessions_of slots)) d) p q same)
 
 of-sessions : (P : ℕ → Bool) (slots : Slots) → T (list_all P (sessions_of slots)) → (c : ℕ) (sl : Slot) → slot_at slots c ≡ Some sl → T (P sl.session)
 of-sessions P [] h c sl p = none_some sl p
 of-sessions P (None ∷ slots) h zero sl p = none_some sl p
 of-sessions P (None ∷ slots) h (suc c) sl p = of-sessions P slots h c sl p
 of-sessions P (Some a ∷ slots) h zero sl p = subst (λ z. T (P z.session)) (same_some p) (first (P a.session) (list_all P (sessions_of slots)) h)
-of-sessions P (Some a ∷ slots) h (suc c) sl p = of-sessions P slots (second (P a.session) (list_all P (sessions_of slots)) h) c sl p
+of-sessions P (Some a ∷ slots) h (suc c) sl p = of-sessions P slots (right (P a.session) (list_all P (sessions_of slots)) h) c sl p
 
 in-order : (d : Durable) → IsInOrder d → AreSessions d
 in-order d h = record {

@@ -42,6 +42,8 @@ use Rattle.ec_durable.specs.declared.state.Durable.{Durable}
 use Rattle.ec_protocol.specs.Server.{Serving, act, act_all, all_claimed, back, claim, clerk_of, commit, end, end_open, epoch, finish, flush, forget, grant_ids, greet, has_claimed, hello, ids_are_spent, in_session, is_grant, is_last_number, may_write, new_server, next_number, note, open_new, record_ids, resend_ids, room, send_grant, send_ids}
 use Rattle.ec_protocol.specs.Server.{serve, serve_rounds, serving, slot_of, spend, start, stay, take, taken, tell, tell_all, tell_ended, tell_opened, tell_start, want, with_ids, with_server}
 use Rattle.ec_protocol.specs.declared.server.Server.{Server}
+use Rattle.ec_base.proofs.Bools.{left, right}
+use Rattle.ec_wire.proofs.MessagesLemmas.{not-free}
 
 -- no two tokens conflict, and no want is Free
 pub record Good (v : Server) : Type 0 where
@@ -144,16 +146,11 @@ session-keeps c ss e n f t fs none g = by-slot (slot_of c t)
     by-slot None = begins t none g
     by-slot (Some sl) = if-own sl (sl.session == ss)
 
-unfree : (h : Hold) → T (is_held_mode h) → is_free h ≡ false
-unfree Free p = absurd p
-unfree Read p = refl
-unfree Write p = refl
-
 want-keeps : (c ss x : ℕ) (h : Hold) (last : ℕ) (t : Serving) → T (is_held_mode h) → Keeps t (want c ss x h last t)
 want-keeps c ss x h last t held none g = go (token t.server.tokens ss x)
   where
     noting : Going t.server.durable (note ss x h t)
-    noting = (record { sound = g.sound; held = held_noted ss x h t.server.recalls (unfree h held) g.held }, (begins t none g).1)
+    noting = (record { sound = g.sound; held = held_noted ss x h t.server.recalls (not-free h held) g.held }, (begins t none g).1)
 
     later : (k : Token) (b : Bool) → Going t.server.durable (elim b as (λ z. Serving) [ true ↦ send_grant c ss x k.hold k.number t | false ↦ note ss x h t ])
     later k true = begins t none g
@@ -293,15 +290,7 @@ claim-keeps c ss list sl t held none g = go (has_claimed ss t.server)
 
 -- Messages.
 
-left : (a b : Bool) → T (a && b) → T a
-left true b h = tt
-left false b h = absurd h
-
-right : (a b : Bool) → T (a && b) → T b
-right true b h = h
-right false b h = absurd h
-
-sound-ops : (ops : List (ℕ × Update)) → T (list_all (λ op. is_sound_update op.1) ops) → AreSoundOps ops
+pub sound-ops : (ops : List (ℕ × Update)) → T (list_all (λ op. is_sound_update op.1) ops) → AreSoundOps ops
 sound-ops [] h = tt
 sound-ops (op ∷ ops) h = (left (is_sound_update op.1) (list_all (λ op. is_sound_update op.1) ops) h, sound-ops ops (right (is_sound_update op.1) (list_all (λ op. is_sound_update op.1) ops) h))
 

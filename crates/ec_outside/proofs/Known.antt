@@ -7,6 +7,7 @@ use Rattle.ec_volume.specs.Update.{member, operands}
 use Rattle.ec_volume.specs.declared.update.Update.{Update}
 use Rattle.ec_order.specs.Order.{is_overwrite, share, before}
 use Rattle.ec_outside.specs.Outside.{is_after}
+use Rattle.ec_base.proofs.Bools.{and-none, and-true}
 
 pub any-either : (p q : ℕ → Bool) (xs : List ℕ) → list_any (λ x. p x || q x) xs ≡ (list_any p xs || list_any q xs)
 any-either p q [] = refl
@@ -23,14 +24,6 @@ pub any-same : (p q : ℕ → Bool) → ((x : ℕ) → p x ≡ q x) → (xs : Li
 any-same p q h [] = refl
 any-same p q h (x ∷ xs) = ap (λ b. b || list_any p xs) (h x) ∙ ap (λ b. q x || b) (any-same p q h xs)
 
-and-true : (b : Bool) → (b && true) ≡ b
-and-true true = refl
-and-true false = refl
-
-and-false : (b : Bool) → (b && false) ≡ false
-and-false true = refl
-and-false false = refl
-
 known-more : (u v : Update) (old new : Table (Unit {0})) → ((o : ℕ) → is_some (at o new) ≡ (member o (operands v) || is_some (at o old))) → list_any (λ o. is_some (at o new)) (operands u) ≡ (share u v || list_any (λ o. is_some (at o old)) (operands u))
 known-more u v old new h = any-same (λ o. is_some (at o new)) (λ o. member o (operands v) || is_some (at o old)) h (operands u) ∙ any-either (λ o. member o (operands v)) (λ o. is_some (at o old)) (operands u)
 
@@ -38,7 +31,7 @@ pub overwrite-more : (u v : Update) (objs objs' others : Table (Unit {0})) → i
 overwrite-more u v objs objs' others e h = go (is_overwrite u)
   where
     go : (b : Bool) → list_any (λ o. is_some (at o (cond b others objs'))) (operands u) ≡ ((share u v && not (b && is_overwrite v)) || list_any (λ o. is_some (at o (cond b others objs))) (operands u))
-    go true = sym (ap (λ z. (share u v && not z) || list_any (λ o. is_some (at o others)) (operands u)) e ∙ ap (λ z. z || list_any (λ o. is_some (at o others)) (operands u)) (and-false (share u v)))
+    go true = sym (ap (λ z. (share u v && not z) || list_any (λ o. is_some (at o others)) (operands u)) e ∙ ap (λ z. z || list_any (λ o. is_some (at o others)) (operands u)) (and-none (share u v)))
     go false = known-more u v objs objs' h ∙ sym (ap (λ z. z || list_any (λ o. is_some (at o objs)) (operands u)) (and-true (share u v)))
 
 pub other-more : (u v : Update) (objs objs' others others' : Table (Unit {0})) → is_overwrite v ≡ false → ((o : ℕ) → is_some (at o objs') ≡ (member o (operands v) || is_some (at o objs))) → ((o : ℕ) → is_some (at o others') ≡ (member o (operands v) || is_some (at o others)))

@@ -7,11 +7,9 @@ use Rattle.ec_volume.specs.Update.{is_sound, fits, effect}
 use Rattle.ec_volume.specs.Held.{is_held}
 use Rattle.ec_volume.specs.declared.image.Image.{Image}
 use Rattle.ec_volume.specs.declared.image.Image.TheVariants.{Gone, File, Dir}
-use Rattle.ec_volume.specs.declared.image.Kind.{Kind}
-use Rattle.ec_volume.specs.declared.image.Kind.TheVariants as kind
 use Rattle.ec_volume.specs.declared.update.Update.{Update}
 use Rattle.ec_volume.specs.declared.update.Update.TheVariants as update
-use Rattle.ec_volume.proofs.Within.{effect_held}
+use Rattle.ec_volume.proofs.Within.{effect_held, new_held}
 use Rattle.ec_objtable.specs.Slots.{held}
 use Rattle.ec_overlay.specs.Fine.{is_fine, IsFine}
 
@@ -46,10 +44,6 @@ none-fine t e o = subst IsFine (sym (e o)) tt
 
 -- What an update makes of an image.
 
-new-held : (k : Kind) → is_held (new_object k) ≡ true
-new-held kind.File = refl
-new-held kind.Dir = refl
-
 module _ (o : ℕ) where
   nothing : (b : Bool) → is_gone (cond b Gone Gone) ≡ false → is_held (cond b Gone Gone) ≡ true
   nothing true g = absurd (true≢false g)
@@ -60,7 +54,7 @@ module _ (o : ℕ) where
     where
       go : (b : Bool) → is_gone (cond b Gone (new_object k)) ≡ false → is_held (cond b Gone (new_object k)) ≡ true
       go true g = absurd (true≢false g)
-      go false g = new-held k
+      go false g = new_held k
   effect-gone (update.Drop dir name obj k) g = nothing (o == dir) g
   effect-gone (update.Move dir from to obj k victim) g = go (o == dir) (o == obj) g
     where

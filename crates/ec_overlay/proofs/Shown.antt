@@ -1,7 +1,6 @@
 -- What is shown behind an update.
-use Rattle.std.proofs.Common.{◌≤◌, ◌-◌, length, take, drop, get_or, ◌≡◌, refl, sym, ap, subst, ◌∙◌, arith, ℕ, T, Bool, true, false, not, cond, ◌==◌, ◌||◌, List, [], ◌∷◌, Some, None}
+use Rattle.std.proofs.Common.{◌≡◌, refl, sym, ap, subst, ◌∙◌, arith, ℕ, T, Bool, true, false, not, cond, ◌==◌, ◌||◌, List, [], ◌∷◌, Some, None}
 use Rattle.std.specs.Prelude.{Result, Ok, Err, IfOk, MatchBool}
-use Rattle.std.proofs.lemmas.List.{take_all}
 use Rattle.std.proofs.lemmas.Bool.{and_parts, eqb-true}
 use Rattle.std.proofs.lemmas.Bool.Decides.{nat_tests}
 use Rattle.ec_volume.specs.Update.{member, fits, effect, first_unfit, distinct}
@@ -109,8 +108,3 @@ module _ (u : Update) where
       all-changed (Ok true) x h = changes x h
       all-changed (Ok false) x h = (h.0, same ∙ h.1)
       all-changed (Err e) x h = tt
-
--- the first of a list and the others
-pub split_first : (ks : List ℕ) (k : ℕ) → k ≡ get_or ks 0 k → 1 ≤ length ks → ks ≡ k ∷ take (length ks - 1) (drop 1 ks)
-split_first [] k e l = absurd (omega (arith, l))
-split_first (j ∷ ks) k e l = ap (λ i. i ∷ ks) (sym e) ∙ ap (λ r. k ∷ r) (sym (take_all (length (j ∷ ks) - 1) ks (omega arith)))

@@ -1,22 +1,11 @@
 -- Spans of objects, with some changed.
-use Rattle.std.proofs.Common.{◌≡◌, refl, sym, ap, subst, ◌∙◌, arith, ◌<◌, ◌≤◌, ◌-◌, ℕ, T, Bool, true, false, cond, List, [], ◌∷◌, length, take, drop, get_or, Option, Some, None}
+use Rattle.std.proofs.Common.{◌≡◌, refl, sym, ap, subst, ◌∙◌, ◌<◌, ◌≤◌, ℕ, T, Bool, true, false, cond, List, ◌∷◌, Option, Some, None}
 use Rattle.std.specs.Prelude.{◌==◌, ◌&&◌, ◌||◌, is_some, OnSome, IfNone}
-use Rattle.std.specs.Ordering.{nat_cmp}
-use Rattle.std.specs.Cmp.{nat_cmp_total, unsigned_ties}
-use Rattle.std.specs.FinMap.Entries.{find-put}
 use Rattle.std.proofs.lemmas.Bool.{eqb-true}
-use Rattle.std.proofs.lemmas.List.{take_all}
-use Rattle.ec_base.specs.Tables.{Table, at, put}
+use Rattle.ec_base.specs.Tables.{at, put}
 use Rattle.ec_volume.specs.Update.{member}
 use Rattle.ec_owes.specs.Owes.{Spans, span, from_to, HasAll}
-
-pub at-put : {X : Type 0} (j k : ℕ) (x : X) (es : Table X) → at j (put k x es) ≡ cond (j == k) (Some x) (at j es)
-at-put j k x es = find-put nat_cmp nat_cmp_total j k x es ∙ ap (λ b. cond b (Some x) (at j es)) (sym (unsigned_ties j k))
-
--- the first of a list and the others
-pub split_first : (ks : List ℕ) (k : ℕ) → k ≡ get_or ks 0 k → 1 ≤ length ks → ks ≡ k ∷ take (length ks - 1) (drop 1 ks)
-split_first [] k e l = absurd (omega (arith, l))
-split_first (j ∷ ks) k e l = ap (λ i. i ∷ ks) (sym e) ∙ ap (λ r. k ∷ r) (sym (take_all (length (j ∷ ks) - 1) ks (omega arith)))
+use Rattle.ec_objmap.proofs.Entries.{at-put}
 
 -- one object more is reached
 pub has-more : (spans : Spans) (objs rest : List ℕ) (obj : ℕ) (others all : ℕ × ℕ) → objs ≡ obj ∷ rest → ((i : ℕ) → (span obj spans).0 ≤ i → i < (span obj spans).1 → (all.0 ≤ i) × (i < all.1))

@@ -1,5 +1,5 @@
 -- The pairs that are found between two places.
-use Rattle.std.proofs.Common.{◌≡◌, ◌⊎◌, inl, inr, refl, sym, ap, subst, ◌∙◌, arith, ◌<◌, ◌≤◌, ◌+◌, ℕ, zero, suc, T, Bool, true, false, cond, List, [], ◌∷◌, ◌++◌, length, take, drop, get_or, append-nil}
+use Rattle.std.proofs.Common.{◌≡◌, ◌⊎◌, inl, inr, refl, sym, ap, subst, ◌∙◌, arith, ◌<◌, ◌≤◌, ◌+◌, ℕ, zero, suc, Bool, true, false, cond, List, [], ◌∷◌, ◌++◌, length, take, drop, get_or, append-nil}
 use Rattle.std.specs.Prelude.{◌&&◌, nat_le, nat_lt}
 use Rattle.std.proofs.lemmas.Bool.Decides.{nat_tests}
 use Rattle.std.proofs.lemmas.List.{take_more, take_all, take-append-drop, length-take-le}
@@ -7,12 +7,8 @@ use Rattle.std.proofs.lemmas.List.Elements.{filter-append}
 use Rattle.ec_volume.specs.Update.{member}
 use Rattle.ec_owes.specs.Owes.{Pairs, Spans, span, staying, AreIn, HasAll, on_one}
 use Rattle.ec_owes.proofs.Staying.{staying-append}
-
-early : (m n : ℕ) → nat_le m n ≡ true → m ≤ n
-early m n e = grind (arith, nat_tests)
-
-held : (b : Bool) → b ≡ true → T b
-held b e = subst T (sym e) tt
+use Rattle.ec_base.proofs.Numbers.{early}
+use Rattle.ec_base.proofs.Bools.{holds-true}
 
 -- one pair more
 pub staying-more : (spans : Spans) (qs : Pairs) (i : ℕ) (q : ℕ × ℕ) → i < length qs → q ≡ get_or qs i q → staying spans 0 (take (i + 1) qs) ≡ staying spans 0 (take i qs) ++ cond (nat_le (span q.1 spans).0 i) (q ∷ []) []
@@ -35,7 +31,7 @@ module _ (spans : Spans) (objs : List ℕ) (all : ℕ × ℕ) (has : HasAll span
   absent i q rest within out r = go (nat_le (span q.1 spans).0 i) (member q.1 objs) refl refl
     where
       go : (a b : Bool) → nat_le (span q.1 spans).0 i ≡ a → member q.1 objs ≡ b → on_one objs (cond a (q ∷ rest) rest) ≡ []
-      go true true d e = let low = early (span q.1 spans).0 i d in let k = has q.1 i (held (member q.1 objs) e) low (within low) in absurd (out k.0 k.1)
+      go true true d e = let low = early (span q.1 spans).0 i d in let k = has q.1 i (holds-true (member q.1 objs) e) low (within low) in absurd (out k.0 k.1)
       go true false d e = ap (λ b. cond b (q ∷ on_one objs rest) (on_one objs rest)) e ∙ r
       go false b d e = r
 

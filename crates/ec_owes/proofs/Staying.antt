@@ -7,18 +7,13 @@ use Rattle.std.proofs.lemmas.Bool.Decides.{nat_tests}
 use Rattle.ec_base.specs.Tables.{at, or_else, put}
 use Rattle.ec_volume.specs.Update.{member}
 use Rattle.ec_owes.specs.Owes.{Pairs, Spans, span, staying, AreIn, on_none, from_to, extended}
-use Rattle.ec_owes.proofs.Ended.{at-put, point, AreEnded}
+use Rattle.ec_owes.proofs.Ended.{point, AreEnded}
+use Rattle.ec_objmap.proofs.Entries.{at-put}
+use Rattle.ec_base.proofs.Bools.{and-false}
 
 and-true : (b : Bool) → b ≡ (b && true)
 and-true true = refl
 and-true false = refl
-
-and-false : (b : Bool) → false ≡ (b && false)
-and-false true = refl
-and-false false = refl
-
-le-of : (m n : ℕ) → nat_le m n ≡ true → m ≤ n
-le-of m n e = grind (arith, nat_tests)
 
 -- The pairs before a place, by spans that agree there.
 module _ (old new : Spans) (keep : ℕ → Bool) where

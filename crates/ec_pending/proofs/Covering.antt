@@ -17,6 +17,7 @@ use Rattle.ec_pending.specs.declared.issue.Issue.{Issue}
 use Rattle.ec_pending.proofs.Holding.{Known, known, issues-of}
 use Rattle.ec_pending.proofs.Leaving.{left-are, numbers-are, taken-walk}
 use Rattle.ec_pending.specs.Pending.{numbers_in, taken, rest, issue_at, issues, is_early, AreRising, IsPart}
+use Rattle.ec_base.proofs.Options.{one_entry}
 
 -- What is taken at once is what is taken in two goes: first some that are asked, and then the others.
 module _ (p q : Issue → Bool) where
@@ -224,9 +225,6 @@ none-early ps ask begun (x ∷ xs) r found is l n u h = go (passes ask x) refl (
     go false e l (inl k) f = subst (λ m. is_early ps ask begun (m, u) ≡ false) k.0 (subst (λ w. is_early ps ask begun (x.0, w) ≡ false) k.1 (ap (λ b. nat_le (at_or 0 x.0 ps) begun && b) e ∙ and-false (nat_le (at_or 0 x.0 ps) begun)))
     go false e l (inr k) f = f l k
 
-same-some : (n m : ℕ) → Some n ≡ Some m → n ≡ m
-same-some n m e = cc
-
 pub first-early : (ps : Table ℕ) (ask : Ask) (begun op : ℕ) (xs : Issued) → T (is_sorted nat_cmp xs) → Some op ≡ first_number (filter (passes ask) xs) → at_or 0 op ps ≤ begun → (u : Update) → Holds xs op u → is_early ps ask begun (op, u) ≡ true
 first-early ps ask begun op xs s is l u h =
     ap (λ b. b && passes ask (op, u)) (low (at_or 0 op ps) begun l)
@@ -237,7 +235,7 @@ first-early ps ask begun op xs s is l u h =
     low m n l = grind (arith, nat_tests)
 
     same : (n m : ℕ) → Some n ≡ Some m → (n == m) ≡ true
-    same n m e = let q : n ≡ m = same-some n m e in grind (arith, nat_tests, q)
+    same n m e = let q : n ≡ m = one_entry n m e in grind (arith, nat_tests, q)
 
     not-none : Some op ≡ None → ⊥
     not-none e = cc

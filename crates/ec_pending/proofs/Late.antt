@@ -9,22 +9,19 @@ use Rattle.ec_pending.specs.declared.note.Note.{Note}
 use Rattle.ec_pending.specs.declared.note.Note.TheVariants as note
 use Rattle.ec_pending.specs.Pending.{numbers_in}
 use Rattle.ec_pending.specs.Deferred.{behind, next_of, is_issue, asks_nothing, AreLate}
-
-or-true : (b : Bool) → (b || true) ≡ true
-or-true true = refl
-or-true false = refl
+use Rattle.ec_base.proofs.Bools.{or_true}
 
 -- one from a place on passes the test
 pub any-behind : (p : Note → Bool) (ns : List Note) (late at : ℕ) (d : Note) → late ≤ at → at < length ns → p (get_or ns at d) ≡ true → list_any p (drop late ns) ≡ true
 any-behind p [] late at d l m e = absurd (omega (arith, m))
 any-behind p (n ∷ ns) zero zero d l m e = ap (λ b. b || list_any p ns) e
-any-behind p (n ∷ ns) zero (suc at) d l m e = ap (λ b. p n || b) (any-behind p ns zero at d (omega arith) (omega (arith, m)) e) ∙ or-true (p n)
+any-behind p (n ∷ ns) zero (suc at) d l m e = ap (λ b. p n || b) (any-behind p ns zero at d (omega arith) (omega (arith, m)) e) ∙ or_true (p n)
 any-behind p (n ∷ ns) (suc late) zero d l m e = absurd (omega (arith, l))
 any-behind p (n ∷ ns) (suc late) (suc at) d l m e = any-behind p ns late at d (omega (arith, l)) (omega (arith, m)) e
 
 last-in : (op : ℕ) (is : List Issue) (i : Issue) → (op == i.number) ≡ true → member op (numbers_in (is ++ i ∷ [])) ≡ true
 last-in op [] i e = ap (λ b. b || false) e
-last-in op (j ∷ is) i e = ap (λ b. (op == j.number) || b) (last-in op is i e) ∙ or-true (op == j.number)
+last-in op (j ∷ is) i e = ap (λ b. (op == j.number) || b) (last-in op is i e) ∙ or_true (op == j.number)
 
 either : (b m n : Bool) → (b || m) ≡ true → (m ≡ true → n ≡ true) → (b || n) ≡ true
 either true m n h f = refl

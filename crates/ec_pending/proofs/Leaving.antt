@@ -1,7 +1,7 @@
 -- What is left of the held operations where some are asked to be durable.
 use Rattle.std.proofs.Common.{◌≡◌, inl, inr, refl, sym, ap, subst, ◌∙◌, arith, ◌<◌, ◌≤◌, ℕ, T, Bool, true, false, not, cond, List, [], ◌∷◌}
 use Rattle.std.specs.Prelude.{◌==◌, ◌&&◌, ◌||◌, nat_le}
-use Rattle.std.specs.Ordering.{nat_cmp, is_lt}
+use Rattle.std.specs.Ordering.{nat_cmp}
 use Rattle.std.specs.FinMap.{is_sorted}
 use Rattle.std.specs.FinMap.Entries.{below_all}
 use Rattle.std.specs.List.{list_any}
@@ -18,18 +18,14 @@ use Rattle.ec_pending.specs.declared.issue.Issue.{Issue}
 use Rattle.ec_pending.specs.declared.asked.Asked.TheVariants as asks
 use Rattle.ec_pending.proofs.Holding.{Known, known, issues-of}
 use Rattle.ec_pending.specs.Pending.{numbers_in, numbered, is_asked, taken, rest, issue_at, issues, AreEarly}
-
-lower : (m n : ℕ) → T (is_lt (nat_cmp m n)) → m < n
-lower m n l = grind (arith, nat_tests, l)
+use Rattle.ec_base.proofs.Numbers.{itself}
+use Rattle.ec_base.proofs.Bools.{below as lower}
 
 above : (m n : ℕ) → m < n → (n == m) ≡ false
 above m n l = grind (arith, nat_tests)
 
 below : (m n : ℕ) → m < n → (m == n) ≡ false
 below m n l = grind (arith, nat_tests)
-
-itself : (n : ℕ) → (n == n) ≡ true
-itself n = grind (arith, nat_tests)
 
 -- a number below those of the others isn't among these
 pub apart : (n : ℕ) (ns : List ℕ) (xs : Issued) → T (below_all nat_cmp n xs) → settle (n ∷ ns) xs ≡ settle ns xs

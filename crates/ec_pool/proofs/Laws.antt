@@ -20,6 +20,7 @@ use Rattle.ec_pool.specs.Insides.{AreUpTo, link_of, link_to, AreLinked, stays, H
 use Rattle.ec_pool.specs.declared.links.Link.{Link}
 use Rattle.ec_pool.proofs.Lists as lists
 use Rattle.ec_wire.specs.RowLaws.{key_of}
+use Rattle.ec_base.proofs.Bools.{bool_cases}
 
 -- Tests.
 
@@ -340,7 +341,7 @@ module _ (sent : ℕ) (counts : List ((ℕ × MsgKind) × ℕ)) (es mid new : Ta
       (λ l. let since : forgotten < n + kept_messages = grind (arith, nat_tests, l) in
       ⊎_elim (λ y. either_left (nat_lt sent (n + kept_messages)) (is_some (at n ps)) y)
       (λ x. let passed : n + kept_messages ≤ sent = grind (arith, nat_tests, x) in now (v n since passed k))
-      (lists.cases (nat_lt sent (n + kept_messages))))
+      (bool_cases (nat_lt sent (n + kept_messages))))
       now (either (nat_lt forgotten (n + kept_messages)) (is_some (at n ps)) s))
       (λ m. u n m in_mid)
       (either (stays forgotten ps n) (member n settled) (h.known n in_es))

@@ -1,5 +1,5 @@
 -- Lists of pairs with numbers as keys: look-ups, and what additions and removals make of them.
-use Rattle.std.proofs.Common.{◌≡◌, ℕ, ◌+◌, ◌<◌, ◌≤◌, refl, sym, ap, subst, ◌∙◌, arith, Bool, true, false, cond, not, ◌&&◌, ◌||◌, T, [], ◌∷◌, ◌++◌, length, filter, Option, None, Some, is_some, IsTrue, ◌==◌, nat_lt, Ordering, Less, Equal, Greater, is_eq, is_lt, nat_cmp, ◌⊎◌, inl, inr}
+use Rattle.std.proofs.Common.{◌≡◌, ℕ, ◌+◌, ◌<◌, ◌≤◌, refl, sym, ap, subst, ◌∙◌, arith, Bool, true, false, cond, not, ◌&&◌, ◌||◌, T, [], ◌∷◌, ◌++◌, length, filter, Option, None, Some, is_some, IsTrue, ◌==◌, nat_lt, Ordering, Less, Equal, Greater, is_eq, is_lt, nat_cmp}
 use Rattle.std.specs.Ordering.{eq_by_cmp}
 use Rattle.std.specs.Cmp.{nat_cmp_total}
 use Rattle.std.specs.List.{AllByRecursion}
@@ -28,10 +28,6 @@ test_back a b = grind (arith, nat_tests)
 
 above : (a b : ℕ) → b < a → nat_cmp a b ≡ Greater
 above a b h = grind (arith, nat_tests)
-
-pub cases : (b : Bool) → (b ≡ true) ⊎ (b ≡ false)
-cases true = inl refl
-cases false = inr refl
 
 module _ {X : Type 0} where
   -- Look-ups.

@@ -21,7 +21,8 @@ use Rattle.ec_laws.proofs.Cuts.{throughout-append, throughout-back, throughout-f
 use Rattle.ec_laws.proofs.More.{kept-step, issued-step, owed-step, is_lost-append, count-step}
 use Rattle.ec_laws.proofs.Numbers.{count}
 use Rattle.ec_printed.specs.Printed.{IsBare}
-use Rattle.ec_printed.proofs.Moved.{E, IsAlike, IsLevel, IsMoved, Uncovered, Untouched, cond-false, legal-moved, moved-all, moved-none, moved-on, one-start, or-false, uncovered-level, untouched-level}
+use Rattle.ec_printed.proofs.Moved.{E, IsAlike, IsLevel, IsMoved, Uncovered, Untouched, cond-false, legal-moved, moved-all, moved-none, moved-on, one-start, uncovered-level, untouched-level}
+use Rattle.ec_base.proofs.Bools.{or_false as or-false}
 
 -- no operation is one of no numbers
 none-of : (d f : ℕ) (ks : List Op) → filter (is_one_of d f []) ks ≡ []

@@ -1,5 +1,5 @@
 -- Line by line printed order is legal, since the placing is.
-use Rattle.std.proofs.Common.{◌≡◌, refl, sym, ap, subst, ◌∙◌, inl, inr, ◌⊎◌, arith, ◌==◌, ◌+◌, ℕ, Bool, true, false, ◌||◌, cond, List, [], ◌∷◌, ◌++◌, length, Option, Some, None, append-nil, append_assoc}
+use Rattle.std.proofs.Common.{◌≡◌, refl, sym, ap, subst, ◌∙◌, inl, inr, ◌⊎◌, ◌+◌, ℕ, Bool, true, false, ◌||◌, cond, List, [], ◌∷◌, ◌++◌, length, Option, Some, None, append-nil, append_assoc}
 use Rattle.std.proofs.lemmas.Bool.{true≢false}
 use Rattle.std.specs.Prelude.{is_some}
 use Rattle.std.specs.List.{list_any}
@@ -20,9 +20,7 @@ use Rattle.ec_printed.specs.Printed.{AreTimely, IsBare, IsTimely, TimelyAreLegal
 use Rattle.ec_printed.proofs.Moved.{E, IsMoved, legal-moved, moved-next, moved-none, moved-on}
 use Rattle.ec_printed.proofs.Bare as bare
 use Rattle.ec_base.specs.Options.{or_zero}
-
-equal : (j k : ℕ) → (j == k) ≡ true → j ≡ k
-equal j k q = grind arith
+use Rattle.ec_base.proofs.Numbers.{equal}
 
 -- What a line gives by itself.
 

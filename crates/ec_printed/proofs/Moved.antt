@@ -3,14 +3,14 @@ use Rattle.std.proofs.Common.{◌≡◌, refl, sym, ap, subst, ◌∙◌, ◌+�
 use Rattle.std.proofs.lemmas.Bool.{and_parts, eqb-true}
 use Rattle.std.specs.Prelude.{nat_le}
 use Rattle.std.specs.List.{filter, list_all, list_any}
-use Rattle.ec_volume.specs.Update.{has_operand, member}
+use Rattle.ec_volume.specs.Update.{member}
 use Rattle.ec_volume.specs.Volume.{Fits, after}
-use Rattle.ec_plain.specs.Walk.{Reached, At, Not, walk}
+use Rattle.ec_plain.specs.Walk.{walk}
 use Rattle.ec_plain.specs.declared.call.Call.{Call}
 use Rattle.ec_plain.specs.declared.call.Call.TheVariants as call
 use Rattle.ec_plain.specs.declared.call.Reply.TheVariants as reply
 use Rattle.ec_order.specs.Order.{InClosure}
-use Rattle.ec_history.specs.History.{Base, Each, History, Op, Throughout, updates, numbers, same_start, of_start, is_one_of, outcome, kept, kept_next, issued, issued_by, of_issue, asks, is_lost, Covers, owed, owed_next, meets, distinct_numbers, due, without}
+use Rattle.ec_history.specs.History.{Base, Each, History, Throughout, updates, numbers, same_start, of_start, is_one_of, outcome, kept, kept_next, issued, issued_by, of_issue, asks, is_lost, Covers, owed, owed_next, meets, distinct_numbers, due, without}
 use Rattle.ec_history.specs.Legal.{IsCall, IsFull, IsLegalNext, IsNext, IsReply, IsReported, is_closed, is_op_of, leaves}
 use Rattle.ec_history.specs.declared.entry.Answer.{Answer}
 use Rattle.ec_history.specs.declared.entry.Answer.TheVariants as answer
@@ -18,14 +18,12 @@ use Rattle.ec_history.specs.declared.entry.Entry.{Entry}
 use Rattle.ec_history.specs.declared.entry.Entry.TheVariants as entry
 use Rattle.ec_laws.proofs.Cuts.{throughout-append, throughout-back, throughout-front}
 use Rattle.ec_laws.proofs.More.{kept-step, issued-step, owed-step, is_lost-append, count-step}
-use Rattle.ec_laws.proofs.Numbers.{count, each-map}
+use Rattle.ec_laws.proofs.Numbers.{count}
+use Rattle.ec_laws.proofs.BasesAlike.{each-map}
+use Rattle.ec_laws.proofs.Beside.{asks_at}
 
 abbrev pub E : Type 0
 E = ℕ × Entry
-
-pub or-false : (z : Bool) → (z || false) ≡ z
-or-false true = refl
-or-false false = refl
 
 pub cond-false : {A : Type 0} (z : Bool) (x y : A) → z ≡ false → cond z x y ≡ y
 cond-false {A} z x y q = ap (λ w. cond w x y) q
@@ -36,10 +34,6 @@ cond-true {A} z x y q = ap (λ w. cond w x y) q
 -- two names of one start
 pub one-start : (c b d f : ℕ) → same_start d f c b ≡ true → (d ≡ c) × (f ≡ b)
 one-start c b d f q = let p = and_parts (d == c) (f == b) q in (eqb-true d c p.0, eqb-true f b p.1)
-
--- what an fsync asks, by where its path comes to
-abbrev asks_at : ℕ → ℕ → ℕ → Reached → List Op → List ℕ
-asks_at d f g r is = elim r [ At i ↦ numbers (filter (λ k. of_start d f k && nat_le k.place g && has_operand i k.update) is) | Not n ↦ [] ]
 
 module _ (base : Base) where
   abbrev pub Uncovered : ℕ → ℕ → List ℕ → History → E → Type 0

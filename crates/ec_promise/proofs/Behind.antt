@@ -35,11 +35,9 @@ use Rattle.ec_promise.proofs.Calm.{all-run}
 use Rattle.ec_promise.proofs.Fit.{fit_script}
 use Rattle.ec_promise.proofs.Greatest.{greatest-id}
 use Rattle.ec_promise.proofs.Moments.{one-last}
-use Rattle.ec_promise.proofs.Named.{as-many, few-named}
-
-same-joined : (pieces : List (List Shown)) → headline.joined pieces ≡ joined pieces
-same-joined [] = refl
-same-joined (p ∷ ps) = ap (λ (ls : List Shown). p ++ ls) (same-joined ps)
+use Rattle.ec_promise.proofs.Named.{few-named}
+use Rattle.ec_drill.proofs.Given.{as_many as as-many}
+use Rattle.ec_rooms.proofs.Rooms.{same-joined}
 
 module _ (reads : List Read) (fs : List Fates) (d : Durable) (formed : WellFormed d) (slots : length d.sessions ≡ 16) (zero : images d.volume 0 ≡ Gone) (few : length reads ≤ 65536) (sixteen : length (once (named_in reads)) ≤ 16) (fit : AreFit reads) (faultless : Each IsFaultlessRead reads) (all : Each AllRun fs) where
   highest : (n : ℕ) × IsGreatest (images d.volume) n

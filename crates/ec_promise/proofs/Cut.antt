@@ -11,6 +11,7 @@ use Rattle.ec_lawful.specs.Headline.{AreEndsAsked, ArePieces, IsPiece, Lines, Pi
 use Rattle.ec_deliveries.specs.Scripts.{AreWriteBehind}
 use Rattle.ec_complete.specs.Pieces.{ArePiecesBehind}
 use Rattle.ec_promise.specs.Pieces.{first_lines}
+use Rattle.ec_base.proofs.Numbers.{above}
 
 -- a front of lines and a last one is a front of the lines, or all of it
 pub cut-front : (xs more told last : List Shown) → xs ++ more ≡ told ++ last → length last ≤ 1 → ((rest : List Shown) × (xs ++ rest ≡ told)) ⊎ (xs ≡ told ++ last)
@@ -38,15 +39,12 @@ cut-front (x ∷ xs) more (t ∷ told) last e le = go (cut-front xs more told la
 less : (n m : ℕ) → nat_lt n m ≡ true → n ≤ m
 less n m e = grind (arith, e)
 
-more-than : (n m : ℕ) → nat_lt n m ≡ false → m ≤ n
-more-than n m e = grind (arith, e)
-
 by : (P : Pieces → Type 0) (n : ℕ) (p : List Shown) (ps : Pieces) → (n ≤ length p → P (take n p ∷ [])) → (length p ≤ n → P (p ∷ first_lines (n - length p) ps)) → P (first_lines n (p ∷ ps))
 by P n p ps cut whole = go (nat_lt n (length p)) refl
   where
     go : (b : Bool) → nat_lt n (length p) ≡ b → P (cond b (take n p ∷ []) (p ∷ first_lines (n - length p) ps))
     go true e = cut (less n (length p) e)
-    go false e = whole (more-than n (length p) e)
+    go false e = whole (above n (length p) e)
 
 -- they are a front of all lines
 pub first-joined : (n : ℕ) (ps : Pieces) → joined (first_lines n ps) ≡ take n (joined ps)

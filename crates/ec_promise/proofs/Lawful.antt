@@ -37,6 +37,7 @@ use Rattle.ec_promise.proofs.Greatest.{greatest-id}
 use Rattle.ec_promise.proofs.Moments.{end-in-order, moment-stored, one-last}
 use Rattle.ec_promise.proofs.Plain.{plain-complete}
 use Rattle.ec_promise.proofs.Spared.{lose-nothing}
+use Rattle.ec_rooms.proofs.Rooms.{same-joined}
 
 -- Lists.
 
@@ -47,11 +48,6 @@ each-front P (x ∷ xs) rest each = (each.0, each-front P xs rest each.1)
 -- fronts of a front
 fronts-front : (state : Durable) (top : ℕ) (xs rest : List Shown) → FrontsAreLawful (base_on state top) state.max_objects (xs ++ rest) → FrontsAreLawful (base_on state top) state.max_objects xs
 fronts-front state top xs rest lawful front more e = lawful front (more ++ rest) (sym (append_assoc front more rest) ∙ ap (λ (ls : List Shown). ls ++ rest) e)
-
--- the same pieces
-same-joined : (pieces : List (List Shown)) → headline.joined pieces ≡ joined pieces
-same-joined [] = refl
-same-joined (p ∷ ps) = ap (λ (ls : List Shown). p ++ ls) (same-joined ps)
 
 -- a front of lawful lines is lawful
 lawful-front : (reads : List Read) (state : Durable) (pieces : headline.Pieces) (all xs more : List Shown) → AreLawfulOn reads state pieces all → xs ++ more ≡ all → AreLawfulOn reads state (first_lines (length xs) pieces) xs

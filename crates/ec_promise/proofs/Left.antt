@@ -23,7 +23,6 @@ use Rattle.ec_coherence.specs.System.{System}
 use Rattle.ec_coherence.specs.Steps as steps
 use Rattle.ec_coherence.specs.Steps.{Stands, end_lines, ended_line, found, record_lines, running_clerk, to_show}
 use Rattle.ec_coherence.specs.Stops.{RunsOn}
-use Rattle.ec_coherence.proofs.Tables.{none_some}
 use Rattle.ec_lawful.specs.Founds.{with_found}
 use Rattle.ec_lawful.proofs.Founds.{found-shown, founds-stand, steps-so}
 use Rattle.ec_clerk_steps.proofs.Steps.{step-most}
@@ -33,6 +32,7 @@ use Rattle.ec_lawful.proofs.PlacesServe.{disk-there, fronts-there}
 use Rattle.ec_lawful.specs.Runs.{OfRun}
 use Rattle.ec_lawful.proofs.Halts.{found-whole}
 use Rattle.ec_promise.specs.Left.{IsStoredIn, in_doubt}
+use Rattle.ec_base.proofs.Options.{none_some}
 
 module _ (v : Images) (most : ℕ) (g : System) (f : OfRun v most g) (w : World) (st : Stands w g) where
   -- The line of the record in doubt is that of the system.

@@ -23,7 +23,7 @@ use Rattle.ec_protocol.specs.declared.world.Noted.TheVariants as noted_of
 use Rattle.ec_protocol.specs.declared.world.World.{World}
 use Rattle.ec_protocol.specs.declared.world.WorldFault.{WorldFault}
 use Rattle.ec_coherence.specs.Steps.{call_of}
-use Rattle.ec_coherence.proofs.Tables.{none_some, same_some}
+use Rattle.ec_coherence.proofs.Tables.{same_some}
 use Rattle.ec_lawful.specs.Headline.{IsGreatest, Lines, Pieces}
 use Rattle.ec_lawful.specs.Headline as headline
 use Rattle.ec_lawful.specs.Calls.{AreOf, IsOf}
@@ -37,6 +37,7 @@ use Rattle.ec_drill.specs.Drill.{end_of}
 use Rattle.ec_lawful.proofs.Worlds.{F, in-order-of, kept-by, no-calls, no-lines, opened-holds}
 use Rattle.ec_promise.specs.Left.{IsStoredIn, SaysWhy, in_doubt}
 use Rattle.ec_promise.proofs.Left.{stored-in}
+use Rattle.ec_base.proofs.Options.{none_some}
 
 -- Lines.
 

@@ -14,8 +14,9 @@ use Rattle.ec_script.specs.Grammar.{IsLine, Spells, Says}
 use Rattle.ec_script.specs.declared.line.Line.{Line}
 use Rattle.ec_machine_laws.proofs.Once.{AreOnce, fewer}
 use Rattle.ec_protocol.specs.Drill.{Read, clerk_in, named_in, reads, unfit}
-use Rattle.ec_coherence.proofs.Tables.{each-append}
 use Rattle.ec_drill.specs.Script.{AreRead, IsRead, machine_line}
+use Rattle.ec_history.proofs.HistoryLemmas.{each-more as each-append}
+use Rattle.ec_deliveries.proofs.Staying.{each-member}
 
 -- Numbers below a bound, each once.
 
@@ -84,14 +85,6 @@ once-each (x ∷ xs) = (λ y m. unlike (y == x) (passes (λ m. not (m == x)) y (
     unlike false e = refl
     unlike true e = absurd cc
 
-each-in : (P : ℕ → Type 0) (xs : List ℕ) → Each P xs → (y : ℕ) → T (member y xs) → P y
-each-in P [] a y m = absurd m
-each-in P (x ∷ xs) a y m = go (y == x) refl m (each-in P xs a.1 y)
-  where
-    go : (b : Bool) → (y == x) ≡ b → T (b || member y xs) → (T (member y xs) → P y) → P y
-    go true e m more = subst P (sym (eqb-true y x e)) a.0
-    go false e m more = more m
-
 in-once : (y : ℕ) (xs : List ℕ) → T (member y (once xs)) → T (member y xs)
 in-once y [] m = m
 in-once y (x ∷ xs) m = go (y == x) m (in-once y xs)
@@ -101,7 +94,7 @@ in-once y (x ∷ xs) m = go (y == x) m (in-once y xs)
     go false m more = more (in-rest (λ m. not (m == x)) y (once xs) m)
 
 pub few-once : (n : ℕ) (xs : List ℕ) → Each (λ x. x < n) xs → length (once xs) ≤ n
-few-once n xs a = within (length (once xs)) (length (below n)) (below-long n) (fewer (once xs) (below n) (once-each xs) (λ y m. in-below n y (each-in (λ x. x < n) xs a y (in-once y xs m))))
+few-once n xs a = within (length (once xs)) (length (below n)) (below-long n) (fewer (once xs) (below n) (once-each xs) (λ y m. in-below n y (each-member (λ x. x < n) xs a y (in-once y xs m))))
   where
     within : (a b : ℕ) → b ≡ n → a ≤ b → a ≤ n
     within a b e l = omega (arith, e, l)
@@ -163,9 +156,3 @@ named_small (b ∷ bs) (reads l column ∷ rs) are = each-append (λ (c : ℕ). 
 
 pub few-named : (bs : List (List ℕ)) (rs : List Read) → AreRead bs rs → length (once (named_in rs)) ≤ 16
 few-named bs rs are = few-once 16 (named_in rs) (named_small bs rs are)
-
-pub as-many : (bs : List (List ℕ)) (rs : List Read) → AreRead bs rs → length rs ≡ length bs
-as-many [] [] are = refl
-as-many [] (r ∷ rs) are = absurd are
-as-many (b ∷ bs) [] are = absurd are
-as-many (b ∷ bs) (r ∷ rs) are = ap suc (as-many bs rs are.1)

@@ -1,5 +1,5 @@
 -- A plain script is complete, on a new disk.
-use Rattle.std.proofs.Common.{◌≡◌, refl, sym, ap, ◌∙◌, subst, inl, arith, ◌≤◌, ℕ, suc, List, [], ◌∷◌, length}
+use Rattle.std.proofs.Common.{◌≡◌, sym, ◌∙◌, subst, inl, arith, ◌≤◌, ℕ, List, length}
 use Rattle.std.proofs.Math.Logic.{∥∥₁_map}
 use Rattle.ec_history.specs.History.{Each}
 use Rattle.ec_history.specs.declared.shown.Shown.{Shown}
@@ -7,24 +7,17 @@ use Rattle.ec_volume.specs.Volume.{images}
 use Rattle.ec_durable.specs.Durable.{formatted}
 use Rattle.ec_durable.specs.WellFormed.{WellFormed}
 use Rattle.ec_durable.specs.declared.state.Durable.{Durable}
-use Rattle.ec_protocol.specs.Drill.{Fates, Read, drill}
+use Rattle.ec_protocol.specs.Drill.{Fates, drill}
 use Rattle.ec_lawful.specs.Drills.{lines_in}
 use Rattle.ec_lawful.specs.DrillRuns.{AreFit}
 use Rattle.ec_deliveries.specs.Runs as runs
 use Rattle.ec_complete.specs.Complete.{IsComplete}
 use Rattle.ec_complete.proofs.PlainScripts.{plain-scripts-complete}
 use Rattle.ec_drill.specs.Drill.{Outside, IsToldAll, RanWhole}
-use Rattle.ec_drill.specs.Script.{AreRead}
 use Rattle.ec_promise.specs.LawfulEnds.{PlainIsComplete}
 use Rattle.ec_promise.proofs.Calm.{all-run}
 use Rattle.ec_promise.proofs.Fit.{fit_script}
-
--- each line is read once
-as-many : (bs : List (List ℕ)) (rs : List Read) → AreRead bs rs → length rs ≡ length bs
-as-many [] [] a = refl
-as-many [] (r ∷ rs) a = absurd a
-as-many (b ∷ bs) [] a = absurd a
-as-many (b ∷ bs) (r ∷ rs) a = ap suc (as-many bs rs a.1)
+use Rattle.ec_drill.proofs.Given.{as_many}
 
 pub plain-complete : (most number : ℕ) (w : Outside) (r : RanWhole most number w) → PlainIsComplete most number w r
 plain-complete most number w r new script =
@@ -44,7 +37,7 @@ plain-complete most number w r new script =
     fit = fit_script _ r.reads (r.given).read
 
     few : length r.reads ≤ 65536
-    few = omega (arith, as-many _ r.reads (r.given).read, (r.given).few_lines)
+    few = omega (arith, as_many _ r.reads (r.given).read, (r.given).few_lines)
 
     fates : Each runs.AllRun r.fates
     fates = all-run w r.reads r.fates r.stopped script.faultless

@@ -10,6 +10,7 @@ use Rattle.ec_protocol.specs.declared.script.Line.{Line}
 use Rattle.ec_protocol.specs.declared.script.Line.TheVariants as line
 use Rattle.ec_lawful.specs.Headline.{AreEndsAsked, Lines, Pieces, ends, joined, may_end}
 use Rattle.ec_promise.specs.Spared.{LosesNothing, is_loss, spares}
+use Rattle.ec_base.proofs.Bools.{and_parts-T}
 
 -- Lines that may end no session.
 
@@ -29,14 +30,10 @@ may-end-none c line.Stop s = refl
 may-end-none c (line.Arm n k) s = refl
 may-end-none c line.Restart s = refl
 
-both : (a b : Bool) → T (a && b) → T a × T b
-both true b t = (tt, t)
-both false b t = absurd t
-
 none-end : (c : ℕ) (ls : Lines) → T (list_all spares ls) → length (filter (may_end c) ls) ≡ 0
 none-end c [] s = refl
 none-end c (l ∷ ls) s =
-    let parts = both (spares l) (list_all spares ls) s in
+    let parts = and_parts-T (spares l) (list_all spares ls) s in
     ap (λ b. length (if b then l ∷ filter (may_end c) ls else filter (may_end c) ls)) (may-end-none c l parts.0) ∙ none-end c ls parts.1
 
 -- Lines that show no end.
@@ -84,8 +81,8 @@ none-ended (s ∷ ss) n = (own-end s (λ c. (unchosen (ends c) s ss (n c)).0), n
 
 all-two : (h k : History) → LosesNothing h → LosesNothing k → LosesNothing (h ++ k)
 all-two [] k p q = q
-all-two (e ∷ h) k p q = joined-two (not (is_loss e.1)) (list_all (λ x. not (is_loss x.1)) (h ++ k)) (both (not (is_loss e.1)) (list_all (λ x. not (is_loss x.1)) h) p).0
-    (all-two h k (both (not (is_loss e.1)) (list_all (λ x. not (is_loss x.1)) h) p).1 q)
+all-two (e ∷ h) k p q = joined-two (not (is_loss e.1)) (list_all (λ x. not (is_loss x.1)) (h ++ k)) (and_parts-T (not (is_loss e.1)) (list_all (λ x. not (is_loss x.1)) h) p).0
+    (all-two h k (and_parts-T (not (is_loss e.1)) (list_all (λ x. not (is_loss x.1)) h) p).1 q)
   where
     joined-two : (a b : Bool) → T a → T b → T (a && b)
     joined-two true b t u = u

@@ -10,7 +10,8 @@ use Rattle.ec_drill.specs.Drill.{Outside, Drilled, IsCut, IsCutClean, IsGiven, R
 use Rattle.ec_drill.specs.declared.status.Status.{Status}
 use Rattle.ec_drill.specs.declared.status.Status.TheVariants as own
 use Rattle.ec_promise.specs.Spent.{CleanTellsSpent, CutTellsSpent, PartTellsSpent, SpentIsTold, TellsSpent}
-use Rattle.ec_promise.proofs.Named.{as-many, few-named}
+use Rattle.ec_promise.proofs.Named.{few-named}
+use Rattle.ec_drill.proofs.Given.{as_many as as-many}
 
 -- the machine's drill over the script
 machine-spent : (w : Outside) (reads : List Read) (given : IsGiven w reads) (fates : List Fates) (d : Durable) → AllSpendFew (drill reads fates d).0

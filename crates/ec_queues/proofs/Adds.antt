@@ -32,15 +32,14 @@ use Rattle.ec_protocol.specs.declared.world.WorldFault.{WorldFault}
 use Rattle.ec_protocol.specs.declared.world.WorldFault.TheVariants as fault
 use Rattle.ec_coherence.specs.Steps.{call_of, calls_after, less_call, out_lines}
 use Rattle.ec_lease_machine.specs.World.{resume, resume_on, wait}
-use Rattle.ec_coherence.proofs.Tables.{at-put, at-without, equal, none_some, same_some}
+use Rattle.ec_coherence.proofs.Tables.{at-put, at-without, same_some}
 use Rattle.ec_lawful.specs.Calls.{AreOf, EachCall, IsOf}
 use Rattle.ec_lawful.proofs.Outs.{Calls, came-out}
 use Rattle.ec_lawful.proofs.Pool.{Sends, sends-all}
 use Rattle.ec_queues.specs.Adds.{Adds, MayBe}
-
-each-line : (Q : Shown → Type 0) (xs ys : List Shown) → EachLine Q xs → EachLine Q ys → EachLine Q (xs ++ ys)
-each-line Q [] ys a b = b
-each-line Q (x ∷ xs) ys a b = (a.0, each-line Q xs ys a.1 b)
+use Rattle.ec_base.proofs.Options.{none_some}
+use Rattle.ec_base.proofs.Numbers.{equal}
+use Rattle.ec_lawful.proofs.CallsShown.{each-line}
 
 module _ (P : ℕ → ℕ → Call → Type 0) where
   -- Calls under way: one comes, one goes, a clerk's all go.

@@ -5,7 +5,7 @@ use Rattle.std.proofs.lemmas.List.Folds.{list_any-append}
 use Rattle.ec_plain.specs.BoundedCalls.{is_bounded}
 use Rattle.ec_plain.specs.declared.call.Call.{Call}
 use Rattle.ec_history.specs.History.{Each}
-use Rattle.ec_laws.proofs.Numbers.{each-append, each-map}
+use Rattle.ec_laws.proofs.Numbers.{each-append}
 use Rattle.ec_protocol.specs.Clerk.{add_call}
 use Rattle.ec_protocol.specs.declared.clerk.Clerk.{Clerk}
 use Rattle.ec_protocol.specs.declared.clerk.Waiting.{Waiting}
@@ -13,8 +13,7 @@ use Rattle.ec_coherence.specs.System.{System}
 use Rattle.ec_coherence.specs.Events.{EventsAgree}
 use Rattle.ec_coherence.specs.Steps.{call_of}
 use Rattle.ec_coherence.proofs.ClerkIn.{start-same}
-use Rattle.ec_coherence.proofs.Lists.{or_first, or_next}
-use Rattle.ec_coherence.proofs.Tables.{equal, holds, same, same_some}
+use Rattle.ec_coherence.proofs.Tables.{same_some}
 use Rattle.ec_clerk_steps.specs.Calls.{AreApart, Began, CallsAgree, IsOpenCall, StartCalls, has_number}
 use Rattle.ec_clerk_steps.specs.Waits.{AreAtRest, AreInTurn, HasLine, does_wait}
 use Rattle.ec_clerk_steps.specs.CallLaws.{called}
@@ -23,6 +22,9 @@ use Rattle.ec_clerk_steps.proofs.Begin.{call-put}
 use Rattle.ec_clerk_steps.proofs.Lined.{began-last}
 use Rattle.ec_clerk_steps.proofs.Quiet.{other-start, split-start}
 use Rattle.ec_queues.specs.Queued.{MayBegin}
+use Rattle.ec_base.proofs.Numbers.{same-self as same, equal}
+use Rattle.ec_base.proofs.Bools.{or-right as or_next, or_first, holds-true as holds}
+use Rattle.ec_laws.proofs.BasesAlike.{each-map}
 
 -- one more call, with a greater number
 apart-more : (ws : List Waiting) (v : Waiting) → Each (λ w. (v.no == w.no) ≡ false) ws → AreApart ws → AreApart (ws ++ v ∷ [])

@@ -1,5 +1,5 @@
 -- The facts hold in a world behind the line of a call that waits before it begins, and behind the step in which such a call begins.
-use Rattle.std.proofs.Common.{◌≡◌, refl, sym, ap, subst, ◌∙◌, inl, inr, ◌<◌, ◌+◌, ℕ, T, true, false, ◌==◌, Option, Some, None}
+use Rattle.std.proofs.Common.{◌≡◌, refl, sym, ap, subst, ◌∙◌, inl, inr, ◌+◌, ℕ, T, true, false, ◌==◌, Option, Some, None}
 use Rattle.std.specs.Prelude.{is_some}
 use Rattle.std.specs.List.{list_any}
 use Rattle.ec_base.specs.Tables.{at, put}
@@ -15,29 +15,16 @@ use Rattle.ec_protocol.specs.declared.world.WorldFault.TheVariants as fault
 use Rattle.ec_coherence.specs.System.{System}
 use Rattle.ec_coherence.specs.Steps.{Stands, call_of, doing_in}
 use Rattle.ec_coherence.specs.StandLaws.{lined}
-use Rattle.ec_coherence.proofs.Tables.{none_some}
 use Rattle.ec_lease_machine.specs.World.{resume, resume_on, wait}
-use Rattle.ec_lawful.specs.Steps.{Holds, IsDone, IsNew, IsNewIn}
+use Rattle.ec_lawful.specs.Steps.{Holds, IsDone}
 use Rattle.ec_lawful.specs.Ties.{called}
 use Rattle.ec_lawful.proofs.Called.{new-line}
 use Rattle.ec_lawful.proofs.Frames.{added-stands, lined-stands}
 use Rattle.ec_lawful.proofs.Standing.{done-stands}
 use Rattle.ec_queues.specs.Queued.{MayBegin, MayResume, MayWait, QueuesKeep}
-
--- the start that runs, of a running clerk
-runs-in : (w : World) (g : System) → Stands w g → (c : ℕ) (k : Clerk) → at c w.clerks ≡ Some k → (b : ℕ) × (g.running c ≡ Some b) × (g.clerks c b ≡ Some k)
-runs-in w g st c k q = go (g.running c) refl (sym (st.clerks c) ∙ q)
-  where
-    go : (o : Option ℕ) → g.running c ≡ o → elim o as (λ z. Option Clerk) [ None ↦ None | Some b ↦ g.clerks c b ] ≡ Some k → (b : ℕ) × (g.running c ≡ Some b) × (g.clerks c b ≡ Some k)
-    go None e p = absurd (none_some p)
-    go (Some b) e p = (b, e, p)
-
--- what the system needs of the line
-new-in : (w : World) (g : System) → Stands w g → (l : ℕ) → IsNewIn w l → IsNew g l
-new-in w g st l n = record {
-  unshown = subst (λ x. list_any (is_numbered l) x ≡ false) st.shown n.unshown;
-  unused = subst (λ x. (c m k : ℕ) (cl : Call) → call_of c m x ≡ Some (k, cl) → k < l) st.calls n.unused;
-}
+use Rattle.ec_base.proofs.Options.{none_some}
+use Rattle.ec_lawful.proofs.Events.{runs-in}
+use Rattle.ec_lawful.proofs.StepsLemmas.{new-in}
 
 -- a running clerk's step, behind what its call shows
 done : (F : System → Type 0) (m : Moving) (g : System) → Stands m.world g → (c b : ℕ) → g.running c ≡ Some b → (d : Doing) → IsDone F g c b d → (clerk_does c d m).fault ≡ None → Holds F (clerk_does c d m).world

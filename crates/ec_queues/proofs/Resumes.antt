@@ -12,7 +12,7 @@ use Rattle.ec_protocol.specs.declared.clerk.Waiting.{Waiting}
 use Rattle.ec_coherence.specs.System.{System, Ghost}
 use Rattle.ec_coherence.specs.Steps.{call_of, calls_after, doing_in, sends}
 use Rattle.ec_coherence.proofs.Lists.{each-more, each-turn}
-use Rattle.ec_coherence.proofs.Tables.{equal, same, same_some}
+use Rattle.ec_coherence.proofs.Tables.{same_some}
 use Rattle.ec_coherence.specs.CommitLaws.{AllAgree}
 use Rattle.ec_clerk_steps.specs.Calls.{has_number, is_shown}
 use Rattle.ec_clerk_steps.specs.CallLaws.{prepared}
@@ -41,6 +41,7 @@ use Rattle.ec_lawful.proofs.LinesLeft.{lines-at-end}
 use Rattle.ec_lawful.proofs.Settling.{settles-call}
 use Rattle.ec_queues.specs.Queued.{MayBegin}
 use Rattle.ec_queues.proofs.Resumed.{has-resumed, resumed-cuts}
+use Rattle.ec_base.proofs.Numbers.{same-self as same, equal}
 
 -- the one of this number
 with-number : (P : Waiting → Type 0) (n : ℕ) (ws : List Waiting) → T (has_number n ws) → Each P ws → (w : Waiting) × ((w.no == n) ≡ true) × P w

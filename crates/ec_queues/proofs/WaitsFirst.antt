@@ -1,5 +1,5 @@
 -- All facts behind the line of a call that waits before it begins.
-use Rattle.std.proofs.Common.{◌≡◌, refl, sym, ap, subst, ◌∙◌, inl, arith, ◌+◌, ℕ, T, Bool, true, false, ◌==◌, ◌||◌, cond, [], ◌∷◌, Some, None}
+use Rattle.std.proofs.Common.{◌≡◌, refl, sym, ap, subst, ◌∙◌, inl, arith, ℕ, T, Bool, true, false, ◌==◌, ◌||◌, cond, [], ◌∷◌, Some, None}
 use Rattle.std.proofs.lemmas.Bool.{cond_both, or_parts}
 use Rattle.std.proofs.lemmas.List.Folds.{list_any-append}
 use Rattle.std.specs.Bool.{OnTrue}
@@ -8,9 +8,7 @@ use Rattle.ec_history.specs.History.{Each}
 use Rattle.ec_history.specs.Placing.{Agrees, Unanswered, begun, is_numbered, last_place, unwatched, watch, watch_next}
 use Rattle.ec_history.specs.declared.shown.Shown.{Shown}
 use Rattle.ec_history.specs.declared.shown.Shown.TheVariants as show
-use Rattle.ec_history.specs.declared.watch.Watch.{Watch}
 use Rattle.ec_laws.proofs.More.{watch-step}
-use Rattle.ec_laws.proofs.Numbers.{each-map}
 use Rattle.ec_protocol.specs.declared.clerk.Clerk.{Clerk}
 use Rattle.ec_protocol.specs.declared.clerk.Waiting.{Waiting}
 use Rattle.ec_coherence.specs.Comes.{begun_at}
@@ -20,7 +18,6 @@ use Rattle.ec_coherence.specs.StandLaws.{lined}
 use Rattle.ec_coherence.specs.Steps.{call_of}
 use Rattle.ec_coherence.specs.System.{System}
 use Rattle.ec_coherence.proofs.Lists.{each-turn}
-use Rattle.ec_coherence.proofs.Tables.{equal, none_some}
 use Rattle.ec_clerk_steps.specs.CallLaws.{IsNewLine}
 use Rattle.ec_clerk_steps.specs.Calls.{Began, CallsAgree, IsBefore, IsOpenCall, LosesBelow, StartCalls, is_shown, told_to}
 use Rattle.ec_clerk_steps.specs.Counts.{CountsAgree}
@@ -36,9 +33,10 @@ use Rattle.ec_clerk_steps.proofs.ZerosBehind.{same-keeps}
 use Rattle.ec_lawful.proofs.FreshSteps.{record-fresh}
 use Rattle.ec_lawful.proofs.LinesTell.{line-tells}
 use Rattle.ec_lawful.specs.Whole.{Whole}
-
-begun-untold : (w : Watch) → (begun w).untold ≡ w.untold
-begun-untold w = cond_both w.running w (record w { starts = w.starts + 1; running = true }) (λ v. v.untold ≡ w.untold) (λ e. refl) (λ e. refl)
+use Rattle.ec_base.proofs.Options.{none_some}
+use Rattle.ec_base.proofs.Numbers.{equal}
+use Rattle.ec_laws.proofs.BasesAlike.{each-map}
+use Rattle.ec_laws.proofs.Late.{begun-untold}
 
 module _ (g : System) (whole : Whole g) (c b l : ℕ) (cl : Call) (run : g.running c ≡ Some b) (new : IsNewLine g l) where
   abbrev line : Shown

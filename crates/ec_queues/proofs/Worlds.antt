@@ -1,7 +1,6 @@
 -- All facts hold of each world of a run in which calls may wait before they begin.
-use Rattle.std.proofs.Common.{◌≡◌, refl, sym, ap, subst, ◌∙◌, T, ℕ, length, None, Some}
+use Rattle.std.proofs.Common.{◌≡◌, refl, sym, ap, subst, ◌∙◌, ℕ, length, None, Some}
 use Rattle.std.specs.Prelude.{Ok}
-use Rattle.ec_plain.specs.declared.call.Call.{Call}
 use Rattle.ec_volume.specs.Volume.{Images, images}
 use Rattle.ec_volume.specs.declared.image.Image.TheVariants.{Gone}
 use Rattle.ec_history.specs.Placing.{EachLine}
@@ -16,7 +15,6 @@ use Rattle.ec_protocol.specs.declared.world.World.{World}
 use Rattle.ec_coherence.specs.System.{System}
 use Rattle.ec_coherence.specs.Steps.{call_of}
 use Rattle.ec_coherence.specs.StandLaws.{lined}
-use Rattle.ec_coherence.proofs.Tables.{none_some}
 use Rattle.ec_clerk_steps.proofs.Steps.{step-most}
 use Rattle.ec_lawful.specs.Asked.{AsksAgree}
 use Rattle.ec_lawful.specs.AskedLaws.{RestsKeep}
@@ -31,7 +29,6 @@ use Rattle.ec_lawful.specs.Steps as steps
 use Rattle.ec_lawful.specs.Steps.{MayHappen, StepsKeep}
 use Rattle.ec_lawful.specs.Whole.{Whole}
 use Rattle.ec_lawful.proofs.Agreeing.{asks-keep}
-use Rattle.ec_plain.specs.BoundedCalls.{is_bounded}
 use Rattle.ec_lawful.proofs.Events.{event-holds}
 use Rattle.ec_lawful.proofs.Founds.{steps-so}
 use Rattle.ec_lawful.proofs.Frames.{forgotten-stands, lined-stands}
@@ -47,10 +44,8 @@ use Rattle.ec_queues.specs.Reached.{QueuedReached, opens, happens, forgets, unse
 use Rattle.ec_queues.proofs.Adds.{adds-of, event-adds, line-adds, quiet-adds, resume-adds, wait-adds}
 use Rattle.ec_queues.proofs.QueuedHold.{resumes-hold, waits-hold}
 use Rattle.ec_queues.proofs.QueuedKeep.{asks-queue, queued-in-run}
-
--- the call of a line is within its bounds
-abbrev IsBounded : ℕ → ℕ → Call → Type 0
-IsBounded l c cl = T (is_bounded cl)
+use Rattle.ec_base.proofs.Options.{none_some}
+use Rattle.ec_lawful.proofs.Bounded.{IsBounded}
 
 -- every world without queues is one
 pub plain-reached : (d : Durable) (w : World) → Reached d w → QueuedReached d w

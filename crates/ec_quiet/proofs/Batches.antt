@@ -60,10 +60,6 @@ batch-parts l b ns e = both-parts (λ op. member op.0 ns) (λ op. not (is_under_
 
 -- A closure.
 
-either : (a b : Bool) → (a || b) ≡ true → (a ≡ true) ⊎ (b ≡ true)
-either true b e = inl refl
-either false b e = inr e
-
 here : (n : ℕ) (ns : List ℕ) → member n (n ∷ ns) ≡ true
 here n ns = ap (λ z. z || member n ns) (eq-eqb n n refl)
 

@@ -1,7 +1,6 @@
 -- How steps begin that take a message of the clerk's session.
 use Rattle.std.proofs.Common.{◌≡◌, refl, ap, ◌∙◌, arith, ◌≤◌, ℕ, Bool, true, false, ◌&&◌}
 use Rattle.std.specs.Prelude.{nat_le, nat_lt, ◌==◌}
-use Rattle.std.proofs.lemmas.Bool.{eq-eqb}
 use Rattle.ec_base.specs.declared.ids.Hold.{Hold}
 use Rattle.ec_base.specs.declared.counter.Counter.TheVariants as counter
 use Rattle.ec_volume.specs.declared.image.Image.{Image}
@@ -12,9 +11,7 @@ use Rattle.ec_wire.specs.declared.msg.Msg.TheVariants.{Grant, Ids, Kept, Recall}
 use Rattle.ec_protocol.specs.Clerk.{Doing, add_ids, doing, in_session, is_session, spend, take_recall, take_ids, taken, with_cache, with_clerk, with_log}
 use Rattle.ec_protocol.specs.declared.clerk.Clerk.{Clerk}
 use Rattle.ec_quiet.specs.Tries.{IsOf, recalled}
-
-same-number : (n : ℕ) → (n == n) ≡ true
-same-number n = eq-eqb n n refl
+use Rattle.ec_base.proofs.Numbers.{same-number}
 
 module _ (s e : ℕ) (k : Clerk) (of : IsOf s e k) where
   is-own : is_session s k.session ≡ true

@@ -4,8 +4,6 @@ use Rattle.std.specs.Ordering.{nat_cmp}
 use Rattle.std.specs.FinMap.{find}
 use Rattle.ec_base.specs.Tables.{Table, at}
 use Rattle.ec_base.specs.Holds.{rank}
-use Rattle.ec_base.specs.declared.ids.Hold.{Hold}
-use Rattle.ec_base.specs.declared.ids.Hold.TheVariants.{Free, Read, Write}
 use Rattle.ec_tokens.specs.Tokens.{Tokens, Holder, held_by, holders, token}
 use Rattle.ec_tokens.specs.declared.token.Token.{Token}
 use Rattle.ec_protocol.specs.declared.clerk.Clerk.{Clerk}
@@ -15,11 +13,7 @@ use Rattle.ec_quiet.specs.Phases.{Phase, Greets, Opens, Claims, Wants, Recalls, 
 use Rattle.ec_quiet.specs.Scenes.{Scene}
 use Rattle.ec_quiet.specs.Works.{Work, is_saving}
 use Rattle.ec_quiet.specs.Bounds.{IsFirst, other_rows}
-
-rank-most : (h : Hold) → rank h ≤ 2
-rank-most Free = omega arith
-rank-most Read = omega arith
-rank-most Write = omega arith
+use Rattle.ec_base.proofs.HoldsLemmas.{rank-most}
 
 -- what one holder costs
 holder-most : (s : ℕ) (g : Holder) → holder_price s None g ≤ 256

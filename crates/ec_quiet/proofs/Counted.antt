@@ -17,8 +17,11 @@ use Rattle.ec_durable.specs.Durable.{slot}
 use Rattle.ec_protocol.specs.declared.clerk.Clerk.{Clerk}
 use Rattle.ec_protocol.specs.declared.server.Server.{Server}
 use Rattle.ec_quiet.specs.Facts.{IsOrderly, clerk_of}
-use Rattle.ec_machine_laws.proofs.Once.{AreOnce, fewer, keys-length, same-self}
+use Rattle.ec_machine_laws.proofs.Once.{AreOnce, fewer, keys-length}
 use Rattle.ec_quiet.specs.Bounds.{other_rows}
+use Rattle.ec_base.proofs.Numbers.{same-self}
+use Rattle.ec_base.proofs.Options.{none-some}
+use Rattle.ec_base.proofs.Bools.{higher}
 
 -- The clerks of the sessions.
 
@@ -52,20 +55,11 @@ has-token (e ∷ es) h = (e.0, e.1, ap (λ b. cond b (Some e.1) (find nat_cmp e.
     self : eq_by_cmp nat_cmp e.0 e.0 ≡ true
     self = grind (arith, nat_tests)
 
-higher : (t m k : ℕ) → t ≤ m → T (is_lt (nat_cmp m k)) → eq_by_cmp nat_cmp t k ≡ false
-higher t m k l h = grind (arith, nat_tests, l, h)
-
 absent : {X : Type 0} (t m : ℕ) (es : Table X) → t ≤ m → T (below_all nat_cmp m es) → find nat_cmp t es ≡ None
 absent t m [] l b = refl
 absent t m (e ∷ es) l b =
     ap (λ z. cond z (Some e.1) (find nat_cmp t es)) (higher t m e.0 l (first (is_lt (nat_cmp m e.0)) (below_all nat_cmp m es) b))
     ∙ absent t m es l (second (is_lt (nat_cmp m e.0)) (below_all nat_cmp m es) b)
-
-none-some : {A : Type 0} {B : Type 0} (k : A) → ◌≡◌ {A = Option A} None (Some k) → B
-none-some {A} k e = absurd (apart e)
-  where
-    apart : ◌≡◌ {A = Option A} None (Some k) → ⊥
-    apart e = cc
 
 below-key : (t k : ℕ) → eq_by_cmp nat_cmp t k ≡ true → t ≤ k
 below-key t k q = grind (arith, nat_tests, q)

@@ -25,7 +25,8 @@ use Rattle.ec_protocol.specs.declared.world.World.{World}
 use Rattle.ec_protocol.specs.declared.world.WorldFault.TheVariants as fault
 use Rattle.ec_quiet.specs.Scenes as scenes
 use Rattle.ec_quiet.specs.Scenes.{IsScene, Mail, Scene, delivered, done_by, is_for_server, sends, taken_by}
-use Rattle.ec_quiet.proofs.Sending.{IsFirst, all-sent, first-is, first-leaves, no-more, regroup, sends-on}
+use Rattle.ec_quiet.proofs.Sending.{IsFirst, all-sent, first-is, first-leaves, sends-on}
+use Rattle.ec_base.proofs.Lists.{regroup, no-more}
 
 -- What is shown and which calls are under way isn't read.
 

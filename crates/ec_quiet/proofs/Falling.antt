@@ -22,7 +22,9 @@ use Rattle.ec_quiet.specs.Works.{Work}
 use Rattle.ec_quiet.proofs.Terms.{sum-same, sum-le, sum-falls, put-part, row-part}
 use Rattle.ec_machine_laws.specs.Holding.{left_at}
 use Rattle.ec_machine_laws.proofs.Given.{lowered-tokens}
-use Rattle.ec_machine_laws.proofs.Rows.{found-put, found-lowered, granted-elsewhere, lowered-elsewhere, same-self}
+use Rattle.ec_machine_laws.proofs.Rows.{found-put, found-lowered, granted-elsewhere, lowered-elsewhere}
+use Rattle.ec_base.proofs.Numbers.{same-self}
+use Rattle.ec_base.proofs.HoldsLemmas.{rank-most}
 
 -- The clerk's own tokens.
 
@@ -54,11 +56,6 @@ fresh-new m n h l = ap (λ b. elim b as (λ z. ℕ) [ true ↦ rank h | false �
   where
     later : (m n : ℕ) → m < n → nat_lt m n ≡ true
     later m n l = grind (arith, nat_tests, l)
-
-rank-most : (h : Hold) → rank h ≤ 2
-rank-most Free = omega arith
-rank-most Read = omega arith
-rank-most Write = omega arith
 
 granted-here : (ts : Tokens) (s x n : ℕ) (h : Hold) → token (granted s x h n ts) s x ≡ Some (record { hold = h; number = n })
 granted-here ts s x n h =

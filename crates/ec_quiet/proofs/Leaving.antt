@@ -27,7 +27,7 @@ use Rattle.ec_quiet.specs.Evictions.{IsOld, Leaves, back_mail, back_out}
 use Rattle.ec_quiet.specs.Takings.{IsReady, with_clerk_at}
 use Rattle.ec_quiet.proofs.Beside.{filter-both, own-at}
 use Rattle.ec_quiet.proofs.Taking.{each-both, each-map, each-of}
-use Rattle.ec_quiet.proofs.Used.{no-more}
+use Rattle.ec_base.proofs.Lists.{no-more}
 
 -- Tokens, as they're recorded.
 

@@ -25,7 +25,7 @@ pub mod Leaving
 pub mod Going
 pub mod Granting
 pub mod Empty
-mod Once
+pub mod Once
 pub mod Starting
 pub mod Pushing
 pub mod Stepping

@@ -25,7 +25,7 @@ pending-is w sc i = sym (letters w.pool w.pending i.kept) ∙ ap length i.mail
 
 -- Those of a phase, and those that go back.
 
-parts : (j : Work) (ms : Mail) → length ms ≡ length (main j ms) + length (backs j ms)
+pub parts : (j : Work) (ms : Mail) → length ms ≡ length (main j ms) + length (backs j ms)
 parts j [] = refl
 parts j (m ∷ ms) = go (is_back j m) (parts j ms)
   where

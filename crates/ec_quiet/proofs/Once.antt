@@ -1,5 +1,5 @@
 -- Tokens that stand once, each found at its object.
-use Rattle.std.proofs.Common.{◌≡◌, refl, sym, ap, ◌∙◌, arith, ℕ, T, Bool, true, false, not, ◌&&◌, ◌||◌, cond, [], ◌∷◌}
+use Rattle.std.proofs.Common.{◌≡◌, refl, sym, ap, ◌∙◌, arith, ℕ, T, Bool, true, false, not, ◌||◌, cond, [], ◌∷◌}
 use Rattle.std.specs.Prelude.{Some, ◌==◌}
 use Rattle.std.specs.Cmp.{unsigned_ties}
 use Rattle.std.proofs.lemmas.Bool.{eq-eqb}
@@ -7,18 +7,7 @@ use Rattle.ec_base.specs.Tables.{Table, at, keys}
 use Rattle.ec_history.specs.History.{Each}
 use Rattle.ec_volume.specs.Update.{distinct, member}
 use Rattle.ec_cache.specs.declared.state.Held.{Held}
-
-left : (a b : Bool) → T (a && b) → T a
-left true b t = tt
-left false b t = absurd t
-
-right : (a b : Bool) → T (a && b) → T b
-right true b t = t
-right false b t = absurd t
-
-no-longer : (b : Bool) → T (not b) → b ≡ false
-no-longer true t = absurd t
-no-longer false t = refl
+use Rattle.ec_base.proofs.Bools.{left, right, no-longer}
 
 pub found-once : (es : Table Held) → T (distinct (keys es)) → Each {A = ℕ × Held} (λ e. at e.0 es ≡ Some e.1) es
 found-once [] t = tt

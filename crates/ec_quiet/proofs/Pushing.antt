@@ -26,9 +26,9 @@ use Rattle.ec_quiet.proofs.Beside.{backs-more, main-more, other-at, own-at, stil
 use Rattle.ec_quiet.proofs.Steps.{few-stay, prepared, push-alone, tries-none}
 use Rattle.ec_quiet.proofs.Taking.{each-map}
 use Rattle.ec_quiet.proofs.Tried.{asks-for, numbers, picks}
-use Rattle.ec_quiet.proofs.Used.{no-more}
 use Rattle.ec_quiet.proofs.Once.{found-once}
 use Rattle.ec_quiet.specs.First.{HasFirst, IsPush}
+use Rattle.ec_base.proofs.Lists.{no-more}
 
 same-slot : (a b : Slot) → ◌≡◌ {A = Option Slot} (Some a) (Some b) → a ≡ b
 same-slot a b e = cc

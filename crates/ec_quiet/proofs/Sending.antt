@@ -14,33 +14,21 @@ use Rattle.ec_protocol.specs.World.{send, send_all, settled}
 use Rattle.ec_protocol.specs.declared.world.Sent.{Sent}
 use Rattle.ec_protocol.specs.declared.world.World.{World}
 use Rattle.ec_quiet.specs.Scenes.{IsScene, Mail, Scene, letter, mail_of}
+use Rattle.ec_base.proofs.Lists.{regroup, no-more}
+use Rattle.ec_laws.proofs.BasesAlike.{each-map}
+use Rattle.ec_base.proofs.Numbers.{next-place}
 
 -- Lists.
-
-pub each-map : {A : Type 0} (P Q : A → Type 0) → ((x : A) → P x → Q x) → (xs : List A) → Each P xs → Each Q xs
-each-map P Q f [] e = tt
-each-map P Q f (x ∷ xs) e = (f x e.0, each-map P Q f xs e.1)
 
 pub each-push : {A : Type 0} (P : A → Type 0) (xs : List A) (x : A) → Each P xs → P x → Each P (xs ++ x ∷ [])
 each-push P [] x e p = (p, tt)
 each-push P (y ∷ ys) x e p = (e.0, each-push P ys x e.1 p)
-
-pub no-more : {A : Type 0} (xs : List A) → xs ++ [] ≡ xs
-no-more [] = refl
-no-more (x ∷ xs) = ap (λ l. x ∷ l) (no-more xs)
-
-pub regroup : {A : Type 0} (xs ys zs : List A) → (xs ++ ys) ++ zs ≡ xs ++ (ys ++ zs)
-regroup [] ys zs = refl
-regroup (x ∷ xs) ys zs = ap (λ l. x ∷ l) (regroup xs ys zs)
 
 -- Numbers that rise.
 
 -- a later number is above the first one
 abbrev AreAbove : ℕ → List ℕ → Type 0
 AreAbove n ms = Each (λ m. n < m) ms
-
-next-place : (k : ℕ) → suc k + 1 ≡ suc (k + 1)
-next-place k = omega arith
 
 pub rising-rest : (n : ℕ) (ms : List ℕ) → IsStrictlyIncreasing (n ∷ ms) → IsStrictlyIncreasing ms
 rising-rest n ms r = λ k i. subst (λ z. slice_index (n ∷ ms) (suc k) < slice_index (n ∷ ms) z) (next-place k) (r (suc k) (omega (arith, i)))

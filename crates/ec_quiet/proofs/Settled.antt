@@ -15,7 +15,7 @@ use Rattle.ec_quiet.proofs.Delivering as delivering
 use Rattle.ec_quiet.proofs.Idle.{all-idle}
 
 -- where nothing is due
-stops : (k : ℕ) (m : Moving) → due m.world ≡ None → settle k [] m ≡ m
+pub stops : (k : ℕ) (m : Moving) → due m.world ≡ None → settle k [] m ≡ m
 stops zero m e = ap (λ o. elim o as (λ z. Moving) [ None ↦ m | Some n ↦ show_line Unsettled m ]) e
 stops (suc k) m e =
     ap (λ o. elim o as (λ z. Moving) [ None ↦ m | Some n ↦ elim (onward m (deliver runs n m.world)).fault as (λ z. Moving) [ Some f ↦ onward m (deliver runs n m.world) | None ↦ settle k [] (onward m (deliver runs n m.world)) ] ]) e

@@ -28,6 +28,7 @@ use Rattle.ec_quiet.specs.Works.{asked_in}
 use Rattle.ec_quiet.specs.Tries.{HasCounters, IsAnswer, IsBatch, IsCalm, IsRoom, IsWaiting, IsWant, batch_sent, issued, room_asked, updated}
 use Rattle.ec_resolve.specs.Resolve.{evaluate}
 use Rattle.ec_quiet.proofs.Verdicts.{idless-none, lacks-below, need-lacks, never-lost, wants-once}
+use Rattle.ec_base.proofs.Numbers.{above-limit as below}
 
 -- A token is wanted.
 
@@ -127,9 +128,6 @@ module _ (d : Doing) (none : d.clerk.log.batches ≡ []) (unspent : log.batches_
       go : (b : Bool) → b ≡ false → elim b as (λ z. Doing) [ true ↦ clerk.spend Rattle.ec_base.specs.declared.counter.Counter.TheVariants.Batch d | false ↦ batch_sent l.next_batch numbers d ] ≡ batch_sent l.next_batch numbers d
       go true e = absurd (grind (arith, e))
       go false e = refl
-
-below : (a b : ℕ) → nat_lt a b ≡ true → a < b
-below a b e = grind (arith, e)
 
 -- An operation that is asked for was issued before the next one.
 first-below : (q : ℕ × Update → Bool) (m : ℕ) (ops : Issued) (n : ℕ) → is_behind m ops ≡ true → log.first_number (filter q ops) ≡ Some n → n < m

@@ -15,10 +15,7 @@ use Rattle.ec_quiet.specs.Facts.{token_of}
 use Rattle.ec_quiet.specs.Evictions.{Evicts, Leaves, Uses}
 use Rattle.ec_quiet.proofs.Steps.{few-stay}
 use Rattle.ec_quiet.proofs.Taking.{at-renewed, each-map, few-left}
-
-pub no-more : {A : Type 0} (xs : List A) → xs ++ [] ≡ xs
-no-more [] = refl
-no-more (x ∷ xs) = ap (λ l. x ∷ l) (no-more xs)
+use Rattle.ec_base.proofs.Lists.{no-more}
 
 one-more : {A : Type 0} (xs : List A) (x : A) → length (xs ++ x ∷ []) ≡ length xs + 1
 one-more [] x = refl

@@ -1,20 +1,13 @@
 -- Lists of numbers: members, rising lists, and each number once.
 use Rattle.std.proofs.Common.{◌≡◌, ◌<◌, refl, sym, ap, ◌∙◌, arith, inl, inr, ℕ, zero, suc, Bool, true, false, not, ◌&&◌, ◌||◌, cond, List, [], ◌∷◌, ◌++◌, length, get_or, filter}
 use Rattle.std.specs.Prelude.{◌==◌, Contains}
-use Rattle.std.specs.List.{AllPairs}
-use Rattle.std.specs.List.Sorted.{IsStrictlyIncreasing}
 use Rattle.std.proofs.lemmas.Bool.{eq-eqb, ne_eqb, eqb-true, eqb-false, cases_Bool, cases_eq}
 use Rattle.std.proofs.lemmas.List.{append_assoc}
-use Rattle.std.proofs.lemmas.List.Kept.{AllPairs-from_increasing}
 use Rattle.ec_base.specs.Tables.{once}
 use Rattle.ec_volume.specs.Update.{member}
 use Rattle.ec_report.specs.Index.{without, fresh}
-
-pub itself : (n : ℕ) → (n == n) ≡ true
-itself n = eq-eqb n n refl
-
-pub turned : (m n : ℕ) → (m == n) ≡ (n == m)
-turned m n = grind arith
+use Rattle.ec_base.proofs.Numbers.{same-number, turned}
+use Rattle.ec_base.proofs.Lists.{Above, Rises}
 
 pub member-append : (n : ℕ) (xs ys : List ℕ) → member n (xs ++ ys) ≡ (member n xs || member n ys)
 member-append n [] ys = refl
@@ -64,31 +57,9 @@ without_absent x (y ∷ ys) m = go (y == x) (turned y x) m (without_absent x ys)
     go false e m f = ap (λ l. y ∷ l) (f (grind (arith, m)))
 
 pub without_twice : (x : ℕ) (xs : List ℕ) → without x (without x xs) ≡ without x xs
-without_twice x xs = without_absent x (without x xs) (member-without x x xs ∙ ap (λ b. member x xs && not b) (itself x) ∙ grind arith)
+without_twice x xs = without_absent x (without x xs) (member-without x x xs ∙ ap (λ b. member x xs && not b) (same-number x) ∙ grind arith)
 
 -- Rising lists.
-
-abbrev pub Above : ℕ → List ℕ → Type 0
-Above n [] = Unit {0}
-Above n (x ∷ xs) = (n < x) × Above n xs
-
-abbrev pub Rises : List ℕ → Type 0
-Rises [] = Unit {0}
-Rises (x ∷ xs) = Above x xs × Rises xs
-
-above_each : (n : ℕ) (xs : List ℕ) → ((j : ℕ) → j < length xs → n < get_or xs j 0) → Above n xs
-above_each n [] h = tt
-above_each n (x ∷ xs) h = (h 0 (omega arith), above_each n xs (λ j l. h (suc j) (omega arith)))
-
-rises_each : (xs : List ℕ) → AllPairs (λ x y. x < y) xs → Rises xs
-rises_each [] h = tt
-rises_each (x ∷ xs) h = (
-  above_each x xs (λ j l. h 0 (suc j) 0 (omega arith) (omega arith)),
-  rises_each xs (λ i j d l m. h (suc i) (suc j) d (omega arith) (omega arith)),
-)
-
-pub rises_from : (xs : List ℕ) → IsStrictlyIncreasing xs → Rises xs
-rises_from xs h = rises_each xs (AllPairs-from_increasing xs h)
 
 pub above_absent : (n : ℕ) (xs : List ℕ) → Above n xs → member n xs ≡ false
 above_absent n [] h = refl
@@ -101,8 +72,8 @@ above_lower m n (x ∷ xs) l h = (omega (arith, h.0), above_lower m n xs l h.1)
 -- rising lists with the same members are one
 pub same_rising : (xs ys : List ℕ) → Rises xs → Rises ys → ((n : ℕ) → member n xs ≡ member n ys) → xs ≡ ys
 same_rising [] [] r s f = refl
-same_rising [] (y ∷ ys) r s f = absurd (grind (arith, f y, itself y))
-same_rising (x ∷ xs) [] r s f = absurd (grind (arith, f x, itself x))
+same_rising [] (y ∷ ys) r s f = absurd (grind (arith, f y, same-number y))
+same_rising (x ∷ xs) [] r s f = absurd (grind (arith, f x, same-number x))
 same_rising (x ∷ xs) (y ∷ ys) r s f =
     let heads : x ≡ y = elim (cases_eq x y) [
       | inl e ↦ e
@@ -113,8 +84,8 @@ same_rising (x ∷ xs) (y ∷ ys) r s f =
     apart : (x ≡ y → ⊥) → ⊥
     apart d =
         let off : (x == y) ≡ false = ne_eqb x y d in
-        let in_ys : member x ys ≡ true = grind (arith, f x, itself x, off) in
-        let in_xs : member y xs ≡ true = grind (arith, f y, itself y, off, turned x y) in
+        let in_ys : member x ys ≡ true = grind (arith, f x, same-number x, off) in
+        let in_xs : member y xs ≡ true = grind (arith, f y, same-number y, off, turned x y) in
         below in_ys in_xs
       where
         least : (n m : ℕ) (l : List ℕ) → Above n l → member m l ≡ true → n < m

@@ -22,7 +22,9 @@ use Rattle.ec_volume.specs.Update.{member}
 use Rattle.ec_report.specs.Index.{Rows, ops_of, ops_at, having, Agrees, is_above, without, stripped, gathered, IsDue, AreSeen, fresh}
 use Rattle.ec_report.specs.Report.{Owed, pairs_of, owe, clear, due}
 use Rattle.ec_report.specs.OwedOrder.{come_behind}
-use Rattle.ec_report.proofs.Lists.{fresh_more, fresh-append, member_alike, itself, turned, member-append, member-without, without_absent, without_twice, Above, Rises, rises_from, above_absent, same_rising}
+use Rattle.ec_report.proofs.Lists.{fresh_more, fresh-append, member_alike, member-append, member-without, without_absent, without_twice, above_absent, same_rising}
+use Rattle.ec_base.proofs.Numbers.{same-number as itself, turned}
+use Rattle.ec_base.proofs.Lists.{Above, Rises, rises_from}
 
 -- Maps by number.
 

@@ -21,27 +21,11 @@ use Rattle.ec_plain.specs.declared.call.Refusal.{Refusal}
 use Rattle.ec_plain.specs.declared.call.Refusal.TheVariants as no
 use Rattle.ec_plain.specs.declared.call.Outcome.{Outcome}
 use Rattle.ec_resolve.specs.Agreement.{Agree}
-use Rattle.ec_resolve.proofs.Members.{or_r, member-self, member-left, member-right, member-last}
+use Rattle.ec_resolve.proofs.Members.{member-self, member-left, member-right, member-last}
+use Rattle.ec_base.proofs.Bools.{or-right as or_r}
+use Rattle.ec_plain.proofs.WalkLemmas.{entry-step, image-step, not-at, same-at}
 
 -- Walks.
-
-abbrev entry-step : Images → ℕ → Path → Option ℕ → Walk
-entry-step v i ns None = stop (Not (no.NotFound (i + 1)))
-entry-step v i ns (Some p) = walk_from v (i + 1) p ns
-
-abbrev image-step : Images → ℕ → List ℕ → Path → Image → Walk
-image-step v i n ns Gone = stop (Not (no.NotFound i))
-image-step v i n ns (File m s w bs) = stop (Not (no.NotDir i))
-image-step v i n ns (Dir m s w es) = entry-step v i ns (entry es n)
-
-not-at : {A : Type 0} (r : Refusal) (q : ℕ) → Not r ≡ At q → A
-not-at r q e = absurd (apart e)
-  where
-    apart : Not r ≡ At q → ⊥
-    apart e = cc
-
-same-at : (o q : ℕ) → At o ≡ At q → o ≡ q
-same-at o q e = cc
 
 -- The object that a walk reached was read.
 pub walk-read : (v : Images) (i o : ℕ) (p : Path) (q : ℕ) → (walk_from v i o p).to ≡ At q → T (member q (walk_from v i o p).read)

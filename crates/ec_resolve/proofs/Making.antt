@@ -1,5 +1,5 @@
 -- What a call makes of a fresh id: it makes an object with it, or doesn't look at it.
-use Rattle.std.proofs.Common.{◌≡◌, ◌∙◌, refl, sym, ap, inl, inr, ◌⊎◌, arith, ◌+◌, ◌-◌, ℕ, T, Bool, true, false, not, ◌==◌, ◌&&◌, cond, List, [], ◌∷◌, ◌++◌, suc, map, length, Option, Some, None}
+use Rattle.std.proofs.Common.{◌≡◌, ◌∙◌, refl, sym, ap, inl, inr, ◌⊎◌, ◌+◌, ◌-◌, ℕ, T, Bool, true, false, not, ◌==◌, ◌&&◌, cond, List, [], ◌∷◌, ◌++◌, suc, map, length, Option, Some, None}
 use Rattle.std.specs.Prelude.{is_some, nat_lt, nat_le, take, drop}
 use Rattle.ec_base.specs.Tables.{first, or_else}
 use Rattle.ec_base.specs.declared.ids.Hold.TheVariants.{Read, Write}
@@ -26,6 +26,7 @@ use Rattle.ec_report.specs.Report.{Owed, due}
 use Rattle.ec_resolve.specs.Resolve.{judged, in_order, lacking, lacks_id, seen, first_unread, met, reported}
 use Rattle.ec_resolve.specs.declared.verdict.Verdict.{Verdict}
 use Rattle.ec_resolve.specs.declared.verdict.Verdict.TheVariants.{Need, NeedIds}
+use Rattle.ec_base.proofs.Numbers.{one-less}
 
 -- the update makes an object
 abbrev pub is_made : Option Update → Bool
@@ -203,9 +204,6 @@ module _ (v : Images) where
   either-plain (call.Chown p owner) = at-end p (λ o os. issues (Owner o owner) os) (λ o os. unmade-issues (Owner o owner) os refl)
 
 -- A verdict without an id doesn't tell which one stands in for it.
-
-one-less : (n : ℕ) → n ≡ suc n - 1
-one-less n = grind (arith)
 
 length-last : (os : List ℕ) (x : ℕ) → length (os ++ x ∷ []) ≡ suc (length os)
 length-last [] x = refl

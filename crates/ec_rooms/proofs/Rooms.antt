@@ -21,7 +21,7 @@ use Rattle.ec_rooms.specs.DrillRooms.{DrillsTellRoom}
 use Rattle.ec_rooms.proofs.Roomy.{K, opened-room, room-kept}
 
 -- the same pieces
-same-joined : (pieces : List (List Shown)) → headline.joined pieces ≡ machine.joined pieces
+pub same-joined : (pieces : List (List Shown)) → headline.joined pieces ≡ machine.joined pieces
 same-joined [] = refl
 same-joined (p ∷ ps) = ap (λ (ls : List Shown). p ++ ls) (same-joined ps)
 

@@ -34,7 +34,7 @@ use Rattle.ec_protocol.specs.declared.clerk.Out.{Out}
 use Rattle.ec_protocol.specs.declared.clerk.Out.TheVariants as out
 use Rattle.ec_protocol.specs.declared.server.Server.{Server}
 use Rattle.ec_protocol.specs.declared.world.World.{World}
-use Rattle.ec_once.proofs.Walk.{Good, Going, Led, end-goes, new-good, start-goes, take-goes}
+use Rattle.ec_once.proofs.Walk.{Good, Going, Led, end-goes, new-good, start-goes, take-goes, sound-ops}
 use Rattle.ec_node_laws.specs.Rooms.{PassesOn, RefusesNone, TellsCounts, counts_in}
 use Rattle.ec_node_laws.proofs.Answered.{begin-own, push-own, resend-own, start-own, takes-pass}
 use Rattle.ec_node_laws.proofs.Refused.{ends-refuse-none, starts-refuse-none, takes-count}
@@ -44,7 +44,7 @@ use Rattle.ec_coherence.specs.StandLaws.{crashed, lined, stopped}
 use Rattle.ec_coherence.specs.Stops.{RunsOn}
 use Rattle.ec_coherence.specs.CommitLaws.{AllAgree}
 use Rattle.ec_coherence.proofs.Needs.{each-of}
-use Rattle.ec_coherence.proofs.Tables.{none_some, same_some}
+use Rattle.ec_coherence.proofs.Tables.{same_some}
 use Rattle.ec_clerk_steps.proofs.Steps.{step-most}
 use Rattle.ec_lawful.specs.Doubts.{ComesFrom, DoubtAgrees, doubted}
 use Rattle.ec_lawful.specs.Founds.{Makes, bare, found_ghost, started_in, with_found}
@@ -60,34 +60,14 @@ use Rattle.ec_lawful.proofs.Opens.{world-stands}
 use Rattle.ec_lawful.proofs.OpensWhole.{opened-whole}
 use Rattle.ec_lawful.proofs.Runs.{keep}
 use Rattle.ec_rooms.specs.Rooms.{IsWithinRoom}
+use Rattle.ec_base.proofs.Options.{none_some}
+use Rattle.ec_history.proofs.HistoryLemmas.{each-more}
+use Rattle.ec_lawful.proofs.CallsShown.{each-line}
+use Rattle.ec_laws.proofs.BasesAlike.{each-map}
 
 -- Lists.
 
-each-more : {A : Type 0} (P : A → Type 0) (xs ys : List A) → Each P xs → Each P ys → Each P (xs ++ ys)
-each-more P [] ys h k = k
-each-more P (x ∷ xs) ys h k = (h.0, each-more P xs ys h.1 k)
-
-each-turns : {A : Type 0} (P Q : A → Type 0) → ((x : A) → P x → Q x) → (xs : List A) → Each P xs → Each Q xs
-each-turns P Q f [] h = tt
-each-turns P Q f (x ∷ xs) h = (f x h.0, each-turns P Q f xs h.1)
-
-lines-more : (P : Shown → Type 0) (xs ys : List Shown) → EachLine P xs → EachLine P ys → EachLine P (xs ++ ys)
-lines-more P [] ys h k = k
-lines-more P (x ∷ xs) ys h k = (h.0, lines-more P xs ys h.1 k)
-
 -- Records.
-
-left : (a b : Bool) → T (a && b) → T a
-left true b h = tt
-left false b h = absurd h
-
-right : (a b : Bool) → T (a && b) → T b
-right true b h = h
-right false b h = absurd h
-
-sound-ops : (ops : List (ℕ × Update)) → T (list_all (λ op. is_sound_update op.1) ops) → AreSoundOps ops
-sound-ops [] h = tt
-sound-ops (op ∷ ops) h = (left (is_sound_update op.1) (list_all (λ op. is_sound_update op.1) ops) h, sound-ops ops (right (is_sound_update op.1) (list_all (λ op. is_sound_update op.1) ops) h))
 
 flush-ops : (s e b : ℕ) (ops : List (ℕ × Update)) → T (is_sound (msg.Flush s e b ops)) → AreSoundOps ops
 flush-ops s e b ops h = sound-ops ops (last _ (list_all (λ op. is_sound_update op.1) ops) h)
@@ -200,7 +180,7 @@ module _ (most : ℕ) where
 
   -- a line that refuses nothing
   lined-room : (g : System) (s : Shown) → W s → HasRoom g → HasRoom (lined g s)
-  lined-room g s w h = record { order = h.order; doubt = h.doubt; good = h.good; pool = h.pool; lines = lines-more W g.ghost.shown (s ∷ []) h.lines (w, tt) }
+  lined-room g s w h = record { order = h.order; doubt = h.doubt; good = h.good; pool = h.pool; lines = each-line W g.ghost.shown (s ∷ []) h.lines (w, tt) }
 
   in-call-room : (g : System) (c l : ℕ) (cl : Call) (k : Clerk) → HasRoom g → HasRoom (in_call c l cl k g)
   in-call-room g c l cl k h = go (list_any (is_answer_to (k.calls + 1)) (begin cl k).outs)
@@ -245,7 +225,7 @@ module _ (most : ℕ) where
           doubt = k.1.doubt;
           good = λ x q. subst Good (same_some q) going.0;
           pool = each-more {A = ℕ × Msg} Within g.pool t.sent k.1.pool sent;
-          lines = subst (EachLine W) (sym (st.0).shown) (lines-more W g.ghost.shown (record_lines g t.rec) k.1.lines (record-within g t.rec));
+          lines = subst (EachLine W) (sym (st.0).shown) (each-line W g.ghost.shown (record_lines g t.rec) k.1.lines (record-within g t.rec));
         },
       ),
     )
@@ -254,13 +234,13 @@ module _ (most : ℕ) where
     takes-room g u k up c m p =
         let same = same-durable g u k up in
         served-room g u k up (take c m u) (take-goes c m u (each-of {A = ℕ × Msg} (λ x. T (is_sound x.1)) g.pool (c, m) (sound g k) p) (k.1.good u up))
-        (each-turns {A = ℕ × Msg} (λ x. TellsCounts u.durable x.1) Within (counts-within u.durable (ap (λ d. d.max_objects) same ∙ k.0.most_is)) (take c m u).sent (takes-count c m u (subst IsInOrder (sym same) k.1.order)))
+        (each-map {A = ℕ × Msg} (λ x. TellsCounts u.durable x.1) Within (counts-within u.durable (ap (λ d. d.max_objects) same ∙ k.0.most_is)) (take c m u).sent (takes-count c m u (subst IsInOrder (sym same) k.1.order)))
         (steps.takes g u k.0 up c m p)
 
     ends-room : (g : System) (u : Server) → K g → g.server ≡ Some u → (c : ℕ) → IsServed K g (end c u)
     ends-room g u k up c =
         served-room g u k up (end c u) (end-goes c u (k.1.good u up))
-        (each-turns {A = ℕ × Msg} (λ x. RefusesNone x.1) Within none-within (end c u).sent (ends-refuse-none c u))
+        (each-map {A = ℕ × Msg} (λ x. RefusesNone x.1) Within none-within (end c u).sent (ends-refuse-none c u))
         (steps.ends g u k.0 up c)
 
     stops-room : (g : System) (u : Server) → K g → g.server ≡ Some u → K (stopped g)
@@ -271,7 +251,7 @@ module _ (most : ℕ) where
         doubt = k.1.doubt;
         good = λ x q. absurd (none_some q);
         pool = k.1.pool;
-        lines = lines-more W g.ghost.shown (show.Stopped ∷ []) k.1.lines (tt, tt);
+        lines = each-line W g.ghost.shown (show.Stopped ∷ []) k.1.lines (tt, tt);
       },
     )
 
@@ -285,7 +265,7 @@ module _ (most : ℕ) where
         doubt = λ q is. subst AreSound (same_some is) (comes-sound g (sound g k) r from);
         good = λ x q. absurd (none_some q);
         pool = k.1.pool;
-        lines = lines-more W g.ghost.shown (show.Stopped ∷ []) k.1.lines (tt, tt);
+        lines = each-line W g.ghost.shown (show.Stopped ∷ []) k.1.lines (tt, tt);
       },
     )
 
@@ -301,7 +281,7 @@ module _ (most : ℕ) where
             doubt = λ q is. absurd (none_some is);
             good = k.1.good;
             pool = k.1.pool;
-            lines = subst (EachLine W) (sym (found-shown g r)) (lines-more W g.ghost.shown (record_lines g (Some r)) k.1.lines (record-within g (Some r)));
+            lines = subst (EachLine W) (sym (found-shown g r)) (each-line W g.ghost.shown (record_lines g (Some r)) k.1.lines (record-within g (Some r)));
           },
         )
 
@@ -314,8 +294,8 @@ module _ (most : ℕ) where
             order = subst IsInOrder (sym (start-leaves d)) (epoch-order d t.server.durable.epoch (epoch-order g.durable e k.1.order));
             doubt = k.1.doubt;
             good = λ x q. subst Good (same_some q) (start-goes d).0;
-            pool = each-more {A = ℕ × Msg} Within g.pool t.sent k.1.pool (each-turns {A = ℕ × Msg} (λ x. RefusesNone x.1) Within none-within t.sent (starts-refuse-none d));
-            lines = lines-more W g.ghost.shown (show.Started ∷ []) k.1.lines (tt, tt);
+            pool = each-more {A = ℕ × Msg} Within g.pool t.sent k.1.pool (each-map {A = ℕ × Msg} (λ x. RefusesNone x.1) Within none-within t.sent (starts-refuse-none d));
+            lines = each-line W g.ghost.shown (show.Started ∷ []) k.1.lines (tt, tt);
           },
         )
 
@@ -333,7 +313,7 @@ module _ (most : ℕ) where
           doubt = r.doubt;
           good = r.good;
           pool = each-more {A = ℕ × Msg} Within h.pool (sends c d.outs) r.pool (sends-within counts c d.outs outs);
-          lines = subst (EachLine W) (sym shown) (lines-more W h.ghost.shown (out_lines c d.outs h.calls) r.lines (outs-within counts fit c d.outs h.calls outs));
+          lines = subst (EachLine W) (sym shown) (each-line W h.ghost.shown (out_lines c d.outs h.calls) r.lines (outs-within counts fit c d.outs h.calls outs));
         },
       ),
     )
@@ -361,7 +341,7 @@ module _ (most : ℕ) where
           let d = start_clerk c (g.boots c + 1) in
           done-room (in_call c l cl d.clerk (begun c g)) c (g.boots c + 1) (calling cl d.outs d.clerk) (in-call-room (begun c g) c l cl d.clerk (begun-room g c r.1)) None no-counts
           (each-more (PassesOn None) d.outs (begin cl d.clerk).outs (start-own None c (g.boots c + 1)) (begin-own None cl d.clerk)) (steps.starts g c r.0 idle within l cl new bounded spare));
-      crashes = λ g k c. (steps.crashes g k.0 c, record { order = k.1.order; doubt = k.1.doubt; good = k.1.good; pool = k.1.pool; lines = lines-more W g.ghost.shown (show.Crashed c ∷ []) k.1.lines (tt, tt) });
+      crashes = λ g k c. (steps.crashes g k.0 c, record { order = k.1.order; doubt = k.1.doubt; good = k.1.good; pool = k.1.pool; lines = each-line W g.ghost.shown (show.Crashed c ∷ []) k.1.lines (tt, tt) });
       nothing = λ g k. (steps.nothing g k.0, lined-room g show.Nothing tt k.1);
       unsettled = λ g k. (steps.unsettled g k.0, lined-room g show.Unsettled tt k.1);
     }

@@ -17,8 +17,8 @@ use Rattle.ec_history.specs.declared.shown.Shown.TheVariants.{Waits, Answered, D
 use Rattle.ec_history.specs.History.{Base, History, Throughout, kept, outcome, due}
 use Rattle.ec_history.specs.Legal.{IsLegal, IsLegalNext, is_op_of}
 use Rattle.ec_history.specs.Placing.{EachLine, Agrees, Unanswered, MayFollow, ArePlaceable, shows, may_show, begun, watch}
-use Rattle.ec_laws.proofs.Removed.{left, right}
 use Rattle.ec_rows.proofs.Tests.{throughout}
+use Rattle.ec_base.proofs.Bools.{first as left, right}
 
 -- Calls of one path.
 

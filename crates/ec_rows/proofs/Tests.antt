@@ -13,7 +13,7 @@ use Rattle.ec_history.specs.History.{Base, History, Throughout, Covers, issued, 
 use Rattle.ec_history.specs.Placing.{place}
 use Rattle.ec_history.specs.Lines.{IsCovered, AreCovered, durable}
 use Rattle.ec_laws.proofs.Least.{list-complete}
-use Rattle.ec_laws.proofs.Removed.{left, right}
+use Rattle.ec_base.proofs.Bools.{first as left, right, implied}
 
 -- What an entry covers.
 
@@ -28,17 +28,13 @@ covered_all base past e c b p =
     not (is_entry_of c b e.1)
     || (is_sorted nat_cmp (of_issue c b (issued base past)) && list_all (λ x. is_lost c b x.0 past || p x.0) (closure (λ m. member m (asks base past e)) (of_issue c b (issued base past))))
 
-resolve : (p q : Bool) → T (not p || q) → T p → T q
-resolve true q h a = h
-resolve false q h a = absurd a
-
 instead : (p q : Bool) → T (p || q) → T (not p) → T q
 instead true q h a = absurd a
 instead false q h a = h
 
 pub covered-all : (base : Base) (past : History) (e : ℕ × Entry) (c b : ℕ) (p : ℕ → Bool) → T (covered_all base past e c b p) → (n : ℕ) → Covers base past e c b n → T (p n)
 covered-all base past e c b p t n k =
-    let t' = resolve (is_entry_of c b e.1) _ t k.own in
+    let t' = implied (is_entry_of c b e.1) _ t k.own in
     let found = list-complete (of_issue c b (issued base past)) (λ m. member m (asks base past e)) n (left _ _ t') k.closed_in in
     instead (is_lost c b n past) (p n) (all-holds (λ m. is_lost c b m past || p m) _ n found.0 (right _ _ t') found.1) k.not_lost
 

@@ -17,7 +17,7 @@ use Rattle.ec_words.specs.Spelling.{IsClerk, IsKeyword, keyword_name}
 use Rattle.ec_script.specs.Grammar.{Head, IsHead, Begun, Spells}
 use Rattle.ec_words.proofs.Named.{keyword_once, keyword_long}
 
-cons_not_nil : (w : Word) (ws : List Word) → w ∷ ws ≡ [] → ⊥
+pub cons_not_nil : (w : Word) (ws : List Word) → w ∷ ws ≡ [] → ⊥
 cons_not_nil w ws e = cc
 
 pub first_of : (w : Word) (a b : ℕ) → w ≡ a ∷ [] → w ≡ b ∷ [] → a ≡ b
@@ -41,7 +41,7 @@ pub no_head : (w : Word) → ((c : ℕ) → IsClerk w c → ⊥) → ((k : Keywo
 no_head w a b (inl c) g = a c g
 no_head w a b (inr k) g = b k g
 
-first_is : (v w : Word) (vs ws : List Word) → v ∷ vs ≡ w ∷ ws → v ≡ w
+pub first_is : (v w : Word) (vs ws : List Word) → v ∷ vs ≡ w ∷ ws → v ≡ w
 first_is v w vs ws e = cc
 
 pub missing : (ws : List Word) → ws ≡ [] → IsMisfit Spells ws (misfit.Unfit 0)

@@ -30,7 +30,8 @@ use Rattle.ec_serve.specs.declared.ending.Ending.{Ending}
 use Rattle.ec_serve.specs.declared.ending.Ending.TheVariants as ending
 use Rattle.ec_serve.specs.declared.ending.Tended.{Tended}
 use Rattle.ec_serve.specs.declared.ending.Tended.TheVariants as tended
-use Rattle.ec_serve.proofs.Keepers.{rose_later, starts_chain, starts_in_doubt, unstarted_in_doubt}
+use Rattle.ec_serve.proofs.Keepers.{starts_chain, starts_in_doubt, unstarted_in_doubt}
+use Rattle.ec_base.proofs.OutsideLemmas.{rose_later}
 
 pub has_some : {A : Type 0} (o : Option A) (b : Bool) → b ≡ is_some o → b ≡ true → (x : A) × (o ≡ Some x)
 has_some None b is e = absurd (cc (sym is ∙ e))

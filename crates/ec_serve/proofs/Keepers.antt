@@ -12,12 +12,6 @@ use Rattle.ec_server.specs.declared.fault.ServerFault.TheVariants as ended
 use Rattle.ec_servernode.specs.Run.{record_of}
 use Rattle.ec_servernode.specs.Node.{Chain, ChainInDoubt}
 
-pub rose_later : (f g h : ℕ) → f ≤ g → Rose g h → Rose f h
-rose_later f g h le r = later last_count f g h le r
-  where
-    later : (last f g h : ℕ) → f ≤ g → cond (g == last) g (g + 1) ≤ h → cond (f == last) f (f + 1) ≤ h
-    later last f g h le r = grind arith
-
 pub rose_then : (f g h : ℕ) → Rose f g → g ≤ h → Rose f h
 rose_then f g h r le = then last_count f g h r le
   where

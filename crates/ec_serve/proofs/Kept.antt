@@ -1,5 +1,5 @@
 -- What a server's run makes of a store and its disk, both lent to its keeper.
-use Rattle.std.proofs.Common.{◌≡◌, ◌<◌, ◌≤◌, ℕ, List, Ok, refl, ◌∙◌, subst}
+use Rattle.std.proofs.Common.{◌≡◌, ◌<◌, ◌≤◌, ℕ, List, Ok, refl, ◌∙◌}
 use Rattle.ec_disk.specs.Disk.{View, Counts}
 use Rattle.ec_disk.specs.Effects.{Called, Turned}
 use Rattle.ec_durable.specs.Codes.{record_code}
@@ -22,9 +22,6 @@ use Rattle.ec_serve.specs.ServerRuns.{RanWhole, EndsAs, EndsBy, ServesOn}
 use Rattle.ec_serve.specs.declared.ending.Ending.{Ending}
 use Rattle.ec_serve.specs.declared.ending.Ending.TheVariants as ending
 use Rattle.ec_serve.proofs.Keepers.{chain_keeps, doubt_keeps, chain_folds}
-
-pub moved : {A B C : Type 0} (P : A → B → C → Type 0) (a : A) (b : B) (c : C) (x : A) (y : B) (z : C) → P a b c → a ≡ x → b ≡ y → c ≡ z → P x y z
-moved P a b c x y z h p q r = subst (λ v. P x y v) r (subst (λ v. P x v c) q (subst (λ v. P v b c) p h))
 
 -- what a read gives of a disk that holds a store, and whatever a crash leaves of it, stands for the store's state
 pub holds_state : (now : View) (s : Store) → now.may_leave now.gives → IsHeld now s → HoldsState now (view_of s)

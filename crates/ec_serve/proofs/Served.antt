@@ -11,7 +11,7 @@ use Rattle.ec_serve.specs.ServerRuns.{ServesOn}
 use Rattle.ec_serve.specs.Endings.{unopened}
 use Rattle.ec_serve.specs.declared.ending.Ending.{Ending}
 use Rattle.ec_serve.specs.declared.ending.Ending.TheVariants as ending
-use Rattle.ec_serve.proofs.Keepers.{rose_later}
+use Rattle.ec_base.proofs.OutsideLemmas.{rose_later}
 
 -- what was opened is served
 pub serves_on : (count : ℕ) (e : Ending) (d : Durable) (w : Outside) (mid : View) (between : Counts) → Opens w.tells w.disk.gives d → w.counts.faults ≤ between.faults → ServesOn d count e (record w { disk = mid; counts = between }) → Serves count e w

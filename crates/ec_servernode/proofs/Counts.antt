@@ -1,16 +1,9 @@
 -- Counts of a disk, over several calls.
-use Rattle.std.proofs.Common.{◌==◌, ℕ, ◌≤◌, ◌+◌, cond, Option, None, arith}
-use Rattle.ec_base.specs.Limits.{last_count}
-use Rattle.ec_base.specs.Outside.{Rose}
+use Rattle.std.proofs.Common.{Option, None, arith}
 use Rattle.ec_disk.specs.Disk.{Counts}
 use Rattle.ec_servernode.specs.declared.step.Halt.{Halt}
 use Rattle.ec_servernode.specs.Node.{CountsUp}
-
-pub rose_later : (f g h : ℕ) → f ≤ g → Rose g h → Rose f h
-rose_later f g h le r = later last_count f g h le r
-  where
-    later : (last f g h : ℕ) → f ≤ g → cond (g == last) g (g + 1) ≤ h → cond (f == last) f (f + 1) ≤ h
-    later last f g h le r = grind arith
+use Rattle.ec_base.proofs.OutsideLemmas.{rose_later}
 
 pub no_halt_up : (c : Counts) → CountsUp None c c
 no_halt_up c = record { faults = omega arith; stops = omega arith; failed = λ e. absurd (cc e); stopped = λ e. absurd (cc e) }

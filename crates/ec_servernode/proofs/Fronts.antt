@@ -18,9 +18,9 @@ use Rattle.ec_servernode.specs.Callers.{nobody}
 use Rattle.ec_servernode.specs.Run.{number_of, caller_from, caller_by, leads, records, halted, box_from, owner, IsRun}
 use Rattle.ec_servernode.specs.Node.{queue_at, owner_at, Chain, ChainInDoubt, CountsUp, state_of, Since}
 use Rattle.ec_servernode.specs.TurnSteps.{More, RunsFrom, IsServerPass, Finished}
-use Rattle.ec_servernode.proofs.Lists.{prefix_trans}
 use Rattle.ec_servernode.proofs.Runs.{no_run}
 use Rattle.ec_servernode.proofs.Counts.{no_halt_up}
+use Rattle.ec_base.proofs.Lists.{prefix_trans}
 
 pub goes : {K : Type 0} (pass : ℕ) (before after : List Step) (v w : Node K) → IsPrefix before v.trace.items → (more : List Step) × More pass v w more → after ≡ w.trace.items → IsPrefix before after
 goes pass before after v w later m is = subst (IsPrefix before) (sym is) (prefix_trans before v.trace.items w.trace.items later (m.0, sym m.1.0))

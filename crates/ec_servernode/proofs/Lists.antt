@@ -1,24 +1,14 @@
 -- Beginnings of a list, steps by the number of their pass, and a list with one element more.
-use Rattle.std.proofs.Common.{◌≡◌, ◌⊎◌, ℕ, Bool, true, false, cond, List, [], ◌∷◌, ◌++◌, Option, refl, ap, sym, ◌∙◌, inl, inr, ⊎_elim, eq-eqb, ne_eqb, append_assoc, append-nil}
+use Rattle.std.proofs.Common.{◌≡◌, ◌⊎◌, ℕ, cond, List, [], ◌∷◌, ◌++◌, Option, refl, ap, sym, ◌∙◌, inl, inr, ⊎_elim, eq-eqb, ne_eqb, append-nil}
 use mathlib.Core.List.{IsPrefix}
-use Rattle.ec_lock.specs.Steps.{is_number, of}
+use Rattle.ec_lock.specs.Steps.{of}
 use Rattle.ec_servernode.specs.declared.step.Step.{Step}
 use Rattle.ec_servernode.specs.Run.{number_of}
 use Rattle.ec_servernode.specs.OwnSteps.{By}
-use Rattle.ec_link.specs.Happenings.{each}
+use Rattle.ec_lock.proofs.StepsLemmas.{of-append}
 
 pub prefix_self : {A : Type 0} (xs : List A) → IsPrefix xs xs
 prefix_self xs = ([], append-nil xs)
-
-pub prefix_trans : {A : Type 0} (xs ys zs : List A) → IsPrefix xs ys → IsPrefix ys zs → IsPrefix xs zs
-prefix_trans xs ys zs p q = (p.0 ++ q.0, sym (append_assoc xs p.0 q.0) ∙ (ap (λ w. w ++ q.0) p.1 ∙ q.1))
-
-pub of-append : {S : Type 0} (number : S → Option ℕ) (n : ℕ) (xs ys : List S) → of number n (xs ++ ys) ≡ of number n xs ++ of number n ys
-of-append number n [] ys = refl
-of-append number n (x ∷ xs) ys = onto (is_number n (number x)) x (of number n xs) (of number n ys) (of number n (xs ++ ys)) (of-append number n xs ys) where
-  onto : {S : Type 0} (b : Bool) (x : S) (xs ys zs : List S) → zs ≡ xs ++ ys → cond b (x ∷ zs) zs ≡ cond b (x ∷ xs) xs ++ ys
-  onto true x xs ys zs e = ap (λ l. x ∷ l) e
-  onto false x xs ys zs e = e
 
 pub of_own : (pass : ℕ) (more : List Step) → By pass more → of number_of pass more ≡ more
 of_own pass [] h = refl
@@ -27,14 +17,6 @@ of_own pass (s ∷ ss) h = ap (λ b. cond b (s ∷ of number_of pass ss) (of num
 pub of_others : (pass n : ℕ) (more : List Step) → By pass more → ¬ (n ≡ pass) → of number_of n more ≡ []
 of_others pass n [] h ne = refl
 of_others pass n (s ∷ ss) h ne = ap (λ b. cond b (s ∷ of number_of n ss) (of number_of n ss)) (ne_eqb s.pass n (λ e. ne (sym e ∙ h.0))) ∙ of_others pass n ss h.1 ne
-
-pub each-append : {A B : Type 0} (f : A → List B) (xs ys : List A) → each f (xs ++ ys) ≡ each f xs ++ each f ys
-each-append f [] ys = refl
-each-append f (x ∷ xs) ys = ap (λ l. f x ++ l) (each-append f xs ys) ∙ sym (append_assoc (f x) (each f xs) (each f ys))
-
--- one element more
-pub each-push : {A B : Type 0} (f : A → List B) (xs : List A) (x : A) → each f (xs ++ x ∷ []) ≡ each f xs ++ f x
-each-push f xs x = each-append f xs (x ∷ []) ∙ ap (λ l. each f xs ++ l) (append-nil (f x))
 
 nothing : {A : Type 0} (xs ys : List A) → xs ++ ys ≡ xs → ys ≡ []
 nothing [] ys e = e

@@ -28,11 +28,11 @@ use Rattle.ec_servernode.specs.Callers.{hello_in, accepted, refusal_in, posted, 
 use Rattle.ec_servernode.specs.Run.{hello_of, owner_now, sender, caller_by, clerk_by, is_for, owner, put_all, for_clerk, box_after, box_from, after, leads, record_of, records, records_of, halts_of, halted, Halts, IsDeed, IsStep, IsRun}
 use Rattle.ec_servernode.specs.Node.{queue_at, owner_at, Chain, Doubt, CountsUp, state_of, Since, Keeps}
 use Rattle.ec_servernode.specs.Steps.{Grew, TookAs, EndedAs, Stops, Refuses, halt_in, spends}
-use Rattle.ec_servernode.proofs.Lists.{each-push}
 use Rattle.ec_servernode.proofs.Runs.{run_push, leads-push, box-push, owner-push, halted-push, chain-push}
 use Rattle.ec_servernode.proofs.Counts.{then_up}
 use Rattle.ec_servernode.proofs.Ends.{fault_up, halts_by, boxes_same}
 use Rattle.ec_base.specs.Lists.{first_of}
+use Rattle.ec_link.proofs.HappeningsLemmas.{each-push}
 
 module _ {K : Type 0} (kept : K → Durable) (counts : K → Counts) (did breaks : K → Record → K → Type 0) where
   -- The server did this, and committed this record.

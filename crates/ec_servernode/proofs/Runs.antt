@@ -10,9 +10,11 @@ use Rattle.ec_servernode.specs.Run.{number_of, caller_after, caller_from, caller
 use Rattle.ec_servernode.specs.declared.caller.Caller.{Caller}
 use Rattle.ec_servernode.specs.Callers.{nobody}
 use Rattle.ec_servernode.specs.Node.{Chain}
-use Rattle.ec_servernode.proofs.Lists.{of-append, of_own, each-push, last_or_before}
+use Rattle.ec_servernode.proofs.Lists.{of_own, last_or_before}
 use Rattle.ec_link.specs.Happenings.{each}
 use Rattle.ec_base.specs.Lists.{first_of}
+use Rattle.ec_lock.proofs.StepsLemmas.{of-append}
+use Rattle.ec_link.proofs.HappeningsLemmas.{each-push}
 
 pub run_push : (s : Server) (boxes : ℕ → List Msg) (xs : List Step) (x : Step) → IsRun s boxes xs → IsStep s boxes xs x → IsRun s boxes (xs ++ x ∷ [])
 run_push s boxes xs x run is before y rest e =

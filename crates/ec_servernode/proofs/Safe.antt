@@ -20,8 +20,8 @@ use Rattle.ec_servernode.specs.Folded.{taken, ended}
 use Rattle.ec_servernode.specs.Node.{state_of, queue_at}
 use Rattle.ec_servernode.specs.Run.{IsRun, IsDeed, leads, after, records, records_of, record_of}
 use Rattle.ec_servernode.specs.Safe.{StaysSafe}
-use Rattle.ec_servernode.proofs.Lists.{each-push}
 use Rattle.ec_servernode.proofs.Runs.{leads-push}
+use Rattle.ec_link.proofs.HappeningsLemmas.{each-push}
 
 record Safely (s : Server) (ss : List Step) : Type 0 where
   safe : IsSafe (leads s ss)

@@ -35,8 +35,9 @@ use Rattle.ec_servernode.specs.Run.{number_of, is_for, owner, box_from, halted, 
 use Rattle.ec_servernode.specs.Node.{queue_at, owner_at, state_of, Since}
 use Rattle.ec_servernode.specs.Callers.{nobody}
 use Rattle.ec_servernode.specs.TurnSteps.{More, Takes, Ends, Gives, peer_of, EndsSession, Adds, HearFails, TakesMessage, Looked, Hears, HasNone, HasNext, NextFails, GivesNext, GaveBody, GaveNone, WasClear, ServeFails, Serves, RunsFrom, IsServerPass}
-use Rattle.ec_servernode.proofs.Lists.{of-append, of_others, none_more}
+use Rattle.ec_servernode.proofs.Lists.{of_others, none_more}
 use Rattle.ec_base.specs.Lists.{first_of}
+use Rattle.ec_lock.proofs.StepsLemmas.{of-append}
 
 -- only steps of the pass were added
 pub takes_more : {K : Type 0} (pass : ℕ) (bytes : List ℕ) (v w : Node K) (r : Result Told ServeFault) → Takes pass bytes v w r → (more : List Step) × More pass v w more

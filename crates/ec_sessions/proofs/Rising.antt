@@ -1,33 +1,11 @@
 -- Rising lists, by recursion.
-use Rattle.std.proofs.Common.{◌≡◌, ◌==◌, ◌+◌, ◌<◌, ◌≤◌, inl, inr, ℕ, zero, suc, Bool, if◌then◌else◌, nat_lt, List, [], ◌∷◌, ◌++◌, length, get_or, refl, sym, ap, subst, arith, add-one, append-nil}
-use Rattle.std.specs.List.{AllPairs}
+use Rattle.std.proofs.Common.{◌≡◌, ◌==◌, ◌+◌, ◌<◌, ◌≤◌, inl, inr, ℕ, zero, suc, if◌then◌else◌, nat_lt, List, [], ◌∷◌, ◌++◌, get_or, refl, sym, ap, subst, arith, add-one, append-nil}
 use Rattle.std.specs.List.Sorted.{IsStrictlyIncreasing}
 use Rattle.std.proofs.lemmas.Bool.{cases_Bool, ltb-true, ltb-false, eq-eqb}
-use Rattle.std.proofs.lemmas.List.Kept.{AllPairs-from_increasing}
 use Rattle.ec_sessions.specs.WindowMarks.{times}
 use Rattle.ec_sessions.specs.Slots.{without, run, sixteen, with_ids}
-
-abbrev pub Above : ℕ → List ℕ → Type 0
-Above n [] = Unit {0}
-Above n (x ∷ xs) = (n < x) × Above n xs
-
-abbrev pub Rises : List ℕ → Type 0
-Rises [] = Unit {0}
-Rises (x ∷ xs) = Above x xs × Rises xs
-
-above_each : (n : ℕ) (xs : List ℕ) → ((j : ℕ) → j < length xs → n < get_or xs j 0) → Above n xs
-above_each n [] h = tt
-above_each n (x ∷ xs) h = (h 0 (omega arith), above_each n xs (λ j l. h (suc j) (omega arith)))
-
-rises_each : (xs : List ℕ) → AllPairs (λ x y. x < y) xs → Rises xs
-rises_each [] h = tt
-rises_each (x ∷ xs) h = (
-  above_each x xs (λ j l. h 0 (suc j) 0 (omega arith) (omega arith)),
-  rises_each xs (λ i j d l m. h (suc i) (suc j) d (omega arith) (omega arith)),
-)
-
-pub rises_from : (xs : List ℕ) → IsStrictlyIncreasing xs → Rises xs
-rises_from xs h = rises_each xs (AllPairs-from_increasing xs h)
+use Rattle.ec_base.proofs.Lists.{Above, Rises}
+use Rattle.ec_base.proofs.Bools.{as_one}
 
 pub increasing_from : (xs : List ℕ) → Rises xs → IsStrictlyIncreasing xs
 increasing_from [] h k l = absurd (omega arith)
@@ -85,9 +63,6 @@ above-with_ids n first (id ∷ ids) l h =
       | inl e ↦ subst (Above n) (sym (ap (λ b. if b then id ∷ with_ids first ids else run first 16 ++ id ∷ ids) e)) (h.0, above-with_ids n first ids l h.1)
       | inr e ↦ subst (Above n) (sym (ap (λ b. if b then id ∷ with_ids first ids else run first 16 ++ id ∷ ids) e)) (above_append n (run first 16) (id ∷ ids) (above-run n first 16 l) h)
     ]
-
-abbrev as_one : Bool → ℕ
-as_one b = if b then 1 else 0
 
 -- none of the sixteen is there
 abbrev pub Misses : ℕ → List ℕ → Type 0

@@ -11,7 +11,10 @@ use Rattle.ec_sessions.specs.WindowMarks.{times}
 use Rattle.ec_sessions.specs.Slots.{Slots, slot_at, with_slot, unspent_of, all_unspent, open_count, reserved, granted, ended, spent, batch_marked, with_ids, sixteen, run, without}
 use Rattle.ec_sessions.specs.SlotChecks.{AreIds, IsTable}
 use Rattle.ec_sessions.specs.IdLaws.{times-append, times-with_ids, times-run, times-run_below, times-run_above, times-without, AreIds-append, AreIds-front, AreIds-back, AreIds-run, AreIds-with_ids, AreIds-without}
-use Rattle.ec_sessions.proofs.Rising.{Rises, rises_from, increasing_from, rises-with_ids, rises-without, Misses}
+use Rattle.ec_sessions.proofs.Rising.{increasing_from, rises-with_ids, rises-without, Misses}
+use Rattle.ec_base.proofs.Lists.{Rises, rises_from}
+use Rattle.ec_base.proofs.Bools.{as_one}
+use Rattle.ec_base.proofs.Numbers.{next-place}
 
 -- how often an id stands in the table where one slot is new
 times-with_slot : (id clerk : ℕ) (slot : Option Slot) (slots : Slots) → clerk < length slots → times id (all_unspent (with_slot clerk slot slots)) + times id (unspent_of (slot_at slots clerk)) ≡ times id (all_unspent slots) + times id (unspent_of slot)
@@ -194,9 +197,6 @@ new_table = record {
 
 -- Distinct u32s from 1 are fewer than 2 ^ 32.
 
-abbrev as_one : Bool → ℕ
-as_one b = if b then 1 else 0
-
 abbrev length_if : Bool → List ℕ → ℕ
 length_if b ids = if b then length ids else 0
 
@@ -241,12 +241,9 @@ pub reserved_fits : (slots : Slots) → IsTable slots → reserved slots < 2 ^ 3
 reserved_fits slots h =
     omega (arith, reserved-le slots, below-all (all_unspent slots) h.ids, below-le 4294967295 (all_unspent slots) h.ids h.slots.once)
 
-next : (i : ℕ) → suc i + 1 ≡ suc (i + 1)
-next i = omega arith
-
 -- one more slot before the rest
 pub ids_before : (slots : Slots) (i : ℕ) (slot : Option Slot) → i < length slots → slot ≡ get_or slots i slot → AreIds (unspent_of slot) → AreIds (all_unspent (drop (i + 1) slots)) → AreIds (all_unspent (drop i slots))
 ids_before [] i slot l e h k = absurd (omega arith)
 ids_before (old ∷ slots) zero slot l e h k = AreIds-append (unspent_of old) (all_unspent slots) (subst (λ s. AreIds (unspent_of s)) e h) k
 ids_before (old ∷ slots) (suc i) slot l e h k =
-    ids_before slots i slot (omega arith) e h (subst (λ n. AreIds (all_unspent (drop n (old ∷ slots)))) (next i) k)
+    ids_before slots i slot (omega arith) e h (subst (λ n. AreIds (all_unspent (drop n (old ∷ slots)))) (next-place i) k)

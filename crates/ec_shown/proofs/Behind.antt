@@ -1,22 +1,17 @@
 -- What stands behind a word or a mark, and what may stand at the end.
-use Rattle.std.proofs.Common.{◌≡◌, ℕ, suc, List, [], ◌∷◌, Option, Some, None, Result, MatchResult, refl, sym, ap, subst, ◌∙◌}
+use Rattle.std.proofs.Common.{◌≡◌, ℕ, List, [], ◌∷◌, Option, Some, None, Result, MatchResult, refl, sym, ap, subst, ◌∙◌}
 use Rattle.ec_words.specs.declared.cursor.Misfit.{Misfit}
 use Rattle.ec_words.specs.declared.cursor.Misfit.TheVariants as misfit
 use Rattle.ec_words.specs.Rows.{Word, Last, ◌⊳◌, Begins, FirstUnfit}
 use Rattle.ec_words.specs.RowsLeft.{Lacks, IsMisfit, Example, joined_len}
-use Rattle.ec_words.proofs.Fits.{behind, unfit_none, unfit_first}
+use Rattle.ec_words.proofs.Fits.{unfit_none, unfit_first}
 use Rattle.ec_shown.specs.Rows.{Marked, Tail}
 use Rattle.ec_shown.specs.LackedMarks.{LacksMark}
+use Rattle.ec_script.proofs.Heads.{first_is}
+use Rattle.ec_words.proofs.Misfits.{one_behind}
 
 nothing : (w : Word) (ws : List Word) → [] ≡ w ∷ ws → ⊥
 nothing w ws e = cc
-
-first_is : (v w : Word) (vs ws : List Word) → v ∷ vs ≡ w ∷ ws → v ≡ w
-first_is v w vs ws e = cc
-
-pub one_behind : {X Y : Type 0} (H : List Word → X → Type 0) (G : List Word → Y → Type 0) (w : Word) (f : X → Y) → ((ws : List Word) (x : X) → H ws x → G (w ∷ ws) (f x)) → ((ws : List Word) (y : Y) → G (w ∷ ws) y → (x : X) × H ws x) → (ws rest : List Word) (e : Misfit) → ws ≡ w ∷ rest → IsMisfit H rest e → IsMisfit G ws e
-one_behind H G w f up down ws rest misfit.NoMemory is r = tt
-one_behind H G w f up down ws rest (misfit.Unfit n) is r = subst (λ d. IsMisfit G d (misfit.Unfit n)) (sym is) (suc r.0, (behind H G w f up down rest r.0 r.1.0, r.1.1))
 
 pub begins_choice : {V X : Type 0} (P : Word → V → Type 0) (F : V → List Word → X → Type 0) (e : Example P) → Begins (F e.1.0) [] → Begins (P ⊳ F) []
 begins_choice P F e b = (e.0 ∷ b.0, (b.1.0, (e.1.0, (e.1.1, b.1.1))))

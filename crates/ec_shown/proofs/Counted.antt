@@ -7,11 +7,10 @@ use Rattle.ec_words.specs.Rows.{Word, End, Begins}
 use Rattle.ec_words.specs.RowsLeft.{Lacks, IsMisfit, Example}
 use Rattle.ec_words.specs.Spelling.{led_by}
 use Rattle.ec_words.proofs.Fits.{unfit_none, unfit_first}
-use Rattle.ec_words.proofs.Misfits.{same_words, made, begins_last, last_lacks, last_has, last_is}
+use Rattle.ec_words.proofs.Misfits.{same_words, made, begins_last, last_lacks, last_has, last_is, one_behind}
 use Rattle.ec_shown.specs.Spelling.{written_of, bare_byte, IsTextOf}
 use Rattle.ec_shown.specs.Rows.{Times}
 use Rattle.ec_shown.specs.Answers.{TextOf}
-use Rattle.ec_shown.proofs.Behind.{one_behind}
 use Rattle.ec_shown.proofs.Escapes.{bare_next}
 
 -- Texts.

@@ -17,6 +17,7 @@ use Rattle.ec_shown.specs.Spelling.{head_name, IsHead}
 use Rattle.ec_shown.specs.Lines.{First, IsFirst, Begun, SpellsShown}
 use Rattle.ec_shown.proofs.Named.{head_once}
 use Rattle.ec_shown.proofs.Said.{a_line}
+use Rattle.ec_script.proofs.Heads.{cons_not_nil, first_is}
 
 -- The first byte of a number is a digit.
 abbrev pub DigitFirst : ℕ → List ℕ → Type 0
@@ -62,12 +63,6 @@ first_once w (inr h) (inr i) p q = ap inr (head_once w h i p q)
 no_first : (w : Word) → ((n : ℕ) → IsSmallNumber w n → ⊥) → ((h : Head) → IsHead w h → ⊥) → (f : First) → IsFirst w f → ⊥
 no_first w a b (inl n) g = a n g
 no_first w a b (inr h) g = b h g
-
-cons_not_nil : (w : Word) (ws : List Word) → w ∷ ws ≡ [] → ⊥
-cons_not_nil w ws e = cc
-
-first_is : (v w : Word) (vs ws : List Word) → v ∷ vs ≡ w ∷ ws → v ≡ w
-first_is v w vs ws e = cc
 
 pub missing : (ws : List Word) → ws ≡ [] → IsMisfit SpellsShown ws (misfit.Unfit 0)
 missing ws is = choice_lacks IsFirst Begun ws (misfit.Unfit 0) a_line (subst (λ d. 0 ≡ joined_len d) (sym is) refl, λ w rest h e g. cons_not_nil w rest (sym e ∙ is))

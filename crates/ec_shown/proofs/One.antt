@@ -1,5 +1,5 @@
 -- Words spell one line.
-use Rattle.std.proofs.Common.{◌≡◌, inl, inr, ℕ, zero, suc, ◌+◌, ◌-◌, ◌^◌, List, [], ◌∷◌, Option, None, Some, get_or, refl, sym, ap, subst, ◌∙◌, arith}
+use Rattle.std.proofs.Common.{◌≡◌, inl, inr, ℕ, zero, suc, ◌+◌, ◌-◌, ◌^◌, List, [], ◌∷◌, None, Some, get_or, refl, sym, ap, subst, ◌∙◌, arith}
 use Rattle.std.specs.Prelude.{codes}
 use Rattle.std.specs.Fmt.{decimal}
 use Rattle.ec_base.specs.Names.{path_names}
@@ -29,6 +29,7 @@ use Rattle.ec_shown.specs.Lines.{First, Begun, Says, IsFirst, SpellsShown}
 use Rattle.ec_shown.proofs.Named.{said_once, why_once, kind_once, limit_once, counter_once}
 use Rattle.ec_shown.proofs.Ordered.{no_path}
 use Rattle.ec_shown.proofs.Firsts.{digit_first, first_once}
+use Rattle.ec_base.proofs.Options.{some_once}
 
 -- Rows.
 
@@ -77,9 +78,6 @@ list_once (w ∷ ws) (x ∷ xs) (y ∷ ys) g h =
     ap (λ n. n ∷ xs) e ∙ ap (λ ns. y ∷ ns) (rises_once y ws xs ys (subst (λ n. Rises n ws xs) e g.1) h.1)
 
 -- Words.
-
-some_once : {X : Type 0} (o : Option X) (x y : X) → o ≡ Some x → o ≡ Some y → x ≡ y
-some_once o x y e f = let s : Some x ≡ Some y = sym e ∙ f in cc
 
 written_once : Single IsWritten
 written_once w a b g h = some_once (written_of w) a b g.0 h.0

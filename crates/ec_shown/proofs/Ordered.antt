@@ -12,8 +12,8 @@ use Rattle.ec_shown.specs.declared.answer.Outcome.{Outcome}
 use Rattle.ec_shown.specs.Spelling.{written_of, IsPathShown, IsSaid}
 use Rattle.ec_shown.specs.Answers.{Tells}
 use Rattle.ec_shown.specs.Calls.{Paths, PathsThen}
-use Rattle.ec_shown.proofs.Behind.{one_behind}
 use Rattle.ec_shown.proofs.Said.{no_paths}
+use Rattle.ec_words.proofs.Misfits.{one_behind}
 
 rooted : (bytes : List ℕ) → Some (codes "->") ≡ Some bytes → path_fault bytes ≡ None → ⊥
 rooted bytes e f = let s : codes "->" ≡ bytes = cc in let g : path_fault (codes "->") ≡ None = subst (λ b. path_fault b ≡ None) (sym s) f in cc

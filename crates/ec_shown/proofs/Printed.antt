@@ -43,8 +43,9 @@ use Rattle.ec_shown.specs.Rows.{Marked, Tail, Times, Rises, SpellsList}
 use Rattle.ec_shown.specs.Answers.{TextOf, Refuses, Sized, Stamped, Moded, Properties, shown_owner, stat_reply, Tells, SpellsOutcome}
 use Rattle.ec_shown.specs.Calls.{Asked, PathsThen, Paths, OnPath, Asks, SpellsAsked}
 use Rattle.ec_shown.specs.Lines.{First, IsFirst, Begun, Says, asked_line, SpellsShown, IsShown}
-use Rattle.ec_shown.proofs.Spaced.{spaced, clean, all_clean, both, spaced-words_of, Shows, Text, Behind, text_end, text_row, text_last, text_choice, behind_makes}
+use Rattle.ec_shown.proofs.Spaced.{spaced, clean, all_clean, spaced-words_of, Shows, Text, Behind, text_end, text_row, text_last, text_choice, behind_makes}
 use Rattle.ec_shown.proofs.Words.{text_shown, path_shown, number_shown, clerk_shown, mode_shown}
+use Rattle.ec_base.proofs.Bools.{and_both as both}
 
 -- Words.
 

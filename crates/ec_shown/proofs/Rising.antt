@@ -10,7 +10,7 @@ use Rattle.ec_words.proofs.Fits.{unfit_none, unfit_first}
 use Rattle.ec_words.proofs.OneCall.{in_range_once, number}
 use Rattle.ec_shown.specs.Spelling.{IsAbove}
 use Rattle.ec_shown.specs.Rows.{Rises, SpellsList}
-use Rattle.ec_shown.proofs.Behind.{one_behind}
+use Rattle.ec_words.proofs.Misfits.{one_behind}
 
 rises_down : (last op : ℕ) (w : Word) → IsAbove last w op → (ws : List Word) (ops : List ℕ) → Rises last (w ∷ ws) ops → (more : List ℕ) × Rises op ws more
 rises_down last op w p ws [] g = absurd g

@@ -7,6 +7,7 @@ use Rattle.std.proofs.lemmas.Fmt.{decimal_by_steps}
 use Rattle.ec_words.specs.Words.{words_of}
 use Rattle.ec_words.specs.Pieces.{onto}
 use Rattle.ec_words.specs.Rows.{Word, ◌▸◌, End, Last, ◌⊳◌, ◌makes◌}
+use Rattle.ec_base.proofs.Bools.{first-of, and_both}
 
 -- words, each with a space before it
 abbrev pub spaced : List Word → List ℕ
@@ -29,13 +30,6 @@ clean-append (x ∷ a) b e f =
       | true ↦ λ g. g
       | false ↦ λ g. clean-append a b g f
     ] e
-
-pub both : (a b : Bool) → a ≡ true → b ≡ true → (a && b) ≡ true
-both a b e f = rw (e, f) refl
-
-pub left_true : (a b : Bool) → (a && b) ≡ true → a ≡ true
-left_true true b e = refl
-left_true false b e = e
 
 pub right_true : (a b : Bool) → (a && b) ≡ true → b ≡ true
 right_true true b e = e
@@ -73,7 +67,7 @@ word_back (b ∷ w) bs ws c e =
 
 words_back : (ws : List Word) → all_clean ws ≡ true → words_of (spaced ws) ≡ [] ∷ ws
 words_back [] c = refl
-words_back (w ∷ ws) c = ap (λ vs. [] ∷ vs) (word_back w (spaced ws) ws (left_true (clean w) (all_clean ws) c) (words_back ws (right_true (clean w) (all_clean ws) c)))
+words_back (w ∷ ws) c = ap (λ vs. [] ∷ vs) (word_back w (spaced ws) ws (first-of (clean w) (all_clean ws) c) (words_back ws (right_true (clean w) (all_clean ws) c)))
 
 tail_same : (u v : Word) (us vs : List Word) → u ∷ us ≡ v ∷ vs → us ≡ vs
 tail_same u v us vs e = cc
@@ -100,13 +94,13 @@ text_row P f G t p q [] x g = absurd g
 text_row P f G t p q (w ∷ ws) x g =
     let a = p w (x.0) g.0 in
     let b = q ws (x.1) g.1 in
-    (ap (λ u. 32 ∷ (u ++ spaced ws)) a.0 ∙ ap (λ u. 32 ∷ (f (x.0) ++ u)) b.0, both (clean w) (all_clean ws) a.1 b.1)
+    (ap (λ u. 32 ∷ (u ++ spaced ws)) a.0 ∙ ap (λ u. 32 ∷ (f (x.0) ++ u)) b.0, and_both (clean w) (all_clean ws) a.1 b.1)
 
 pub text_last : {V : Type 0} (P : Word → V → Type 0) (f : V → Word) → Shows P f → Text (Last P) (λ v. 32 ∷ f v)
 text_last P f p [] v g = absurd g
 text_last P f p (w ∷ ws) v g =
     let a = p w v g.0 in
-    (ap (λ u. 32 ∷ (w ++ spaced u)) g.1 ∙ ap (λ u. 32 ∷ u) (append-nil w ∙ a.0), both (clean w) (all_clean ws) a.1 (ap all_clean g.1))
+    (ap (λ u. 32 ∷ (w ++ spaced u)) g.1 ∙ ap (λ u. 32 ∷ u) (append-nil w ∙ a.0), and_both (clean w) (all_clean ws) a.1 (ap all_clean g.1))
 
 pub text_makes : {X Y : Type 0} (G : List Word → X → Type 0) (h : X → Y) (t : X → List ℕ) (u : Y → List ℕ) → Text G t → ((x : X) → t x ≡ u (h x)) → Text (G makes h) u
 text_makes G h t u q e ws y g =
@@ -122,7 +116,7 @@ text_choice P f F u p q [] x g = absurd g
 text_choice P f F u p q (w ∷ ws) x g =
     let a = p w g.0 g.1.0 in
     let b = q g.0 ws x g.1.1 in
-    (ap (λ v. 32 ∷ (v ++ spaced ws)) a.0 ∙ b.0, both (clean w) (all_clean ws) a.1 b.1)
+    (ap (λ v. 32 ∷ (v ++ spaced ws)) a.0 ∙ b.0, and_both (clean w) (all_clean ws) a.1 b.1)
 
 pub behind_makes : {X Y : Type 0} (w : Word) (G : List Word → X → Type 0) (h : X → Y) (t : X → List ℕ) (u : Y → List ℕ) → Text G t → ((x : X) → (32 ∷ (w ++ t x)) ≡ u (h x)) → Behind w (G makes h) u
 behind_makes w G h t u q e ws y g =

@@ -1,6 +1,6 @@
 -- The end of a clerk's step: it asks for ids once, begins a window of batches and issues an operation for each waiting call at most, and spends no counter.
-use Rattle.std.proofs.Common.{◌≡◌, refl, sym, ap, subst, arith, ◌≤◌, ◌<◌, ◌+◌, ℕ, Bool, true, false, not, ◌&&◌, length, length-append, List, [], ◌∷◌, ◌++◌, Option, Some, None}
-use Rattle.std.specs.Prelude.{is_none, nat_le, nat_lt}
+use Rattle.std.proofs.Common.{◌≡◌, refl, sym, ap, subst, arith, ◌≤◌, ◌+◌, ℕ, Bool, true, false, not, ◌&&◌, length, length-append, List, [], ◌∷◌, ◌++◌, Option, Some, None}
+use Rattle.std.specs.Prelude.{is_none, nat_le}
 use Rattle.std.specs.List.{list_any}
 use Rattle.ec_base.specs.Limits.{last_counter}
 use Rattle.ec_base.specs.Tables.{first as first_of, keys}
@@ -30,12 +30,7 @@ use Rattle.ec_coherence.proofs.TriedList.{same-verdict}
 use Rattle.ec_spent.specs.SpentDrills.{most_lines}
 use Rattle.ec_spent.proofs.Few.{IsGoingCounts, counts, most_steps, unasked}
 use Rattle.ec_spent.proofs.Windows.{begins, has-room, least-begun}
-
-at-limit : (a b : ℕ) → nat_le a b ≡ true → a ≤ b
-at-limit a b e = grind (arith, e)
-
-past-limit : (a b : ℕ) → nat_lt a b ≡ true → a < b
-past-limit a b e = grind (arith, e)
+use Rattle.ec_base.proofs.Numbers.{above-limit, at-limit}
 
 -- A pick.
 
@@ -83,7 +78,7 @@ module _ (calls steps : ℕ) (few_calls : calls ≤ most_lines) (few_steps : ste
     picks-next within = go (log.batches_are_spent d.clerk.log) refl
       where
         go : (z : Bool) → log.batches_are_spent d.clerk.log ≡ z → Goes (elim z as (λ y. Doing) [ true ↦ spend counter.Batch d | false ↦ send_batch next (with_log (log.after_pick (pick_of.Batch next ns)) d) ])
-        go true e = absurd (omega (arith, past-limit last_counter next e, h.low, h.window.near, few_steps))
+        go true e = absurd (omega (arith, above-limit last_counter next e, h.low, h.window.near, few_steps))
         go false e = begins-one within
 
   picks : (p : Pick) (d : Doing) → ((b : ℕ) (ns : List ℕ) → p ≡ pick_of.Batch b ns → (b ≡ d.clerk.log.next_batch) × (log.in_window d.clerk.log d.clerk.log.batches ≡ true)) → Goes d → Goes (send_picked p d)
@@ -184,7 +179,7 @@ module _ (calls steps : ℕ) (few_calls : calls ≤ most_lines) (few_steps : ste
         ])
         go false y z e = h
         go true true z e = asks All d h
-        go true false true e = absurd (omega (arith, past-limit last_counter d.clerk.log.next e, h.ops, h.made, few_calls))
+        go true false true e = absurd (omega (arith, above-limit last_counter d.clerk.log.next e, h.ops, h.made, few_calls))
         go true false false e = issues o u
 
     on-outcome : (o : Outcome) (u : Option Update) → Tries (settle_outcome p o u d)

@@ -22,9 +22,7 @@ use Rattle.ec_spent.specs.SpentDrills.{most_lines}
 use Rattle.ec_spent.proofs.Few.{IsFew, IsGoingCounts, OnSpent, counts, most_steps, opened}
 use Rattle.ec_spent.proofs.Windows.{kept, least-within, new-window}
 use Rattle.ec_spent.proofs.Clerks as clerks
-
-at-limit : (a b : ℕ) → nat_le a b ≡ true → a ≤ b
-at-limit a b e = grind (arith, e)
+use Rattle.ec_base.proofs.Numbers.{at-limit}
 
 -- one step more than these
 module _ (calls steps : ℕ) (few_calls : calls ≤ most_lines) (few_steps : steps + 1 ≤ most_steps) where

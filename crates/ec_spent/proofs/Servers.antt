@@ -1,6 +1,6 @@
 -- A server's step takes one more number, or notes one more want, at most, and spends no counter but those of sessions, epochs and ids.
-use Rattle.std.proofs.Common.{◌≡◌, refl, ap, arith, ◌≤◌, ◌<◌, ◌+◌, ◌==◌, ◌&&◌, ◌||◌, ℕ, zero, suc, Bool, true, false, not, cond, List, [], ◌∷◌, ◌++◌, map, length, Option, Some, None}
-use Rattle.std.specs.Prelude.{Err, Ok, Result, filter, if◌then◌else◌, is_none, is_some, nat_le, nat_lt}
+use Rattle.std.proofs.Common.{◌≡◌, refl, ap, arith, ◌≤◌, ◌<◌, ◌+◌, ◌==◌, ◌&&◌, ◌||◌, ℕ, zero, suc, Bool, true, false, not, List, [], ◌∷◌, ◌++◌, map, length, Option, Some, None}
+use Rattle.std.specs.Prelude.{Err, Ok, Result, if◌then◌else◌, is_none, is_some, nat_le, nat_lt}
 use Rattle.std.specs.List.{list_any}
 use Rattle.ec_base.specs.Holds.{stronger}
 use Rattle.ec_base.specs.Limits.{last_counter}
@@ -34,6 +34,7 @@ use Rattle.ec_protocol.specs.Server.{Serving, act, act_all, all_claimed, back, c
 use Rattle.ec_protocol.specs.declared.server.Server.{Server}
 use Rattle.ec_spent.specs.Spent.{MaySpend}
 use Rattle.ec_spent.proofs.Few.{IsLow, OnSpent, most_steps, spends}
+use Rattle.ec_base.proofs.Filters.{fewer}
 
 -- A step under way: the numbers given out and the wants that wait are so many at most.
 pub record IsGoing (n number : ℕ) (recalls : List Waits) (o : Option Counter) : Type 0 where
@@ -42,14 +43,6 @@ pub record IsGoing (n number : ℕ) (recalls : List Waits) (o : Option Counter) 
 
 abbrev pub Goes : ℕ → Serving → Type 0
 Goes n t = IsGoing n t.server.number t.server.recalls t.spent
-
-fewer : {A : Type 0} (p : A → Bool) (xs : List A) → length (filter p xs) ≤ length xs
-fewer p [] = omega arith
-fewer p (x ∷ xs) = go (p x) (fewer p xs)
-  where
-    go : (b : Bool) → length (filter p xs) ≤ length xs → length (cond b (x ∷ filter p xs) (filter p xs)) ≤ suc (length xs)
-    go true l = omega (arith, l)
-    go false l = omega (arith, l)
 
 -- Grants that are due.
 

@@ -24,9 +24,7 @@ use Rattle.ec_durable.specs.Steps.{AreSound, AreAllSound, AreSoundOps}
 use Rattle.ec_durable.specs.WellFormed.{WellFormed, least_max_objects, most_max_objects}
 use Rattle.ec_durable.proofs.Batches.{same_Ok, not_Ok, fault_none}
 use Rattle.ec_durable.proofs.Kept.{step_kept, formatted_kept}
-
-all_same : (v w : volume.Images) → ((o : ℕ) → v o ≡ w o) → v ≡ w
-all_same v w h = λ k o. h o k
+use Rattle.ec_volume.proofs.VolumeLemmas.{all-same}
 
 -- the tree of the state's volume is well formed
 abbrev HasTree : Durable → Type 0
@@ -34,7 +32,7 @@ HasTree d = volume.WellFormed (volume.images d.volume)
 
 changed_formed : (u : Update) (es : Table Image) → T (is_sound u) → volume.Fits (volume.images es) (u ∷ []) → volume.WellFormed (volume.images es) → volume.WellFormed (volume.images (changed u es))
 changed_formed u es s f w =
-    subst volume.WellFormed (sym (all_same (volume.images (changed u es)) (volume.after (volume.images es) (u ∷ [])) (changed_images u es s)))
+    subst volume.WellFormed (sym (all-same (volume.images (changed u es)) (volume.after (volume.images es) (u ∷ [])) (changed_images u es s)))
     (kept-formed (volume.images es) (u ∷ []) w (both _ _ s tt) f)
 
 op_formed : (c n : ℕ) (u : Update) (d : Durable) → HasTree d → T (is_sound u) → op_fault c n u d ≡ None → HasTree (carried_out c u d)
@@ -120,6 +118,6 @@ steps_well (r ∷ rs) d e w s is = go (step r d) refl is (λ m k. steps_well rs 
 
 pub formatted_well : (most : ℕ) → least_max_objects ≤ most → most ≤ most_max_objects → WellFormed (formatted most)
 formatted_well most least le = record {
-  volume = subst volume.WellFormed (all_same volume.formatted (volume.images ((root, new_object kind.Dir) ∷ [])) (λ o. refl)) formatted-formed;
+  volume = subst volume.WellFormed (all-same volume.formatted (volume.images ((root, new_object kind.Dir) ∷ [])) (λ o. refl)) formatted-formed;
   order = formatted_kept most least le;
 }

@@ -46,10 +46,11 @@ use Rattle.ec_stands.specs.Checkpoints.{IsCheckpoint}
 use Rattle.ec_stands.specs.Laws.{lies_stands, lies_stands_in, steps_more}
 use Rattle.ec_store.specs.Places.{ArePlaces, AreSpare, IsPlaced, placed, pieces, touched}
 use Rattle.ec_store.specs.Store.{Holds, HoldsIn, StandsForEither}
-use Rattle.ec_store.proofs.Members.{told, free_member, free_distinct, left_kept, keeps_left}
+use Rattle.ec_store.proofs.Members.{free_member, free_distinct, left_kept, keeps_left}
 use Rattle.ec_store.proofs.Replaying.{untouched_parts}
 use Rattle.ec_store.proofs.Images.{step_images, step_most, image_at}
 use Rattle.ec_store.proofs.Placing.{rows_all, pieces_apart, pieces_are_free, slots_of, StandsIn, new_slots, new_among, new_numbers, place_stands, are_places, length_placed}
+use Rattle.ec_base.proofs.Bools.{is-true as told}
 
 pub leaves_map : (P Q : List ℕ → Type 0) (old new : View) → ((c : List ℕ) → P c → Q c) → LeavesOnly old new P → LeavesOnly old new Q
 leaves_map P Q old new f leaves = record {

@@ -19,7 +19,7 @@ use Rattle.ec_durable.specs.declared.state.Durable.{Durable}
 use Rattle.ec_durable.specs.Durable.{slot}
 use Rattle.ec_durable.specs.WellFormed.{IsInOrder, fits_slot, last_first_fits}
 use Rattle.ec_durable.proofs.Slots.{slot_passes}
-use Rattle.ec_store.proofs.Members.{told}
+use Rattle.ec_base.proofs.Bools.{is-true as told}
 
 dir_live : (i : Image) → T (is_dir i) → is_gone i ≡ false
 dir_live Gone h = absurd h

@@ -1,6 +1,6 @@
 -- Images that a record leaves alone, and images that have a code.
 use Rattle.std.proofs.Common.{◌≡◌, ℕ, zero, suc, ◌+◌, Bool, true, false, cond, List, [], ◌∷◌, length, Option, None, Some, Result, Ok, Err, refl, sym, ap, subst, ◌∙◌, ⊎_elim}
-use Rattle.std.specs.Prelude.{◌==◌, ◌||◌, ◌&&◌, T, not, nat_le, unwrap_or, slice_get}
+use Rattle.std.specs.Prelude.{◌==◌, ◌&&◌, T, not, nat_le, unwrap_or, slice_get}
 use Rattle.std.specs.List.{list_all, flat_map}
 use Rattle.std.specs.Ordering.{nat_cmp}
 use Rattle.std.specs.Cmp.{nat_cmp_total}
@@ -36,7 +36,8 @@ use Rattle.ec_durable.specs.Durable.{step, slot, live, reserved, is_full, is_ses
 use Rattle.ec_durable.specs.Steps.{AreSound, AreSoundOps}
 use Rattle.ec_durable.proofs.Batches.{same_Ok, not_Ok}
 use Rattle.ec_store.specs.Places.{touched}
-use Rattle.ec_store.proofs.Members.{same_some, told, member_cases}
+use Rattle.ec_store.proofs.Members.{same_some, member_cases}
+use Rattle.ec_base.proofs.Bools.{or_none, is-true as told}
 
 -- What each step of a record keeps, records keep: it doesn't speak of sessions and numbers, and such updates keep it.
 abbrev pub EachOp : (Update → Type 0) → List (ℕ × Update) → Type 0
@@ -137,10 +138,6 @@ step_most r d e is = step_keeps (λ es m. m ≡ d.max_objects) (λ u. Unit {0}) 
 
 abbrev Spares : ℕ → Update → Type 0
 Spares o u = T (is_sound u) × (member o (operands u) ≡ false)
-
-or_none : (a b : Bool) → (a || b) ≡ false → (a ≡ false) × (b ≡ false)
-or_none true b h = absurd cc
-or_none false b h = (refl, h)
 
 ops_spare : (o : ℕ) (ops : List (ℕ × Update)) → AreSoundOps ops → member o (flat_map (λ op. operands op.1) ops) ≡ false → EachOp (Spares o) ops
 ops_spare o [] sound out = tt

@@ -12,6 +12,7 @@ use Rattle.ec_base.specs.SortedLaws.{find-without}
 use Rattle.ec_base.specs.Tables.{at}
 use Rattle.ec_volume.specs.Update.{member, distinct}
 use Rattle.ec_layout.specs.Free.{is_named, free_below}
+use Rattle.ec_base.proofs.Bools.{or_none, both_false, either, or_left, or_right}
 
 pub clash : {A : Type 0} (b : Bool) → b ≡ true → b ≡ false → A
 clash b is isnt = absurd cc
@@ -19,38 +20,14 @@ clash b is isnt = absurd cc
 pub same_some : {A : Type 0} (x y : A) → Some x ≡ Some y → x ≡ y
 same_some x y e = cc
 
-pub told : (b : Bool) → T b → b ≡ true
-told true h = refl
-told false h = absurd h
-
 pub holds : (b : Bool) → b ≡ true → T b
 holds true h = tt
 holds false h = absurd cc
 
-or_cases : (a b : Bool) → (a || b) ≡ true → (a ≡ true) ⊎ (b ≡ true)
-or_cases true b h = inl refl
-or_cases false b h = inr h
-
-or_none : (a b : Bool) → (a || b) ≡ false → (a ≡ false) × (b ≡ false)
-or_none true b h = absurd cc
-or_none false b h = (refl, h)
-
-or_left : (a b : Bool) → a ≡ true → (a || b) ≡ true
-or_left true b h = refl
-or_left false b h = absurd cc
-
-or_right : (a b : Bool) → b ≡ true → (a || b) ≡ true
-or_right true b h = refl
-or_right false b h = h
-
-both_false : (a b : Bool) → a ≡ false → b ≡ false → (a || b) ≡ false
-both_false true b p q = absurd cc
-both_false false b p q = q
-
 -- Members.
 
 pub member_cases : (o x : ℕ) (xs : List ℕ) → member o (x ∷ xs) ≡ true → (o ≡ x) ⊎ (member o xs ≡ true)
-member_cases o x xs is = ⊎_elim (λ same. inl (eqb-true o x same)) (λ later. inr later) (or_cases (o == x) (member o xs) is)
+member_cases o x xs is = ⊎_elim (λ same. inl (eqb-true o x same)) (λ later. inr later) (either (o == x) (member o xs) is)
 
 pub member_none : (o x : ℕ) (xs : List ℕ) → member o (x ∷ xs) ≡ false → (o ≡ x → ⊥) × (member o xs ≡ false)
 member_none o x xs is =
@@ -67,7 +44,7 @@ pub member_out : (o x : ℕ) (xs : List ℕ) → (o ≡ x → ⊥) → member o 
 member_out o x xs differs none = both_false (o == x) (member o xs) (ne_eqb o x differs) none
 
 pub member_push : (o x : ℕ) (xs : List ℕ) → member o (xs ++ x ∷ []) ≡ true → (member o xs ≡ true) ⊎ (o ≡ x)
-member_push o x xs is = ⊎_elim (λ before. inl before) (λ last. inr (one last)) (or_cases (member o xs) (member o (x ∷ [])) (sym (list_any-append (λ p. o == p) xs (x ∷ [])) ∙ is))
+member_push o x xs is = ⊎_elim (λ before. inl before) (λ last. inr (one last)) (either (member o xs) (member o (x ∷ [])) (sym (list_any-append (λ p. o == p) xs (x ∷ [])) ∙ is))
   where
     one : member o (x ∷ []) ≡ true → o ≡ x
     one h = ⊎_elim (λ same. same) (λ never. absurd cc) (member_cases o x [] h)
@@ -93,7 +70,7 @@ free_member (suc k) n named is = by (is_named k named) refl is (free_member k n 
   where
     by : (b : Bool) → is_named k named ≡ b → member n (free_below k named ++ cond b [] (k ∷ [])) ≡ true → (member n (free_below k named) ≡ true → (n < k) × (member n named ≡ false)) → (n < suc k) × (member n named ≡ false)
     by true p h rec =
-        let parts = or_cases (member n (free_below k named)) false (sym (list_any-append (λ x. n == x) (free_below k named) []) ∙ h) in
+        let parts = either (member n (free_below k named)) false (sym (list_any-append (λ x. n == x) (free_below k named) []) ∙ h) in
         let before = rec (⊎_elim (λ x. x) (λ x. absurd cc) parts) in
         (omega (arith, before.0), before.1)
     by false p h rec =

@@ -1,6 +1,6 @@
 -- Records that are carried out again, one more.
-use Rattle.std.proofs.Common.{◌≡◌, ℕ, ◌+◌, ◌<◌, ◌≤◌, true, false, Bool, List, [], ◌∷◌, ◌++◌, length, get_or, take, drop, refl, sym, ap, subst, ◌∙◌, arith, length-append, take-append-drop}
-use Rattle.std.specs.Prelude.{◌==◌, ◌||◌}
+use Rattle.std.proofs.Common.{◌≡◌, ℕ, ◌+◌, ◌<◌, ◌≤◌, false, List, [], ◌∷◌, ◌++◌, length, get_or, take, drop, refl, sym, ap, subst, ◌∙◌, arith, length-append, take-append-drop}
+use Rattle.std.specs.Prelude.{◌==◌}
 use Rattle.std.proofs.lemmas.List.{take_more, drop_more}
 use Rattle.std.proofs.lemmas.List.Folds.{list_any-append}
 use Rattle.ec_volume.specs.Update.{member}
@@ -11,6 +11,7 @@ use Rattle.ec_journal.specs.Laws.{records-append, length-records}
 use Rattle.ec_stands.specs.Stands.{StepsTo, IsRefused}
 use Rattle.ec_stands.specs.Laws.{steps_join}
 use Rattle.ec_store.specs.Replay.{Steps, Spares, Avoids, IsUntouched, HasRefused}
+use Rattle.ec_base.proofs.Bools.{or_none, both_false}
 
 more_of : (bodies : List (List ℕ)) (i : ℕ) (x : List ℕ) → i < length bodies → x ≡ get_or bodies i x → take (i + 1) bodies ≡ take i bodies ++ x ∷ []
 more_of bodies i x lt is = take_more bodies i x lt ∙ ap (λ (y : List ℕ). take i bodies ++ y ∷ []) (sym is)
@@ -50,22 +51,14 @@ refused_at at gate bodies i x d mid place lt is steps gate_is place_is refused =
   refused = refused;
 }
 
-either_none : (a b : Bool) → (a || b) ≡ false → (a ≡ false) × (b ≡ false)
-either_none true b h = absurd cc
-either_none false b h = (refl, h)
-
 -- the operands of one record more
 pub operands_more : (o : ℕ) (old operands new : List ℕ) → new ≡ old ++ operands → member o new ≡ false → (member o old ≡ false) × (member o operands ≡ false)
-operands_more o old operands new made out = either_none (member o old) (member o operands) (sym (list_any-append (λ p. o == p) old operands) ∙ ap (λ (l : List ℕ). member o l) (sym made) ∙ out)
-
-none_of_both : (a b : Bool) → a ≡ false → b ≡ false → (a || b) ≡ false
-none_of_both true b first second = absurd cc
-none_of_both false b first second = second
+operands_more o old operands new made out = or_none (member o old) (member o operands) (sym (list_any-append (λ p. o == p) old operands) ∙ ap (λ (l : List ℕ). member o l) (sym made) ∙ out)
 
 -- none of the operands of one record more
 pub operands_none : (o : ℕ) (old operands new : List ℕ) → new ≡ old ++ operands → member o old ≡ false → member o operands ≡ false → member o new ≡ false
 operands_none o old operands new made out other =
-    ap (λ (l : List ℕ). member o l) made ∙ list_any-append (λ p. o == p) old operands ∙ none_of_both (member o old) (member o operands) out other
+    ap (λ (l : List ℕ). member o l) made ∙ list_any-append (λ p. o == p) old operands ∙ both_false (member o old) (member o operands) out other
 
 -- Objects that no record has as an operand.
 

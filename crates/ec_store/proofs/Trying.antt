@@ -1,5 +1,5 @@
 -- A batch steps a state with the images of its operands alone as it steps the whole one.
-use Rattle.std.proofs.Common.{◌≡◌, ◌==◌, ◌||◌, ◌&&◌, ℕ, Bool, true, false, cond, List, [], ◌∷◌, ◌++◌, Option, None, Some, Result, Ok, Err, refl, sym, ap, subst, ◌∙◌, ⊎_elim, T}
+use Rattle.std.proofs.Common.{◌≡◌, ◌==◌, ◌&&◌, ℕ, Bool, true, false, cond, List, [], ◌∷◌, ◌++◌, Option, None, Some, Result, Ok, Err, refl, sym, ap, subst, ◌∙◌, ⊎_elim, T}
 use Rattle.std.specs.Prelude.{nat_le, OnOk, OnErr, IfErr}
 use Rattle.std.specs.List.{flat_map, list_all}
 use Rattle.std.proofs.lemmas.Bool.{eqb-true, leb-true}
@@ -27,7 +27,8 @@ use Rattle.ec_store.specs.Stepping.{picked, behind, all_fit_ahead, with_volume, 
 use Rattle.ec_store.proofs.Ahead.{operations_ahead}
 use Rattle.ec_durable.proofs.Batches.{not_Ok}
 use Rattle.ec_stands.proofs.Volumes.{formatted_well}
-use Rattle.ec_store.proofs.Members.{told, member_here, member_later}
+use Rattle.ec_store.proofs.Members.{member_here, member_later}
+use Rattle.ec_base.proofs.Bools.{or_left, or_right, is-true as told}
 
 -- two volumes have the same images of these objects
 abbrev pub Agree : List ℕ → Table Image → Table Image → Type 0
@@ -53,14 +54,6 @@ fault_same c n u es d agree =
     (first_same u (images es) (images d.volume) (operands u) agree)
 
 -- Operations.
-
-or_left : (a b : Bool) → a ≡ true → (a || b) ≡ true
-or_left true b h = refl
-or_left false b h = absurd cc
-
-or_right : (a b : Bool) → b ≡ true → (a || b) ≡ true
-or_right true b h = refl
-or_right false b h = h
 
 agree_first : (u : Update) (ids : List ℕ) (a b : Table Image) → Agree (operands u ++ ids) a b → Agree (operands u) a b
 agree_first u ids a b agree o h = agree o (list_any-append (λ p. o == p) (operands u) ids ∙ or_left (member o (operands u)) (member o ids) h)

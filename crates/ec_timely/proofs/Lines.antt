@@ -1,5 +1,5 @@
 -- Which lines of a clerk's step are timely.
-use Rattle.std.proofs.Common.{◌≡◌, refl, sym, ap, subst, ◌∙◌, ◌+◌, ℕ, Bool, true, false, ◌==◌, ◌&&◌, ◌||◌, cond, List, [], ◌∷◌, ◌++◌, Option, Some, None, append-nil, append_assoc}
+use Rattle.std.proofs.Common.{◌≡◌, refl, sym, ap, subst, ◌∙◌, ℕ, Bool, true, false, ◌==◌, ◌&&◌, ◌||◌, cond, List, [], ◌∷◌, ◌++◌, Option, Some, None, append-nil, append_assoc}
 use Rattle.std.proofs.lemmas.Bool.{cond_both}
 use Rattle.std.specs.Prelude.{⊤}
 use Rattle.std.specs.List.{list_any}
@@ -18,10 +18,13 @@ use Rattle.ec_protocol.specs.declared.clerk.Out.{Out}
 use Rattle.ec_protocol.specs.declared.clerk.Out.TheVariants as out
 use Rattle.ec_coherence.specs.ChangeLaws.{Calls}
 use Rattle.ec_coherence.specs.Steps.{call_of, calls_after, less_call, out_lines}
-use Rattle.ec_coherence.proofs.Tables.{none_some, same, same_some}
+use Rattle.ec_coherence.proofs.Tables.{same_some}
 use Rattle.ec_clerk_steps.proofs.CallsLeft.{call-less}
 use Rattle.ec_lawful.proofs.LinesLeft.{answered-gone}
 use Rattle.ec_printed.specs.Printed.{AreTimely, IsBare}
+use Rattle.ec_base.proofs.Numbers.{same-self as same}
+use Rattle.ec_base.proofs.Options.{none_some}
+use Rattle.ec_laws.proofs.Late.{begun-untold}
 
 -- Lines behind lines.
 
@@ -34,9 +37,6 @@ timely-front past [] ys a = tt
 timely-front past (x ∷ xs) ys a = (a.0, timely-front (past ++ x ∷ []) xs ys a.1)
 
 -- What is untold behind a line.
-
-begun-untold : (w : Watch) → (begun w).untold ≡ w.untold
-begun-untold w = cond_both w.running w (record w { starts = w.starts + 1; running = true }) (λ v. v.untold ≡ w.untold) (λ e. refl) (λ e. refl)
 
 pub waits-untold : (c d l : ℕ) (cl : Call) (ss : List Shown) → (watch c (ss ++ show.Waits l d cl ∷ [])).untold ≡ (watch c ss).untold
 waits-untold c d l cl ss =

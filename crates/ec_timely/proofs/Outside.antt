@@ -28,11 +28,12 @@ use Rattle.ec_protocol.specs.declared.clerk.Out.TheVariants as out
 use Rattle.ec_protocol.specs.declared.clerk.Waiting.{Waiting}
 use Rattle.ec_coherence.specs.Answers.{Gives}
 use Rattle.ec_coherence.specs.Sessions.{HasNone}
-use Rattle.ec_coherence.proofs.Tables.{none_some, same_some}
+use Rattle.ec_coherence.proofs.Tables.{same_some}
 use Rattle.ec_clerk_steps.specs.Answering.{Suits}
 use Rattle.ec_clerk_steps.proofs.OutsideAnswers.{no-update, still-cached}
 use Rattle.ec_lease_laws.proofs.Outside.{outside-bare}
 use Rattle.ec_printed.specs.Printed.{IsBare}
+use Rattle.ec_base.proofs.Options.{none_some}
 
 -- What a clerk without a session has none of, whatever it owes, has used and waits for.
 

@@ -11,7 +11,7 @@ use Rattle.ec_history.specs.History.{Each, Op}
 use Rattle.ec_history.specs.Placing.{watch}
 use Rattle.ec_history.specs.declared.shown.Shown.{Shown}
 use Rattle.ec_history.specs.declared.shown.Shown.TheVariants as show
-use Rattle.ec_laws.proofs.Numbers.{each-append, each-map}
+use Rattle.ec_laws.proofs.Numbers.{each-append}
 use Rattle.ec_laws.proofs.Watching.{untold-runs}
 use Rattle.ec_sessions.specs.Slots.{is_open}
 use Rattle.ec_wire.specs.Messages.{kind, same_kind}
@@ -44,7 +44,7 @@ use Rattle.ec_coherence.specs.Events.{IsUncut}
 use Rattle.ec_coherence.specs.Log.{numbered}
 use Rattle.ec_coherence.specs.Steps.{Stands, call_of, out_lines}
 use Rattle.ec_coherence.specs.System.{System, is_of}
-use Rattle.ec_coherence.proofs.Tables.{none_some, same_some}
+use Rattle.ec_coherence.proofs.Tables.{same_some}
 use Rattle.ec_clerk_steps.specs.Calls.{Began}
 use Rattle.ec_clerk_steps.specs.Cuts.{CutKnows, lost_of}
 use Rattle.ec_clerk_steps.proofs.Begin.{call-put}
@@ -61,9 +61,9 @@ use Rattle.ec_timely.specs.Timely.{IsTold, MayAnswer}
 use Rattle.ec_timely.proofs.Lines.{IsBareOut, bare-timely, none-timely, silent-timely, timely-append, waits-untold}
 use Rattle.ec_timely.proofs.Outside.{IsBareAnswer, begins-bare}
 use Rattle.ec_timely.proofs.Taking.{ended-timely, is-ended, outside-timely}
-
-no-fault : {A : Type 0} {B : Type 0} {f : B} → Some f ≡ None → A
-no-fault q = absurd (none_some (sym q))
+use Rattle.ec_base.proofs.Options.{none_some}
+use Rattle.ec_lawful.proofs.Events.{runs-in}
+use Rattle.ec_laws.proofs.BasesAlike.{each-map}
 
 -- What a clerk without a session lost.
 
@@ -167,14 +167,6 @@ doing-timed c d m a b = go d.spent
     go : (o : Option Counter) → Timed (elim o as (λ z. Moving) [ Some n ↦ world.fails (fault.Spent n) m.world | None ↦ world.come_out c d.outs (world.with_world (λ w. record w { clerks = put c d.clerk w.clerks }) m) ])
     go (Some n) = a
     go None = subst (AreTimely []) (sym (came-out c d.outs (world.with_world (λ w. record w { clerks = put c d.clerk w.clerks }) m)).lines) (timely-append [] m.world.shown (out_lines c d.outs m.world.calls) a b)
-
--- the start that runs, of a running clerk
-runs-in : (w : World) (g : System) → Stands w g → (c : ℕ) (k : Clerk) → at c w.clerks ≡ Some k → (b : ℕ) × (g.running c ≡ Some b) × (g.clerks c b ≡ Some k)
-runs-in w g st c k q = go (g.running c) refl (sym (st.clerks c) ∙ q)
-  where
-    go : (o : Option ℕ) → g.running c ≡ o → elim o as (λ z. Option Clerk) [ None ↦ None | Some b ↦ g.clerks c b ] ≡ Some k → (b : ℕ) × (g.running c ≡ Some b) × (g.clerks c b ≡ Some k)
-    go None e p = absurd (none_some p)
-    go (Some b) e p = (b, e, p)
 
 module _ (w : World) (g : System) (whole : Whole g) (st : Stands w g) (timely : AreTimely [] w.shown) where
   -- a running clerk

@@ -6,7 +6,6 @@ use Rattle.ec_base.specs.declared.counter.Counter.TheVariants as counter
 use Rattle.ec_base.specs.declared.ids.Age.{Age}
 use Rattle.ec_history.specs.History.{Each}
 use Rattle.ec_history.specs.declared.shown.Shown.{Shown}
-use Rattle.ec_laws.proofs.Numbers.{each-map}
 use Rattle.ec_order.specs.Order.{Issued}
 use Rattle.ec_log.specs.Log.{lost}
 use Rattle.ec_sessions.specs.Limits.{last_round}
@@ -34,6 +33,7 @@ use Rattle.ec_printed.specs.Printed.{AreTimely}
 use Rattle.ec_plain.specs.BoundedCalls.{is_bounded}
 use Rattle.ec_timely.proofs.Outside.{settles-bare}
 use Rattle.ec_timely.proofs.Lines.{ToldFirst, silent-timely, told-first, told-timely}
+use Rattle.ec_laws.proofs.BasesAlike.{each-map}
 
 -- What a message does to a clerk without a session: at most it's greeted, or the clerk is in a session, in which it holds nothing yet.
 

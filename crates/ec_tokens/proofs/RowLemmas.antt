@@ -1,6 +1,6 @@
 -- Rows in a map of rows.
-use Rattle.std.proofs.Common.{◌≡◌, ◌+◌, ◌<◌, Bool, true, false, refl, sym, ap, subst, ◌∙◌, ℕ, List, [], ◌∷◌, drop, length, get_or, drop-cons, add-one, Option, None, Some, cond, not, ◌&&◌, filter, arith}
-use Rattle.std.specs.Prelude.{◌==◌, T, OnSome, is_some}
+use Rattle.std.proofs.Common.{◌≡◌, ◌+◌, ◌<◌, true, refl, sym, ap, subst, ◌∙◌, ℕ, List, [], ◌∷◌, drop, length, get_or, drop-cons, add-one, Option, None, Some, cond, not, ◌&&◌, filter, arith}
+use Rattle.std.specs.Prelude.{◌==◌, OnSome, is_some}
 use Rattle.std.specs.declared.cmp.Ordering.TheVariants.{Less, Equal, Greater}
 use Rattle.std.proofs.lemmas.Cmp.{tied_itself}
 use Rattle.std.specs.Ordering.{nat_cmp}
@@ -14,6 +14,7 @@ use Rattle.ec_tokens.specs.declared.token.Token.{Token}
 use Rattle.ec_base.specs.Holds.{clash}
 use Rattle.ec_tokens.specs.Tokens.{Row, Tokens, with_row, Holder, holders, held_by, mode, first, first_conflict, is_conflict}
 use Rattle.ec_tokens.specs.SoundTokens.{IsSound}
+use Rattle.ec_base.proofs.Bools.{no-longer}
 
 -- The first of the rows that are left.
 
@@ -55,14 +56,10 @@ without-put s q (e ∷ es) =
 pub with_row-put : (s : ℕ) (q r : Row) (ts : Tokens) → with_row s r (put nat_cmp s q ts) ≡ with_row s r ts
 with_row-put s q r ts = (λ i. cond (length r == 0) (without-put s q ts i) (put-put nat_cmp nat_cmp_total s q r ts i))
 
-empty_not : (b : Bool) → T (not b) → b ≡ false
-empty_not true h = absurd h
-empty_not false h = refl
-
 -- The row that stands there may be put there again.
 pub with_row-found : (s : ℕ) (r : Row) (ts : Tokens) → IsSound ts → find nat_cmp s ts ≡ Some r → with_row s r ts ≡ ts
 with_row-found s r ts sound found =
-    ap (λ b. cond b (without nat_cmp s ts) (put nat_cmp s r ts)) (empty_not (length r == 0) (front _ _ (sound.rows s r found))) ∙ put-found nat_cmp nat_cmp_total s r ts sound.rising found
+    ap (λ b. cond b (without nat_cmp s ts) (put nat_cmp s r ts)) (no-longer (length r == 0) (front _ _ (sound.rows s r found))) ∙ put-found nat_cmp nat_cmp_total s r ts sound.rising found
 
 pub put_there : (s : ℕ) (q : Row) (ts : Tokens) → is_some (find nat_cmp s (put nat_cmp s q ts)) ≡ true
 put_there s q ts = ap is_some (find-put nat_cmp nat_cmp_total s s q ts) ∙ ap (λ b. is_some (cond b (Some q) (find nat_cmp s ts))) ((eq_by_cmp_equiv nat_cmp_total).refl s)

@@ -4,7 +4,6 @@ use Rattle.std.specs.Prelude.{Result, Ok, Err, IfOk, IfErr}
 use Rattle.std.specs.List.{list_all}
 use Rattle.std.proofs.lemmas.List.{take_all, drop_all}
 use Rattle.ec_history.specs.declared.shown.Shown.{Shown}
-use Rattle.ec_laws.proofs.Removed.{both, left, right}
 use Rattle.ec_legal.specs.Bounded.{is_bounded_line}
 use Rattle.ec_script.specs.Lines.{lines_of}
 use Rattle.ec_words.specs.Pieces.{onto}
@@ -13,6 +12,7 @@ use Rattle.ec_transcript.specs.LinesRead.{IsRead, HasBadLine}
 use Rattle.ec_transcript.specs.declared.lines.ReadFault.{ReadFault}
 use Rattle.ec_transcript.specs.declared.lines.ReadFault.TheVariants as fault
 use Rattle.ec_transcript.proofs.Reading.{same-length}
+use Rattle.ec_base.proofs.Bools.{both, first as left, right}
 
 -- Where a line ends the bytes can be cut.
 
@@ -129,10 +129,6 @@ bad-below bs front back ss m n column e h k q =
 pub if-ok : {A B : Type 0} (P Q : A → Type 0) (r : Result A B) → ((x : A) → P x → Q x) → IfOk r P → IfOk r Q
 if-ok P Q (Ok x) k h = k x h
 if-ok P Q (Err f) k h = h
-
-pub if-err : {A B : Type 0} (P Q : B → Type 0) (r : Result A B) → ((f : B) → P f → Q f) → IfErr r P → IfErr r Q
-if-err P Q (Ok x) k h = h
-if-err P Q (Err f) k h = k f h
 
 pub no-memory : (bs : List ℕ) (f : ReadFault) → f ≡ fault.NoMemory → HasBadLine bs f
 no-memory bs f e = subst (HasBadLine bs) (sym e) tt

@@ -20,9 +20,10 @@ use Rattle.ec_script.specs.declared.line.LineFault.TheVariants as unread
 use Rattle.ec_shown.specs.Lines.{IsShown, IsUnfit}
 use Rattle.ec_shown.specs.Showable.{IsShowable, ShowableCall, ArePaths, IsPathOf}
 use Rattle.ec_shown.proofs.Ranges.{in_ranges}
-use Rattle.ec_laws.proofs.Removed.{both, left, right}
 use Rattle.ec_transcript.specs.Lines.{AreShown, IsBadLine}
 use Rattle.ec_transcript.specs.LinesRead.{IsRead}
+use Rattle.ec_base.proofs.Bools.{both, first as left, right}
+use Rattle.ec_base.proofs.Lists.{none_left}
 
 at_most : (m n : ℕ) → m ≤ n → T (nat_le m n)
 at_most m n l = T_from_true (nat_le m n) (le-leb m n l)
@@ -107,13 +108,9 @@ reads-on all ahead next ss l s r e i b = record {
 pub all-read : (all : List (List ℕ)) (ss : List Shown) → Read all [] ss → AreShown all ss
 all-read all ss r = subst (λ ls. AreShown ls ss) (sym (append-nil r.above) ∙ r.parts) r.shown
 
-none-left : (bytes : List ℕ) → true ≡ (length bytes == 0) → bytes ≡ []
-none-left [] e = refl
-none-left (b ∷ bytes) e = absurd (grind arith)
-
 -- nothing is left
 all-read-in : (bytes rest : List ℕ) (ss : List Shown) → true ≡ (length rest == 0) → Read (lines_of bytes) (lines_of rest) ss → AreShown (lines_of bytes) ss
-all-read-in bytes rest ss e r = all-read (lines_of bytes) ss (subst (λ x. Read (lines_of bytes) (lines_of x) ss) (none-left rest e) r)
+all-read-in bytes rest ss e r = all-read (lines_of bytes) ss (subst (λ x. Read (lines_of bytes) (lines_of x) ss) (none_left rest e) r)
 
 -- the same, with each call within its bounds
 pub read-whole : (bytes rest : List ℕ) (ss : List Shown) → true ≡ (length rest == 0) → Read (lines_of bytes) (lines_of rest) ss → length ss + length rest ≤ length bytes → IsRead bytes ss

@@ -18,6 +18,7 @@ use Rattle.ec_volume.specs.declared.image.Image.{Image}
 use Rattle.ec_volume.specs.declared.image.Image.TheVariants.{Gone, File, Dir}
 use Rattle.ec_volume.specs.declared.update.Update.{Update}
 use Rattle.ec_volume.proofs.Held.{images-put, images-without, all-put, all-where_key}
+use Rattle.ec_base.proofs.Bools.{is-true}
 
 -- Rising ids whose images are live.
 record Lives (es : Table Image) : Type 0 where
@@ -68,7 +69,7 @@ volumes_equal es fs a b h = lists_equal es fs (lives es a) (lives fs b) h
 
 -- The list behind an update.
 
-gone_is : (i : Image) → is_gone i ≡ true → i ≡ Gone
+pub gone_is : (i : Image) → is_gone i ≡ true → i ≡ Gone
 gone_is Gone e = refl
 gone_is (File m s w bs) e = absurd (let t : false ≡ true = e in cc)
 gone_is (Dir m s w es) e = absurd (let t : false ≡ true = e in cc)
@@ -113,12 +114,8 @@ images_changed u (o ∷ os) es p d =
       | false ↦ λ e. ap (λ i. if member p os then effect u p i else i) (images_with o new es p ∙ ap (λ b. if b then new else images es p) e)
     ] refl
 
-holds : (b : Bool) → T b → b ≡ true
-holds true p = refl
-holds false p = absurd p
-
 pub changed_images : (u : Update) (es : Table Image) → T (is_sound u) → (o : ℕ) → images (changed u es) o ≡ after (images es) (u ∷ []) o
-changed_images u es s o = images_changed u (operands u) es o (holds _ (first (distinct (operands u)) (is_within u) s))
+changed_images u es s o = images_changed u (operands u) es o (is-true _ (first (distinct (operands u)) (is_within u) s))
 
 pub is_changed : (u : Update) (es new : Table Image) → T (is_sound u) → IsVolume es → IsVolume new → ((o : ℕ) → images new o ≡ after (images es) (u ∷ []) o) → new ≡ changed u es
 is_changed u es new s v w h = lists_equal new (changed u es) (lives new w) (lives_changed u (operands u) es (lives es v)) (λ o. h o ∙ sym (changed_images u es s o))

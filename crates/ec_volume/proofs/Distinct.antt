@@ -24,7 +24,7 @@ distinct-append [] ys = refl
 distinct-append (x ∷ xs) ys =
     rw (member-append x xs ys, distinct-append xs ys) (regroup (member x xs) (member x ys) (distinct xs) (list_any (λ o. member o ys) xs) (distinct ys))
 
-member-others : (d o : ℕ) (xs : List ℕ) → (o == d) ≡ false → member o (filter (λ p. not (p == d)) xs) ≡ member o xs
+pub member-others : (d o : ℕ) (xs : List ℕ) → (o == d) ≡ false → member o (filter (λ p. not (p == d)) xs) ≡ member o xs
 member-others d o [] h = refl
 member-others d o (x ∷ xs) h = let rest = member-others d o xs h in grind (arith, nat_tests)
 
@@ -59,7 +59,7 @@ joined : (A L M F : Bool) → (A ≡ true → L ≡ M) → F ≡ true → (A && 
 joined false L M F h f = refl
 joined true L M F h f = rw (h refl, f) (elim M as (λ m. (not m && true) ≡ not m) [ true ↦ refl | false ↦ refl ])
 
-not_first : (d : ℕ) (os : List ℕ) → distinct (d ∷ os) ≡ true → member d os ≡ false
+pub not_first : (d : ℕ) (os : List ℕ) → distinct (d ∷ os) ≡ true → member d os ≡ false
 not_first d os h = grind arith
 
 pub distinct_apart : (d : ℕ) (os xs : List ℕ) → distinct xs ≡ true → distinct ((d ∷ os) ++ filter (λ p. not (p == d)) xs) ≡ (distinct (d ∷ os) && not (list_any (λ o. member o xs) os))

@@ -1,5 +1,5 @@
 -- Which updates fit, by their operands and in lists.
-use Rattle.std.proofs.Common.{◌≡◌, ◌↔◌, ℕ, List, [], ◌∷◌, ◌++◌, Option, None, Some, Bool, true, false, cond, refl, sym, ap, subst, ◌∙◌}
+use Rattle.std.proofs.Common.{◌≡◌, ◌↔◌, ℕ, List, [], ◌∷◌, ◌++◌, Option, None, Some, true, false, cond, refl, sym, ap, subst, ◌∙◌}
 use Rattle.std.specs.Prelude.{◌==◌, ◌&&◌, ◌||◌, if◌then◌else◌, not, T, is_some, unwrap_or}
 use Rattle.std.proofs.lemmas.Bool.{eqb-true, eq-eqb}
 use Rattle.ec_base.specs.SortedLaws.{first, second, both}
@@ -7,9 +7,7 @@ use Rattle.ec_volume.specs.Update.{operands, has_operand, member, fits, first_un
 use Rattle.ec_volume.specs.Volume.{Images, image_next, image_after, after, fits_in_turn, Fits}
 use Rattle.ec_volume.specs.declared.image.Image.{Image}
 use Rattle.ec_volume.specs.declared.update.Update.{Update}
-
-told : (b : Bool) → b ≡ true → T b
-told b e = subst T (sym e) tt
+use Rattle.ec_base.proofs.Bools.{and-assoc, holds-true}
 
 some_is_none : (P : Type 0) (o : ℕ) → Some o ≡ None → P
 some_is_none P o e = absurd (let t : true ≡ false = ap is_some e in cc)
@@ -22,7 +20,7 @@ each_fits u v [] e o m = absurd m
 each_fits u v (p ∷ os) e o m =
     elim (fits u p (v p)) as (λ b. fits u p (v p) ≡ b → (if b then first_unfit u v os else Some p) ≡ None → T (fits u o (v o))) [
       | true ↦ λ t f. elim (o == p) as (λ a. (o == p) ≡ a → T (a || member o os) → T (fits u o (v o))) [
-        | true ↦ λ s _. subst (λ k. T (fits u k (v k))) (sym (eqb-true o p s)) (told _ t)
+        | true ↦ λ s _. subst (λ k. T (fits u k (v k))) (sym (eqb-true o p s)) (holds-true _ t)
         | false ↦ λ _ k. each_fits u v os f o k
       ] refl m
       | false ↦ λ t f. some_is_none _ p f
@@ -59,26 +57,18 @@ none_is_fit v u = (
 
 -- Lists.
 
-regroup : (a b c : Bool) → (a && (b && c)) ≡ ((a && b) && c)
-regroup true b c = refl
-regroup false b c = refl
-
-one : (a : Bool) → (a && true) ≡ a
-one true = refl
-one false = refl
-
-image_joined : (o : ℕ) (i : Image) (us ws : List Update) → image_after o i (us ++ ws) ≡ image_after o (image_after o i us) ws
+pub image_joined : (o : ℕ) (i : Image) (us ws : List Update) → image_after o i (us ++ ws) ≡ image_after o (image_after o i us) ws
 image_joined o i [] ws = refl
 image_joined o i (u ∷ us) ws = image_joined o (image_next o i u) us ws
 
 pub joined_after : (v : Images) (us ws : List Update) (o : ℕ) → after v (us ++ ws) o ≡ after (after v us) ws o
 joined_after v us ws o = image_joined o (v o) us ws
 
-turns_joined : (o : ℕ) (i : Image) (us ws : List Update) → fits_in_turn o i (us ++ ws) ≡ (fits_in_turn o i us && fits_in_turn o (image_after o i us) ws)
+pub turns_joined : (o : ℕ) (i : Image) (us ws : List Update) → fits_in_turn o i (us ++ ws) ≡ (fits_in_turn o i us && fits_in_turn o (image_after o i us) ws)
 turns_joined o i [] ws = refl
 turns_joined o i (u ∷ us) ws =
     ap (λ b. (not (has_operand o u) || fits u o i) && b) (turns_joined o (image_next o i u) us ws)
-    ∙ regroup (not (has_operand o u) || fits u o i) (fits_in_turn o (image_next o i u) us) (fits_in_turn o (image_after o (image_next o i u) us) ws)
+    ∙ and-assoc (not (has_operand o u) || fits u o i) (fits_in_turn o (image_next o i u) us) (fits_in_turn o (image_after o (image_next o i u) us) ws)
 
 pub joined_fit : (v : Images) (us ws : List Update) → Fits v (us ++ ws) ↔ (Fits v us × Fits (after v us) ws)
 joined_fit v us ws = (

@@ -4,7 +4,6 @@ use Rattle.std.specs.Prelude.{◌==◌, if◌then◌else◌, T, unwrap_or, is_so
 use Rattle.std.specs.declared.cmp.Ordering.TheVariants.{Less, Equal, Greater}
 use Rattle.std.specs.List.{list_all}
 use Rattle.std.specs.Ordering.{nat_cmp, eq_by_cmp, is_lt}
-use Rattle.std.proofs.lemmas.Bool.Decides.{nat_tests}
 use Rattle.std.specs.Cmp.{nat_cmp_total, eq_by_cmp_equiv, unsigned_ties}
 use Rattle.std.specs.FinMap.{find, put, is_sorted}
 use Rattle.std.specs.FinMap.Entries.{by_order, below_all, where_key, is_sorted-put, is_sorted-where_key, find-put}
@@ -17,6 +16,7 @@ use Rattle.ec_volume.specs.Carry.{instead, cleared}
 use Rattle.ec_volume.specs.declared.image.Image.{Image}
 use Rattle.ec_volume.specs.declared.image.Image.TheVariants.{Gone, File, Dir}
 use Rattle.ec_base.specs.SortedLaws.{first, second, both, find-without, without-put_new}
+use Rattle.ec_base.proofs.Bools.{is-true, lower-tested}
 
 pick : (b : Bool) (i r : Image) (f : Option Image) → r ≡ unwrap_or f Gone → (if b then i else r) ≡ unwrap_or (cond b (Some i) f) Gone
 pick true i r f e = refl
@@ -79,15 +79,11 @@ IsVolume-without k es v = record {
   held = all-where_key (λ e. is_held e.1) _ es v.held;
 }
 
-holds : (b : Bool) → T b → b ≡ true
-holds true p = refl
-holds false p = absurd p
-
 found_held : (es : List (ℕ × Image)) (k : ℕ) (i : Image) → T (list_all (λ e. is_held e.1) es) → find nat_cmp k es ≡ Some i → is_held i ≡ true
 found_held [] k i a f = cc
 found_held (e ∷ es) k i a f =
     elim (eq_by_cmp nat_cmp k e.0) as (λ b. cond b (Some e.1) (find nat_cmp k es) ≡ Some i → is_held i ≡ true) [
-      | true ↦ λ g. let same : e.1 ≡ i = cc in subst (λ x. is_held x ≡ true) same (holds _ (first _ _ a))
+      | true ↦ λ g. let same : e.1 ≡ i = cc in subst (λ x. is_held x ≡ true) same (is-true _ (first _ _ a))
       | false ↦ λ g. found_held es k i (second _ _ a) g
     ] f
 
@@ -176,14 +172,11 @@ looked es k i v f = (images_find es k ∙ ap (λ r. unwrap_or r Gone) f, held_li
 pub looked_held : (es : List (ℕ × Image)) (k : ℕ) (i : Image) → IsVolume es → find nat_cmp k es ≡ Some i → is_held i ≡ true
 looked_held es k i v f = found_held es k i v.held f
 
-lower : (a b : ℕ) → T (is_lt (nat_cmp a b)) → a < b
-lower a b h = grind (arith, nat_tests)
-
 climbs : (e : ℕ × Image) (es : List (ℕ × Image)) (b : ℕ × Image) → T (is_sorted nat_cmp (e ∷ es)) → Some b ≡ slice_get (e ∷ es) (length es) → e.0 + length es ≤ b.0
 climbs e [] b h g = let same : b ≡ e = cc in subst (λ (x : ℕ × Image). e.0 + 0 ≤ x.0) (sym same) (omega arith)
 climbs e (f ∷ fs) b h g =
     let later : f.0 + length fs ≤ b.0 = climbs f fs b (second (below_all nat_cmp e.0 (f ∷ fs)) (is_sorted nat_cmp (f ∷ fs)) h) g in
-    let here : e.0 < f.0 = lower e.0 f.0 (first (is_lt (nat_cmp e.0 f.0)) (below_all nat_cmp e.0 fs) (first (below_all nat_cmp e.0 (f ∷ fs)) (is_sorted nat_cmp (f ∷ fs)) h)) in
+    let here : e.0 < f.0 = lower-tested e.0 f.0 (first (is_lt (nat_cmp e.0 f.0)) (below_all nat_cmp e.0 fs) (first (below_all nat_cmp e.0 (f ∷ fs)) (is_sorted nat_cmp (f ∷ fs)) h)) in
     omega arith
 
 -- rising ids from 1 are no more than the last one says

@@ -7,3 +7,6 @@ pub mod Within
 pub mod Changed
 pub mod Fitting
 pub mod Alone
+pub mod ImageLemmas
+pub mod UpdateLemmas
+pub mod VolumeLemmas

@@ -1,5 +1,5 @@
 -- A move between two directories, one operand after the other.
-use Rattle.std.proofs.Common.{◌≡◌, ℕ, List, ◌∷◌, ◌++◌, Option, None, Some, Bool, true, false, refl, sym, ap, ◌∙◌, arith}
+use Rattle.std.proofs.Common.{◌≡◌, ℕ, List, ◌∷◌, ◌++◌, Option, None, Some, Bool, true, false, refl, sym, ap, ◌∙◌}
 use Rattle.std.specs.Prelude.{◌==◌, ◌&&◌, ◌||◌, if◌then◌else◌, T, not}
 use Rattle.std.specs.List.{filter}
 use Rattle.std.proofs.lemmas.Bool.Decides.{Decides-eqb}
@@ -13,14 +13,8 @@ use Rattle.ec_volume.specs.declared.image.Image.{Image}
 use Rattle.ec_volume.specs.declared.image.Image.TheVariants.{Gone, File, Dir}
 use Rattle.ec_volume.specs.declared.update.Update.TheVariants.{Shift}
 use Rattle.ec_volume.proofs.Held.{live-with_entries}
-
-left : (a b : Bool) → (a && b) ≡ true → a ≡ true
-left true b e = refl
-left false b e = e
-
-right : (a b : Bool) → (a && b) ≡ true → b ≡ true
-right true b e = e
-right false b e = absurd (let t : false ≡ true = e in cc)
+use Rattle.ec_base.proofs.Bools.{is-true, first-of, right-tested}
+use Rattle.ec_volume.proofs.Distinct.{not_first}
 
 fits_first : (b : Bool) (o : ℕ) (r : Option ℕ) → (if b then r else Some o) ≡ None → b ≡ true
 fits_first true o r e = refl
@@ -36,12 +30,12 @@ dir_live (File m s w bs) e = refl
 dir_live (Dir m s w es) e = refl
 
 yields_live : (n : List ℕ) (victim : Option ℕ) (i : Image) → yields n victim i ≡ true → is_gone i ≡ false
-yields_live n None i e = dir_live i (left _ _ e)
-yields_live n (Some o) i e = dir_live i (left _ _ e)
+yields_live n None i e = dir_live i (first-of _ _ e)
+yields_live n (Some o) i e = dir_live i (first-of _ _ e)
 
 into_live : (a b : Bool) (n to : List ℕ) (obj : ℕ) (victim : Option ℕ) (i : Image) (r z : Bool) → b ≡ true → (if a then gives n obj i else if b then (yields to victim i && r) else z) ≡ true → is_gone i ≡ false
-into_live true b n to obj victim i r z p e = dir_live i (left _ _ e)
-into_live false true n to obj victim i r z p e = yields_live to victim i (left _ _ e)
+into_live true b n to obj victim i r z p e = dir_live i (first-of _ _ e)
+into_live false true n to obj victim i r z p e = yields_live to victim i (first-of _ _ e)
 into_live false false n to obj victim i r z p e = cc
 
 same : (n : ℕ) → (n == n) ≡ true
@@ -86,11 +80,8 @@ unless : (b m : Bool) → (b ≡ true → m ≡ true) → m ≡ false → b ≡ 
 unless true m h e = absurd (let t : m ≡ true = h refl in cc)
 unless false m h e = refl
 
-not_first : (x : ℕ) (xs : List ℕ) → distinct (x ∷ xs) ≡ true → member x xs ≡ false
-not_first x xs h = grind arith
-
 tail : (x : ℕ) (xs : List ℕ) → distinct (x ∷ xs) ≡ true → distinct xs ≡ true
-tail x xs h = right (not (member x xs)) (distinct xs) h
+tail x xs h = right-tested (not (member x xs)) (distinct xs) h
 
 head_differs : (o x : ℕ) (xs : List ℕ) → member o (x ∷ xs) ≡ false → (o == x) ≡ false
 head_differs o x xs h = unless (o == x) (member o (x ∷ xs)) (member_here o x xs) h
@@ -105,16 +96,12 @@ cleared_same (Some t) v w o h = ap (λ i. if o == t then Gone else i) (h o)
 instead_same : (k : ℕ) (i j : Image) (v w : Images) (o : ℕ) → i ≡ j → v o ≡ w o → instead k i v o ≡ instead k j w o
 instead_same k i j v w o e h = ap (λ x. if o == k then x else v o) e ∙ ap (λ x. if o == k then j else x) h
 
-holds : (b : Bool) → T b → b ≡ true
-holds true h = refl
-holds false h = absurd h
-
 module _ (dir : ℕ) (from : List ℕ) (into : ℕ) (to : List ℕ) (obj : ℕ) (k : Kind) (victim : Option ℕ) (up : Above) (v : Images) where
   pub shift_live : first_unfit (Shift dir from into to obj k victim up) v (operands (Shift dir from into to obj k victim up)) ≡ None → is_gone (v into) ≡ false
   shift_live e =
       let later = fits_rest (fits (Shift dir from into to obj k victim up) dir (v dir)) dir _ e in
       let here = fits_first (fits (Shift dir from into to obj k victim up) into (v into)) into _ later in
-      into_live (into == dir) (into == into) from to obj victim (v into) (has_room victim (v into)) _ (same into) (right (leads up into into (v into)) _ here)
+      into_live (into == dir) (into == into) from to obj victim (v into) (has_room victim (v into)) _ (same into) (right-tested (leads up into into (v into)) _ here)
 
   pub shift_stays : first_unfit (Shift dir from into to obj k victim up) v (operands (Shift dir from into to obj k victim up)) ≡ None → is_gone (effect (Shift dir from into to obj k victim up) into (v into)) ≡ false
   shift_stays e = stays (into == dir) (into == into) (λ es. without_entry es from) (λ es. with_entry es to obj) (v into) _ (same into) (shift_live e)
@@ -166,7 +153,7 @@ module _ (dir : ℕ) (from : List ℕ) (into : ℕ) (to : List ℕ) (obj : ℕ) 
       let D = effect (Shift dir from into to obj k victim up) dir (v dir) in
       let E = effect (Shift dir from into to obj k victim up) into (v into) in
       let F = with_entries (λ es. without_entry es from) in
-      let h = left (distinct (operands (Shift dir from into to obj k victim up))) (is_within (Shift dir from into to obj k victim up)) (holds (is_sound (Shift dir from into to obj k victim up)) sound) in
+      let h = first-of (distinct (operands (Shift dir from into to obj k victim up))) (is_within (Shift dir from into to obj k victim up)) (is-true (is_sound (Shift dir from into to obj k victim up)) sound) in
       let kept : instead into E v dir ≡ v dir = ap (λ b. if b then E else v dir) (dir_apart h) in
       g o
       ∙ cleared_same victim v2 (instead dir (F (instead into E v dir)) (instead into E v)) o

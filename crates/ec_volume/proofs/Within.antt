@@ -16,24 +16,10 @@ use Rattle.ec_volume.specs.declared.image.Image.{Image}
 use Rattle.ec_volume.specs.declared.image.Image.TheVariants.{Gone, File, Dir}
 use Rattle.ec_volume.specs.declared.update.Update.{Update}
 use Rattle.ec_volume.specs.declared.update.Update.TheVariants as update
-
-left : (a b : Bool) → (a && b) ≡ true → a ≡ true
-left true b e = refl
-left false b e = e
-
-right : (a b : Bool) → (a && b) ≡ true → b ≡ true
-right true b e = e
-right false b e = absurd (let t : false ≡ true = e in cc)
+use Rattle.ec_base.proofs.Bools.{is-true, holds-true, first-of, right-tested}
 
 both : (a b : Bool) → a ≡ true → b ≡ true → (a && b) ≡ true
 both a b p q = rw (p, q)
-
-holds : (b : Bool) → T b → b ≡ true
-holds true p = refl
-holds false p = absurd p
-
-told : (b : Bool) → b ≡ true → T b
-told b e = subst T (sym e) tt
 
 -- Directories.
 
@@ -44,13 +30,13 @@ record Fine (m : ℕ) (es : Entries) : Type 0 where
 
 fine : (m s w : ℕ) (es : Entries) → is_held (Dir m s w es) ≡ true → Fine m es
 fine m s w es h = record {
-  mode = leb-true _ _ (left _ _ (left _ _ h));
-  few = leb-true _ _ (right _ _ (left _ _ h));
-  sorted = told _ (right _ _ h);
+  mode = leb-true _ _ (first-of _ _ (first-of _ _ h));
+  few = leb-true _ _ (right-tested _ _ (first-of _ _ h));
+  sorted = holds-true _ (right-tested _ _ h);
 }
 
 held : (m s w : ℕ) (es : Entries) → Fine m es → is_held (Dir m s w es) ≡ true
-held m s w es f = both _ _ (both _ _ (le-leb _ _ f.mode) (le-leb _ _ f.few)) (holds _ f.sorted)
+held m s w es f = both _ _ (both _ _ (le-leb _ _ f.mode) (le-leb _ _ f.few)) (is-true _ f.sorted)
 
 longer : (es : Entries) (n : List ℕ) (o : ℕ) → T (is_sorted by_bytes es) → length (with_entry es n o) ≤ length es + 1
 longer es n o h = subst (λ k. k ≤ length es + 1) (sym (length-put by_bytes nat_list_cmp_total n o es h)) (elim (is_some (entry es n)) as (λ b. cond b (length es) (length es + 1) ≤ length es + 1) [ true ↦ omega arith | false ↦ omega arith ])
@@ -88,7 +74,7 @@ make_held n o (File m s w bs) e h = h
 make_held n o (Dir m s w es) e h =
     let f = fine m s w es h in
     let k : length (with_entry es n o) ≤ length es + 1 = longer es n o f.sorted in
-    let room : length es < 128 = leb-true (suc (length es)) 128 (right (lacks n (Dir m s w es)) (nat_lt (length es) 128) e) in
+    let room : length es < 128 = leb-true (suc (length es)) 128 (right-tested (lacks n (Dir m s w es)) (nat_lt (length es) 128) e) in
     put_held m s w es n o f (omega arith)
 
 move_held : (from to : List ℕ) (o p : ℕ) (i : Image) → gives from o i ≡ true → is_held i ≡ true → is_held (with_entries (λ es. with_entry (without_entry es from) to p) i) ≡ true
@@ -109,7 +95,7 @@ shift_held to (Some t) p Gone e h = h
 shift_held to (Some t) p (File m s w bs) e h = h
 shift_held to (Some t) p (Dir m s w es) e h =
     let f = fine m s w es h in
-    let k : length (with_entry es to p) ≡ length es = as_long es to p f.sorted (is_id_some t (entry es to) (left (is_id t (entry es to)) true e)) in
+    let k : length (with_entry es to p) ≡ length es = as_long es to p f.sorted (is_id_some t (entry es to) (first-of (is_id t (entry es to)) true e)) in
     let few : length es ≤ 128 = f.few in
     put_held m s w es to p f (omega arith)
 
@@ -131,18 +117,18 @@ put_bytes_held : (at : ℕ) (new : List ℕ) (i : Image) → at + length new ≤
 put_bytes_held at new Gone e h = h
 put_bytes_held at new (Dir m s w es) e h = h
 put_bytes_held at new (File m s w bs) e h =
-    let few : length bs ≤ 65536 = leb-true (length bs) 65536 (right (nat_le m 4095) (nat_le (length bs) 65536) h) in
+    let few : length bs ≤ 65536 = leb-true (length bs) 65536 (right-tested (nat_le m 4095) (nat_le (length bs) 65536) h) in
     let k : length (overwritten at new bs) ≡ at + length new + (length bs - (at + length new)) = overwritten_len at new bs in
-    file_held m s w _ (leb-true _ _ (left _ _ h)) (omega arith)
+    file_held m s w _ (leb-true _ _ (first-of _ _ h)) (omega arith)
 
 len_held : (n : ℕ) (i : Image) → n ≤ 65536 → is_held i ≡ true → is_held (with_bytes (resized n) i) ≡ true
 len_held n Gone e h = h
 len_held n (Dir m s w es) e h = h
-len_held n (File m s w bs) e h = file_held m s w _ (leb-true _ _ (left _ _ h)) (rw (resized_len n bs) e)
+len_held n (File m s w bs) e h = file_held m s w _ (leb-true _ _ (first-of _ _ h)) (rw (resized_len n bs) e)
 
 mode_held : (n : ℕ) (i : Image) → n ≤ 4095 → is_held i ≡ true → is_held (with_mode n i) ≡ true
 mode_held n Gone e h = h
-mode_held n (File m s w bs) e h = file_held n s w bs e (leb-true _ _ (right _ _ h))
+mode_held n (File m s w bs) e h = file_held n s w bs e (leb-true _ _ (right-tested _ _ h))
 mode_held n (Dir m s w es) e h = let f = fine m s w es h in held n s w es (record { mode = e; few = f.few; sorted = f.sorted })
 
 stamp_held : (n : ℕ) (i : Image) → is_held i ≡ true → is_held (with_stamp n i) ≡ true
@@ -155,7 +141,7 @@ owner_held n Gone h = h
 owner_held n (File m s w bs) h = h
 owner_held n (Dir m s w es) h = h
 
-new_held : (k : Kind) → is_held (new_object k) ≡ true
+pub new_held : (k : Kind) → is_held (new_object k) ≡ true
 new_held kind.File = refl
 new_held kind.Dir = refl
 
@@ -177,7 +163,7 @@ drop_case false n i h g = not_gone _ g
 move_case : (a b x y : Bool) (from to : List ℕ) (o : ℕ) (i : Image) → (if a then (gives from o i && x) else y) ≡ true → is_held i ≡ true
     → is_gone (if a then with_entries (λ es. with_entry (without_entry es from) to o) i else (if b then i else Gone)) ≡ false
     → is_held (if a then with_entries (λ es. with_entry (without_entry es from) to o) i else (if b then i else Gone)) ≡ true
-move_case true b x y from to o i f h g = move_held from to o o i (left _ _ f) h
+move_case true b x y from to o i f h g = move_held from to o o i (first-of _ _ f) h
 move_case false true x y from to o i f h g = h
 move_case false false x y from to o i f h g = not_gone _ g
 
@@ -190,18 +176,18 @@ shift_case false false true x y from to victim o i f h g = not_gone _ g
 shift_case false false false x y from to victim o i f h g = h
 
 within : (u : Update) → T (is_sound u) → is_within u ≡ true
-within u s = right (distinct (operands u)) (is_within u) (holds (is_sound u) s)
+within u s = right-tested (distinct (operands u)) (is_within u) (is-true (is_sound u) s)
 
 pub effect_held : (u : Update) (o : ℕ) (i : Image) → T (is_sound u) → fits u o i ≡ true → is_held i ≡ true → is_gone (effect u o i) ≡ false → is_held (effect u o i) ≡ true
 effect_held (update.Make dir name obj k) o i s f h g = make_case (o == dir) name obj k i f h
 effect_held (update.Drop dir name obj k) o i s f h g = drop_case (o == dir) name i h g
 effect_held (update.Move dir from to obj k victim) o i s f h g = move_case (o == dir) (o == obj) (yields to victim i) (if o == obj then is_kind k i else is_bare k i) from to obj i f h g
 effect_held (update.Put obj at bytes inside) o i s f h g =
-    put_bytes_held at bytes i (leb-true (at + length bytes) 65536 (right (nat_le 1 (length bytes) && nat_le (length bytes) 4096) (nat_le (at + length bytes) 65536) (within (update.Put obj at bytes inside) s))) h
+    put_bytes_held at bytes i (leb-true (at + length bytes) 65536 (right-tested (nat_le 1 (length bytes) && nat_le (length bytes) 4096) (nat_le (at + length bytes) 65536) (within (update.Put obj at bytes inside) s))) h
 effect_held (update.Len obj len) o i s f h g = len_held len i (leb-true len 65536 (within (update.Len obj len) s)) h
 effect_held (update.Mode obj mode) o i s f h g = mode_held mode i (leb-true mode 4095 (within (update.Mode obj mode) s)) h
 effect_held (update.Stamp obj stamp) o i s f h g = stamp_held stamp i h
 effect_held (update.Order objs) o i s f h g = h
 effect_held (update.Shift dir from into to obj k victim up) o i s f h g =
-    shift_case (o == dir) (o == into) (is_id o victim) (gives from obj i) (if o == obj then is_kind k i else (not (is_id o victim) || is_bare k i)) from to victim obj i (right (leads up into o i) _ f) h g
+    shift_case (o == dir) (o == into) (is_id o victim) (gives from obj i) (if o == obj then is_kind k i else (not (is_id o victim) || is_bare k i)) from to victim obj i (right-tested (leads up into o i) _ f) h g
 effect_held (update.Owner obj owner) o i s f h g = owner_held owner i h

@@ -11,15 +11,11 @@ use Rattle.std.proofs.lemmas.Option.{get_or_from_slice_get}
 use Rattle.ec_base.specs.SortedLaws.{first, second, below_each, below_first, none_below}
 use Rattle.ec_volume.specs.Update.{member}
 use Rattle.ec_watch.specs.Left.{left}
+use Rattle.ec_base.proofs.Numbers.{itself, flip_too}
+use Rattle.ec_numbers.proofs.Indexes.{member-append}
 
 same-number : (m n : ℕ) → (m == n) ≡ true → m ≡ n
 same-number m n e = grind (arith, nat_tests)
-
-itself : (n : ℕ) → (n == n) ≡ true
-itself n = grind (arith, nat_tests)
-
-turned : (m n : ℕ) → (m == n) ≡ (n == m)
-turned m n = grind (arith, nat_tests)
 
 tied : (m n : ℕ) → eq_by_cmp nat_cmp m n ≡ (m == n)
 tied m n = grind (arith, nat_tests)
@@ -42,14 +38,6 @@ same-Some {x = x} e = ap (λ o. unwrap_or o x) e
 not-None : {A : Type 0} {x : A} → None ≡ Some x → ⊥
 not-None e = subst T (ap is_some (sym e)) tt
 
-member-append : (n : ℕ) (xs ys : List ℕ) → member n (xs ++ ys) ≡ (member n xs || member n ys)
-member-append n [] ys = refl
-member-append n (x ∷ xs) ys = ap (λ z. (n == x) || z) (member-append n xs ys) ∙ go (n == x)
-  where
-    go : (b : Bool) → (b || (member n xs || member n ys)) ≡ ((b || member n xs) || member n ys)
-    go true = refl
-    go false = refl
-
 -- Filters.
 
 filter-filter : (p q r : ℕ → Bool) → ((n : ℕ) → r n ≡ (p n && q n)) → (xs : List ℕ) → filter r xs ≡ filter q (filter p xs)
@@ -66,7 +54,7 @@ filter-true (x ∷ xs) = ap (λ l. x ∷ l) (filter-true xs)
 
 filter-absent : (op : ℕ) (xs : List ℕ) → member op xs ≡ false → filter (λ n. not (n == op)) xs ≡ xs
 filter-absent op [] e = refl
-filter-absent op (x ∷ xs) e = ap (λ b. cond (not b) (x ∷ filter (λ n. not (n == op)) xs) (filter (λ n. not (n == op)) xs)) (turned x op) ∙ go (op == x) e (filter-absent op xs)
+filter-absent op (x ∷ xs) e = ap (λ b. cond (not b) (x ∷ filter (λ n. not (n == op)) xs) (filter (λ n. not (n == op)) xs)) (flip_too x op) ∙ go (op == x) e (filter-absent op xs)
   where
     go : (b : Bool) → (b || member op xs) ≡ false → (member op xs ≡ false → filter (λ n. not (n == op)) xs ≡ xs) → cond (not b) (x ∷ filter (λ n. not (n == op)) xs) (filter (λ n. not (n == op)) xs) ≡ x ∷ xs
     go true f same = absurd (subst T f tt)

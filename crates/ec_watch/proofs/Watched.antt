@@ -6,23 +6,17 @@ use Rattle.std.proofs.lemmas.Option.{get_or_from_slice_get, slice_get-get_or}
 use Rattle.ec_base.specs.Limits.{clerk_count}
 use Rattle.ec_volume.specs.Image.{is_id}
 use Rattle.ec_volume.specs.Update.{listed}
-use Rattle.ec_history.specs.Placing.{watch, watch_from, watch_next, unwatched, begun, or_else, answered, ended, owner, is_running, shows}
+use Rattle.ec_history.specs.Placing.{watch, watch_from, watch_next, unwatched, begun, answered, ended, owner, is_running, shows}
 use Rattle.ec_history.specs.declared.watch.Watch.{Watch}
 use Rattle.ec_history.specs.declared.shown.Shown.{Shown}
 use Rattle.ec_history.specs.declared.shown.Shown.TheVariants.{Waits, Answered, Durable, Ended, Unseen, Told, Crashed}
 use Rattle.ec_watch.specs.Watches.{AreWatched, clerk_of}
-
-watch_from-step : (c : ℕ) (w : Watch) (ss : List Shown) (s : Shown) → watch_from c w (ss ++ s ∷ []) ≡ watch_next c (watch_from c w ss) s
-watch_from-step c w [] s = refl
-watch_from-step c w (t ∷ ss) s = watch_from-step c (watch_next c w t) ss s
+use Rattle.ec_history.proofs.PlacingLemmas.{showing, watch-push}
+use Rattle.ec_base.proofs.Options.{other-clerk}
 
 -- one more line
 pub watch-step : (c : ℕ) (ss : List Shown) (s : Shown) → watch c (ss ++ s ∷ []) ≡ watch_next c (watch c ss) s
-watch-step c ss s = watch_from-step c unwatched ss s
-
--- The watch behind an answer, by what was untold: the answer shows a session; or one is open; or not yet.
-abbrev showing : Watch → Option ℕ → Watch
-showing w op = record w { open_start = or_else w.open_start w.starts; undurable = w.early ++ (w.undurable ++ listed op); early = [] }
+watch-step c ss s = watch-push c unwatched ss s
 
 abbrev in_session : Watch → Option ℕ → Watch
 in_session w op = record w { undurable = w.undurable ++ listed op }
@@ -43,21 +37,15 @@ own_end w ns = record w { open_start = None; undurable = []; early = []; untold 
 abbrev other_end : Watch → Watch
 other_end w = record w { open_start = None; undurable = [] }
 
-same_clerk : (e c d : ℕ) → Some e ≡ Some c → (d == c) ≡ false → (d == e) ≡ false
-same_clerk e c d p n = subst (λ k. (d == k) ≡ false) (sym (it p)) n
-  where
-    it : Some e ≡ Some c → e ≡ c
-    it q = cc
-
 -- a line of another clerk changes nothing
-unchanged : (d c : ℕ) (w : Watch) (s : Shown) → clerk_of s ≡ Some c → (d == c) ≡ false → watch_next d w s ≡ w
-unchanged d c w (Waits l e cl) p n = cond-false (d == e) _ w (same_clerk e c d p n)
-unchanged d c w (Answered l e cl a op) p n = cond-false (d == e) _ w (same_clerk e c d p n)
-unchanged d c w (Durable e ns) p n = cond-false (d == e) _ w (same_clerk e c d p n)
-unchanged d c w (Ended e ns) p n = cond-false (d == e) _ w (same_clerk e c d p n)
+pub unchanged : (d c : ℕ) (w : Watch) (s : Shown) → clerk_of s ≡ Some c → (d == c) ≡ false → watch_next d w s ≡ w
+unchanged d c w (Waits l e cl) p n = cond-false (d == e) _ w (other-clerk e c d p n)
+unchanged d c w (Answered l e cl a op) p n = cond-false (d == e) _ w (other-clerk e c d p n)
+unchanged d c w (Durable e ns) p n = cond-false (d == e) _ w (other-clerk e c d p n)
+unchanged d c w (Ended e ns) p n = cond-false (d == e) _ w (other-clerk e c d p n)
 unchanged d c w (Unseen e) p n = refl
-unchanged d c w (Told e ns) p n = cond-false (d == e) _ w (same_clerk e c d p n)
-unchanged d c w (Crashed e) p n = cond-false (d == e) _ w (same_clerk e c d p n)
+unchanged d c w (Told e ns) p n = cond-false (d == e) _ w (other-clerk e c d p n)
+unchanged d c w (Crashed e) p n = cond-false (d == e) _ w (other-clerk e c d p n)
 unchanged d c w s p n = refl
 
 -- and a line of no clerk neither

@@ -9,9 +9,9 @@ use Rattle.ec_volume.specs.Update.{distinct}
 use Rattle.ec_volume.specs.declared.image.Image.{Image}
 use Rattle.ec_sessions.specs.Slots.{Slots, all_unspent}
 use Rattle.ec_durable.specs.WellFormed.{IsInOrder, sessions_of, fits_slot}
-use Rattle.ec_durable.proofs.Counts.{told, is_true}
 use Rattle.ec_durable.proofs.Live.{keys_length}
 use Rattle.ec_well_formed.specs.WellFormed.{state_with, used_ids, is_in_order}
+use Rattle.ec_base.proofs.Bools.{is-true as is_true, holds-true as told}
 
 pub decides : (b : Bool) (A B : Type 0) → (A → B) → (B → A) → MatchBool b A (A → ⊥) → MatchBool b B (B → ⊥)
 decides true A B f g h = f h

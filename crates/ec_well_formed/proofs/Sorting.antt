@@ -7,7 +7,6 @@ use Rattle.std.specs.Ordering.{nat_cmp, is_lt}
 use Rattle.std.specs.FinMap.{is_sorted}
 use Rattle.std.specs.FinMap.Entries.{below_all}
 use Rattle.std.proofs.lemmas.Bool.{and_parts, cases_eq, ltb-true, ltb-false}
-use Rattle.std.proofs.lemmas.Bool.Decides.{nat_tests}
 use Rattle.std.proofs.lemmas.List.Sorted.{sum_by-IsPermutation}
 use Rattle.std.proofs.lemmas.List.Sums.{sum_by-cons}
 use Rattle.ec_base.specs.SortedLaws.{first, second}
@@ -15,8 +14,9 @@ use Rattle.ec_base.specs.Tables.{keys}
 use Rattle.ec_volume.specs.Update.{distinct}
 use Rattle.ec_volume.specs.declared.image.Image.{Image}
 use Rattle.ec_sessions.specs.WindowMarks.{times}
-use Rattle.ec_durable.proofs.Counts.{told, here, there, more, apart_once, once_apart}
+use Rattle.ec_durable.proofs.Counts.{here, there, more, apart_once, once_apart}
 use Rattle.ec_well_formed.specs.WellFormed.{is_rising, AllFrom, Ascends}
+use Rattle.ec_base.proofs.Bools.{holds-true as told, lower-tested}
 
 -- a sort moves numbers, and keeps how often each stands
 times_sum : (n : ℕ) (xs : List ℕ) → times n xs ≡ sum_by (λ m. cond (m == n) 1 0) xs
@@ -91,13 +91,9 @@ same_ascending (x ∷ xs) (y ∷ ys) up down same =
       | inr d ↦ omega (arith, same n, there n x xs d, there n y ys (λ s. d (is ∙ s)))
     ]))
 
--- the ids of images ascend
-lower : (a b : ℕ) → T (is_lt (nat_cmp a b)) → a < b
-lower a b h = grind (arith, nat_tests)
-
 keys_from : (k : ℕ) (es : List (ℕ × Image)) → T (below_all nat_cmp k es) → AllFrom k (keys es)
 keys_from k [] h = tt
-keys_from k (e ∷ es) h = (omega (arith, lower k e.0 (first (is_lt (nat_cmp k e.0)) (below_all nat_cmp k es) h)), keys_from k es (second (is_lt (nat_cmp k e.0)) (below_all nat_cmp k es) h))
+keys_from k (e ∷ es) h = (omega (arith, lower-tested k e.0 (first (is_lt (nat_cmp k e.0)) (below_all nat_cmp k es) h)), keys_from k es (second (is_lt (nat_cmp k e.0)) (below_all nat_cmp k es) h))
 
 pub keys_ascend : (es : List (ℕ × Image)) → T (is_sorted nat_cmp es) → Ascends (keys es)
 keys_ascend [] h = tt

@@ -24,9 +24,10 @@ use Rattle.ec_codes.specs.Images.{ids_under}
 use Rattle.ec_codes.specs.SoundImages.{is_sound_image}
 use Rattle.ec_sessions.specs.WindowMarks.{times}
 use Rattle.ec_sessions.specs.IdLaws.{times-append}
-use Rattle.ec_durable.proofs.Counts.{as_one, told, is_true, here, there, more, once_apart, apart_once}
+use Rattle.ec_durable.proofs.Counts.{here, there, more, once_apart, apart_once}
 use Rattle.ec_durable.proofs.Live.{live_count}
 use Rattle.ec_well_formed.specs.WellFormed.{named_ids, AreNamedOnce, IsTree}
+use Rattle.ec_base.proofs.Bools.{no-longer, as_one, is-true as is_true, holds-true as told}
 
 opposite : (b : Bool) → b ≡ true → b ≡ false → ⊥
 opposite true t f = absurd cc
@@ -236,10 +237,6 @@ entries_sorted Gone h = tt
 entries_sorted (File m s w bs) h = tt
 entries_sorted (Dir m s w es) h = held_sorted (Dir m s w es) (h refl)
 
-unless : (b : Bool) → T (not b) → b ≡ false
-unless true h = absurd h
-unless false h = refl
-
 lives : (b : Bool) → b ≡ false → T (not b)
 lives true h = absurd cc
 lives false h = tt
@@ -265,7 +262,7 @@ tree_formed es sorted tree = (formed, v)
       root_is_dir = told (is_dir (images es root)) tree.root_is_dir;
       root_unnamed = λ d n names. omega (arith, named_times es d n root names, with_root root es, here root root [] refl, tree.named root, key_once es root v);
       named = λ o live other.
-          named_find es o v (omega (arith, with_root o es, there o root [] (λ s. other (sym s)), tree.named o, key_live es o v (unless (is_gone (images es o)) live)));
+          named_find es o v (omega (arith, with_root o es, there o root [] (λ s. other (sym s)), tree.named o, key_live es o v (no-longer (is_gone (images es o)) live)));
       once = λ o d f m n p q. once_named es o d f m n (once o) p q;
       live = λ o d n names. lives (is_gone (images es o)) (live_named o (named_times es d n o names));
     }
@@ -292,7 +289,7 @@ formed_tree es w v = record {
     other n d = elim (cases_Bool (is_gone (images es n))) [
       | inl gone ↦
           let none : times n (named_ids es) ≤ 0 = elim (cases_lt 0 (times n (named_ids es))) [
-            | inl lt ↦ let it = named_find es n v (omega (arith, lt)) in absurd (opposite (is_gone (images es n)) gone (unless (is_gone (images es n)) (w.live n it.0 it.1 it.2)))
+            | inl lt ↦ let it = named_find es n v (omega (arith, lt)) in absurd (opposite (is_gone (images es n)) gone (no-longer (is_gone (images es n)) (w.live n it.0 it.1 it.2)))
             | inr le ↦ le
           ] in
           omega (arith, none, with_root n es, there n root [] d, live_count es v n ∙ ap (λ (b : Bool). as_one (not b)) gone)

@@ -20,11 +20,10 @@ use Rattle.ec_words.specs.declared.name.Verb.TheVariants as verb
 use Rattle.ec_words.specs.Rows.{Word, ◌▸◌, Last, UpTo}
 use Rattle.ec_words.specs.Spelling.{IsPathText, IsSmallNumber, IsNumber, IsText, IsCount, IsMode, is_octal, mode_of}
 use Rattle.ec_words.specs.Calls.{Asks, SpellsCall}
+use Rattle.ec_base.proofs.Options.{one_entry}
+use Rattle.ec_base.proofs.Bools.{and_both}
 
 -- Truths.
-
-and_both : (a b : Bool) → a ≡ true → b ≡ true → (a && b) ≡ true
-and_both a b e f = rw (e, f) refl
 
 and_three : (a b c : Bool) → a ≡ true → b ≡ true → c ≡ true → (a && b && c) ≡ true
 and_three a b c e f g = rw (e, f, g) refl
@@ -99,9 +98,6 @@ and_four true true false d e = let f : false ≡ true = e in absurd cc
 and_four true false c d e = let f : false ≡ true = e in absurd cc
 and_four false b c d e = let f : false ≡ true = e in absurd cc
 
-same_some : (m n : ℕ) → Some m ≡ Some n → m ≡ n
-same_some m n e = cc
-
 octal : (b : ℕ) → is_octal b ≡ true → b ≤ 55
 octal b e = omega (arith, leb-true b 55 (and_right (nat_le 48 b) (nat_le b 55) e))
 
@@ -110,7 +106,7 @@ mode_four a b c d m e =
     elim (is_octal a && is_octal b && is_octal c && is_octal d) as (λ t. (is_octal a && is_octal b && is_octal c && is_octal d) ≡ t → (if t then Some ((a - 48) * 512 + (b - 48) * 64 + (c - 48) * 8 + (d - 48)) else None) ≡ Some m → m ≤ max_mode) [
       | true ↦ λ all is.
           let four = and_four (is_octal a) (is_octal b) (is_octal c) (is_octal d) all in
-          let value : (a - 48) * 512 + (b - 48) * 64 + (c - 48) * 8 + (d - 48) ≡ m = same_some ((a - 48) * 512 + (b - 48) * 64 + (c - 48) * 8 + (d - 48)) m is in
+          let value : (a - 48) * 512 + (b - 48) * 64 + (c - 48) * 8 + (d - 48) ≡ m = one_entry ((a - 48) * 512 + (b - 48) * 64 + (c - 48) * 8 + (d - 48)) m is in
           omega (arith, value, octal a four.0, octal b four.1.0, octal c four.1.1.0, octal d four.1.1.1)
       | false ↦ λ all is. let f : None ≡ Some m = is in absurd cc
     ] refl e

@@ -24,7 +24,7 @@ same_words H G f up down ws (misfit.Unfit n) r = (r.0, (alike H G f up down ws r
 pub made : {X Y : Type 0} (G : List Word → X → Type 0) (f : X → Y) (ws : List Word) (e : Misfit) → IsMisfit G ws e → IsMisfit (G makes f) ws e
 made G f ws e r = same_words G (G makes f) f (λ ws x g. (x, (g, refl))) (λ ws y g. (g.0, g.1.0)) ws e r
 
-one_behind : {X Y : Type 0} (H : List Word → X → Type 0) (G : List Word → Y → Type 0) (w : Word) (f : X → Y) → ((ws : List Word) (x : X) → H ws x → G (w ∷ ws) (f x)) → ((ws : List Word) (y : Y) → G (w ∷ ws) y → (x : X) × H ws x) → (ws rest : List Word) (e : Misfit) → ws ≡ w ∷ rest → IsMisfit H rest e → IsMisfit G ws e
+pub one_behind : {X Y : Type 0} (H : List Word → X → Type 0) (G : List Word → Y → Type 0) (w : Word) (f : X → Y) → ((ws : List Word) (x : X) → H ws x → G (w ∷ ws) (f x)) → ((ws : List Word) (y : Y) → G (w ∷ ws) y → (x : X) × H ws x) → (ws rest : List Word) (e : Misfit) → ws ≡ w ∷ rest → IsMisfit H rest e → IsMisfit G ws e
 one_behind H G w f up down ws rest misfit.NoMemory is r = tt
 one_behind H G w f up down ws rest (misfit.Unfit n) is r = subst (λ d. IsMisfit G d (misfit.Unfit n)) (sym is) (suc r.0, (behind H G w f up down rest r.0 r.1.0, r.1.1))
 

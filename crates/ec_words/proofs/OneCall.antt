@@ -1,5 +1,5 @@
 -- Words spell one call.
-use Rattle.std.proofs.Common.{◌≡◌, ℕ, zero, suc, ◌<◌, ◌-◌, ◌^◌, List, [], ◌∷◌, Option, Some, sym, ap, subst, ◌∙◌, arith}
+use Rattle.std.proofs.Common.{◌≡◌, ℕ, zero, suc, ◌<◌, ◌-◌, ◌^◌, List, [], ◌∷◌, sym, ap, subst, ◌∙◌, arith}
 use Rattle.ec_base.specs.Names.{path_names}
 use Rattle.ec_plain.specs.Bounds.{max_read_bytes}
 use Rattle.ec_volume.specs.Limits.{max_ordered}
@@ -11,6 +11,7 @@ use Rattle.ec_words.specs.Calls.{Asks, SpellsCall}
 use Rattle.ec_words.proofs.Named.{verb_once}
 use Rattle.ec_words.proofs.Numbers.{number_once}
 use Rattle.ec_words.proofs.Once.{row_once, end_once}
+use Rattle.ec_base.proofs.Options.{some_once}
 
 -- a test by which a word stands for one value, and a row that has one value
 abbrev pub Single : {V : Type 0} → (Word → V → Type 0) → Type 0
@@ -40,9 +41,6 @@ choice_row_once P F one rest [] x y g h = absurd g
 choice_row_once P F one rest (w ∷ ws) x y g h = rest h.0 ws x y (subst (λ v. F v ws x) (one w g.0 h.0 g.1.0 h.1.0) g.1.1) h.1.1
 
 -- Words.
-
-some_once : {X : Type 0} (o : Option X) (x y : X) → o ≡ Some x → o ≡ Some y → x ≡ y
-some_once o x y e f = let s : Some x ≡ Some y = sym e ∙ f in cc
 
 pub in_range_once : (least most : ℕ) → most < 2 ^ 64 → Single (IsNumberIn least most)
 in_range_once least most lm w m n g h = number_once w least most least most m n lm lm g h

@@ -17,7 +17,7 @@ use Rattle.ec_marking.specs.declared.marks.Mark.{Mark}
 run_on : (before mid after : Durable) (a b c : Counts) → after ≡ mid → c.armed ≡ b.armed → HasRun before mid a b → HasRun before after a c
 run_on before mid after a b c same arms h = record { turns = h.turns; takes = subst (λ (d : Durable). Takes h.turns before d) (sym same) h.takes; next = arms ∙ h.next; none_due = h.none_due }
 
-rose-later : (a b c : ℕ) → Rose a b → b ≤ c → Rose a c
+pub rose-later : (a b c : ℕ) → Rose a b → b ≤ c → Rose a c
 rose-later a b c rose le = omega (arith, rose, le)
 
 -- the fate of a step, by what came of it and what the world made of that

@@ -1,6 +1,6 @@
 -- A restart of a stopped server, over what came of its start.
-use Rattle.std.proofs.Common.{◌≡◌, ◌⊎◌, inl, ℕ, Bool, true, false, List, Option, None, Some, Result, Ok, Err, refl, sym, ap, subst, ◌∙◌}
-use Rattle.std.specs.Prelude.{OnOk, IfErr, is_some}
+use Rattle.std.proofs.Common.{◌≡◌, ◌⊎◌, inl, ℕ, Bool, true, false, List, Option, None, Some, refl, sym, ap, subst, ◌∙◌}
+use Rattle.std.specs.Prelude.{is_some}
 use Rattle.ec_base.specs.declared.counter.Counter.{Counter}
 use Rattle.ec_disk.specs.Disk.{View, Counts}
 use Rattle.ec_disk.specs.Effects.{Counted}
@@ -20,18 +20,9 @@ use Rattle.ec_world.specs.Laws.{in_step_stands}
 use Rattle.ec_world.specs.Serving.{serves, CameUp, Finishes, ArmsBehind}
 use Rattle.ec_world.specs.StepEnds.{Fated, IsLeft, under}
 use Rattle.ec_world.specs.Worlds.{view_of, server_of, IsInStep}
-use Rattle.ec_running.specs.declared.fault.StepFault.{StepFault}
 use Rattle.ec_running.specs.declared.fault.StepFault.TheVariants as step_fault
 use Rattle.ec_marking.specs.declared.keeping.Came.{Came}
 use Rattle.ec_world.specs.declared.world.World.{World}
-
-pub on_ok : {P Q : Type 0} (res : Result (Unit {0}) StepFault) → OnOk res P → (P → Q) → OnOk res Q
-on_ok (Ok u) h by = by h
-on_ok (Err f) h by = tt
-
-pub if_err : {P Q : StepFault → Type 0} (res : Result (Unit {0}) StepFault) → IfErr res P → ((f : StepFault) → P f → Q f) → IfErr res Q
-if_err (Ok u) h by = tt
-if_err (Err f) h by = by f h
 
 -- a server that runs isn't started again
 pub restart_nothing : (w : World) → is_some w.server ≡ true → restart_server runs (view_of w).server (view_of w) ≡ nothing (view_of w)

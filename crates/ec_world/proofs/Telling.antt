@@ -1,6 +1,6 @@
 -- A state that takes a record doesn't have its sign, and the stepped one has it.
 use Rattle.std.proofs.Common.{◌≡◌, ◌≤◌, ◌+◌, ◌&&◌, refl, sym, ◌∙◌, ap, subst, arith, ℕ, zero, suc, Bool, true, false, cond, List, [], ◌∷◌, Option, None, Some}
-use Rattle.std.specs.Prelude.{◌==◌, Result, Ok, Err, not, nat_lt, nat_le, T}
+use Rattle.std.specs.Prelude.{◌==◌, Result, Ok, Err, not, nat_lt, nat_le}
 use Rattle.std.proofs.lemmas.Bool.{eqb-true, or_parts, true≢false}
 use Rattle.ec_base.specs.Limits.{last_counter}
 use Rattle.ec_base.specs.declared.ids.Age.{Age}
@@ -18,12 +18,7 @@ use Rattle.ec_durable.specs.declared.record.RecordFault.{RecordFault}
 use Rattle.ec_durable.specs.declared.record.RecordFault.TheVariants.{NoSession, Done, Beyond, BadAge, BadNumber, NoRoom}
 use Rattle.ec_durable.specs.declared.state.Durable.{Durable}
 use Rattle.ec_marking.specs.Signs.{sign_of, is_there}
-
-same_Ok : {d e : Durable} → ◌≡◌ {A = Result Durable RecordFault} (Ok d) (Ok e) → d ≡ e
-same_Ok {d = d} p = ap (λ (r : Result Durable RecordFault). elim r as (λ z. Durable) [ Ok x ↦ x | Err f ↦ d ]) p
-
-not_Ok : {f : RecordFault} {e : Durable} → ◌≡◌ {A = Result Durable RecordFault} (Err f) (Ok e) → ⊥
-not_Ok p = subst (λ (r : Result Durable RecordFault). T (elim r as (λ z. Bool) [ Ok x ↦ false | Err f ↦ true ])) p tt
+use Rattle.ec_durable.proofs.Batches.{not_Ok, same_Ok}
 
 -- one clerk's slot
 

@@ -3,9 +3,9 @@ use Rattle.std.specs.Prelude.{T, []}
 use Rattle.ec_base.specs.Tables.{at_or}
 use Rattle.ec_volume.specs.Update.{member}
 use Rattle.ec_chains.proofs.Linked.{on-both}
-use Rattle.ec_needed.proofs.Maps.{split_first}
 use Rattle.ec_chains.proofs.Numbers.{member-first}
 use Rattle.ec_chains.proofs.chains.+link.Goals as goal
+use Rattle.ec_base.proofs.Lists.{split_first}
 
 pub returns-in_ok-link-in-len1-up-clause-new : goal.returns-in_ok-link-in-len1-up-clause-new
 returns-in_ok-link-in-len1-up-clause-new t c =

@@ -2,8 +2,8 @@ use Rattle.std.proofs.Common.{T, subst}
 use Rattle.std.proofs.lemmas.Result.{on_ok_weaker}
 use Rattle.ec_volume.specs.Update.{member}
 use Rattle.ec_chains.proofs.Fronts.{noted-old, noted-new}
-use Rattle.ec_needed.proofs.Maps.{split_first}
 use Rattle.ec_chains.proofs.front.+note_all.Goals as goal
+use Rattle.ec_base.proofs.Lists.{split_first}
 
 pub returns-in_ok-insert-in-len1-up-clause-old : goal.returns-in_ok-insert-in-len1-up-clause-old
 returns-in_ok-insert-in-len1-up-clause-old t c o n l b = noted-old c.obj-item.result c.args.op o n c.args.shared.now c.insert.new.self c.note_all.new.shared c.in_ok-insert-in-len1-up.ensures.ok c.note_all.ensures.old l b

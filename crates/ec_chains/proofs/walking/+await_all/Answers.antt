@@ -1,8 +1,8 @@
 use Rattle.std.proofs.lemmas.Result.{on_ok_weaker}
-use Rattle.ec_needed.proofs.Maps.{split_first}
 use Rattle.ec_chains.proofs.Taken.{both-awaited}
 use Rattle.ec_chains.specs.Slots.{placed}
 use Rattle.ec_chains.proofs.walking.+await_all.Goals as goal
+use Rattle.ec_base.proofs.Lists.{split_first}
 
 pub returns-in_ok-await_one-in-len1-up : goal.returns-in_ok-await_one-in-len1-up
 returns-in_ok-await_one-in-len1-up t c =

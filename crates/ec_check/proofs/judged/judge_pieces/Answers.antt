@@ -2,8 +2,9 @@ use Rattle.std.proofs.Common.{◌≡◌, ◌≤◌, ◌+◌, sym, subst, rules, 
 use Rattle.ec_legal.specs.Tried.{IsTried, Stops}
 use Rattle.ec_legal.proofs.Tried.{tried-more, stops-more}
 use Rattle.ec_check.proofs.Faults.{first-fault}
-use Rattle.ec_check.proofs.Pieces.{piece-fits, taken, taken-fault, taken-ok, behind-ss, no-bytes, read-all}
+use Rattle.ec_check.proofs.Pieces.{piece-fits, taken, taken-fault, behind-ss, no-bytes, read-all}
 use Rattle.ec_check.proofs.judged.judge_pieces.Goals as goal
+use Rattle.ec_base.proofs.Results.{taken-ok}
 
 pub take_in-requires : goal.take_in-requires
 take_in-requires g c =

@@ -5,8 +5,9 @@ use Rattle.ec_outs.specs.Outs.{Reply}
 use Rattle.ec_clerknode.specs.declared.fault.NodeFault.TheVariants as fault
 use Rattle.ec_clerknode.specs.LaneRuns.{LanesRan, all_items}
 use Rattle.ec_clerknode.specs.Run.{old_boot}
-use Rattle.ec_clerknode.proofs.LanePasses.{wants, plain_fails, plain_done, no_boot, map_twice}
+use Rattle.ec_clerknode.proofs.LanePasses.{wants, plain_fails, plain_done, no_boot}
 use Rattle.ec_clerknode.proofs.lanes.run_lanes.Goals as goal
+use Rattle.ec_base.proofs.Lists.{map_twice}
 
 pub returns-in_err-replies-clause-looked : goal.returns-in_err-replies-clause-looked
 returns-in_err-replies-clause-looked g c = c.run_lane_ops.ensures.looked

@@ -7,8 +7,8 @@ use Rattle.ec_coherence.proofs.FlushAgrees.{flush-agrees}
 use Rattle.ec_coherence.proofs.GiveAgrees.{give-agrees}
 use Rattle.ec_coherence.proofs.OpenAgrees.{open-agrees}
 use Rattle.ec_coherence.proofs.OverAgrees.{over-agrees}
-use Rattle.ec_coherence.proofs.Tables.{is-true}
 use Rattle.ec_coherence.proofs.batches.records_keep_nodes_in_agreement.Goals as goal
+use Rattle.ec_base.proofs.Bools.{is-true}
 
 pub returns-clause-finish : goal.returns-clause-finish
 returns-clause-finish z = finish-agrees

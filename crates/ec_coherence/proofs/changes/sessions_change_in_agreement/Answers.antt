@@ -1,9 +1,9 @@
 use Rattle.ec_coherence.proofs.NewSession.{new-logs, new-images}
 use Rattle.ec_coherence.proofs.OpenedSession.{opened-logs, opened-images}
-use Rattle.ec_coherence.proofs.Lists.{no_both}
 use Rattle.ec_coherence.proofs.Told.{told-logs, told-images}
 use Rattle.ec_coherence.specs.System.{is_open}
 use Rattle.ec_coherence.proofs.changes.sessions_change_in_agreement.Goals as goal
+use Rattle.ec_base.proofs.Bools.{not-both as no_both}
 
 pub returns-clause-open : goal.returns-clause-open
 returns-clause-open z g a c s age fresh free d here others volume next_id v ms sent = (

@@ -3,8 +3,8 @@ use Rattle.ec_drill.specs.Lines.{read_of}
 use Rattle.ec_drill.specs.Script.{AreRead}
 use Rattle.ec_drill.specs.declared.script.ScriptLine.{ScriptLine}
 use Rattle.ec_drill.proofs.Lines.{line_read, all_read}
-use Rattle.ec_drill.proofs.Writes.{none_left}
 use Rattle.ec_drill.proofs.script.read_script.Goals as goal
+use Rattle.ec_base.proofs.Lists.{none_left}
 
 pub lines-init : goal.lines-init
 lines-init c = ([], refl, subst (λ (ls : List ScriptLine). AreRead [] (map read_of ls)) (sym c.new-lines.ensures.items) tt)

@@ -1,8 +1,9 @@
 use Rattle.std.proofs.lemmas.Result.{on_ok_weaker}
-use Rattle.ec_needed.proofs.Maps.{noted_first, split_first}
+use Rattle.ec_needed.proofs.Maps.{noted_first}
 use Rattle.ec_judge.specs.Carried.{is_noted}
 use Rattle.ec_judge.proofs.Restored.{one-restored, one-noted}
 use Rattle.ec_judge.proofs.rebuilt.+restore_each.Goals as goal
+use Rattle.ec_base.proofs.Lists.{split_first}
 
 pub returns-in_ok-insert-in-len1-up-clause-noted : goal.returns-in_ok-insert-in-len1-up-clause-noted
 returns-in_ok-insert-in-len1-up-clause-noted t c =

@@ -1,5 +1,6 @@
-use Rattle.ec_laws.proofs.Objects.{after-append, fits-append, fits-next}
+use Rattle.ec_laws.proofs.Objects.{fits-next}
 use Rattle.ec_laws.proofs.projection.longer_lists_go_on.Goals as goal
+use Rattle.ec_volume.proofs.Fitting.{image_joined as after-append, turns_joined as fits-append}
 
 pub returns-clause-leave : goal.returns-clause-leave
 returns-clause-leave c = after-append

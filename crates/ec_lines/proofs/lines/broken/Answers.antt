@@ -1,8 +1,8 @@
 use Rattle.std.proofs.Common.{◌≡◌, Some, sym, subst, ◌∙◌, arith}
 use Rattle.std.specs.Prelude.{slice_get}
-use Rattle.ec_watch.proofs.Watched.{few-at}
+use Rattle.ec_watch.proofs.Watched.{few-at, named-at}
 use Rattle.ec_lines.specs.Named.{IsNamed}
-use Rattle.ec_lines.proofs.Named.{named-at, may}
+use Rattle.ec_lines.proofs.Named.{may}
 use Rattle.ec_lines.proofs.lines.broken.Goals as goal
 
 pub is_named-requires : goal.is_named-requires

@@ -1,8 +1,7 @@
 use Rattle.std.proofs.Common.{ap, ◌∙◌, arith}
 use Rattle.ec_history.specs.Placing.{gives_entry}
-use Rattle.ec_watch.proofs.Watched.{few-at}
+use Rattle.ec_watch.proofs.Watched.{few-at, named-at}
 use Rattle.ec_lines.specs.Index.{start_of}
-use Rattle.ec_lines.proofs.Named.{named-at}
 use Rattle.ec_lines.proofs.seen.gives.Goals as goal
 
 pub gives_entry-requires : goal.gives_entry-requires

@@ -5,8 +5,8 @@ use Rattle.ec_server.specs.Servers.{standing}
 use Rattle.ec_store.specs.Store.{view_of}
 use Rattle.ec_store.specs.declared.store.Store.{Store}
 use Rattle.ec_marking.specs.Keeping.{IsDone, CameOf}
-use Rattle.ec_marking.proofs.Moved.{moved}
 use Rattle.ec_marking.proofs.keeping.start.Goals as goal
+use Rattle.ec_base.proofs.Equalities.{moved}
 
 pub returns-clause-came : goal.returns-clause-came
 returns-clause-came g c =

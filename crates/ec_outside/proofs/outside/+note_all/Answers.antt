@@ -1,6 +1,7 @@
 use Rattle.std.proofs.lemmas.Result.{on_ok_weaker}
-use Rattle.ec_needed.proofs.Maps.{noted_first, split_first}
+use Rattle.ec_needed.proofs.Maps.{noted_first}
 use Rattle.ec_outside.proofs.outside.+note_all.Goals as goal
+use Rattle.ec_base.proofs.Lists.{split_first}
 
 pub returns-in_ok-insert-in-len1-up : goal.returns-in_ok-insert-in-len1-up
 returns-in_ok-insert-in-len1-up t c =

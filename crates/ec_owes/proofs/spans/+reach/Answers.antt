@@ -1,6 +1,7 @@
 use Rattle.std.proofs.Common.{◌≤◌, ◌<◌, ℕ, subst, sym}
-use Rattle.ec_owes.proofs.Ended.{split_first, has-more}
+use Rattle.ec_owes.proofs.Ended.{has-more}
 use Rattle.ec_owes.proofs.spans.+reach.Goals as goal
+use Rattle.ec_base.proofs.Lists.{split_first}
 
 pub returns-in-len1-up : goal.returns-in-len1-up
 returns-in-len1-up t c =

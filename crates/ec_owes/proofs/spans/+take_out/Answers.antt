@@ -1,5 +1,6 @@
-use Rattle.ec_owes.proofs.Ended.{split_first, ended-more}
+use Rattle.ec_owes.proofs.Ended.{ended-more}
 use Rattle.ec_owes.proofs.spans.+take_out.Goals as goal
+use Rattle.ec_base.proofs.Lists.{split_first}
 
 pub returns-in-len1-up : goal.returns-in-len1-up
 returns-in-len1-up t c =

@@ -4,8 +4,8 @@ use Rattle.ec_store.specs.Store.{view_of}
 use Rattle.ec_store.specs.declared.store.Store.{Store}
 use Rattle.ec_serve.specs.Serve.{Outer}
 use Rattle.ec_serve.specs.ServerRuns.{ServesOn}
-use Rattle.ec_serve.proofs.Kept.{moved}
 use Rattle.ec_serve.proofs.serving.serve_store.Goals as goal
+use Rattle.ec_base.proofs.Equalities.{moved}
 
 pub returns-clause-counts : goal.returns-clause-counts
 returns-clause-counts g c =

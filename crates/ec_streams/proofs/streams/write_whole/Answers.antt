@@ -1,6 +1,7 @@
 use Rattle.std.proofs.Common.{arith}
-use Rattle.ec_streams.proofs.Pieces.{appends_two, take_on}
+use Rattle.ec_streams.proofs.Pieces.{take_on}
 use Rattle.ec_streams.proofs.streams.write_whole.Goals as goal
+use Rattle.ec_base.proofs.Lists.{appends_two}
 
 pub writing-preserved : goal.writing-preserved
 writing-preserved g c =

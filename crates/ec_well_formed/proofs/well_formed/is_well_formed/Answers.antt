@@ -3,11 +3,11 @@ use Rattle.std.specs.Prelude.{nat_le, MatchBool}
 use Rattle.std.proofs.lemmas.Bool.{le-leb}
 use Rattle.ec_base.specs.SortedLaws.{both}
 use Rattle.ec_durable.specs.WellFormed.{WellFormed}
-use Rattle.ec_durable.proofs.Counts.{told}
 use Rattle.ec_well_formed.specs.WellFormed.{IsTree, state_with, is_in_order}
 use Rattle.ec_well_formed.proofs.Trees.{tree_formed, formed_tree}
 use Rattle.ec_well_formed.proofs.Deciding.{granted, denied, ok_is, tells, in_order, order_tells}
 use Rattle.ec_well_formed.proofs.well_formed.is_well_formed.Goals as goal
+use Rattle.ec_base.proofs.Bools.{holds-true as told}
 
 pub returns-then-not-branch : goal.returns-then-not-branch
 returns-then-not-branch c epoch w =

@@ -3,9 +3,9 @@ use mathlib.Core.List.{IsPrefix}
 use Rattle.ec_lock.specs.PassViews.{first, front}
 use Rattle.ec_lock.specs.Steps.{of}
 use Rattle.ec_clerknode.specs.Turns.{number_of}
-use Rattle.ec_clerknode.proofs.Lists.{prefix_self}
 use Rattle.ec_clerknode.proofs.Turns.{turned, losses_told}
 use Rattle.ec_clerknode.proofs.shared.SharedClerk.losses.Goals as goal
+use Rattle.ec_base.proofs.Lists.{prefix_self}
 
 pub end-requires-clause-later : goal.end-requires-clause-later
 end-requires-clause-later g c κs within = subst (λ l. IsPrefix l c.enter-turn.result.value.trace.items) (sym c.enter-turn.ensures.front) (prefix_self c.enter-turn.result.value.trace.items)

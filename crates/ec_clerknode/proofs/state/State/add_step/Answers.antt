@@ -2,8 +2,9 @@ use Rattle.std.proofs.Common.{◌≡◌, true, length, refl, sym, ap, ◌∙◌,
 use Rattle.ec_outs.specs.Outs.{sends}
 use Rattle.ec_clerknode.specs.declared.step.Step.{Step}
 use Rattle.ec_clerknode.specs.Closed.{is_wanting}
-use Rattle.ec_clerknode.proofs.Ends.{done_kept, failed_kept, told_kept, said_kept, wanted_kept, or_false, or_true}
+use Rattle.ec_clerknode.proofs.Ends.{done_kept, failed_kept, told_kept, said_kept, wanted_kept, or_false}
 use Rattle.ec_clerknode.proofs.state.State.add_step.Goals as goal
+use Rattle.ec_base.proofs.Bools.{either as or_true}
 
 pub returns : goal.returns
 returns g c =

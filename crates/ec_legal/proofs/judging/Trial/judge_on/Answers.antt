@@ -2,8 +2,9 @@ use Rattle.std.proofs.Common.{◌≡◌, ◌<◌, ◌++◌, sym, subst, rules}
 use Rattle.ec_laws.specs.Bases.{AreAtLines}
 use Rattle.ec_history.specs.History.{Each}
 use Rattle.ec_legal.specs.Ahead.{placed_from}
-use Rattle.ec_legal.proofs.Judged.{block-lines, block-few, judges-now, entry-fault, on-not}
+use Rattle.ec_legal.proofs.Judged.{block-lines, block-few, judges-now, entry-fault}
 use Rattle.ec_legal.proofs.judging.Trial.judge_on.Goals as goal
+use Rattle.ec_base.proofs.Results.{taken-ok as on-not}
 
 pub step-placed-requires-clause-lines : goal.step-placed-requires-clause-lines
 step-placed-requires-clause-lines g c k l =

@@ -4,8 +4,9 @@ use Rattle.ec_history.specs.History.{Each}
 use Rattle.ec_history.specs.Legal.{IsLegal, from_formatted}
 use Rattle.ec_judge.specs.Fault.{IsEntryFault}
 use Rattle.ec_legal.specs.Placed.{IsJudgeFault}
-use Rattle.ec_legal.proofs.Judged.{Judges, block-lines, block-few, next-block, placed-now, judges-now, none-left, block-fault, all-placeable, on-ok, on-not, if-err}
+use Rattle.ec_legal.proofs.Judged.{Judges, block-lines, block-few, next-block, placed-now, judges-now, none-left, block-fault, all-placeable, on-ok}
 use Rattle.ec_legal.proofs.judging.Trial.judge_rest.Goals as goal
+use Rattle.ec_base.proofs.Results.{if-err, taken-ok as on-not}
 
 pub blocks-2-init : goal.blocks-2-init
 blocks-2-init g c =

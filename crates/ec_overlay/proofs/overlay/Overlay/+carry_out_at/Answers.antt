@@ -1,6 +1,7 @@
 use Rattle.ec_overlay.specs.Shown.{shown}
-use Rattle.ec_overlay.proofs.Shown.{split_first, all-changed}
+use Rattle.ec_overlay.proofs.Shown.{all-changed}
 use Rattle.ec_overlay.proofs.overlay.Overlay.+carry_out_at.Goals as goal
+use Rattle.ec_base.proofs.Lists.{split_first}
 
 pub returns-else-not-branch-clause-images : goal.returns-else-not-branch-clause-images
 returns-else-not-branch-clause-images t c =

@@ -1,8 +1,8 @@
 use Rattle.std.proofs.Common.{◌≡◌, ◌∙◌, None, rules, sym}
 use Rattle.ec_protocol.specs.World.{restart_server}
 use Rattle.ec_store.specs.Store.{view_of as state_of}
-use Rattle.ec_world.proofs.Finish.{on_both}
-use Rattle.ec_world.proofs.Restarts.{on_ok, if_err, restart_nothing, restart_finishes, restart_left}
+use Rattle.ec_world.proofs.Finish.{on_both, if_err, on_ok}
+use Rattle.ec_world.proofs.Restarts.{restart_nothing, restart_finishes, restart_left}
 use Rattle.ec_world.proofs.Delivering.{runs_to_nothing, spent_left, nothing_left}
 use Rattle.ec_world.proofs.Starting.{err_is}
 use Rattle.ec_world.specs.Worlds.{view_of}
